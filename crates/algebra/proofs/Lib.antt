@@ -1,0 +1,9 @@
+pub mod Field
+pub mod Places
+pub mod PowerSums
+pub mod Polynomials
+pub mod Elimination
+pub mod ErrorValues
+pub mod Codes
+pub mod Erasures
+pub mod Gf256

@@ -1,0 +1,72 @@
+-- What a code word is, syndrome by syndrome.
+use mathlib.Core.Path.{_≡_, refl, sym, ap, ap₂, _∙_}
+use mathlib.Core.Bool.{Bool, true, false, _&&_, true≢false}
+use mathlib.Core.List.{List, [], _∷_, map}
+use Prim.Native.Nat.{ℕ, zero, suc, _*_, _<_, _≤_}
+use native.Mathlib.Omega.{arith}
+use lib.Bits.{bitXor}
+use lib.Dec.{eqb, eqb→eq, lit<}
+use lib.ListN.{length, getD, take}
+use lib.Seq.{getD-take}
+use borrow.Author.Tests.{eqb-true, eq-eqb}
+use Rattle.bits.proofs.Computed.{below}
+use Rattle.field.specs.Field.{mul, pow}
+use Rattle.header.specs.Header.{sumUp, term, syndrome, syndromes, allZero, isCodeWord}
+
+-- every entry is a byte, and so is what stands for one past the end
+abbrev pub Bytes : List ℕ → Type 0
+Bytes w = (i : ℕ) → getD w i 0 < 256
+
+and-left : (a b : Bool) → (a && b) ≡ true → a ≡ true
+and-left true b e = refl
+and-left false b e = e
+
+and-right : (a b : Bool) → (a && b) ≡ true → b ≡ true
+and-right true b e = e
+and-right false b e = absurd (true≢false (sym e))
+
+all-zero-at : (l : List ℕ) → allZero l ≡ true → (k : ℕ) → k < length l → getD l k 0 ≡ 0
+all-zero-at [] e k h = absurd (omega arith)
+all-zero-at (x ∷ l) e zero h = eqb-true x 0 (and-left (eqb x 0) (allZero l) e)
+all-zero-at (x ∷ l) e (suc k) h = all-zero-at l (and-right (eqb x 0) (allZero l) e) k (omega arith)
+
+at-all-zero : (l : List ℕ) → ((k : ℕ) → k < length l → getD l k 0 ≡ 0) → allZero l ≡ true
+at-all-zero [] h = refl
+at-all-zero (x ∷ l) h = ap₂ _&&_ (eq-eqb x 0 (h 0 (omega arith))) (at-all-zero l (λ k b. h (suc k) (omega arith)))
+
+map-at : (f : ℕ → ℕ) (l : List ℕ) (k : ℕ) → k < length l → getD (map f l) k 0 ≡ f (getD l k 0)
+map-at f [] k h = absurd (omega arith)
+map-at f (x ∷ l) zero h = refl
+map-at f (x ∷ l) (suc k) h = map-at f l k (omega arith)
+
+-- entry j of the syndromes is S of j + 1
+pub syndromes-at : (w : List ℕ) (j : ℕ) → j < 8 → getD (syndromes w) j 0 ≡ syndrome (suc j) w
+unfolding syndromes
+syndromes-at w j h =
+    map-at (λ k. syndrome k w) (1 ∷ 2 ∷ 3 ∷ 4 ∷ 5 ∷ 6 ∷ 7 ∷ 8 ∷ []) j h
+    ∙ ap (λ (k : ℕ). syndrome k w)
+    (eqb→eq _ _ (below (λ k. eqb (getD (1 ∷ 2 ∷ 3 ∷ 4 ∷ 5 ∷ 6 ∷ 7 ∷ 8 ∷ []) k 0) (suc k)) 8 tt j h))
+
+pub syndromes-length : (w : List ℕ) → length (syndromes w) ≡ 8
+unfolding syndromes
+syndromes-length w = refl
+
+pub code-word-zero : (w : List ℕ) → isCodeWord w ≡ true → (j : ℕ) → j < 8 → syndrome (suc j) w ≡ 0
+unfolding isCodeWord
+code-word-zero w e j h = sym (syndromes-at w j h) ∙ all-zero-at (syndromes w) e j (rw (syndromes-length w) h)
+
+pub zero-code-word : (w : List ℕ) → ((j : ℕ) → j < 8 → syndrome (suc j) w ≡ 0) → isCodeWord w ≡ true
+unfolding isCodeWord
+zero-code-word w z =
+    at-all-zero (syndromes w) (λ j h. (let b : j < 8 = rw (syndromes-length w) at h in syndromes-at w j b ∙ z j b))
+
+sumUp-below : (f g : ℕ → ℕ) (n : ℕ) → ((i : ℕ) → i < n → f i ≡ g i) → sumUp f n ≡ sumUp g n
+unfolding sumUp
+sumUp-below f g zero e = refl
+sumUp-below f g (suc n) e = ap₂ bitXor (sumUp-below f g n (λ i h. e i (omega arith))) (e n (omega arith))
+
+-- syndromes read the first 96 bytes only
+pub syndrome-take : (j : ℕ) (w : List ℕ) → syndrome j (take 96 w) ≡ syndrome j w
+unfolding syndrome term
+syndrome-take j w =
+    sumUp-below (term j (take 96 w)) (term j w) 96 (λ i h. ap (λ (x : ℕ). mul x (pow (i * j))) (getD-take 96 w i 0 h))

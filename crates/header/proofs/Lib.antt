@@ -1,0 +1,6 @@
+pub mod Copies
+pub mod Lengths
+pub mod CodeWords
+pub mod Division
+pub mod Distances
+pub mod Unique

@@ -1,0 +1,149 @@
+//! Compares the product's CRC-8 with the reference: all short messages, every
+//! length up to 300 bytes, a spread of lengths up to 20,480, and other starts.
+
+mod product;
+
+use product::Lent;
+use referee::crc;
+use referee::rng::Rng;
+
+/// The longest message: no piece is longer than a PDU.
+const LONGEST: usize = 20_480;
+
+fn report(class: &str, seed: Option<u64>, cases: u64) {
+    match seed {
+        Some(seed) => println!("{class}: seed {seed:#x}, {cases} cases"),
+        None => println!("{class}: {cases} cases"),
+    }
+}
+
+/// Compares both calls on one message, with one start besides 0.
+fn check(bytes: &[u8], start: u8) {
+    let length = bytes.len();
+    let wanted = crc::crc8(bytes);
+    assert_eq!(product::crc8(bytes), wanted, "length {length}");
+    assert_eq!(
+        product::crc8_from(0, bytes),
+        wanted,
+        "length {length}, start 0"
+    );
+    assert_eq!(
+        product::crc8_from(start, bytes),
+        crc::crc8_from(start, bytes),
+        "length {length}, start {start:#04x}"
+    );
+}
+
+/// As `check`, on a random message of the length.
+fn check_random(rng: &mut Rng, length: usize) {
+    let lent = Lent::random(rng, length);
+    check(lent.bytes(), rng.byte());
+}
+
+#[test]
+fn examples() {
+    assert_eq!(product::crc8(&[0x01]), 0x31, "example (d)");
+    assert_eq!(product::crc8(&[0x80]), 0x7A, "example (e)");
+    assert_eq!(product::crc8(&[0x01, 0x00]), 0xF4, "example (f)");
+    report("CRC, examples (d) to (f)", None, 3);
+}
+
+#[test]
+fn short_messages() {
+    let mut cases = 0;
+    for start in 0..=255 {
+        assert_eq!(product::crc8_from(start, &[]), crc::crc8_from(start, &[]));
+        cases += 1;
+        for byte in 0..=255 {
+            check(&[byte], start);
+            check(&[start, byte], byte.wrapping_mul(7));
+            cases += 2;
+        }
+    }
+    assert_eq!(product::crc8(&[]), 0);
+    report("CRC, all messages up to two bytes", None, cases + 1);
+}
+
+#[test]
+fn every_length_to_300() {
+    let seed = 0xC8_0001;
+    let mut rng = Rng::new(seed);
+    let mut cases = 0;
+    for length in 0..=300 {
+        for _ in 0..20 {
+            check_random(&mut rng, length);
+            cases += 1;
+        }
+    }
+    report("CRC, every length from 0 to 300", Some(seed), cases);
+}
+
+#[test]
+fn long_messages() {
+    let seed = 0xC8_0002;
+    let mut rng = Rng::new(seed);
+    let mut lengths: Vec<usize> = (301..LONGEST).step_by(61).collect();
+    for power in 9..=14 {
+        let length = 1 << power;
+        lengths.extend([length - 1, length, length + 1]);
+    }
+    lengths.extend([4_095, 4_096, 4_097, LONGEST - 1, LONGEST, LONGEST]);
+    for _ in 0..300 {
+        lengths.push(rng.within(301, LONGEST));
+    }
+    for &length in &lengths {
+        check_random(&mut rng, length);
+    }
+    report(
+        "CRC, lengths from 301 to 20,480",
+        Some(seed),
+        lengths.len() as u64,
+    );
+}
+
+/// One bit alone, at each place of messages of some lengths: an error at any
+/// place shows.
+#[test]
+fn single_bits() {
+    let mut cases = 0;
+    for length in [1, 2, 7, 8, 9, 64, 255, 256, 257] {
+        for place in 0..length {
+            for bit in 0..8 {
+                let mut bytes = vec![0; length];
+                bytes[place] = 1 << bit;
+                check(&bytes, 1 << bit);
+                cases += 1;
+            }
+        }
+    }
+    let mut bytes = vec![0; LONGEST];
+    check(&bytes, 1);
+    for place in [0, 1, 4_095, 4_096, 16_384, LONGEST - 2, LONGEST - 1] {
+        bytes[place] = 0x80;
+        check(&bytes, 0xFF);
+        bytes[place] = 0;
+        cases += 1;
+    }
+    report("CRC, single bits", None, cases + 1);
+}
+
+/// A message in two parts, the second going on from the first one's CRC, and
+/// a message followed by its own CRC.
+#[test]
+fn in_parts() {
+    let seed = 0xC8_0003;
+    let mut rng = Rng::new(seed);
+    let mut cases = 0;
+    for _ in 0..3_000 {
+        let length = rng.within(0, 400);
+        let mut bytes = vec![0; length];
+        rng.fill(&mut bytes);
+        let whole = crc::crc8(&bytes);
+        let (first, second) = bytes.split_at(rng.within(0, length));
+        assert_eq!(product::crc8_from(product::crc8(first), second), whole);
+        bytes.push(product::crc8(&bytes));
+        assert_eq!(product::crc8(&bytes), 0);
+        cases += 1;
+    }
+    report("CRC, in two parts and with its CRC", Some(seed), cases);
+}
