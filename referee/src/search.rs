@@ -81,8 +81,8 @@ impl Search {
         if more == 1 && !front[first..].contains(&left[1]) {
             return;
         }
-        for place in first..PLACES {
-            if more == 1 && front[place] != left[1] {
+        for (place, &in_front) in front.iter().enumerate().skip(first) {
+            if more == 1 && in_front != left[1] {
                 continue;
             }
             let mut struck = [0; SUMS];

@@ -10,11 +10,14 @@ use referee::rng::Rng;
 /// The longest message: no piece is longer than a PDU.
 const LONGEST: usize = 20_480;
 
-fn report(class: &str, seed: Option<u64>, cases: u64) {
-    match seed {
-        Some(seed) => println!("{class}: seed {seed:#x}, {cases} cases"),
-        None => println!("{class}: {cases} cases"),
-    }
+/// The random numbers for a class of cases; its seed is printed.
+fn seeded(class: &str, seed: u64) -> Rng {
+    println!("{class}: seed {seed:#x}");
+    Rng::new(seed)
+}
+
+fn report(class: &str, cases: usize) {
+    println!("{class}: {cases} cases");
 }
 
 /// Compares both calls on one message, with one start besides 0.
@@ -45,7 +48,7 @@ fn examples() {
     assert_eq!(product::crc8(&[0x01]), 0x31, "example (d)");
     assert_eq!(product::crc8(&[0x80]), 0x7A, "example (e)");
     assert_eq!(product::crc8(&[0x01, 0x00]), 0xF4, "example (f)");
-    report("CRC, examples (d) to (f)", None, 3);
+    report("CRC, examples (d) to (f)", 3);
 }
 
 #[test]
@@ -61,13 +64,13 @@ fn short_messages() {
         }
     }
     assert_eq!(product::crc8(&[]), 0);
-    report("CRC, all messages up to two bytes", None, cases + 1);
+    report("CRC, all messages up to two bytes", cases + 1);
 }
 
 #[test]
 fn every_length_to_300() {
-    let seed = 0xC8_0001;
-    let mut rng = Rng::new(seed);
+    let class = "CRC, every length from 0 to 300";
+    let mut rng = seeded(class, 0xC8_0001);
     let mut cases = 0;
     for length in 0..=300 {
         for _ in 0..20 {
@@ -75,13 +78,13 @@ fn every_length_to_300() {
             cases += 1;
         }
     }
-    report("CRC, every length from 0 to 300", Some(seed), cases);
+    report(class, cases);
 }
 
 #[test]
 fn long_messages() {
-    let seed = 0xC8_0002;
-    let mut rng = Rng::new(seed);
+    let class = "CRC, lengths from 301 to 20,480";
+    let mut rng = seeded(class, 0xC8_0002);
     let mut lengths: Vec<usize> = (301..LONGEST).step_by(61).collect();
     for power in 9..=14 {
         let length = 1 << power;
@@ -94,11 +97,7 @@ fn long_messages() {
     for &length in &lengths {
         check_random(&mut rng, length);
     }
-    report(
-        "CRC, lengths from 301 to 20,480",
-        Some(seed),
-        lengths.len() as u64,
-    );
+    report(class, lengths.len());
 }
 
 /// One bit alone, at each place of messages of some lengths: an error at any
@@ -124,15 +123,15 @@ fn single_bits() {
         bytes[place] = 0;
         cases += 1;
     }
-    report("CRC, single bits", None, cases + 1);
+    report("CRC, single bits", cases + 1);
 }
 
 /// A message in two parts, the second going on from the first one's CRC, and
 /// a message followed by its own CRC.
 #[test]
 fn in_parts() {
-    let seed = 0xC8_0003;
-    let mut rng = Rng::new(seed);
+    let class = "CRC, in two parts and with its CRC";
+    let mut rng = seeded(class, 0xC8_0003);
     let mut cases = 0;
     for _ in 0..3_000 {
         let length = rng.within(0, 400);
@@ -145,5 +144,5 @@ fn in_parts() {
         assert_eq!(product::crc8(&bytes), 0);
         cases += 1;
     }
-    report("CRC, in two parts and with its CRC", Some(seed), cases);
+    report(class, cases);
 }

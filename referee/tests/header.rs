@@ -82,9 +82,10 @@ impl Class {
 
     /// Compares on a PDU with this header: mostly 96 bytes, also longer.
     fn check(&mut self, header: &Header, known: Known) {
-        let length = match self.rng.below(16) {
-            0 => self.rng.within(97, LONGEST),
-            1 | 2 => self.rng.within(97, 300),
+        let length = match self.rng.below(64) {
+            0 => LONGEST,
+            1..=3 => self.rng.within(97, LONGEST),
+            4..=11 => self.rng.within(97, 300),
             _ => PLACES,
         };
         self.check_with_length(header, length, known);
@@ -113,7 +114,7 @@ impl Class {
             }
             Known::BeyondMending => assert_eq!(answer, None, "{}", self.case()),
         }
-        if self.cases % self.every == 0 {
+        if self.cases.is_multiple_of(self.every) {
             let found = self.search.near_code_words(header);
             assert_eq!(
                 found,

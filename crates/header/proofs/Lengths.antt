@@ -8,7 +8,7 @@ use lib.Dec.{eqb, leb}
 use lib.ListN.{length, take, drop, replicate, drop-of-length-le}
 use lib.Seq.{slice, take-all, length-take-le}
 use borrow.Author.Tests.{le-leb, lt-leb}
-use Rattle.header.specs.Header.{parityOf, headerOf, lengthRefusal, withParity}
+use Rattle.header.specs.Header.{parityOf, headerOf, frontReplaced, lengthRefusal, withParity}
 
 pub short-refused : (n : ℕ) → n < 96 → lengthRefusal n ≡ 3
 unfolding lengthRefusal
@@ -47,3 +47,7 @@ parity-refused p e = rw e
 pub parity-written : (p : List ℕ) → lengthRefusal (length p) ≡ 0 → withParity p ≡ parityOf p ++ drop 8 p
 unfolding withParity
 parity-written p e = rw e
+
+pub front-fits : (p f : List ℕ) → length f ≤ length p → frontReplaced p f ≡ f ++ drop (length f) p
+unfolding frontReplaced
+front-fits p f h = ap (λ (u : List ℕ). u ++ drop (length f) p) (take-all (length p) f h)

@@ -64,6 +64,10 @@ parityOf w = remainder (slice 8 96 w)
 unfoldable pub headerOf : List ℕ → List ℕ
 headerOf p = take 96 p ++ drop (length p) (replicate 96 0)
 
+-- a PDU with its first bytes replaced by those of a list, as many as it has room for
+unfoldable pub frontReplaced : List ℕ → List ℕ → List ℕ
+frontReplaced p f = take (length p) f ++ drop (length f) p
+
 -- refusal 3 for a PDU length outside 96 to 20,480, else 0
 unfoldable pub lengthRefusal : ℕ → ℕ
 lengthRefusal n = cond (leb 96 n && leb n 20480) 0 3

@@ -2,7 +2,7 @@
 ghost use mathlib.Core.Path.{_≡_};
 ghost use Prim.Native.Nat.{_<_, _≤_};
 ghost use lib.ListN.{length};
-ghost use Rattle.header.specs.Header.{syndrome as syndromeOf, syndromes as syndromesOf, tap as tapOf, divideStep, parityOf, headerOf, lengthRefusal, withParity};
+ghost use Rattle.header.specs.Header.{syndrome as syndromeOf, syndromes as syndromesOf, tap as tapOf, divideStep, parityOf, headerOf, allZero, isCodeWord, frontReplaced, lengthRefusal, withParity};
 
 // The exponents of the generator's coefficients, constant first.
 const EXPONENTS: [u8; 9] = [36, 203, 3, 220, 253, 211, 240, 176, 0];
@@ -101,6 +101,41 @@ pub fn header_of(pdu: &[u8]) -> [u8; 96]
     header
 }
 
+// Whether a header is a code word.
+pub fn is_code_word(header: &[u8; 96]) -> bool
+    ensures { λ r. ⌜ r ≡ isCodeWord (now (header .entry)) ⌝ }
+{
+    all_zero(syndromes(header))
+}
+
+// Whether eight bytes are all zero.
+pub fn all_zero(s: [u8; 8]) -> bool
+    ensures { λ r. ⌜ r ≡ allZero s ⌝ }
+{
+    let mut i: usize = 0;
+    while i < 8 {
+        if s[i] != 0 {
+            return false;
+        }
+        i += 1;
+    }
+    true
+}
+
+// Copies bytes over the first ones of a PDU, as many as it has room for.
+pub fn put_front(pdu: &mut [u8], front: &[u8])
+    ensures { λ _. ⌜ now (pdu .exit) ≡ frontReplaced (now (pdu .entry)) (now (front .entry)) ⌝ }
+{
+    let mut i: usize = 0;
+    while i < front.len() {
+        if i == pdu.len() {
+            return;
+        }
+        pdu[i] = front[i];
+        i += 1;
+    }
+}
+
 // Writes the parity of a PDU into its bytes 0 to 7: 0, or 3 for a length outside 96 to 20,480.
 pub fn write_parity(pdu: &mut [u8]) -> u32
     ensures { λ r. ⌜ r ≡ lengthRefusal (length (now (pdu .entry))) ⌝ }
@@ -114,8 +149,6 @@ pub fn write_parity(pdu: &mut [u8]) -> u32
     }
     let header = header_of(pdu);
     let p = divide(header);
-    for k in 0..8 {
-        pdu[k] = p[k];
-    }
+    put_front(pdu, &p);
     0
 }

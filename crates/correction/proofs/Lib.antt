@@ -1,0 +1,6 @@
+pub mod Steps
+pub mod Solving
+pub mod Searching
+pub mod Filtering
+pub mod Locating
+pub mod Nearest

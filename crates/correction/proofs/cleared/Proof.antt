@@ -1,0 +1,72 @@
+use mathlib.Core.Path.{_≡_, refl, sym, _∙_, ap}
+use Prim.Native.Nat.{ℕ, zero, suc, _+_, _-_, _<_, _≤_}
+use native.Mathlib.Omega.{arith}
+use lib.ListN.{length, getD, set, length-set}
+use lib.Bits.{bitXor}
+use borrow.Author.Needs.{needs}
+use Rattle.field.specs.Field.{mul, inverse}
+use Rattle.correction.specs.Elimination.{Row, scaledBy, clearedBy}
+use Rattle.correction.proofs.Steps.{begin, grow, finish}
+use Rattle.correction.proofs.cleared.Statement.{statement}
+use Rattle.correction.proofs.cleared.Tie as tie
+use Rattle.correction.proofs.cleared.Reads as reads
+use Rattle.correction.proofs.cleared.Lts as lts
+use Rattle.field.proofs.product.Reads as product-reads
+
+abbrev Inv-loop : tie.InvT-loop
+Inv-loop k row p b out₀ i₀ out i = (i ≤ 5) × Row (clearedBy row p k) out i
+
+abbrev μ-loop : tie.MeasureT-loop
+μ-loop k row p b out₀ i₀ out i = 5 - i
+
+array-read-b : tie.Need-array-read-b Inv-loop μ-loop
+array-read-b c = search needs
+
+loop-holds : tie.Need-loop-holds Inv-loop μ-loop
+loop-holds c = (omega arith, begin _ _ (search needs))
+
+array-read-out : tie.Need-array-read-out Inv-loop μ-loop
+array-read-out c = search needs
+
+array-read-product : tie.Need-array-read-product Inv-loop μ-loop
+array-read-product c = search needs
+
+product-requires : tie.Need-product-requires Inv-loop μ-loop
+product-requires c κs = search needs
+
+array-write-out : tie.Need-array-write-out Inv-loop μ-loop
+array-write-out c = search needs
+
+add-i : tie.Need-add-i Inv-loop μ-loop
+add-i c = search needs
+
+loop-less : tie.Need-loop-less Inv-loop μ-loop
+loop-less c = search needs
+
+loop-again : tie.Need-loop-again Inv-loop μ-loop
+loop-again c = (
+  omega arith,
+  grow (clearedBy (c .before .before .before .args .t1) (c .before .before .before .args .t2) (c .before .before .before .args .k)) (c .before .before .loop .out) (c .before .before .loop .i)
+      (bitXor (getD (c .before .before .before .args .t1) (c .before .before .loop .i) 0) (c .product .result))
+      (omega arith) (c .before .before .loop .inv .1) (ap (λ (v : ℕ). bitXor (getD (c .before .before .before .args .t1) (c .before .before .loop .i) 0) v) (c .product .ensures)),
+)
+
+returns : tie.Need-returns Inv-loop μ-loop
+returns c = finish _ _ (c .before .loop .i) (omega arith) (c .before .loop .inv .1)
+
+pub cleared-spec : {M : Type 1} → statement M
+cleared-spec =
+    tie.close
+    (tie.spec
+    Inv-loop
+    μ-loop
+    array-read-b
+    loop-holds
+    array-read-out
+    array-read-product
+    product-requires
+    array-write-out
+    add-i
+    loop-less
+    loop-again
+    returns)

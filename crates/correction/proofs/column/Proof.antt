@@ -1,0 +1,61 @@
+use mathlib.Core.Path.{_≡_, refl, sym, _∙_, ap}
+use mathlib.Core.List.{List, [], _∷_}
+use Prim.Native.Nat.{ℕ, zero, suc, _+_, _-_, _<_, _≤_}
+use native.Mathlib.Omega.{arith}
+use lib.ListN.{length, getD, set, length-set}
+use borrow.Author.Needs.{needs}
+use Rattle.correction.specs.Elimination.{Column}
+use Rattle.correction.proofs.Steps.{column-next, column-end}
+use Rattle.correction.proofs.column.Statement.{statement}
+use Rattle.correction.proofs.column.Tie as tie
+use Rattle.correction.proofs.column.Reads as reads
+use Rattle.correction.proofs.column.Lts as lts
+
+abbrev Inv-loop : tie.InvT-loop
+Inv-loop k rows out₀ i₀ out i = (i ≤ k) × Column rows k out i
+
+abbrev μ-loop : tie.MeasureT-loop
+μ-loop k rows out₀ i₀ out i = k - i
+
+loop-holds : tie.Need-loop-holds Inv-loop μ-loop
+loop-holds c = (omega arith, record { long = search needs; taken = λ i l. absurd (omega arith) })
+
+mul-row : tie.Need-mul-row Inv-loop μ-loop
+mul-row c = search needs
+
+array-copy-out-row : tie.Need-array-copy-out-row Inv-loop μ-loop
+array-copy-out-row c = search needs
+
+array-read-out : tie.Need-array-read-out Inv-loop μ-loop
+array-read-out c = search needs
+
+array-write-out : tie.Need-array-write-out Inv-loop μ-loop
+array-write-out c = search needs
+
+add-i : tie.Need-add-i Inv-loop μ-loop
+add-i c = search needs
+
+loop-less : tie.Need-loop-less Inv-loop μ-loop
+loop-less c = search needs
+
+loop-again : tie.Need-loop-again Inv-loop μ-loop
+loop-again c = (omega arith, column-next _ _ (c .before .before .loop .out) _ _ (omega arith) (c .before .before .loop .inv .1) refl)
+
+returns : tie.Need-returns Inv-loop μ-loop
+returns c = column-end _ _ _ (c .before .loop .i) (omega arith) (c .before .loop .inv .1)
+
+pub column-spec : {M : Type 1} → statement M
+column-spec =
+    tie.close
+    (tie.spec
+    Inv-loop
+    μ-loop
+    loop-holds
+    mul-row
+    array-copy-out-row
+    array-read-out
+    array-write-out
+    add-i
+    loop-less
+    loop-again
+    returns)

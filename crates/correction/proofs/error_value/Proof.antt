@@ -1,0 +1,85 @@
+use mathlib.Core.Path.{_≡_, refl, sym, _∙_, ap}
+use mathlib.Core.List.{List, [], _∷_}
+use mathlib.Core.Logic.{⊎-elim}
+use Prim.Native.Nat.{ℕ, zero, suc, _+_, _-_, _<_, _≤_}
+use native.Mathlib.Omega.{arith}
+use lib.ListN.{length, getD, set, length-set}
+use lib.Bits.{bitXor}
+use borrow.Author.Needs.{needs}
+use Rattle.field.specs.Field.{mul, inverse}
+use Rattle.correction.proofs.Filtering.{Working, working-start, working-skip, working-next, working-end}
+use Rattle.correction.proofs.error_value.Statement.{statement}
+use Rattle.correction.proofs.error_value.Tie as tie
+use Rattle.correction.proofs.error_value.Reads as reads
+use Rattle.correction.proofs.error_value.Lts as lts
+use Rattle.correction.proofs.filtered.Reads as filtered-reads
+use Rattle.field.proofs.inverse.Reads as inverse-reads
+use Rattle.field.proofs.product.Reads as product-reads
+
+abbrev Inv-loop : tie.InvT-loop
+Inv-loop m k z at t₀ f₀ q₀ t f q = (q ≤ m) × Working t₀ z k q t f
+
+abbrev μ-loop : tie.MeasureT-loop
+μ-loop m k z at t₀ f₀ q₀ t f q = m - q
+
+array-read-at : tie.Need-array-read-at Inv-loop μ-loop
+array-read-at c = search needs
+
+loop-holds : tie.Need-loop-holds Inv-loop μ-loop
+loop-holds c = (omega arith, working-start _ _ _)
+
+array-read-x : tie.Need-array-read-x Inv-loop μ-loop
+array-read-x c = search needs
+
+filtered-requires : tie.Need-filtered-requires Inv-loop μ-loop
+filtered-requires c κs = search needs
+
+product-requires : tie.Need-product-requires Inv-loop μ-loop
+product-requires c κs = search needs
+
+add-q : tie.Need-add-q Inv-loop μ-loop
+add-q c = search needs
+
+loop-less : tie.Need-loop-less Inv-loop μ-loop
+loop-less c = search needs
+
+loop-again : tie.Need-loop-again Inv-loop μ-loop
+loop-again c = (
+  omega arith,
+  ⊎-elim
+      (λ w. rw (w .3, w .4) (working-next _ _ _ (c .before .before .loop .q) (c .before .before .loop .t) _ (c .before .before .loop .f) _ (c .before .before .loop .inv .1) (w .0 .taken) (w .1 .ensures) (w .2 .ensures)))
+      (λ w. rw (w .1, w .2) (working-skip _ _ _ (c .before .before .loop .q) (c .before .before .loop .t) (c .before .before .loop .f) (c .before .before .loop .inv .1) (w .0 .left)))
+      (c .if1 .came),
+)
+
+inverse-requires : tie.Need-inverse-requires Inv-loop μ-loop
+inverse-requires c κs = search needs
+
+array-read-product : tie.Need-array-read-product Inv-loop μ-loop
+array-read-product c = search needs
+
+product-requires-2 : tie.Need-product-requires-2 Inv-loop μ-loop
+product-requires-2 c κs = search needs
+
+returns : tie.Need-returns Inv-loop μ-loop
+returns c = working-end (c .before .before .before .before .args .s) (c .before .before .before .before .args .t2) (c .before .before .before .before .args .k) (c .before .before .before .loop .q) (c .before .before .before .before .args .m) (c .before .before .before .loop .t) (c .before .before .before .loop .f) _ (c .before .inverse .result)
+    (omega arith) (omega arith) (omega arith) (c .before .before .before .loop .inv .1) (c .before .inverse .ensures) (c .product2 .ensures)
+
+pub error-value-spec : {M : Type 1} → statement M
+error-value-spec =
+    tie.close
+    (tie.spec
+    Inv-loop
+    μ-loop
+    array-read-at
+    loop-holds
+    array-read-x
+    filtered-requires
+    product-requires
+    add-q
+    loop-less
+    loop-again
+    inverse-requires
+    array-read-product
+    product-requires-2
+    returns)

@@ -1,0 +1,57 @@
+use mathlib.Core.Path.{_≡_, refl, sym, _∙_, ap}
+use mathlib.Core.List.{List, [], _∷_}
+use mathlib.Core.Logic.{⊎-elim}
+use Prim.Native.Nat.{ℕ, zero, suc, _+_, _-_, _<_, _≤_}
+use native.Mathlib.Omega.{arith}
+use lib.ListN.{length, getD, set, length-set}
+use lib.Bits.{bitXor}
+use borrow.Author.Needs.{needs}
+use Rattle.field.specs.Field.{mul, inverse, pow}
+use Rattle.correction.proofs.Searching.{Evaluated, evaluate-start, evaluate-next, evaluate-end, search-start, search-hit, search-miss, search-room}
+use Rattle.correction.specs.ErrorPlaces.{Search, valueFrom}
+use Rattle.correction.proofs.evaluate.Statement.{statement}
+use Rattle.correction.proofs.evaluate.Tie as tie
+use Rattle.correction.proofs.evaluate.Reads as reads
+use Rattle.correction.proofs.evaluate.Lts as lts
+use Rattle.field.proofs.product.Reads as product-reads
+
+abbrev Inv-loop : tie.InvT-loop
+Inv-loop degree x coefficients v₀ i₀ v i = (i ≤ 4) × Evaluated coefficients degree x i v
+
+abbrev μ-loop : tie.MeasureT-loop
+μ-loop degree x coefficients v₀ i₀ v i = i
+
+loop-holds : tie.Need-loop-holds Inv-loop μ-loop
+loop-holds c = (omega arith, evaluate-start _ _ _)
+
+sub-i : tie.Need-sub-i Inv-loop μ-loop
+sub-i c = search needs
+
+array-read-v : tie.Need-array-read-v Inv-loop μ-loop
+array-read-v c = search needs
+
+product-requires : tie.Need-product-requires Inv-loop μ-loop
+product-requires c κs = search needs
+
+loop-less : tie.Need-loop-less Inv-loop μ-loop
+loop-less c = search needs
+
+loop-again : tie.Need-loop-again Inv-loop μ-loop
+loop-again c = (omega arith, evaluate-next _ _ _ (c .before .before .loop .i) (c .before .before .loop .v) _ (omega arith) (c .before .before .loop .inv .1) (c .product .ensures))
+
+returns : tie.Need-returns Inv-loop μ-loop
+returns c = evaluate-end _ _ _ (c .before .loop .i) (c .before .loop .v) (omega arith) (c .before .loop .inv .1)
+
+pub evaluate-spec : {M : Type 1} → statement M
+evaluate-spec =
+    tie.close
+    (tie.spec
+    Inv-loop
+    μ-loop
+    loop-holds
+    sub-i
+    array-read-v
+    product-requires
+    loop-less
+    loop-again
+    returns)

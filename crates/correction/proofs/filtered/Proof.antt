@@ -1,0 +1,72 @@
+use mathlib.Core.Path.{_≡_, refl, sym, _∙_, ap}
+use mathlib.Core.List.{List, [], _∷_}
+use Prim.Native.Nat.{ℕ, zero, suc, _+_, _-_, _<_, _≤_}
+use native.Mathlib.Omega.{arith}
+use lib.ListN.{length, getD, set, length-set}
+use lib.Bits.{bitXor}
+use borrow.Author.Needs.{needs}
+use Rattle.field.specs.Field.{mul, inverse}
+use Rattle.correction.specs.ErrorValues.{Filtered}
+use Rattle.correction.proofs.Filtering.{filtered-next, filtered-end}
+use Rattle.correction.proofs.filtered.Statement.{statement}
+use Rattle.correction.proofs.filtered.Tie as tie
+use Rattle.correction.proofs.filtered.Reads as reads
+use Rattle.correction.proofs.filtered.Lts as lts
+use Rattle.field.proofs.product.Reads as product-reads
+
+abbrev Inv-loop : tie.InvT-loop
+Inv-loop x t out₀ j₀ out j = (j ≤ 7) × Filtered t x out j
+
+abbrev μ-loop : tie.MeasureT-loop
+μ-loop x t out₀ j₀ out j = 7 - j
+
+loop-holds : tie.Need-loop-holds Inv-loop μ-loop
+loop-holds c = (omega arith, record { long = search needs; entry = λ i l. absurd (omega arith) })
+
+add-out : tie.Need-add-out Inv-loop μ-loop
+add-out c = search needs
+
+array-read-out : tie.Need-array-read-out Inv-loop μ-loop
+array-read-out c = search needs
+
+array-read-product : tie.Need-array-read-product Inv-loop μ-loop
+array-read-product c = search needs
+
+product-requires : tie.Need-product-requires Inv-loop μ-loop
+product-requires c κs = search needs
+
+array-write-out : tie.Need-array-write-out Inv-loop μ-loop
+array-write-out c = search needs
+
+add-j : tie.Need-add-j Inv-loop μ-loop
+add-j c = search needs
+
+loop-less : tie.Need-loop-less Inv-loop μ-loop
+loop-less c = search needs
+
+loop-again : tie.Need-loop-again Inv-loop μ-loop
+loop-again c = (
+  omega arith,
+  filtered-next _ _ (c .before .before .loop .out) (c .before .before .loop .j) _ (omega arith) (c .before .before .loop .inv .1)
+      (ap (λ (u : ℕ). bitXor (getD (c .before .before .before .args .t1) (c .before .before .loop .j + 1) 0) u) (c .product .ensures)),
+)
+
+returns : tie.Need-returns Inv-loop μ-loop
+returns c = filtered-end _ _ _ (c .before .loop .j) (omega arith) (c .before .loop .inv .1)
+
+pub filtered-spec : {M : Type 1} → statement M
+filtered-spec =
+    tie.close
+    (tie.spec
+    Inv-loop
+    μ-loop
+    loop-holds
+    add-out
+    array-read-out
+    array-read-product
+    product-requires
+    array-write-out
+    add-j
+    loop-less
+    loop-again
+    returns)

@@ -1,0 +1,63 @@
+use mathlib.Core.Path.{_≡_, refl, sym, _∙_, ap}
+use Prim.Native.Nat.{ℕ, zero, suc, _+_, _-_, _<_, _≤_}
+use native.Mathlib.Omega.{arith}
+use lib.ListN.{length, getD, set, length-set}
+use mathlib.Core.List.{List, [], _∷_}
+use lib.Bits.{bitXor}
+use borrow.Author.Needs.{needs}
+use Rattle.field.specs.Field.{mul, inverse}
+use Rattle.correction.specs.Elimination.{Row, scaledBy, clearedBy}
+use Rattle.correction.proofs.Steps.{begin, grow, finish, zeros-again}
+use Rattle.correction.proofs.pivot.Statement.{statement}
+use Rattle.correction.proofs.pivot.Tie as tie
+use Rattle.correction.proofs.pivot.Reads as reads
+use Rattle.correction.proofs.pivot.Lts as lts
+
+abbrev Inv-loop : tie.InvT-loop
+Inv-loop k m r₀ r = (k ≤ r) × (r ≤ 4) × ((i : ℕ) → k ≤ i → i < r → getD (getD m i []) k 0 ≡ 0)
+
+abbrev μ-loop : tie.MeasureT-loop
+μ-loop k m r₀ r = 5 - r
+
+loop-holds : tie.Need-loop-holds Inv-loop μ-loop
+loop-holds c = (omega arith, omega arith, λ i a b. absurd (omega arith))
+
+mul-row : tie.Need-mul-row Inv-loop μ-loop
+mul-row c = search needs
+
+array-copy-out-row : tie.Need-array-copy-out-row Inv-loop μ-loop
+array-copy-out-row c = search needs
+
+array-read-if1 : tie.Need-array-read-if1 Inv-loop μ-loop
+array-read-if1 c = search needs
+
+returns : tie.Need-returns Inv-loop μ-loop
+returns c = record { low = omega arith; high = omega arith; zeros = c .before .before .before .loop .inv .2; here = λ l. c .if1 .taken }
+
+add-r : tie.Need-add-r Inv-loop μ-loop
+add-r c = search needs
+
+loop-less : tie.Need-loop-less Inv-loop μ-loop
+loop-less c = search needs
+
+loop-again : tie.Need-loop-again Inv-loop μ-loop
+loop-again c = (omega arith, omega arith, zeros-again (c .before .before .before .before .args .t1) (c .before .before .before .before .args .k) (c .before .before .before .loop .r) (c .before .before .before .loop .inv .2) (c .if1 .left))
+
+returns-2 : tie.Need-returns-2 Inv-loop μ-loop
+returns-2 c = record { low = omega arith; high = omega arith; zeros = λ i a b. c .before .loop .inv .2 i a (omega arith); here = λ l. absurd (omega arith) }
+
+pub pivot-spec : {M : Type 1} → statement M
+pivot-spec =
+    tie.close
+    (tie.spec
+    Inv-loop
+    μ-loop
+    loop-holds
+    mul-row
+    array-copy-out-row
+    array-read-if1
+    returns
+    add-r
+    loop-less
+    loop-again
+    returns-2)

@@ -1,0 +1,55 @@
+-- The four by four system of the syndromes with its right side as column 4, and its elimination as far as the first
+-- column with no pivot: what each step does, entry by entry.
+use mathlib.Core.Path.{_≡_}
+use mathlib.Core.List.{List, []}
+use Prim.Native.Nat.{ℕ, zero, suc, _<_, _≤_}
+use lib.ListN.{length, getD, set}
+use lib.Bits.{bitXor}
+use Rattle.field.specs.Field.{mul, inverse}
+
+-- A row of five whose first n entries are f's.
+pub record Row (f : ℕ → ℕ) (r : List ℕ) (n : ℕ) : Type 0 where
+  pub long : length r ≡ 5
+  pub entry : (i : ℕ) → i < n → getD r i 0 ≡ f i
+
+-- the row times the inverse of b
+abbrev pub scaledBy : List ℕ → ℕ → ℕ → ℕ
+scaledBy row b i = mul (inverse b) (getD row i 0)
+
+-- the row plus its entry at k times the row p
+abbrev pub clearedBy : List ℕ → List ℕ → ℕ → ℕ → ℕ
+clearedBy row p k i = bitXor (getD row i 0) (mul (getD row k 0) (getD p i 0))
+
+-- The first row from k on with a nonzero entry in column k, or h.
+pub record Pivot (m : List (List ℕ)) (k p : ℕ) : Type 0 where
+  pub low : k ≤ p
+  pub high : p ≤ 4
+  pub zeros : (r : ℕ) → k ≤ r → r < p → getD (getD m r []) k 0 ≡ 0
+  pub here : p < 4 → ¬ (getD (getD m p []) k 0 ≡ 0)
+
+-- Column k of m cleared with the pivot in row p: rows k and p exchanged, row k scaled, the others cleared.
+pub record Reduce (m : List (List ℕ)) (k p : ℕ) (out : List (List ℕ)) : Type 0 where
+  pub tall : length out ≡ 4
+  pub top : Row (scaledBy (getD m p []) (getD (getD m p []) k 0)) (getD out k []) 5
+  pub rows : (r : ℕ) → r < 4 → ¬ (r ≡ k) → Row (clearedBy (getD (set m p (getD m k [])) r []) (getD out k []) k) (getD out r []) 5
+
+-- The first n entries are those of column k.
+pub record Column (m : List (List ℕ)) (k : ℕ) (out : List ℕ) (n : ℕ) : Type 0 where
+  pub long : length out ≡ 4
+  pub taken : (i : ℕ) → i < n → getD out i 0 ≡ getD (getD m i []) k 0
+
+abbrev pub entry : List (List ℕ) → ℕ → ℕ → ℕ
+entry m r i = getD (getD m r []) i 0
+
+-- k columns done, from m to n.
+pub data Chain (m : List (List ℕ)) : ℕ → List (List ℕ) → Type 0 where
+  begun : Chain m 0 m
+  next : {k : ℕ} {n : List (List ℕ)} (p : ℕ) (n′ : List (List ℕ)) → Chain m k n → k < 4 → p < 4 → length n ≡ 4 → Pivot n k p → Reduce n k p n′ → Chain m (suc k) n′
+
+-- The polynomial found: of this degree, and with these lower coefficients.
+pub record Solved (m : List (List ℕ)) (degree : ℕ) (coefficients : List ℕ) : Type 0 where
+  pub rows : List (List ℕ)
+  pub chain : Chain m degree rows
+  pub small : degree ≤ 4
+  pub stop : Pivot rows degree 4
+  pub taken : (i : ℕ) → i < degree → getD coefficients i 0 ≡ entry rows i degree

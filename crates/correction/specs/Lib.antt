@@ -1,0 +1,4 @@
+pub mod Correction
+pub mod Elimination
+pub mod ErrorPlaces
+pub mod ErrorValues

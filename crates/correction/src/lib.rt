@@ -1,0 +1,196 @@
+// Error correction of the header code (document 01, "Header code").
+ghost use mathlib.Core.Path.{_≡_};
+ghost use Prim.Native.Nat.{_<_, _≤_};
+ghost use lib.ListN.{getD, length};
+ghost use Rattle.field.specs.Field.{mul, inverse};
+ghost use Rattle.algebra.specs.Places.{keep, below};
+ghost use Rattle.correction.specs.Elimination.{Row, scaledBy, clearedBy, Pivot, Reduce, Column, Solved};
+ghost use Rattle.correction.specs.ErrorPlaces.{valueFrom, root, Search};
+ghost use Rattle.correction.specs.ErrorValues.{Filtered, stripped, others, entries, product};
+
+// How many bytes of a header were corrected (0 to 4), or the refusal number (3 or 4).
+pub enum Correction {
+    Corrected(u32),
+    Refused(u32),
+}
+
+// The row times the inverse of b.
+fn scaled(row: [u8; 5], b: u8) -> [u8; 5]
+    ensures { λ r. ⌜ Row (scaledBy row b) r 5 ⌝ }
+{
+    let v = field::inverse(b);
+    let mut out = row;
+    for i in 0..5 {
+        out[i] = field::product(v, row[i]);
+    }
+    out
+}
+
+// The row plus its entry at k times the pivot row.
+fn cleared(row: [u8; 5], p: [u8; 5], k: usize) -> [u8; 5]
+    requires { ⌜ k < 5 ⌝ }
+    ensures { λ r. ⌜ Row (clearedBy row p k) r 5 ⌝ }
+{
+    let b = row[k];
+    let mut out = row;
+    for i in 0..5 {
+        out[i] = row[i] ^ field::product(b, p[i]);
+    }
+    out
+}
+
+// The first row from k on with a nonzero entry in column k, or 4.
+fn pivot(m: [[u8; 5]; 4], k: usize) -> usize
+    requires { ⌜ k ≤ 4 ⌝ }
+    ensures { λ p. ⌜ Pivot m k p ⌝ }
+{
+    let mut r = k;
+    while r < 4 {
+        let row = m[r];
+        if row[k] != 0 {
+            return r;
+        }
+        r += 1;
+    }
+    4
+}
+
+fn reduce(m: [[u8; 5]; 4], k: usize, p: usize) -> [[u8; 5]; 4]
+    requires { ⌜ k < 4 ⌝ }
+    requires { ⌜ p < 4 ⌝ }
+    ensures { λ r. ⌜ Reduce m k p r ⌝ }
+{
+    let row = m[p];
+    let b = row[k];
+    let top = scaled(row, b);
+    let other = m[k];
+    let mut out = m;
+    out[p] = other;
+    out[k] = top;
+    for r in 0..4 {
+        if r != k {
+            let old = out[r];
+            out[r] = cleared(old, top, k);
+        }
+    }
+    out
+}
+
+struct Locator {
+    pub degree: usize,
+    pub coefficients: [u8; 4],
+}
+
+// The first k entries of column k.
+fn column(rows: [[u8; 5]; 4], k: usize) -> [u8; 4]
+    requires { ⌜ k ≤ 4 ⌝ }
+    ensures { λ r. ⌜ Column rows k r k ⌝ }
+{
+    let mut out = [0; 4];
+    for i in 0..k {
+        let row = rows[i];
+        out[i] = row[k];
+    }
+    out
+}
+
+// Elimination as far as the first column with no pivot.
+fn eliminate(m: [[u8; 5]; 4]) -> Locator
+    ensures { λ r. ⌜ Solved m (r .degree) (r .coefficients) ⌝ }
+{
+    let mut rows = m;
+    let mut k = 0;
+    while k < 4 {
+        let p = pivot(rows, k);
+        if p == 4 {
+            let c = column(rows, k);
+            return Locator {
+                degree: k,
+                coefficients: c,
+            };
+        }
+        let next = reduce(rows, k, p);
+        rows = next;
+        k += 1;
+    }
+    let c = column(rows, 4);
+    Locator {
+        degree: 4,
+        coefficients: c,
+    }
+}
+
+// One filter: entry j becomes t[j + 1] + x t[j]. The last entry is of no use after it.
+fn filtered(t: [u8; 8], x: u8) -> [u8; 8]
+    ensures { λ r. ⌜ Filtered t x r 7 ⌝ }
+{
+    let mut out = [0; 8];
+    for j in 0..7 {
+        out[j] = t[j + 1] ^ field::product(x, t[j]);
+    }
+    out
+}
+
+// The weight at the point z[k], one of the first m points of z, from the sums s.
+fn error_value(s: [u8; 8], z: [u8; 8], m: usize, k: usize) -> u8
+    requires { ⌜ m ≤ 8 ⌝ }
+    requires { ⌜ k < m ⌝ }
+    ensures { λ r. ⌜ r ≡ mul (stripped (others z k m) (entries s) 0) (inverse (product (others z k m) (getD z k 0) (getD z k 0))) ⌝ }
+{
+    let at = z[k];
+    let mut t = s;
+    let mut f = at;
+    for q in 0..m {
+        if q != k {
+            let x = z[q];
+            let next = filtered(t, x);
+            t = next;
+            f = field::product(f, at ^ x);
+        }
+    }
+    let v = field::inverse(f);
+    field::product(t[0], v)
+}
+
+// The locator at x.
+fn evaluate(coefficients: [u8; 4], degree: usize, x: u8) -> u8
+    requires { ⌜ degree ≤ 4 ⌝ }
+    ensures { λ r. ⌜ r ≡ valueFrom coefficients x 0 degree ⌝ }
+{
+    let mut v = 1;
+    let mut i = degree;
+    while 0 < i {
+        i -= 1;
+        v = coefficients[i] ^ field::product(x, v);
+    }
+    v
+}
+
+struct Places {
+    pub count: usize,
+    pub places: [usize; 4],
+}
+
+// The places at which the locator is zero, the last first.
+fn error_places(coefficients: [u8; 4], degree: usize) -> Places
+    requires { ⌜ degree ≤ 4 ⌝ }
+    requires { ⌜ length (keep (root coefficients degree) (below 96)) ≤ 4 ⌝ }
+    ensures { λ r. ⌜ Search coefficients degree 0 (r .count) (r .places) ⌝ }
+{
+    let mut count = 0;
+    let mut places = [0; 4];
+    let mut m = 96;
+    while 0 < m {
+        m -= 1;
+        let x = field::power(m);
+        let v = evaluate(coefficients, degree, x);
+        if v == 0 {
+            places[count] = m;
+            count += 1;
+        }
+    }
+    Places {
+        count: count,
+        places: places,
+    }
+}
