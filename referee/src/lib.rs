@@ -1,8 +1,6 @@
-//! The reference for the audio transport layer, written from the papers.
-//!
-//! It favours plain definitions over speed, and the tests compare the product
-//! with it. So far it covers the header code, the CRC-8 and the refusals 3
-//! and 4:
+//! The reference for the audio transport layer: the rules of document 01 in
+//! their plainest form, for the tests to compare the product with. It covers
+//! the header code, the CRC-8 and the refusals 3 and 4:
 //!
 //! - `field`: the bytes as elements of GF(256);
 //! - `linear`: systems of linear equations over them;

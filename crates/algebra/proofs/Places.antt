@@ -5,7 +5,7 @@ use mathlib.Core.List.{List, [], _∷_, _++_}
 use Prim.Native.Nat.{ℕ, zero, suc, _+_, _<_}
 use native.Mathlib.Decide.{ℕ-discrete}
 use native.Mathlib.Omega.{arith}
-use lib.ListN.{length}
+use lib.ListN.{length, getD}
 use Rattle.algebra.specs.Places.{All, below, consIf, keep}
 
 pub all-map {ℓ} : {A : Type ℓ} (P Q : A → Type 0) → ((x : A) → P x → Q x) → (xs : List A) → All P xs → All Q xs
@@ -56,6 +56,28 @@ module _ (t : ℕ → Bool) where
       go : (b : Bool) → t i ≡ b → All (λ k. t k ≡ true) (keep t is) → All (λ k. t k ≡ true) (consIf b i (keep t is))
       go true e r = (e, r)
       go false e r = r
+
+pub all-getD : (P : ℕ → Type 0) (is : List ℕ) → All P is → (k : ℕ) → k < length is → P (getD is k 0)
+all-getD P [] a k l = absurd (omega arith)
+all-getD P (i ∷ is) a zero l = a .0
+all-getD P (i ∷ is) a (suc k) l = all-getD P is (a .1) k (omega arith)
+
+-- The places kept of those below n are below n, and fall.
+pub kept-below : (t : ℕ → Bool) (n k : ℕ) → k < length (keep t (below n)) → getD (keep t (below n)) k 0 < n
+kept-below t n k l = all-getD (λ i. i < n) (keep t (below n)) (keep-all t (λ i. i < n) (below n) (all-below (λ i. i < n) n (λ i b. b))) k l
+
+pub kept-fall : (t : ℕ → Bool) (n j k : ℕ) → j < k → k < length (keep t (below n)) → getD (keep t (below n)) k 0 < getD (keep t (below n)) j 0
+kept-fall t zero j k h l = absurd (omega arith)
+kept-fall t (suc n) j k h l = go (t n) j k h l (λ j k h l. kept-fall t n j k h l)
+  where
+    go : (b : Bool) (j k : ℕ) → j < k → k < length (consIf b n (keep t (below n)))
+        → ((j k : ℕ) → j < k → k < length (keep t (below n)) → getD (keep t (below n)) k 0 < getD (keep t (below n)) j 0)
+        → getD (consIf b n (keep t (below n))) k 0 < getD (consIf b n (keep t (below n))) j 0
+    go false j k h l rec = rec j k h l
+    go true zero zero h l rec = absurd (omega arith)
+    go true zero (suc k) h l rec = kept-below t n k (omega arith)
+    go true (suc j) zero h l rec = absurd (omega arith)
+    go true (suc j) (suc k) h l rec = rec j k (omega arith) (omega arith)
 
 -- A place kept, and the places before and after it.
 pub record Split (is : List ℕ) (i : ℕ) : Type 0 where

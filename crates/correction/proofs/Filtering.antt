@@ -1,14 +1,14 @@
 -- The error value, turn by turn of its loops.
-use mathlib.Core.Path.{_≡_, refl, sym, _∙_, ap}
-use mathlib.Core.List.{List, [], _∷_, _++_}
+use mathlib.Core.Path.{_≡_, refl, sym, _∙_, ap, ap₂}
+use mathlib.Core.List.{List, [], _∷_, _++_, map, append-nil, map-append}
 use Prim.Native.Nat.{ℕ, zero, suc, _+_, _-_, _<_, _≤_}
 use native.Mathlib.Omega.{arith}
 use native.Mathlib.Numerals.{add-one}
-use native.Mathlib.Decide.{ℕ-discrete}
-use lib.ListN.{length, getD, set, length-set, length-append}
-use lib.Seq.{getD-set-same, getD-set-other}
+use native.Mathlib.Decide.{ℕ-discrete, decLt}
+use lib.ListN.{length, getD, set, take, length-set, length-append}
+use lib.Seq.{getD-set-same, getD-set-other, take-suc, length-take-le}
 use lib.Bits.{bitXor}
-use Rattle.field.specs.Field.{mul, inverse}
+use Rattle.field.specs.Field.{mul, inverse, pow}
 use Rattle.correction.specs.ErrorValues.{entries, stripped, product, unlessSame, others, Filtered}
 
 pub filtered-next : (t : List ℕ) (x : ℕ) (r : List ℕ) (n y : ℕ) → n < 7 → Filtered t x r n → y ≡ bitXor (getD t (n + 1) 0) (mul x (getD t n 0)) → Filtered t x (set r n y) (n + 1)
@@ -84,3 +84,65 @@ working-end s z k q m t f r v e l b w i g =
     let x : getD t 0 0 ≡ stripped (others z k m) (entries s) 0 = u .window 0 (omega arith) in
     let y : f ≡ product (others z k m) (getD z k 0) (getD z k 0) = u .factors in
     g ∙ rw (i, x, y)
+
+-- ---- the other points, as those of a list of places with one left out
+
+without : ℕ → List ℕ → List ℕ
+without k [] = []
+without zero (x ∷ xs) = xs
+without (suc k) (x ∷ xs) = x ∷ without k xs
+
+without-at : (u v : List ℕ) (x : ℕ) → without (length u) (u ++ x ∷ v) ≡ u ++ v
+unfolding without
+without-at [] v x = refl
+without-at (y ∷ u) v x = ap (λ (l : List ℕ). y ∷ l) (without-at u v x)
+
+without-before : (k : ℕ) (u v : List ℕ) → k < length u → without k (u ++ v) ≡ without k u ++ v
+unfolding without
+without-before k [] v h = absurd (omega arith)
+without-before zero (x ∷ u) v h = refl
+without-before (suc k) (x ∷ u) v h = ap (λ (l : List ℕ). x ∷ l) (without-before k u v (omega arith))
+
+without-after : (k : ℕ) (u : List ℕ) → length u ≤ k → without k u ≡ u
+unfolding without
+without-after k [] h = refl
+without-after zero (x ∷ u) h = absurd (omega arith)
+without-after (suc k) (x ∷ u) h = ap (λ (l : List ℕ). x ∷ l) (without-after k u (omega arith))
+
+module _ (z places : List ℕ) (k : ℕ) where
+  others-without : (m : ℕ) → m ≤ length places → ((q : ℕ) → q < m → getD z q 0 ≡ pow (getD places q 0))
+      → others z k m ≡ map pow (without k (take m places))
+  unfolding without
+  others-without zero l e = refl
+  others-without (suc m) l e =
+      go (ℕ-discrete m k) (decLt k m) (others-without m (omega arith) (λ q b. e q (omega arith)))
+    where
+      more : take (suc m) places ≡ take m places ++ (getD places m 0 ∷ [])
+      more = take-suc places m 0 (omega arith)
+
+      long : length (take m places) ≡ m
+      long = length-take-le m places (omega arith)
+
+      all : length (take m places ++ (getD places m 0 ∷ [])) ≡ suc m
+      all = length-append (take m places) (getD places m 0 ∷ []) ∙ omega (arith, long)
+
+      go : (d : Dec (m ≡ k)) → Dec (k < m) → others z k m ≡ map pow (without k (take m places))
+          → unlessSame d (getD z m 0) (others z k m) ≡ map pow (without k (take (suc m) places))
+      go (yes p) d ih =
+          ih ∙ ap (map pow)
+          (without-after k (take m places) (omega (arith, long)) ∙ sym (append-nil (take m places)) ∙ sym (without-at (take m places) [] (getD places m 0))
+          ∙ ap₂ without (long ∙ p) (sym more))
+      go (no p) (yes q) ih =
+          ap₂ (λ (l : List ℕ) (x : ℕ). l ++ (x ∷ [])) ih (e m (omega arith)) ∙ sym (map-append pow (without k (take m places)) (getD places m 0 ∷ []))
+          ∙ ap (map pow) (sym (without-before k (take m places) (getD places m 0 ∷ []) (omega (arith, long))) ∙ ap (without k) (sym more))
+      go (no p) (no q) ih =
+          ap₂ (λ (l : List ℕ) (x : ℕ). l ++ (x ∷ [])) ih (e m (omega arith)) ∙ sym (map-append pow (without k (take m places)) (getD places m 0 ∷ []))
+          ∙ ap (map pow)
+          (ap (λ (l : List ℕ). l ++ (getD places m 0 ∷ [])) (without-after k (take m places) (omega (arith, long)))
+          ∙ sym (without-after k (take m places ++ (getD places m 0 ∷ [])) (omega (arith, all))) ∙ ap (without k) (sym more))
+
+-- the points of all places but one
+pub others-split : (z places pre post : List ℕ) (i m : ℕ) → m ≤ length places → take m places ≡ pre ++ i ∷ post
+    → ((q : ℕ) → q < m → getD z q 0 ≡ pow (getD places q 0)) → others z (length pre) m ≡ map pow (pre ++ post)
+others-split z places pre post i m l e h =
+    others-without z places (length pre) m l h ∙ ap (λ (u : List ℕ). map pow (without (length pre) u)) e ∙ ap (map pow) (without-at pre post i)

@@ -4,3 +4,5 @@ pub mod Searching
 pub mod Filtering
 pub mod Locating
 pub mod Nearest
+pub mod Repairing
+pub mod Candidates

@@ -9,7 +9,7 @@ use lib.Bits.{bitXor, xor-lt}
 use lib.Dec.{eqb, lit<}
 use borrow.Author.Tests.{eqb-true, eqb-false}
 use Rattle.field.specs.Field.{mul, inverse, pow}
-use Rattle.field.proofs.Laws.{mul-lt, pow-lt}
+use Rattle.field.proofs.Laws.{mul-lt, inverse-lt, pow-lt}
 use Rattle.algebra.specs.Places.{below, keep}
 use Rattle.algebra.proofs.Field.{Field, ring, mul-one, law-mul-assoc}
 use Rattle.algebra.proofs.Polynomials.{combine, monic}
@@ -81,6 +81,19 @@ product-lt : (ks : List ℕ) (i f : ℕ) → f < 256 → product (map pow ks) (p
 product-lt [] i f l = l
 product-lt (k ∷ ks) i f l = product-lt ks i (mul f (bitXor (pow i) (pow k))) (mul-lt f (bitXor (pow i) (pow k)) l (xor-lt 8 (pow i) (pow k) (pow-lt i) (pow-lt k)))
 
+stripped-lt : (ks : List ℕ) (t : ℕ → ℕ) (j : ℕ) → ((i : ℕ) → t i < 256) → stripped (map pow ks) t j < 256
+stripped-lt [] t j h = h j
+stripped-lt (k ∷ ks) t j h =
+    stripped-lt ks (λ i. bitXor (t (suc i)) (mul (pow k) (t i))) j
+    (λ i. xor-lt 8 (t (suc i)) (mul (pow k) (t i)) (h (suc i)) (mul-lt (pow k) (t i) (pow-lt k) (h i)))
+
+-- the error value is a byte
+pub error-value-lt : (ks : List ℕ) (i : ℕ) (t : ℕ → ℕ) → ((j : ℕ) → t j < 256)
+    → mul (stripped (map pow ks) t 0) (inverse (product (map pow ks) (pow i) (pow i))) < 256
+error-value-lt ks i t h =
+    mul-lt (stripped (map pow ks) t 0) (inverse (product (map pow ks) (pow i) (pow i))) (stripped-lt ks t 0 h)
+    (inverse-lt (product (map pow ks) (pow i) (pow i)) (product-lt ks i (pow i) (pow-lt i)))
+
 -- the error value that the function answers, in the field
 pub value-el : (ks : List ℕ) (i : ℕ) (t : ℕ → ℕ) (u : ℕ → Byte) → ((j : ℕ) → j < 8 → el (t j) ≡ u (suc j)) → length ks < 8
     → el (mul (stripped (map pow ks) t 0) (inverse (product (map pow ks) (pow i) (pow i)))) ≡ strip GF point ks u 1 ⊗ inv (point i ⊗ factor GF point ks i)
@@ -95,13 +108,14 @@ locator-value cs x k zero = el-byte 1 (lit< tt)
 locator-value cs x k (suc n) =
     el-add (getD cs k 0) (mul x (valueFrom cs x (suc k) n)) ∙ rw (el-mul x (valueFrom cs x (suc k) n), locator-value cs x (suc k) n)
 
-value-lt : (cs : List ℕ) (x k n : ℕ) → x < 256 → ((i : ℕ) → getD cs i 0 < 256) → valueFrom cs x k n < 256
-value-lt cs x k zero h b = lit< tt
-value-lt cs x k (suc n) h b =
-    xor-lt 8 (getD cs k 0) (mul x (valueFrom cs x (suc k) n)) (b k) (mul-lt x (valueFrom cs x (suc k) n) h (value-lt cs x (suc k) n h b))
+value-lt : (cs : List ℕ) (d : ℕ) → ((i : ℕ) → i < d → getD cs i 0 < 256) → (x k n : ℕ) → k + n ≤ d → x < 256 → valueFrom cs x k n < 256
+value-lt cs d b x k zero l h = lit< tt
+value-lt cs d b x k (suc n) l h =
+    xor-lt 8 (getD cs k 0) (mul x (valueFrom cs x (suc k) n)) (b k (omega arith))
+    (mul-lt x (valueFrom cs x (suc k) n) h (value-lt cs d b x (suc k) n (omega arith) h))
 
 -- the test on bytes is the field's
-root-test : (cs : List ℕ) (d i : ℕ) → ((i : ℕ) → getD cs i 0 < 256) → root cs d i ≡ zero? GF (monic GF (locatorFrom cs 0 d) (point i))
+root-test : (cs : List ℕ) (d i : ℕ) → ((i : ℕ) → i < d → getD cs i 0 < 256) → root cs d i ≡ zero? GF (monic GF (locatorFrom cs 0 d) (point i))
 root-test cs d i b = go (root cs d i) refl (zero? GF (monic GF (locatorFrom cs 0 d) (point i))) refl
   where
     same : el (valueFrom cs (pow i) 0 d) ≡ monic GF (locatorFrom cs 0 d) (point i)
@@ -113,7 +127,7 @@ root-test cs d i b = go (root cs d i) refl (zero? GF (monic GF (locatorFrom cs 0
     go true e false f =
         let z : monic GF (locatorFrom cs 0 d) (point i) ≡ Field.𝟘 GF = sym same ∙ ap el (eqb-true _ _ e) ∙ el-zero in sym (true-zero GF _ z) ∙ f
     go false e true f =
-        absurd (eqb-false _ _ e (el-zero-only _ (value-lt cs (pow i) 0 d (pow-lt i) b) (same ∙ zero-true GF _ f)))
+        absurd (eqb-false _ _ e (el-zero-only _ (value-lt cs d b (pow i) 0 d (omega arith) (pow-lt i)) (same ∙ zero-true GF _ f)))
 
 keep-same : (t u : ℕ → Bool) (n : ℕ) → ((i : ℕ) → i < n → t i ≡ u i) → keep t (below n) ≡ keep u (below n)
 keep-same t u zero e = refl
@@ -123,6 +137,6 @@ keep-same t u (suc n) e =
     rw (h, r)
 
 -- the places found are the zeros of the locator
-pub places-zeros : (cs : List ℕ) (d : ℕ) → ((i : ℕ) → getD cs i 0 < 256)
+pub places-zeros : (cs : List ℕ) (d : ℕ) → ((i : ℕ) → i < d → getD cs i 0 < 256)
     → keep (root cs d) (below 96) ≡ keep (λ i. zero? GF (monic GF (locatorFrom cs 0 d) (point i))) (below 96)
 places-zeros cs d b = keep-same (root cs d) (λ i. zero? GF (monic GF (locatorFrom cs 0 d) (point i))) 96 (λ i l. root-test cs d i b)

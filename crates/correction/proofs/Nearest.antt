@@ -10,7 +10,7 @@ use lib.ListN.{length, getD, set, length-set}
 use Rattle.algebra.specs.Places.{All}
 use Rattle.header.specs.Header.{isCodeWord, distance}
 use Rattle.header.proofs.Distances.{distance-set, Nearer, nearer, distance-self, distance-zero, triangle, all-set, all-at}
-use Rattle.correction.specs.Correction.{orElse, onlyIf, atPlace, atPlaces, near}
+use Rattle.correction.specs.Correction.{orElse, onlyIf, atPlace, atPlaces, near, Near}
 
 -- A hit is what is looked for.
 module _ (P : List ℕ → Type 0) (f : List ℕ → Option (List ℕ)) (w : List ℕ) where
@@ -47,13 +47,6 @@ module _ (f : List ℕ → Option (List ℕ)) (w : List ℕ) where
       go : Dec (i ≡ m) → (i < m → f (set w i u) ≡ none) → f (set w i u) ≡ none
       go (yes p) r = rw p (place-none m 256 (else-none (atPlaces f w m) (atPlace f w m 256) e .1) u b)
       go (no p) r = r (omega arith)
-
--- c is a code word within k of w.
-pub record Near (k : ℕ) (w c : List ℕ) : Type 0 where
-  pub right : isCodeWord c ≡ true
-  pub close : distance w c ≤ k
-  pub long : length c ≡ length w
-  pub bytes : All (λ x. x < 256) c
 
 found-here : (b : Bool) (w c : List ℕ) (k : ℕ) → All (λ x. x < 256) w → isCodeWord w ≡ b → onlyIf b w ≡ some c → Near k w c
 found-here true w c k a e h =

@@ -1,11 +1,13 @@
 -- Error correction, document 01 "Header code": the paper's mending finds the code word differing in at most four of the
 -- 96 bytes and reports how many differ. Refusals 3 and 4 of the table.
-use mathlib.Core.Bool.{Bool, cond}
+use mathlib.Core.Bool.{Bool, true, cond}
+use mathlib.Core.Path.{_≡_}
 use mathlib.Core.List.{List, _++_}
 use mathlib.Core.Option.{Option, none, some}
-use Prim.Native.Nat.{ℕ, zero, suc}
+use Prim.Native.Nat.{ℕ, zero, suc, _<_, _≤_}
 use lib.Dec.{eqb}
 use lib.ListN.{length, take, drop, set}
+use Rattle.algebra.specs.Places.{All}
 use Rattle.header.specs.Header.{isCodeWord, distance, lengthRefusal}
 use Rattle.correction.specs.declared.Correction.{Correction}
 use Rattle.correction.specs.declared.Correction.the-variants.{Corrected, Refused}
@@ -35,6 +37,17 @@ near (suc k) w = orElse (onlyIf (isCodeWord w) w) (atPlaces (λ u. near k u) w (
 -- the code word that differs from a header in at most four bytes, the paper's mended header
 unfoldable pub corrected : List ℕ → Option (List ℕ)
 corrected w = near 4 w
+
+-- c is a code word of as many bytes as w, and differs from it in at most k
+pub record Near (k : ℕ) (w c : List ℕ) : Type 0 where
+  pub right : isCodeWord c ≡ true
+  pub close : distance w c ≤ k
+  pub long : length c ≡ length w
+  pub bytes : All (λ x. x < 256) c
+
+-- r is the only code word that is within four bytes of w, if there is one
+abbrev pub OnlyNear : List ℕ → List ℕ → Type 0
+OnlyNear w r = (c : List ℕ) → Near 4 w c → r ≡ c
 
 -- the answer for a header w: how many bytes differ, or refusal 4, the paper's beyond mending
 abbrev pub answerFor : List ℕ → Option (List ℕ) → Correction

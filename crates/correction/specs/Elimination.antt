@@ -1,11 +1,18 @@
 -- The four by four system of the syndromes with its right side as column 4, and its elimination as far as the first
 -- column with no pivot: what each step does, entry by entry.
 use mathlib.Core.Path.{_≡_}
-use mathlib.Core.List.{List, []}
-use Prim.Native.Nat.{ℕ, zero, suc, _<_, _≤_}
+use mathlib.Core.List.{List, [], _∷_, map}
+use Prim.Native.Nat.{ℕ, zero, suc, _+_, _<_, _≤_}
 use lib.ListN.{length, getD, set}
 use lib.Bits.{bitXor}
 use Rattle.field.specs.Field.{mul, inverse}
+
+-- row r of the system: syndromes r + 1 to r + 5
+abbrev pub systemRow : List ℕ → ℕ → List ℕ
+systemRow s r = getD s r 0 ∷ getD s (r + 1) 0 ∷ getD s (r + 2) 0 ∷ getD s (r + 3) 0 ∷ getD s (r + 4) 0 ∷ []
+
+abbrev pub systemOf : List ℕ → List (List ℕ)
+systemOf s = map (systemRow s) (0 ∷ 1 ∷ 2 ∷ 3 ∷ [])
 
 -- A row of five whose first n entries are f's.
 pub record Row (f : ℕ → ℕ) (r : List ℕ) (n : ℕ) : Type 0 where

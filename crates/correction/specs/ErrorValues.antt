@@ -5,7 +5,7 @@ use Prim.Native.Nat.{ℕ, zero, suc, _<_}
 use native.Mathlib.Decide.{ℕ-discrete}
 use lib.ListN.{length, getD}
 use lib.Bits.{bitXor}
-use Rattle.field.specs.Field.{mul}
+use Rattle.field.specs.Field.{mul, inverse, pow}
 
 abbrev pub entries : List ℕ → ℕ → ℕ
 entries s i = getD s i 0
@@ -32,3 +32,22 @@ others z k (suc q) = unlessSame (ℕ-discrete q k) (getD z q 0) (others z k q)
 pub record Filtered (t : List ℕ) (x : ℕ) (r : List ℕ) (n : ℕ) : Type 0 where
   pub long : length r ≡ 8
   pub entry : (j : ℕ) → j < n → getD r j 0 ≡ bitXor (getD t (suc j) 0) (mul x (getD t j 0))
+
+-- the points of four places, filled up with zeros
+abbrev pub pointsOf : List ℕ → List ℕ
+pointsOf places = pow (getD places 0 0) ∷ pow (getD places 1 0) ∷ pow (getD places 2 0) ∷ pow (getD places 3 0) ∷ 0 ∷ 0 ∷ 0 ∷ 0 ∷ []
+
+-- the error value at the kth of the first m points of z, from the syndromes s
+abbrev pub valueAt : List ℕ → List ℕ → ℕ → ℕ → ℕ
+valueAt s z m k = mul (stripped (others z k m) (entries s) 0) (inverse (product (others z k m) (getD z k 0) (getD z k 0)))
+
+-- the first m places are below 96, and no two of them are equal
+pub record DistinctPlaces (places : List ℕ) (m : ℕ) : Type 0 where
+  pub inside : (k : ℕ) → k < m → getD places k 0 < 96
+  pub apart : (j k : ℕ) → j < k → k < m → ¬ (getD places j 0 ≡ getD places k 0)
+
+-- the header w with the error values added at the first n of m places
+pub record Repaired (w s places : List ℕ) (m n : ℕ) (r : List ℕ) : Type 0 where
+  pub long : length r ≡ 96
+  pub changed : (k : ℕ) → k < n → getD r (getD places k 0) 0 ≡ bitXor (getD w (getD places k 0) 0) (valueAt s (pointsOf places) m k)
+  pub kept : (i : ℕ) → ((k : ℕ) → k < n → ¬ (i ≡ getD places k 0)) → getD r i 0 ≡ getD w i 0

@@ -3,10 +3,11 @@ ghost use mathlib.Core.Path.{_≡_};
 ghost use Prim.Native.Nat.{_<_, _≤_};
 ghost use lib.ListN.{getD, length};
 ghost use Rattle.field.specs.Field.{mul, inverse};
+ghost use Rattle.header.specs.Header.{distance};
 ghost use Rattle.algebra.specs.Places.{keep, below};
-ghost use Rattle.correction.specs.Elimination.{Row, scaledBy, clearedBy, Pivot, Reduce, Column, Solved};
+ghost use Rattle.correction.specs.Elimination.{Row, scaledBy, clearedBy, Pivot, Reduce, Column, Solved, systemRow, systemOf};
 ghost use Rattle.correction.specs.ErrorPlaces.{valueFrom, root, Search};
-ghost use Rattle.correction.specs.ErrorValues.{Filtered, stripped, others, entries, product};
+ghost use Rattle.correction.specs.ErrorValues.{Filtered, valueAt, pointsOf, DistinctPlaces, Repaired};
 
 // How many bytes of a header were corrected (0 to 4), or the refusal number (3 or 4).
 pub enum Correction {
@@ -135,7 +136,7 @@ fn filtered(t: [u8; 8], x: u8) -> [u8; 8]
 fn error_value(s: [u8; 8], z: [u8; 8], m: usize, k: usize) -> u8
     requires { ⌜ m ≤ 8 ⌝ }
     requires { ⌜ k < m ⌝ }
-    ensures { λ r. ⌜ r ≡ mul (stripped (others z k m) (entries s) 0) (inverse (product (others z k m) (getD z k 0) (getD z k 0))) ⌝ }
+    ensures { λ r. ⌜ r ≡ valueAt s z m k ⌝ }
 {
     let at = z[k];
     let mut t = s;
@@ -193,4 +194,70 @@ fn error_places(coefficients: [u8; 4], degree: usize) -> Places
         count: count,
         places: places,
     }
+}
+
+// Row r of the system: syndromes r + 1 to r + 5.
+fn system_row(s: [u8; 8], r: usize) -> [u8; 5]
+    requires { ⌜ r < 4 ⌝ }
+    ensures { λ t. ⌜ t ≡ systemRow s r ⌝ }
+{
+    [s[r], s[r + 1], s[r + 2], s[r + 3], s[r + 4]]
+}
+
+// The four by four system of the syndromes, its right side as column 4.
+fn system(s: [u8; 8]) -> [[u8; 5]; 4]
+    ensures { λ m. ⌜ m ≡ systemOf s ⌝ }
+{
+    [
+        system_row(s, 0),
+        system_row(s, 1),
+        system_row(s, 2),
+        system_row(s, 3),
+    ]
+}
+
+// The points of four places, filled up with zeros.
+fn points(places: [usize; 4]) -> [u8; 8]
+    ensures { λ z. ⌜ z ≡ pointsOf places ⌝ }
+{
+    [
+        field::power(places[0]),
+        field::power(places[1]),
+        field::power(places[2]),
+        field::power(places[3]),
+        0,
+        0,
+        0,
+        0,
+    ]
+}
+
+// The header with the error values added at the first m places.
+fn repaired(header: [u8; 96], s: [u8; 8], places: [usize; 4], m: usize) -> [u8; 96]
+    requires { ⌜ m ≤ 4 ⌝ }
+    requires { ⌜ DistinctPlaces places m ⌝ }
+    ensures { λ r. ⌜ Repaired header s places m m r ⌝ }
+{
+    let z = points(places);
+    let mut out = header;
+    for k in 0..m {
+        let at = places[k];
+        out[at] = header[at] ^ error_value(s, z, m, k);
+    }
+    out
+}
+
+// In how many bytes two headers differ.
+fn difference(u: [u8; 96], v: [u8; 96]) -> u32
+    ensures { λ n. ⌜ n ≡ distance u v ⌝ }
+{
+    let mut n: u32 = 0;
+    let mut i: usize = 96;
+    while 0 < i {
+        i -= 1;
+        if u[i] != v[i] {
+            n += 1;
+        }
+    }
+    n
 }

@@ -1,0 +1,77 @@
+use borrow.Author.Needs.{needs}
+use native.Mathlib.Omega.{arith}
+use mathlib.Core.Path.{_≡_, refl, ap, sym, _∙_}
+use Prim.Native.Nat.{ℕ, _+_, _-_, _*_, _≤_, _<_}
+use lib.ListN.{length, take, drop, getD, set, length-set}
+use mathlib.Core.List.{List, [], _∷_, _++_}
+use lib.Bits.{bitXor}
+use Rattle.correction.specs.ErrorValues.{valueAt, Repaired}
+use Rattle.correction.proofs.Repairing.{repaired-start, repaired-next, repaired-end}
+use Rattle.correction.proofs.repaired.Statement.{statement}
+use Rattle.correction.proofs.repaired.Tie as tie
+use Rattle.correction.proofs.repaired.Reads as reads
+use Rattle.correction.proofs.repaired.Lts as lts
+use Rattle.correction.proofs.error_value.Reads as error-value-reads
+use Rattle.correction.proofs.points.Reads as points-reads
+
+abbrev Inv-loop : tie.InvT-loop
+Inv-loop s m header places z out₀ k₀ out k = (k ≤ m) × Repaired header s places m k out
+
+abbrev μ-loop : tie.MeasureT-loop
+μ-loop s m header places z out₀ k₀ out k = m - k
+
+points-requires : tie.Need-points-requires Inv-loop μ-loop
+points-requires c κs = search needs
+
+loop-holds : tie.Need-loop-holds Inv-loop μ-loop
+loop-holds c = (omega arith, repaired-start _ _ _ _ (omega arith))
+
+mul-at : tie.Need-mul-at Inv-loop μ-loop
+mul-at c = search needs
+
+array-read-at : tie.Need-array-read-at Inv-loop μ-loop
+array-read-at c = search needs
+
+array-read-out : tie.Need-array-read-out Inv-loop μ-loop
+array-read-out c = c .before .before .before .pre .1 .inside (c .before .loop .k) (c .loop-test .taken)
+
+error-value-requires : tie.Need-error-value-requires Inv-loop μ-loop
+error-value-requires c κs = search needs
+
+array-write-out : tie.Need-array-write-out Inv-loop μ-loop
+array-write-out c = c .before .before .before .before .pre .1 .inside (c .before .before .loop .k) (c .before .loop-test .taken)
+
+add-k : tie.Need-add-k Inv-loop μ-loop
+add-k c = search needs
+
+loop-less : tie.Need-loop-less Inv-loop μ-loop
+loop-less c = search needs
+
+loop-again : tie.Need-loop-again Inv-loop μ-loop
+loop-again c =
+    let p = c .before .before in
+    let a = p .before .before .args in
+    (omega arith,
+     repaired-next (a .t1) (a .s) (a .t3) (a .m) (p .loop .k) _ (p .loop .out) (c .before .loop-test .taken) (p .before .before .pre .1) (p .loop .inv .1)
+       (ap (bitXor (getD (a .t1) (getD (a .t3) (p .loop .k) 0) 0)) (c .error-value .ensures ∙ ap (λ (z : List ℕ). valueAt (a .s) z (a .m) (p .loop .k)) (p .before .points .ensures))))
+
+returns : tie.Need-returns Inv-loop μ-loop
+returns c = repaired-end _ _ _ _ (c .before .loop .k) _ (omega arith) (c .before .loop .inv .1)
+
+pub repaired-spec : {M : Type 1} → statement M
+repaired-spec =
+    tie.close
+    (tie.spec
+    Inv-loop
+    μ-loop
+    points-requires
+    loop-holds
+    mul-at
+    array-read-at
+    array-read-out
+    error-value-requires
+    array-write-out
+    add-k
+    loop-less
+    loop-again
+    returns)
