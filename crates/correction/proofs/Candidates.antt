@@ -24,8 +24,8 @@ use Rattle.algebra.proofs.Gf256.{GF, Byte, plus, times, el, el-add, el-one-one,
 use Rattle.header.specs.Header.{sumUp, term, syndrome, syndromes, isCodeWord, distance}
 use Rattle.header.proofs.CodeWords.{Bytes, syndromes-at, syndromes-length}
 use Rattle.header.proofs.Distances.{all-at}
-use Rattle.header.proofs.Unique.{word, apart, points, syndrome-power, code-word-sound, close, all-bytes}
-use Rattle.correction.specs.Correction.{Near, OnlyNear}
+use Rattle.header.proofs.Unique.{word, apart, points, syndrome-power, code-word-sound, close, all-bytes, bytes-all}
+use Rattle.correction.specs.Correction.{Near, Candidate}
 use Rattle.correction.specs.Elimination.{Solved, systemRow, systemOf, entry}
 use Rattle.correction.specs.ErrorPlaces.{root, Search}
 use Rattle.correction.specs.ErrorValues.{entries, stripped, product, others, unlessSame, pointsOf, valueAt, DistinctPlaces, Repaired}
@@ -205,7 +205,7 @@ module _ (w s cs : List ℕ) (degree : ℕ) (lw : length w ≡ 96) (aw : All (λ
             ∙ ap (plus (word w i)) (value-el (pre ++ post) i (entries s) sums s-sum (omega (arith, inside)))
 
       -- whatever code word is within four of w, r is it
-      pub only-near : OnlyNear w r
+      only-near : (v : List ℕ) → Near 4 w v → r ≡ v
       unfolding codes.distance
       only-near v nv = ext-getD 0 r v (re .long ∙ sym lv) (λ i l. at i (omega (arith, re .long)) (zero? GF (monic GF locator (point i))) refl)
         where
@@ -237,3 +237,19 @@ module _ (w s cs : List ℕ) (degree : ℕ) (lw : length w ≡ 96) (aw : All (λ
               (changed (p .pre) (p .post) i l (p .whole)
               ∙ ap (plus (word w i)) (right-value GF point 96 apart points (word w) (word v) cv locator (omega (arith, locator-small)) locates (p .pre) (p .post) i l (p .whole))
               ∙ add-self-left GF (word w i) (word v i))
+
+      byte-r : (i : ℕ) → getD r i 0 < 256
+      byte-r i = go (decLt i 96)
+        where
+          at : i < 96 → (b : Bool) → zero? GF (monic GF locator (point i)) ≡ b → getD r i 0 < 256
+          at l false e = subst (λ (x : ℕ). x < 256) (sym (other i l e)) (all-bytes w aw i)
+          at l true e =
+              let p : Split (zeros GF point 96 apart points locator) i = split (λ x. zero? GF (monic GF locator (point x))) 96 i l e in
+              changed-lt (p .pre) (p .post) i l (p .whole)
+
+          go : Dec (i < 96) → getD r i 0 < 256
+          go (yes l) = at l (zero? GF (monic GF locator (point i))) refl
+          go (no l) = subst (λ (x : ℕ). x < 256) (sym (List·getD-eq-default r 0 (omega (arith, re .long)))) (lit< tt)
+
+      pub candidate-word : Candidate w r
+      candidate-word = record { long = re .long; bytes = bytes-all r byte-r; only = only-near }

@@ -6,3 +6,5 @@ pub mod Locating
 pub mod Nearest
 pub mod Repairing
 pub mod Candidates
+pub mod Decoding
+pub mod Answers

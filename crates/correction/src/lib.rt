@@ -3,8 +3,9 @@ ghost use mathlib.Core.Path.{_≡_};
 ghost use Prim.Native.Nat.{_<_, _≤_};
 ghost use lib.ListN.{getD, length};
 ghost use Rattle.field.specs.Field.{mul, inverse};
-ghost use Rattle.header.specs.Header.{distance};
-ghost use Rattle.algebra.specs.Places.{keep, below};
+ghost use Rattle.header.specs.Header.{syndromes, distance};
+ghost use Rattle.algebra.specs.Places.{All, keep, below};
+ghost use Rattle.correction.specs.Correction.{Candidate, correctionOf, correctedPdu};
 ghost use Rattle.correction.specs.Elimination.{Row, scaledBy, clearedBy, Pivot, Reduce, Column, Solved, systemRow, systemOf};
 ghost use Rattle.correction.specs.ErrorPlaces.{valueFrom, root, Search};
 ghost use Rattle.correction.specs.ErrorValues.{Filtered, valueAt, pointsOf, DistinctPlaces, Repaired};
@@ -260,4 +261,48 @@ fn difference(u: [u8; 96], v: [u8; 96]) -> u32
         }
     }
     n
+}
+
+// The only code word within four bytes of a header with these syndromes, if there is one.
+fn candidate(header: [u8; 96], s: [u8; 8]) -> [u8; 96]
+    requires { ⌜ All (λ x. x < 256) header ⌝ }
+    requires { ⌜ s ≡ syndromes header ⌝ }
+    ensures { λ r. ⌜ Candidate header r ⌝ }
+{
+    let locator = eliminate(system(s));
+    let degree = locator.degree;
+    let coefficients = locator.coefficients;
+    let found = error_places(coefficients, degree);
+    let places = found.places;
+    let m = found.count;
+    repaired(header, s, places, m)
+}
+
+// Corrects the header of a PDU in place: how many of its 96 bytes were wrong, or 3 for a length outside 96 to 20,480, or
+// 4 where no code word is within four bytes. A refused PDU is left as it was.
+pub fn correct(pdu: &mut [u8]) -> Correction
+    ensures { λ r. ⌜ r ≡ correctionOf (now (pdu .entry)) ⌝ }
+    ensures { λ _. ⌜ now (pdu .exit) ≡ correctedPdu (now (pdu .entry)) ⌝ }
+{
+    if pdu.len() < 96 {
+        return Correction::Refused(3);
+    }
+    if 20480 < pdu.len() {
+        return Correction::Refused(3);
+    }
+    let header = header::header_of(pdu);
+    let s = header::syndromes(&header);
+    if header::all_zero(s) {
+        return Correction::Corrected(0);
+    }
+    let fixed = candidate(header, s);
+    let n = difference(header, fixed);
+    if 4 < n {
+        return Correction::Refused(4);
+    }
+    if header::is_code_word(&fixed) {
+        header::put_front(pdu, &fixed);
+        return Correction::Corrected(n);
+    }
+    Correction::Refused(4)
 }

@@ -50,10 +50,11 @@ loop-less c = search needs
 loop-again : tie.Need-loop-again Inv-loop μ-loop
 loop-again c =
     let p = c .before .before in
-    let a = p .before .before .args in
-    (omega arith,
-     repaired-next (a .t1) (a .s) (a .t3) (a .m) (p .loop .k) _ (p .loop .out) (c .before .loop-test .taken) (p .before .before .pre .1) (p .loop .inv .1)
-       (ap (bitXor (getD (a .t1) (getD (a .t3) (p .loop .k) 0) 0)) (c .error-value .ensures ∙ ap (λ (z : List ℕ). valueAt (a .s) z (a .m) (p .loop .k)) (p .before .points .ensures))))
+    let a = p .before .before .args in (
+      omega arith,
+      repaired-next (a .t1) (a .s) (a .t3) (a .m) (p .loop .k) _ (p .loop .out) (c .before .loop-test .taken) (p .before .before .pre .1) (p .loop .inv .1)
+          (ap (bitXor (getD (a .t1) (getD (a .t3) (p .loop .k) 0) 0)) (c .error-value .ensures ∙ ap (λ (z : List ℕ). valueAt (a .s) z (a .m) (p .loop .k)) (p .before .points .ensures))),
+    )
 
 returns : tie.Need-returns Inv-loop μ-loop
 returns c = repaired-end _ _ _ _ (c .before .loop .k) _ (omega arith) (c .before .loop .inv .1)
