@@ -1,29 +1,66 @@
--- The answer and the PDU after the call, by what the corrected header is.
+-- The answer, and the header or PDU after the call, by what the candidate is.
 use mathlib.Core.Path.{_≡_, refl, sym, _∙_, ap, subst}
-use mathlib.Core.Bool.{true, false, cond, true≢false}
+use mathlib.Core.Bool.{true, false, true≢false}
 use mathlib.Core.List.{List, [], _∷_, _++_}
 use mathlib.Core.Option.{Option, none, some}
 use Prim.Native.Nat.{ℕ, zero, suc, _<_, _≤_}
 use native.Mathlib.Omega.{arith}
-use lib.Dec.{eqb}
-use lib.ListN.{length, getD, take, drop, take-append-drop}
+use lib.ListN.{length, getD, take, drop}
 use lib.Seq.{length-take-le}
 use Rattle.algebra.specs.Places.{All}
 use Rattle.header.specs.Header.{lengthRefusal, isCodeWord, distance, headerOf, frontReplaced}
 use Rattle.header.proofs.Distances.{distance-self}
 use Rattle.header.proofs.Lengths.{length-allowed, header-of-long, front-fits}
-use Rattle.correction.specs.Correction.{Candidate, corrected, answerFor, headerReplaced, correctionOf, correctedPdu}
-use Rattle.correction.proofs.Decoding.{corrected-self, candidate-some, candidate-none}
+use Rattle.correction.specs.Correction.{Candidate, corrected, answerFor, headerAfter, correctionOf, correctedPdu}
+use Rattle.correction.proofs.Decoding.{corrected-near, corrected-self, candidate-some, candidate-none}
 use Rattle.correction.specs.declared.Correction.{Correction}
 use Rattle.correction.specs.declared.Correction.the-variants.{Corrected, Refused}
 
+-- what is promised of the answer r for a header w, and of the header v after the call
+abbrev pub Answered : List ℕ → Correction → List ℕ → Type 0
+Answered w r v = (r ≡ answerFor w (corrected w)) × (v ≡ headerAfter w (corrected w))
+
+module _ (w : List ℕ) (l : length w ≡ 96) (a : All (λ x. x < 256) w) where
+  refusal : corrected w ≡ none → Answered w (Refused 4) w
+  refusal e = (rw e, rw e)
+
+  -- a code word
+  pub answer-clean : isCodeWord w ≡ true → Answered w (Corrected 0) w
+  answer-clean g =
+      let e : corrected w ≡ some w = corrected-self w l a g in
+      let d : Corrected 0 ≡ answerFor w (some w) = ap Corrected (sym (distance-self w)) in
+      (d ∙ ap (answerFor w) (sym e), ap (headerAfter w) (sym e))
+
+  module _ (c : List ℕ) (k : Candidate w c) (n : ℕ) (en : n ≡ distance w c) where
+    -- a candidate too far away
+    pub answer-far : 4 < n → Answered w (Refused 4) w
+    answer-far h = refusal (candidate-none w l a c k (λ g d. (omega (arith, en))))
+
+    -- a candidate that is no code word
+    pub answer-wrong : isCodeWord c ≡ false → Answered w (Refused 4) w
+    answer-wrong f = refusal (candidate-none w l a c k (λ g d. true≢false (sym g ∙ f)))
+
+    -- a candidate that is the code word
+    pub answer-corrected : n ≤ 4 → isCodeWord c ≡ true → Answered w (Corrected n) c
+    answer-corrected h g =
+        let e : corrected w ≡ some c = candidate-some w l a c k g (omega (arith, en)) in
+        let d : Corrected n ≡ answerFor w (some c) = ap Corrected en in
+        (d ∙ ap (answerFor w) (sym e), ap (headerAfter w) (sym e))
+
+  after-length : (o : Option (List ℕ)) → corrected w ≡ o → length (headerAfter w o) ≡ 96
+  after-length (some c) e = corrected-near w l a c e .long ∙ l
+  after-length none e = l
+
+  pub header-after-length : length (headerAfter w (corrected w)) ≡ 96
+  header-after-length = after-length (corrected w) refl
+
 -- the bytes of a header are those of its PDU
-pub header-bytes : (n : ℕ) (p : List ℕ) → ((i : ℕ) → getD p i 0 < 256) → All (λ x. x < 256) (take n p)
+header-bytes : (n : ℕ) (p : List ℕ) → ((i : ℕ) → getD p i 0 < 256) → All (λ x. x < 256) (take n p)
 header-bytes zero p h = tt
 header-bytes (suc n) [] h = tt
 header-bytes (suc n) (x ∷ p) h = (h 0, header-bytes n p (λ i. h (suc i)))
 
--- what is promised of the answer r and the PDU q after the call
+-- what is promised of the answer r and of the PDU q after the call
 abbrev pub Promised : List ℕ → Correction → List ℕ → Type 0
 Promised p r q = (r ≡ correctionOf p) × (q ≡ correctedPdu p)
 
@@ -31,53 +68,19 @@ pub length-refused : (p : List ℕ) → lengthRefusal (length p) ≡ 3 → Promi
 unfolding correctionOf correctedPdu
 length-refused p e = (rw e, rw e)
 
-module _ (p : List ℕ) (e : lengthRefusal (length p) ≡ 0) where
-  pub uncorrectable : corrected (take 96 p) ≡ none → Promised p (Refused 4) p
-  unfolding correctionOf correctedPdu
-  uncorrectable n = (rw (e, n), rw (e, n))
-
-  pub header-corrected : (c : List ℕ) → corrected (take 96 p) ≡ some c → Promised p (Corrected (distance (take 96 p) c)) (c ++ drop 96 p)
-  unfolding correctionOf correctedPdu
-  header-corrected c s = (rw (e, s), rw (e, s))
-
 -- an allowed PDU p, and its header w as the call took it
 module _ (p w : List ℕ) (lo : 96 ≤ length p) (hi : length p ≤ 20480) (b : (i : ℕ) → getD p i 0 < 256) (ew : w ≡ headerOf p) where
-  allowed : lengthRefusal (length p) ≡ 0
-  allowed = length-allowed (length p) lo hi
-
   first : w ≡ take 96 p
   first = ew ∙ header-of-long p lo
 
-  pub bytes-w : All (λ x. x < 256) w
-  bytes-w = subst (All (λ x. x < 256)) (sym first) (header-bytes 96 p b)
+  pub header-all-bytes : All (λ x. x < 256) w
+  header-all-bytes = subst (All (λ x. x < 256)) (sym first) (header-bytes 96 p b)
 
-  pub long-w : length w ≡ 96
-  long-w = ap length first ∙ length-take-le 96 p lo
-
-  -- a code word
-  pub answer-clean : isCodeWord w ≡ true → Promised p (Corrected 0) p
-  answer-clean g =
-      let r : Promised p (Corrected (distance (take 96 p) (take 96 p))) (take 96 p ++ drop 96 p) =
-      header-corrected p allowed (take 96 p) (subst (λ (u : List ℕ). corrected u ≡ some u) first (corrected-self w long-w bytes-w g)) in
-      (ap Corrected (sym (distance-self (take 96 p))) ∙ r .0, sym (take-append-drop 96 p) ∙ r .1)
-
-  module _ (c : List ℕ) (k : Candidate w c) (n : ℕ) (en : n ≡ distance w c) where
-    -- a candidate too far away
-    pub answer-far : 4 < n → Promised p (Refused 4) p
-    answer-far h =
-        uncorrectable p allowed (subst (λ (u : List ℕ). corrected u ≡ none) first (candidate-none w long-w bytes-w c k (λ g d. (omega (arith, en)))))
-
-    -- a candidate that is no code word
-    pub answer-wrong : isCodeWord c ≡ false → Promised p (Refused 4) p
-    answer-wrong f =
-        uncorrectable p allowed (subst (λ (u : List ℕ). corrected u ≡ none) first (candidate-none w long-w bytes-w c k (λ g d. true≢false (sym g ∙ f))))
-
-    -- a candidate that is the code word
-    pub answer-corrected : n ≤ 4 → isCodeWord c ≡ true → (q : List ℕ) → q ≡ frontReplaced p c → Promised p (Corrected n) q
-    answer-corrected h g q eq =
-        let r : Promised p (Corrected (distance (take 96 p) c)) (c ++ drop 96 p) =
-        header-corrected p allowed c (subst (λ (u : List ℕ). corrected u ≡ some c) first (candidate-some w long-w bytes-w c k g (omega (arith, en)))) in
-        let l : length c ≡ 96 = k .long in (
-          ap Corrected (en ∙ ap (λ (u : List ℕ). distance u c) first) ∙ r .0,
-          eq ∙ front-fits p c (omega arith) ∙ ap (λ (m : ℕ). c ++ drop m p) l ∙ r .1,
-        )
+  pub pdu-answered : (r : Correction) (v q : List ℕ) → Answered w r v → q ≡ frontReplaced p v → Promised p r q
+  unfolding correctionOf correctedPdu
+  pdu-answered r v q s f =
+      let e : lengthRefusal (length p) ≡ 0 = length-allowed (length p) lo hi in
+      let m : length v ≡ 96 = ap length (s .1) ∙ header-after-length w (ap length first ∙ length-take-le 96 p lo) header-all-bytes in (
+        s .0 ∙ rw (e, first),
+        f ∙ front-fits p v (omega arith) ∙ ap (λ (k : ℕ). v ++ drop k p) m ∙ ap (λ (u : List ℕ). u ++ drop 96 p) (s .1) ∙ rw (e, first),
+      )

@@ -56,10 +56,10 @@ abbrev pub answerFor : List ℕ → Option (List ℕ) → Correction
 answerFor w (some c) = Corrected (distance w c)
 answerFor w none = Refused 4
 
--- the PDU with the corrected header; refused, as it was
-abbrev pub headerReplaced : List ℕ → Option (List ℕ) → List ℕ
-headerReplaced p (some c) = c ++ drop 96 p
-headerReplaced p none = p
+-- the header w after the call; refused, as it was
+abbrev pub headerAfter : List ℕ → Option (List ℕ) → List ℕ
+headerAfter w (some c) = c
+headerAfter w none = w
 
 -- the answer for a PDU: 3 for its length first
 unfoldable pub correctionOf : List ℕ → Correction
@@ -67,7 +67,7 @@ correctionOf p = cond (eqb (lengthRefusal (length p)) 0) (answerFor (take 96 p) 
 
 -- the PDU after the call
 unfoldable pub correctedPdu : List ℕ → List ℕ
-correctedPdu p = cond (eqb (lengthRefusal (length p)) 0) (headerReplaced p (corrected (take 96 p))) p
+correctedPdu p = cond (eqb (lengthRefusal (length p)) 0) (headerAfter (take 96 p) (corrected (take 96 p)) ++ drop 96 p) p
 
 -- the paper's number and count of each answer
 abbrev pub numberOf : Correction → ℕ

@@ -5,7 +5,8 @@ ghost use lib.ListN.{getD, length};
 ghost use Rattle.field.specs.Field.{mul, inverse};
 ghost use Rattle.header.specs.Header.{syndromes, distance};
 ghost use Rattle.algebra.specs.Places.{All, keep, below};
-ghost use Rattle.correction.specs.Correction.{Candidate, correctionOf, correctedPdu};
+ghost use Rattle.correction.specs.Correction.{Candidate, corrected, answerFor, headerAfter, correctionOf, correctedPdu};
+ghost use Rattle.correction.specs.declared.Correction.the-variants.{Refused};
 ghost use Rattle.correction.specs.Elimination.{Row, scaledBy, clearedBy, Pivot, Reduce, Column, Solved, systemRow, systemOf};
 ghost use Rattle.correction.specs.ErrorPlaces.{valueFrom, root, Search};
 ghost use Rattle.correction.specs.ErrorValues.{Filtered, valueAt, pointsOf, DistinctPlaces, Repaired};
@@ -278,6 +279,49 @@ fn candidate(header: [u8; 96], s: [u8; 8]) -> [u8; 96]
     repaired(header, s, places, m)
 }
 
+// A header after correction, and the answer.
+pub struct Decoded {
+    pub header: [u8; 96],
+    pub answer: Correction,
+}
+
+// A header that is refused stays as it is.
+fn refused(header: [u8; 96]) -> Decoded
+    ensures { λ r. ⌜ (r .answer ≡ Refused 4) × (r .header ≡ header) ⌝ }
+{
+    Decoded {
+        header: header,
+        answer: Correction::Refused(4),
+    }
+}
+
+// The code word within four bytes of a header and how many differ, or the header itself and 4.
+fn decode(header: [u8; 96]) -> Decoded
+    requires { ⌜ All (λ x. x < 256) header ⌝ }
+    ensures { λ r. ⌜ r .answer ≡ answerFor header (corrected header) ⌝ }
+    ensures { λ r. ⌜ r .header ≡ headerAfter header (corrected header) ⌝ }
+{
+    let s = header::syndromes(&header);
+    if header::all_zero(s) {
+        return Decoded {
+            header: header,
+            answer: Correction::Corrected(0),
+        };
+    }
+    let fixed = candidate(header, s);
+    let n = difference(header, fixed);
+    if 4 < n {
+        return refused(header);
+    }
+    if header::is_code_word(&fixed) {
+        return Decoded {
+            header: fixed,
+            answer: Correction::Corrected(n),
+        };
+    }
+    refused(header)
+}
+
 // Corrects the header of a PDU in place: how many of its 96 bytes were wrong, or 3 for a length outside 96 to 20,480, or
 // 4 where no code word is within four bytes. A refused PDU is left as it was.
 pub fn correct(pdu: &mut [u8]) -> Correction
@@ -290,19 +334,8 @@ pub fn correct(pdu: &mut [u8]) -> Correction
     if 20480 < pdu.len() {
         return Correction::Refused(3);
     }
-    let header = header::header_of(pdu);
-    let s = header::syndromes(&header);
-    if header::all_zero(s) {
-        return Correction::Corrected(0);
-    }
-    let fixed = candidate(header, s);
-    let n = difference(header, fixed);
-    if 4 < n {
-        return Correction::Refused(4);
-    }
-    if header::is_code_word(&fixed) {
-        header::put_front(pdu, &fixed);
-        return Correction::Corrected(n);
-    }
-    Correction::Refused(4)
+    let decoded = decode(header::header_of(pdu));
+    let header = decoded.header;
+    header::put_front(pdu, &header);
+    decoded.answer
 }

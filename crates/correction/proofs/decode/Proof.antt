@@ -1,0 +1,81 @@
+use native.Mathlib.Omega.{arith}
+use mathlib.Core.Path.{_≡_, refl, ap, sym, _∙_}
+use Prim.Native.Nat.{ℕ, _+_, _-_, _*_, _≤_, _<_}
+use lib.ListN.{length, take, drop, getD, set, length-set}
+use mathlib.Core.List.{List, [], _∷_, _++_}
+use borrow.Author.Needs.{needs}
+use Rattle.header.specs.Header.{isCodeWord, allZero}
+use Rattle.correction.proofs.Answers.{answer-clean, answer-far, answer-wrong, answer-corrected}
+use Rattle.correction.proofs.decode.Statement.{statement}
+use Rattle.correction.proofs.decode.Tie as tie
+use Rattle.correction.proofs.decode.Reads as reads
+use Rattle.correction.proofs.decode.Lts as lts
+use Rattle.correction.proofs.candidate.Reads as candidate-reads
+use Rattle.correction.proofs.difference.Reads as difference-reads
+use Rattle.correction.proofs.refused.Reads as refused-reads
+use Rattle.header.proofs.all_zero.Reads as all-zero-reads
+use Rattle.header.proofs.is_code_word.Reads as is-code-word-reads
+use Rattle.header.proofs.syndromes.Reads as syndromes-reads
+
+syndromes-requires : tie.Need-syndromes-requires
+syndromes-requires c κs = search needs
+
+all-zero-requires : tie.Need-all-zero-requires
+all-zero-requires c κs = search needs
+
+returns : tie.Need-returns
+unfolding isCodeWord
+returns c =
+    let s = c .before .before in
+    answer-clean _ (omega arith) (s .before .before .pre) (ap allZero (sym (s .syndromes .ensures)) ∙ sym (c .before .all-zero .ensures) ∙ c .if1 .taken)
+
+candidate-requires : tie.Need-candidate-requires
+candidate-requires c κs = (c .before .before .before .before .pre, c .before .before .syndromes .ensures)
+
+difference-requires : tie.Need-difference-requires
+difference-requires c κs = search needs
+
+refused-requires : tie.Need-refused-requires
+refused-requires c κs = search needs
+
+returns-2 : tie.Need-returns-2
+returns-2 c =
+    let d = c .before .before in
+    let r = answer-far _ (omega arith) (d .before .before .before .before .before .before .pre) _ (d .before .candidate .ensures) _ (d .difference .ensures) (omega arith) in
+    (c .refused .ensures .0 ∙ r .0, c .refused .ensures .1 ∙ r .1)
+
+is-code-word-requires : tie.Need-is-code-word-requires
+is-code-word-requires c κs = search needs
+
+returns-3 : tie.Need-returns-3
+returns-3 c =
+    let d = c .before .before .before .before in
+    answer-corrected _ (omega arith) (d .before .before .before .before .before .before .pre) _ (d .before .candidate .ensures) _ (d .difference .ensures)
+    (omega arith) (sym (c .before .is-code-word .ensures) ∙ c .if3 .taken)
+
+refused-requires-2 : tie.Need-refused-requires-2
+refused-requires-2 c κs = search needs
+
+returns-4 : tie.Need-returns-4
+returns-4 c =
+    let e = c .before in
+    let d = e .before .before .before .before in
+    let r = answer-wrong _ (omega arith) (d .before .before .before .before .before .before .pre) _ (d .before .candidate .ensures) _ (d .difference .ensures)
+    (sym (e .before .is-code-word .ensures) ∙ e .if3 .left) in
+    (c .refused2 .ensures .0 ∙ r .0, c .refused2 .ensures .1 ∙ r .1)
+
+pub decode-spec : {M : Type 1} → statement M
+decode-spec =
+    tie.close
+    (tie.spec
+    syndromes-requires
+    all-zero-requires
+    returns
+    candidate-requires
+    difference-requires
+    refused-requires
+    returns-2
+    is-code-word-requires
+    returns-3
+    refused-requires-2
+    returns-4)
