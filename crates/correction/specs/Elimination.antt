@@ -1,5 +1,6 @@
 -- The four by four system of the syndromes with its right side as column 4, and its elimination as far as the first
 -- column with no pivot: what each step does, entry by entry.
+-- What private steps of the decoder promise each other; the promise of `correct` is in Correction.antt alone.
 use mathlib.Core.Path.{_≡_}
 use mathlib.Core.List.{List, [], _∷_, map}
 use Prim.Native.Nat.{ℕ, zero, suc, _+_, _<_, _≤_}

@@ -1,4 +1,5 @@
 -- The places below 96 at whose points the locator is zero.
+-- What private steps of the decoder promise each other; the promise of `correct` is in Correction.antt alone.
 use mathlib.Core.Path.{_≡_}
 use mathlib.Core.Bool.{Bool}
 use mathlib.Core.List.{List, [], _∷_, _++_}

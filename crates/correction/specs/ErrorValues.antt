@@ -1,4 +1,5 @@
 -- The error value at one of several places, from the syndromes filtered by the points of the others.
+-- What private steps of the decoder promise each other; the promise of `correct` is in Correction.antt alone.
 use mathlib.Core.Path.{_≡_}
 use mathlib.Core.List.{List, [], _∷_, _++_}
 use Prim.Native.Nat.{ℕ, zero, suc, _<_}

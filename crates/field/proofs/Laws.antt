@@ -194,3 +194,27 @@ pub shift-zero : (n : ℕ) → shift n 0 ≡ 0
 unfolding shift
 shift-zero zero = refl
 shift-zero (suc n) = ap timesA (shift-zero n) ∙ timesA-zero
+
+-- ---- a^0 to a^254 run through all 255 nonzero bytes
+
+pub record PowersRun : Type 0 where
+  -- each is a nonzero byte
+  pub each : (k : ℕ) → k < 255 → (0 < pow k) × (pow k < 256)
+  -- no two are equal
+  pub apart : (j k : ℕ) → j < 255 → k < 255 → pow j ≡ pow k → j ≡ k
+  -- every nonzero byte is one of them
+  pub all : (x : ℕ) → 0 < x → x < 256 → (k : ℕ) × (k < 255) × (pow k ≡ x)
+
+pub powers-run : PowersRun
+powers-run = record {
+  each = λ k h. (positive k h, pow-lt k);
+  apart = pow-injective;
+  all = λ x z h. (getD logTable x 0, log-lt x z h, log-rule x z h);
+}
+  where
+    positive : (k : ℕ) → k < 255 → 0 < pow k
+    positive k h =
+        ⊎-elim
+        (λ (e : pow k ≡ 0).
+        (let one : _≡_ {A = ℕ} 0 1 = sym (mul-zero-l (pow (255 - k))) ∙ ap (λ (w : ℕ). mul w (pow (255 - k))) (sym e) ∙ pow-inverse (pow k) k h refl in absurd (omega arith)))
+        (λ (p : 0 < pow k). p) (eq-zero-or-pos (pow k))

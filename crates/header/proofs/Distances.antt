@@ -14,7 +14,7 @@ use Rattle.header.specs.Header.{distance}
 abbrev pub count : Bool → ℕ → ℕ
 count b d = cond b d (suc d)
 
-count-le : (b : Bool) (d e : ℕ) → d ≤ e → count b d ≤ suc e
+pub count-le : (b : Bool) (d e : ℕ) → d ≤ e → count b d ≤ suc e
 count-le true d e l = omega arith
 count-le false d e l = omega arith
 

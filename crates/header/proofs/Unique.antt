@@ -1,15 +1,15 @@
 -- The header code in the field: syndromes are power sums over the 96 places, so that two code words that differ in at
 -- most eight bytes are one, and the parity is the one that makes a header a code word.
-use mathlib.Core.Path.{_≡_, refl, sym, _∙_, ap}
+use mathlib.Core.Path.{_≡_, refl, sym, _∙_, ap, ap₂}
 use mathlib.Core.Bool.{Bool, true, false, not}
 use mathlib.Core.List.{List, [], _∷_, _++_}
 use Prim.Native.Nat.{ℕ, zero, suc, _+_, _-_, _*_, _<_, _≤_}
-use native.Mathlib.Nat.{mul-suc, mul-zero}
+use native.Mathlib.Nat.{mul-suc, mul-zero, zero-add, suc-add}
 use native.Mathlib.Omega.{arith}
 use lib.Bits.{bitXor}
 use lib.Dec.{eqb, lit<}
 use lib.ListN.{length, getD, take, drop, length-append, length-drop}
-use lib.Seq.{ext-getD, slice, take-all, take-at}
+use lib.Seq.{ext-getD, slice, take-all, take-at, take-nil, take-append-add, length-take-le}
 use borrow.Author.Tests.{eqb-true, eqb-false}
 use Rattle.field.specs.Field.{mul, pow, shift}
 use Rattle.field.proofs.Laws.{pow-add}
@@ -21,10 +21,11 @@ use Rattle.algebra.proofs.PowerSums.{powerSum}
 use Rattle.algebra.proofs.Codes as codes
 use Rattle.algebra.proofs.Codes.{zero?, zero-true, true-zero, CodeWord, unique}
 use Rattle.algebra.proofs.Gf256.{GF, Byte, plus, times, el, el-byte, el-zero, el-add, el-mul, el-one-one, point, point-apart, point-el, point-nonzero}
-use Rattle.header.specs.Header.{sumUp, term, syndrome, isCodeWord, distance, remainder, parityOf}
+use Rattle.header.specs.Header.{sumUp, term, syndrome, isCodeWord, distance, remainder, parityOf, withParity}
 use Rattle.header.proofs.CodeWords.{Bytes, code-word-zero}
 use Rattle.header.proofs.Distances.{count, all-at, distance-front}
-use Rattle.header.proofs.Division.{code-word, remainder-length, remainder-bytes}
+use Rattle.header.proofs.Division.{code-word, remainder-length, remainder-bytes, parity-length}
+use Rattle.header.proofs.Lengths.{length-allowed, header-of-long, parity-of-header, parity-written}
 
 -- the bytes of a word as elements of the field
 abbrev pub word : List ℕ → ℕ → Byte
@@ -154,3 +155,26 @@ module _ (w : List ℕ) (l : length w ≡ 96) (a : All (λ x. x < 256) w) where
       (all-join _ (remainder (drop 8 w)) (drop 8 w)
       (bytes-all (remainder (drop 8 w)) (remainder-bytes (drop 8 w) (all-bytes (drop 8 w) (all-drop 8 w a)))) (all-drop 8 w a))
       e (code-word (drop 8 w) message-length (all-bytes (drop 8 w) (all-drop 8 w a))) (omega arith)))
+
+drop-take : (n m : ℕ) (l : List ℕ) → drop n (take (n + m) l) ≡ take m (drop n l)
+drop-take zero m l = ap (λ (k : ℕ). take k l) (zero-add m)
+drop-take (suc n) m [] = ap (drop (suc n)) (take-nil (suc n + m)) ∙ sym (take-nil m)
+drop-take (suc n) m (x ∷ l) = ap (λ (k : ℕ). drop (suc n) (take k (x ∷ l))) (suc-add n m) ∙ drop-take n m l
+
+all-take : (n : ℕ) (w : List ℕ) → Bytes w → All (λ x. x < 256) (take n w)
+all-take zero w h = tt
+all-take (suc n) [] h = tt
+all-take (suc n) (x ∷ w) h = (h 0, all-take n w (λ k. h (suc k)))
+
+-- the header of the PDU that `write_parity` leaves is a code word
+module _ (p : List ℕ) (lo : 96 ≤ length p) (hi : length p ≤ 20480) (b : Bytes p) where
+  written-header : take 96 (withParity p) ≡ parityOf (take 96 p) ++ drop 8 (take 96 p)
+  written-header =
+      let l : length (parityOf p) ≡ 8 = parity-length p in
+      ap (take 96) (parity-written p (length-allowed (length p) lo hi))
+      ∙ ap (λ (n : ℕ). take (n + 88) (parityOf p ++ drop 8 p)) (sym l)
+      ∙ take-append-add (parityOf p) (drop 8 p) 88
+      ∙ ap₂ _++_ (sym (parity-of-header p lo) ∙ ap parityOf (header-of-long p lo)) (sym (drop-take 8 88 p))
+
+  pub written-code-word : isCodeWord (take 96 (withParity p)) ≡ true
+  written-code-word = ap isCodeWord written-header ∙ parity-right (take 96 p) (length-take-le 96 p lo) (all-take 96 p b)

@@ -32,7 +32,6 @@ mod c {
         pub fn barzhilup_write_parity(pdu: *mut u8, length: usize) -> u32;
         pub fn barzhilup_correct_header(pdu: *mut u8, length: usize) -> Correction;
         pub fn barzhilup_crc8(bytes: *const u8, length: usize) -> u8;
-        pub fn barzhilup_crc8_from(start: u8, bytes: *const u8, length: usize) -> u8;
     }
 }
 
@@ -65,11 +64,6 @@ pub fn correct_header(pdu: &mut [u8]) -> (u32, u32) {
 /// The CRC-8 of the bytes.
 pub fn crc8(bytes: &[u8]) -> u8 {
     unsafe { c::barzhilup_crc8(bytes.as_ptr(), bytes.len()) }
-}
-
-/// The CRC-8 of the bytes with another start.
-pub fn crc8_from(start: u8, bytes: &[u8]) -> u8 {
-    unsafe { c::barzhilup_crc8_from(start, bytes.as_ptr(), bytes.len()) }
 }
 
 /// How many guard bytes stand on each side of a lent buffer, at least. A whole

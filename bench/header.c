@@ -1,0 +1,347 @@
+/*
+ * How fast the header code and the CRC-8 are, beside libfec and a table CRC.
+ *
+ * Before anything is timed, the library and its peers are compared on random
+ * inputs; if they disagree, the program stops with a message and status 1.
+ */
+#include "barzhilup.h"
+#include "peers.h"
+#include "timing.h"
+
+#include <stdio.h>
+#include <stdlib.h>
+#include <string.h>
+
+#define HEADER BARZHILUP_HEADER_BYTES
+#define PARITY BARZHILUP_PARITY_BYTES
+#define POOL 64       /* headers in a row's inputs */
+#define COMPARED 1000 /* headers compared for each count of altered bytes */
+
+/* A row's headers, and the same ones as words for libfec. */
+struct headers {
+    uint8_t ours[POOL][HEADER];
+    uint8_t fec[POOL][HEADER];
+};
+
+/* A piece for the CRC-8. */
+struct piece {
+    const uint8_t *bytes;
+    size_t length;
+};
+
+static int with_fec;
+
+/* Stops: the library and a peer disagree. */
+static void disagree(const char *what)
+{
+    fprintf(stderr, "bench: the library and its peer disagree: %s\n", what);
+    exit(1);
+}
+
+/* ---- Random headers ------------------------------------------------------ */
+
+static uint32_t state = 2463534242u;
+
+static uint32_t random_below(uint32_t n)
+{
+    state ^= state << 13;
+    state ^= state >> 17;
+    state ^= state << 5;
+    return state % n;
+}
+
+/* A random code word with this many bytes altered, each at another place. */
+static void draw_header(uint8_t *header, unsigned wrong)
+{
+    uint8_t altered[HEADER] = {0};
+    size_t i;
+    for (i = 0; i < HEADER; i++)
+        header[i] = (uint8_t)random_below(256);
+    barzhilup_write_parity(header, HEADER);
+    while (wrong > 0) {
+        uint32_t place = random_below(HEADER);
+        if (altered[place])
+            continue;
+        altered[place] = 1;
+        header[place] ^= (uint8_t)(1 + random_below(255));
+        wrong--;
+    }
+}
+
+/* The library's answer for a header, and the header it makes of it. */
+static barzhilup_correction_answer ask_ours(const uint8_t *header, uint8_t *corrected)
+{
+    memcpy(corrected, header, HEADER);
+    return barzhilup_correct_header(corrected, HEADER);
+}
+
+/* A header with five bytes altered that is uncorrectable, as nearly all are. */
+static void draw_uncorrectable(uint8_t *header)
+{
+    uint8_t corrected[HEADER];
+    do
+        draw_header(header, 5);
+    while (ask_ours(header, corrected).refusal == 0);
+}
+
+static void draw_headers(struct headers *headers, unsigned wrong)
+{
+    size_t i;
+    for (i = 0; i < POOL; i++) {
+        if (wrong > BARZHILUP_CORRECTED_MAX)
+            draw_uncorrectable(headers->ours[i]);
+        else
+            draw_header(headers->ours[i], wrong);
+        fec_reverse(headers->ours[i], headers->fec[i]);
+    }
+}
+
+/* ---- The same answers ---------------------------------------------------- */
+
+/* libfec's answer for a header, and the header it makes of it. */
+static int ask_fec(const uint8_t *header, uint8_t *corrected)
+{
+    uint8_t word[HEADER];
+    int answer;
+    fec_reverse(header, word);
+    answer = fec_correct(word);
+    fec_reverse(word, corrected);
+    return answer;
+}
+
+static void compare_parity(const uint8_t *header)
+{
+    barzhilup_parity_answer ours = barzhilup_parity(header);
+    uint8_t word[HEADER], parity[PARITY];
+    size_t i;
+    fec_reverse(header, word);
+    fec_parity(word, parity);
+    for (i = 0; i < PARITY; i++)
+        if (parity[PARITY - 1 - i] != ours.values[i])
+            disagree("parity of a header (libfec)");
+}
+
+/* Same answer and same header, be it corrected or refused and unchanged. */
+static void compare_correction(const uint8_t *header)
+{
+    uint8_t ours[HEADER], fec[HEADER];
+    barzhilup_correction_answer answer = ask_ours(header, ours);
+    int count = ask_fec(header, fec);
+    if ((answer.refusal != 0) != (count < 0))
+        disagree("whether a header is correctable (libfec)");
+    if (count >= 0 && (int)answer.corrected != count)
+        disagree("count of corrected bytes (libfec)");
+    if (memcmp(ours, fec, HEADER) != 0)
+        disagree("corrected header (libfec)");
+}
+
+static void compare_headers(void)
+{
+    uint8_t header[HEADER];
+    unsigned wrong, n;
+    for (wrong = 0; wrong <= BARZHILUP_CORRECTED_MAX + 1; wrong++)
+        for (n = 0; n < COMPARED; n++) {
+            draw_header(header, wrong);
+            compare_parity(header);
+            compare_correction(header);
+        }
+}
+
+static void compare_crc(const uint8_t *bytes, size_t most)
+{
+    size_t length;
+    for (length = 0; length <= most; length++) {
+        uint8_t crc = barzhilup_crc8(bytes, length);
+        if (crc != table_crc8(bytes, length) || crc != bit_crc8(bytes, length))
+            disagree("CRC-8 (plain C)");
+    }
+}
+
+/* ---- The work that is timed ---------------------------------------------- */
+
+static volatile unsigned sink; /* keeps the answers used */
+
+static void our_syndromes(const void *inputs, size_t passes)
+{
+    const struct headers *h = inputs;
+    size_t i;
+    while (passes-- > 0)
+        for (i = 0; i < POOL; i++)
+            sink = barzhilup_syndromes(h->ours[i]).values[0];
+}
+
+static void our_parity(const void *inputs, size_t passes)
+{
+    const struct headers *h = inputs;
+    size_t i;
+    while (passes-- > 0)
+        for (i = 0; i < POOL; i++)
+            sink = barzhilup_parity(h->ours[i]).values[0];
+}
+
+static void peer_parity(const void *inputs, size_t passes)
+{
+    const struct headers *h = inputs;
+    uint8_t parity[PARITY];
+    size_t i;
+    while (passes-- > 0)
+        for (i = 0; i < POOL; i++) {
+            fec_parity(h->fec[i], parity);
+            sink = parity[0];
+        }
+}
+
+static void our_correction(const void *inputs, size_t passes)
+{
+    const struct headers *h = inputs;
+    uint8_t work[HEADER];
+    size_t i;
+    while (passes-- > 0)
+        for (i = 0; i < POOL; i++) {
+            memcpy(work, h->ours[i], HEADER);
+            sink = barzhilup_correct_header(work, HEADER).corrected;
+        }
+}
+
+static void peer_correction(const void *inputs, size_t passes)
+{
+    const struct headers *h = inputs;
+    uint8_t work[HEADER];
+    size_t i;
+    while (passes-- > 0)
+        for (i = 0; i < POOL; i++) {
+            memcpy(work, h->fec[i], HEADER);
+            sink = (unsigned)fec_correct(work);
+        }
+}
+
+static void our_crc(const void *inputs, size_t passes)
+{
+    const struct piece *piece = inputs;
+    while (passes-- > 0)
+        sink = barzhilup_crc8(piece->bytes, piece->length);
+}
+
+static void peer_table_crc(const void *inputs, size_t passes)
+{
+    const struct piece *piece = inputs;
+    while (passes-- > 0)
+        sink = table_crc8(piece->bytes, piece->length);
+}
+
+static void peer_bit_crc(const void *inputs, size_t passes)
+{
+    const struct piece *piece = inputs;
+    while (passes-- > 0)
+        sink = bit_crc8(piece->bytes, piece->length);
+}
+
+/* ---- Rows and tables ----------------------------------------------------- */
+
+#define HEADER_ROWS 7
+#define CRC_ROWS 3
+
+static struct headers headers[HEADER_ROWS];
+static struct piece pieces[CRC_ROWS];
+static struct row rows[HEADER_ROWS + CRC_ROWS];
+
+static void header_row(size_t i, const char *name, unsigned wrong, timed_work ours,
+                       timed_work peer)
+{
+    draw_headers(&headers[i], wrong);
+    rows[i].name = name;
+    rows[i].work[0] = ours;
+    rows[i].work[1] = with_fec ? peer : NULL;
+    rows[i].inputs = &headers[i];
+    rows[i].units = POOL;
+}
+
+static void crc_row(size_t i, const char *name, const uint8_t *bytes, size_t length)
+{
+    struct row *row = &rows[HEADER_ROWS + i];
+    pieces[i].bytes = bytes;
+    pieces[i].length = length;
+    row->name = name;
+    row->work[0] = our_crc;
+    row->work[1] = peer_table_crc;
+    row->work[2] = peer_bit_crc;
+    row->inputs = &pieces[i];
+    row->units = (double)length;
+}
+
+static void make_rows(const uint8_t *bytes)
+{
+    header_row(0, "syndromes", 0, our_syndromes, NULL);
+    header_row(1, "parity", 0, our_parity, peer_parity);
+    header_row(2, "correct, 0 wrong bytes", 0, our_correction, peer_correction);
+    header_row(3, "correct, 1 wrong byte", 1, our_correction, peer_correction);
+    header_row(4, "correct, 2 wrong bytes", 2, our_correction, peer_correction);
+    header_row(5, "correct, 4 wrong bytes", 4, our_correction, peer_correction);
+    header_row(6, "uncorrectable, 5 altered", 5, our_correction, peer_correction);
+    crc_row(0, "CRC-8, 64 bytes", bytes, 64);
+    crc_row(1, "CRC-8, 1,024 bytes", bytes, 1024);
+    crc_row(2, "CRC-8, 4,096 bytes", bytes, 4096);
+}
+
+static void print_row(const struct row *row)
+{
+    double ours = median_ns(row, 0), peer, low, high;
+    printf("%-26s %10.2f", row->name, ours);
+    if (row->work[1] != NULL) {
+        peer = median_ns(row, 1);
+        middle_ratios(row, &low, &high);
+        printf(" %10.2f %8.2f   %6.2f - %6.2f", peer, ours / peer, low, high);
+    } else
+        printf(" %10s %8s", "-", "-");
+    if (row->work[2] != NULL)
+        printf(" %10.2f", median_ns(row, 2));
+    printf("\n");
+}
+
+static void print_tables(void)
+{
+    size_t i;
+    printf("\n%-26s %10s %10s %8s   %15s\n", "ns per header", "ours", "libfec", "ratio",
+           "middle half");
+    for (i = 0; i < HEADER_ROWS; i++)
+        print_row(&rows[i]);
+    printf("\n%-26s %10s %10s %8s   %15s %10s\n", "ns per byte", "ours", "C table", "ratio",
+           "middle half", "C bitwise");
+    for (i = HEADER_ROWS; i < HEADER_ROWS + CRC_ROWS; i++)
+        print_row(&rows[i]);
+}
+
+static void print_notes(void)
+{
+    printf("\nMedians of %d interleaved rounds of processor time. Ratio: ours / peer, above 1 the\n"
+           "peer is faster; behind it, between which ratios the middle half of the rounds lies.\n"
+           "%d headers per row, the same for both. Buffers are restored before each timed\n"
+           "correction; that copy of 96 bytes is in both times.\n",
+           ROUNDS, POOL);
+    if (!with_fec)
+        return;
+    printf("libfec gets its headers backwards, as it wants them; turning them is not timed.\n"
+           "Compared before timing, %d headers each of 0 to 5 altered bytes: both give the same\n"
+           "parity, counts, corrected headers and refusals.\n",
+           COMPARED);
+}
+
+int main(void)
+{
+    static uint8_t bytes[4096];
+    size_t i;
+    with_fec = fec_open();
+    table_crc8_open();
+    for (i = 0; i < sizeof bytes; i++)
+        bytes[i] = (uint8_t)random_below(256);
+    if (with_fec)
+        compare_headers();
+    else
+        printf("libfec is not installed: the header code's numbers stand alone.\n");
+    compare_crc(bytes, sizeof bytes);
+    make_rows(bytes);
+    time_rows(rows, HEADER_ROWS + CRC_ROWS);
+    print_tables();
+    print_notes();
+    return 0;
+}

@@ -1,0 +1,90 @@
+// The C library: each public operation with C's types, and the core's contract. include/barzhilup.h declares them.
+use correction::Correction;
+ghost use mathlib.Core.Path.{_≡_};
+ghost use lib.ListN.{length};
+ghost use Rattle.field.specs.Field.{mul};
+ghost use Rattle.crc.specs.Crc.{crcFrom};
+ghost use Rattle.header.specs.Header.{syndromes, parityOf, lengthRefusal, withParity};
+ghost use Rattle.correction.specs.Correction.{correctionOf, correctedPdu, numberOf, countOf};
+
+// S1 to S8.
+#[repr(C)]
+pub struct SyndromesAnswer {
+    pub values: [u8; 8],
+}
+
+// Bytes 0 to 7 of a header.
+#[repr(C)]
+pub struct ParityAnswer {
+    pub values: [u8; 8],
+}
+
+// The refusal number, 0 where there is none, and how many bytes were corrected.
+#[repr(C)]
+pub struct CorrectionAnswer {
+    pub refusal: u32,
+    pub corrected: u32,
+}
+
+// The product of two bytes in GF(256).
+#[no_mangle]
+pub extern "C" fn barzhilup_product(x: u8, y: u8) -> u8
+    ensures { λ r. ⌜ r ≡ mul x y ⌝ }
+{
+    field::product(x, y)
+}
+
+// The eight syndromes of a header.
+#[no_mangle]
+pub extern "C" fn barzhilup_syndromes(header: &[u8; 96]) -> SyndromesAnswer
+    ensures { λ r. ⌜ r .values ≡ syndromes (now (header .entry)) ⌝ }
+{
+    let values = header::syndromes(header);
+    SyndromesAnswer { values: values }
+}
+
+// The parity of a header.
+#[no_mangle]
+pub extern "C" fn barzhilup_parity(header: &[u8; 96]) -> ParityAnswer
+    ensures { λ r. ⌜ r .values ≡ parityOf (now (header .entry)) ⌝ }
+{
+    let values = header::parity(header);
+    ParityAnswer { values: values }
+}
+
+// Writes the parity of a PDU into its bytes 0 to 7: 0, or refusal 3.
+#[no_mangle]
+pub extern "C" fn barzhilup_write_parity(pdu: &mut [u8]) -> u32
+    ensures { λ r. ⌜ r ≡ lengthRefusal (length (now (pdu .entry))) ⌝ }
+    ensures { λ _. ⌜ now (pdu .exit) ≡ withParity (now (pdu .entry)) ⌝ }
+{
+    header::write_parity(pdu)
+}
+
+// Corrects the header of a PDU in place, or refuses with 3 or 4 and leaves it as it was.
+#[no_mangle]
+pub extern "C" fn barzhilup_correct_header(pdu: &mut [u8]) -> CorrectionAnswer
+    ensures { λ r. ⌜ r .refusal ≡ numberOf (correctionOf (now (pdu .entry))) ⌝ }
+    ensures { λ r. ⌜ r .corrected ≡ countOf (correctionOf (now (pdu .entry))) ⌝ }
+    ensures { λ _. ⌜ now (pdu .exit) ≡ correctedPdu (now (pdu .entry)) ⌝ }
+{
+    let answer = correction::correct(pdu);
+    match answer {
+        Correction::Corrected(n) => CorrectionAnswer {
+            refusal: 0,
+            corrected: n,
+        },
+        Correction::Refused(n) => CorrectionAnswer {
+            refusal: n,
+            corrected: 0,
+        },
+    }
+}
+
+// The CRC-8 of the bytes.
+#[no_mangle]
+pub extern "C" fn barzhilup_crc8(bytes: &[u8]) -> u8
+    ensures { λ r. ⌜ r ≡ crcFrom 0 (now (bytes .entry)) ⌝ }
+{
+    crc::crc8(bytes)
+}

@@ -1,0 +1,176 @@
+// Runs the examples of document 01 on the proved code, and writes what it answers.
+use correction::Correction;
+use libc::STDOUT_FILENO;
+ghost use mathlib.Core.Path.{_≡_};
+ghost use Prim.Native.Nat.{_≤_};
+ghost use lib.ListN.{length};
+
+const EXPONENTS: [usize; 9] = [36, 203, 3, 220, 253, 211, 240, 176, 0];
+
+fn main() {
+    crc_line(b"(d) CRC of 01: ", b"\x01");
+    crc_line(b"(e) CRC of 80: ", b"\x80");
+    crc_line(b"(f) CRC of 01 00: ", b"\x01\x00");
+    generator_line();
+    choices_line(
+        b"(h) four of the nine zeroed, choices corrected to the generator in 4 bytes: ",
+        4,
+        0,
+    );
+    choices_line(
+        b"(i) five of the nine zeroed, choices corrected to all zero in 4 bytes: ",
+        5,
+        511,
+    );
+    length_line();
+}
+
+fn say(text: &[u8]) {
+    io::write_all(STDOUT_FILENO, text);
+}
+
+fn end_line() {
+    say(b"\n");
+}
+
+fn crc_line(label: &[u8], bytes: &[u8]) {
+    say(label);
+    io::print_hex(STDOUT_FILENO, crc::crc8(bytes) as u64, 2);
+    end_line();
+}
+
+// a to the power of an exponent, or 0 where the bit is set.
+fn coefficient(bit: u32, exponent: usize) -> u8 {
+    if bit == 1 {
+        return 0;
+    }
+    field::power(exponent)
+}
+
+// The generator's coefficients in bytes 0 to 8, those of the mask's bits zeroed, the rest zero.
+fn generator(mask: u32) -> [u8; 96]
+    ensures { λ r. ⌜ 96 ≡ length r ⌝ }
+{
+    let mut word = [0u8; 96];
+    let mut rest = mask;
+    let mut i: usize = 0;
+    while i < 9 {
+        word[i] = coefficient(rest % 2, EXPONENTS[i]);
+        rest = rest / 2;
+        i += 1;
+    }
+    word
+}
+
+// (g)
+fn generator_line() {
+    let word = generator(0);
+    let s = header::syndromes(&word);
+    say(b"(g) sums of the generator's coefficients:");
+    let mut i: usize = 0;
+    while i < 8 {
+        say(b" ");
+        io::print_hex(STDOUT_FILENO, s[i] as u64, 2);
+        i += 1;
+    }
+    end_line();
+}
+
+// How many of the nine lowest bits are set.
+fn ones(mask: u32) -> u32 {
+    let mut rest = mask;
+    let mut n: u32 = 0;
+    let mut i: u32 = 0;
+    while i < 9 {
+        n += rest % 2;
+        rest = rest / 2;
+        i += 1;
+    }
+    n
+}
+
+fn same(u: &[u8; 96], v: &[u8; 96]) -> bool {
+    let mut i: usize = 0;
+    while i < 96 {
+        if u[i] != v[i] {
+            return false;
+        }
+        i += 1;
+    }
+    true
+}
+
+// 1 where the mask has this many bits set, else 0.
+fn chosen(mask: u32, set: u32) -> u32
+    ensures { λ r. ⌜ r ≤ 1 ⌝ }
+{
+    if ones(mask) == set {
+        return 1;
+    }
+    0
+}
+
+// 1 where four bytes were corrected and the word is the wanted one, else 0.
+fn right_count(n: u32, same: bool) -> u32
+    ensures { λ r. ⌜ r ≤ 1 ⌝ }
+{
+    if n == 4 {
+        if same {
+            return 1;
+        }
+    }
+    0
+}
+
+// 1 where the word with the mask's bytes zeroed is corrected in four bytes to the wanted one, else 0.
+fn corrected_to(mask: u32, wanted: u32) -> u32
+    ensures { λ r. ⌜ r ≤ 1 ⌝ }
+{
+    let mut word = generator(mask);
+    let target = generator(wanted);
+    let answer = correction::correct(&mut word);
+    match answer {
+        Correction::Corrected(n) => right_count(n, same(&word, &target)),
+        Correction::Refused(_) => 0,
+    }
+}
+
+// 1 where the mask has this many bits set and the word is corrected to the wanted one, else 0.
+fn chosen_right(mask: u32, set: u32, wanted: u32) -> u32
+    ensures { λ r. ⌜ r ≤ 1 ⌝ }
+{
+    if chosen(mask, set) == 0 {
+        return 0;
+    }
+    corrected_to(mask, wanted)
+}
+
+// (h), (i): of the masks with this many bits set, how many are corrected to the wanted word.
+fn choices_line(label: &[u8], set: u32, wanted: u32) {
+    let mut right: u32 = 0;
+    let mut all: u32 = 0;
+    let mut mask: u32 = 0;
+    while mask < 512 {
+        all += chosen(mask, set);
+        right += chosen_right(mask, set, wanted);
+        mask += 1;
+    }
+    say(label);
+    io::print_decimal(STDOUT_FILENO, right as u64);
+    say(b" of ");
+    io::print_decimal(STDOUT_FILENO, all as u64);
+    end_line();
+}
+
+// Length 95
+fn length_line() {
+    let mut pdu = [0u8; 95];
+    let answer = correction::correct(&mut pdu);
+    let number = match answer {
+        Correction::Corrected(_) => 0,
+        Correction::Refused(n) => n,
+    };
+    say(b"Length 95: ");
+    io::print_decimal(STDOUT_FILENO, number as u64);
+    end_line();
+}

@@ -1,0 +1,143 @@
+/*
+ * Barzhilup: the audio transport layer of HD Radio, as a C library (libcapi.a).
+ *
+ * "Document 01" below is the paper with the rules; "001" is 1017s Rev. H, the
+ * standard it is taken from.
+ *
+ * What holds for every function here:
+ *  - It ends on every input, allocates nothing, keeps nothing between calls and
+ *    can be called from several threads at once on different buffers.
+ *  - No pointer may be NULL, not even one that comes with length 0, and each
+ *    must point at as many bytes as said. Any alignment will do.
+ *  - A refused call returns a number of the table in document 01, "What is
+ *    turned down", and leaves every byte lent to it as it was. If several causes
+ *    apply, the lowest number is returned.
+ *
+ * Where document 01 has a word of its own, these are the usual ones:
+ *    correct        for "mend",
+ *    uncorrectable  for "beyond mending",
+ *    syndromes      for "the eight sums" of a header.
+ */
+#ifndef BARZHILUP_H
+#define BARZHILUP_H
+
+#include <stddef.h>
+#include <stdint.h>
+
+#ifdef __cplusplus
+extern "C" {
+#endif
+
+/* ---- Sizes -------------------------------------------------------------- */
+
+/* Bytes of a header: the first 96 bytes of a PDU are one word of the header
+ * code. (Document 01, "Header code"; 001, 5.2.3.1.) */
+#define BARZHILUP_HEADER_BYTES 96
+
+/* Parity bytes of a header, its bytes 0 to 7; also how many syndromes there
+ * are. (Document 01, "Header code".) */
+#define BARZHILUP_PARITY_BYTES 8
+
+/* The most bytes of a header that are corrected. (Document 01, "Header
+ * code".) */
+#define BARZHILUP_CORRECTED_MAX 4
+
+/* The shortest and the longest PDU, in bytes. Outside them a call is refused
+ * with BARZHILUP_REFUSED_PDU_LENGTH. (Document 01, "What is turned down".) */
+#define BARZHILUP_PDU_MIN 96
+#define BARZHILUP_PDU_MAX 20480
+
+/* ---- Refusal numbers (document 01, "What is turned down") --------------- */
+
+/* Not refused. */
+#define BARZHILUP_ACCEPTED 0
+
+/* The PDU's length is not 96 to 20,480. */
+#define BARZHILUP_REFUSED_PDU_LENGTH 3
+
+/* No code word differs from the header in at most four bytes (document 01:
+ * "beyond mending"). */
+#define BARZHILUP_REFUSED_UNCORRECTABLE 4
+
+/* ---- Header code (document 01, "Header code"; 001, 5.2.3.1) -------------- */
+
+/*
+ * Bytes are elements of GF(256) with a^8 = a^4 + a^3 + a^2 + 1 and a = 2: they
+ * are added with exclusive or. Header byte i, 0 to 95, is the coefficient of
+ * X^i. Syndrome Sj is the sum of byte i times a^(i times j); a header is a code
+ * word when S1 to S8 are zero.
+ */
+
+/* The syndromes of a header (document 01: its "eight sums"). */
+typedef struct {
+    /* values[0] is S1, ..., values[7] is S8. */
+    uint8_t values[BARZHILUP_PARITY_BYTES];
+} barzhilup_syndromes_answer;
+
+/* The parity of a header. */
+typedef struct {
+    /* values[i] is what byte i, 0 to 7, of the header has to be. */
+    uint8_t values[BARZHILUP_PARITY_BYTES];
+} barzhilup_parity_answer;
+
+/* What came of correcting a header. */
+typedef struct {
+    /* BARZHILUP_ACCEPTED, BARZHILUP_REFUSED_PDU_LENGTH or
+     * BARZHILUP_REFUSED_UNCORRECTABLE. */
+    uint32_t refusal;
+    /* How many bytes were wrong and have been set right, 0 to 4. 0 if
+     * refused. */
+    uint32_t corrected;
+} barzhilup_correction_answer;
+
+/* The product of two bytes in GF(256). */
+uint8_t barzhilup_product(uint8_t x, uint8_t y);
+
+/* The syndromes of a header of 96 bytes, which is only read. All zero: it is a
+ * code word. */
+barzhilup_syndromes_answer
+barzhilup_syndromes(const uint8_t header[BARZHILUP_HEADER_BYTES]);
+
+/* The parity that makes bytes 8 to 95 a code word. `header` has 96 bytes and is
+ * only read; what its bytes 0 to 7 hold makes no difference. */
+barzhilup_parity_answer
+barzhilup_parity(const uint8_t header[BARZHILUP_HEADER_BYTES]);
+
+/*
+ * Writes the parity of a PDU's header into its bytes 0 to 7; the other bytes
+ * stay as they are. `pdu` is the whole PDU, `length` its length in bytes.
+ *
+ * Returns BARZHILUP_ACCEPTED; or BARZHILUP_REFUSED_PDU_LENGTH, and no byte has
+ * changed.
+ */
+uint32_t barzhilup_write_parity(uint8_t *pdu, size_t length);
+
+/*
+ * Corrects the header of a PDU in place (document 01: "mends" it): the first 96
+ * bytes become the one code word that differs from them in at most four bytes.
+ * Later bytes stay as they are. `pdu` is the whole PDU, `length` its length in
+ * bytes.
+ *
+ * `refusal` is BARZHILUP_ACCEPTED, and `corrected` says in how many bytes the
+ * header differed from the code word; or it is BARZHILUP_REFUSED_PDU_LENGTH, or
+ * BARZHILUP_REFUSED_UNCORRECTABLE where there is no such code word, and no byte
+ * has changed.
+ */
+barzhilup_correction_answer
+barzhilup_correct_header(uint8_t *pdu, size_t length);
+
+/* ---- CRC-8 (document 01, "Expansion, PSD, pieces"; 001, 5.2.3.2) --------- */
+
+/*
+ * The CRC-8 of a piece: its bytes times x^8, divided by x^8 + x^5 + x^4 + 1, top
+ * bit of each byte first, register starting at 0. `bytes` is the piece without
+ * its CRC byte, `length` its length in bytes. Any length is taken; the CRC of no
+ * bytes is 0.
+ */
+uint8_t barzhilup_crc8(const uint8_t *bytes, size_t length);
+
+#ifdef __cplusplus
+}
+#endif
+
+#endif
