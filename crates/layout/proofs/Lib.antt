@@ -1,0 +1,2 @@
+pub mod ControlLaw
+pub mod LocatorLaw

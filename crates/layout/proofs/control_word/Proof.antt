@@ -1,0 +1,57 @@
+use native.Mathlib.Omega.{arith}
+use mathlib.Core.Path.{_≡_, refl, ap, sym, _∙_}
+use Prim.Native.Nat.{ℕ, _+_, _-_, _*_, _≤_, _<_}
+use lib.ListN.{length, take, drop, getD, set, length-set}
+use mathlib.Core.List.{List, [], _∷_, _++_}
+use borrow.Author.Needs.{needs}
+use Rattle.layout.proofs.control_word.Statement.{statement}
+use Rattle.layout.proofs.control_word.Tie as tie
+use Rattle.layout.proofs.control_word.Reads as reads
+use Rattle.layout.proofs.control_word.Lts as lts
+use Rattle.layout.proofs.byte_at.Reads as byte-at-reads
+use Rattle.layout.proofs.fields.Reads as fields-reads
+
+byte-at-requires : tie.Need-byte-at-requires
+byte-at-requires c κs = search needs
+
+byte-at-requires-2 : tie.Need-byte-at-requires-2
+byte-at-requires-2 c κs = search needs
+
+byte-at-requires-3 : tie.Need-byte-at-requires-3
+byte-at-requires-3 c κs = search needs
+
+byte-at-requires-4 : tie.Need-byte-at-requires-4
+byte-at-requires-4 c κs = search needs
+
+byte-at-requires-5 : tie.Need-byte-at-requires-5
+byte-at-requires-5 c κs = search needs
+
+byte-at-requires-6 : tie.Need-byte-at-requires-6
+byte-at-requires-6 c κs = search needs
+
+fields-requires : tie.Need-fields-requires
+fields-requires c κs = search needs
+
+returns : tie.Need-returns
+returns c =
+    let f = c .before in
+    let e = f .before in
+    let d = e .before in
+    let b = d .before in
+    let a = b .before in
+    let z = a .before in
+    c .fields .ensures
+    ∙ simp (z .byte-at .ensures, a .byte-at2 .ensures, b .byte-at3 .ensures, d .byte-at4 .ensures, e .byte-at5 .ensures, f .byte-at6 .ensures)
+
+pub control-word-spec : {M : Type 1} → statement M
+control-word-spec =
+    tie.close
+    (tie.spec
+    byte-at-requires
+    byte-at-requires-2
+    byte-at-requires-3
+    byte-at-requires-4
+    byte-at-requires-5
+    byte-at-requires-6
+    fields-requires
+    returns)

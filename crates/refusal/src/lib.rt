@@ -1,0 +1,1 @@
+// The order of refusals: see specs/. No code is here.
