@@ -1,0 +1,54 @@
+use native.Mathlib.Omega.{arith}
+use mathlib.Core.Path.{_≡_, refl, ap, sym, _∙_}
+use Prim.Native.Nat.{ℕ, _+_, _-_, _*_, _≤_, _<_}
+use lib.ListN.{length, take, drop, getD, set, length-set}
+use mathlib.Core.List.{List, [], _∷_, _++_}
+use borrow.Author.Needs.{needs}
+use Rattle.expansion.proofs.Absorbing.{with-class, with-displacement, with-program, with-type, with-services}
+use Rattle.expansion.proofs.absorbed.Statement.{statement}
+use Rattle.expansion.proofs.absorbed.Tie as tie
+use Rattle.expansion.proofs.absorbed.Reads as reads
+use Rattle.expansion.proofs.absorbed.Lts as lts
+use Rattle.expansion.proofs.fourteen.Reads as fourteen-reads
+use Rattle.expansion.proofs.twenty_one.Reads as twenty-one-reads
+
+fourteen-requires : tie.Need-fourteen-requires
+fourteen-requires c κs = search needs
+
+mul-out : tie.Need-mul-out
+mul-out c = search needs
+
+add-out : tie.Need-add-out
+add-out c = search needs
+
+twenty-one-requires : tie.Need-twenty-one-requires
+twenty-one-requires c κs = search needs
+
+returns : tie.Need-returns
+returns c = with-class _ _ _ _ _ _ (c .match .keys1)
+
+returns-2 : tie.Need-returns-2
+returns-2 c = with-displacement _ _ _ _ _ _ _ (c .before .before .match .keys2) (c .before .if1 .taken) (c .fourteen .ensures)
+
+returns-3 : tie.Need-returns-3
+returns-3 c = with-program _ _ _ _ _ _ (c .before .match .keys2) (c .if1 .left)
+
+returns-4 : tie.Need-returns-4
+returns-4 c = with-type _ _ _ _ _ _ (c .match .keys3)
+
+returns-5 : tie.Need-returns-5
+returns-5 c = with-services _ _ _ _ _ _ _ (c .before .match .rest .0 .0 .1) (c .before .match .rest .0 .1) (c .before .match .rest .1) (c .twenty-one .ensures)
+
+pub absorbed-spec : {M : Type 1} → statement M
+absorbed-spec =
+    tie.close
+    (tie.spec
+    fourteen-requires
+    mul-out
+    add-out
+    twenty-one-requires
+    returns
+    returns-2
+    returns-3
+    returns-4
+    returns-5)

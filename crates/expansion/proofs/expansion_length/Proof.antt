@@ -1,0 +1,74 @@
+use borrow.Author.Needs.{needs}
+use native.Mathlib.Omega.{arith}
+use mathlib.Core.Path.{_≡_, refl, ap, sym, _∙_}
+use Prim.Native.Nat.{ℕ, _+_, _-_, _*_, _≤_, _<_}
+use lib.ListN.{length, take, drop, getD, set, length-set}
+use mathlib.Core.List.{List, [], _∷_, _++_}
+use Rattle.expansion.proofs.Chains.{Left, left-start, left-past-la, left-past-end, left-full, left-found, left-next}
+use Rattle.expansion.proofs.expansion_length.Statement.{statement}
+use Rattle.expansion.proofs.expansion_length.Tie as tie
+use Rattle.expansion.proofs.expansion_length.Reads as reads
+use Rattle.expansion.proofs.expansion_length.Lts as lts
+
+abbrev Inv-loop : tie.InvT-loop
+Inv-loop pdu at la last i₀ i = (i ≤ 16) × Left pdu at la i
+
+abbrev μ-loop : tie.MeasureT-loop
+μ-loop pdu at la last i₀ i = 16 - i
+
+loop-holds : tie.Need-loop-holds Inv-loop μ-loop
+loop-holds c = (omega arith, left-start _ _ _)
+
+add-place : tie.Need-add-place Inv-loop μ-loop
+add-place c = search needs
+
+returns : tie.Need-returns Inv-loop μ-loop
+returns c = let p = c .before .before in left-past-la _ _ _ (p .loop .i) (c .if1 .taken) (p .loop .inv .1)
+
+returns-2 : tie.Need-returns-2 Inv-loop μ-loop
+returns-2 c = let p = c .before .before .before in left-past-end _ _ _ (p .loop .i) (c .if2 .taken) (p .loop .inv .1)
+
+shared-slice-read-if3 : tie.Need-shared-slice-read-if3 Inv-loop μ-loop
+shared-slice-read-if3 c = search needs
+
+add-result : tie.Need-add-result Inv-loop μ-loop
+add-result c = search needs
+
+returns-3 : tie.Need-returns-3 Inv-loop μ-loop
+returns-3 c =
+    let p = c .before .before .before .before .before in
+    let e = c .before .before in
+    left-found _ _ _ (p .loop .i) (omega arith) (e .before .if1 .left) (e .if2 .left) (p .loop .inv .1) (c .if3 .taken)
+
+add-i : tie.Need-add-i Inv-loop μ-loop
+add-i c = search needs
+
+loop-less : tie.Need-loop-less Inv-loop μ-loop
+loop-less c = search needs
+
+loop-again : tie.Need-loop-again Inv-loop μ-loop
+loop-again c =
+    let p = c .before .before .before .before .before in
+    let e = c .before .before in
+    (omega arith, left-next _ _ _ (p .loop .i) (omega arith) (e .before .if1 .left) (e .if2 .left) (p .loop .inv .1) (c .if3 .left))
+
+returns-4 : tie.Need-returns-4 Inv-loop μ-loop
+returns-4 c = left-full _ _ _ (c .before .loop .i) (omega arith) (c .before .loop .inv .1)
+
+pub expansion-length-spec : {M : Type 1} → statement M
+expansion-length-spec =
+    tie.close
+    (tie.spec
+    Inv-loop
+    μ-loop
+    loop-holds
+    add-place
+    returns
+    returns-2
+    shared-slice-read-if3
+    add-result
+    returns-3
+    add-i
+    loop-less
+    loop-again
+    returns-4)

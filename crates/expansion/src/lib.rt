@@ -1,0 +1,148 @@
+// Expansion bytes of a PDU, read (document 01, "Expansion, PSD, pieces").
+ghost use mathlib.Core.Path.{_≡_};
+ghost use Prim.Native.Nat.{_+_, _*_, _/_, _%_, _<_, _≤_};
+ghost use mathlib.Core.List.{List, [], _∷_};
+ghost use lib.ListN.{length, getD};
+ghost use Rattle.expansion.specs.Expansion.{expansionLength, septetsAt, known as knownOf, moreBytes, fieldOf, absorb, nothing as nothingOf, interpretation};
+
+// What expansion bytes say: values are 0 where not sent or not interpreted.
+pub struct Interpreted {
+    // No rule is broken.
+    pub right: bool,
+    pub class: u8,
+    pub program: u8,
+    // A displacement was sent.
+    pub displaced: bool,
+    pub displacement: u16,
+    pub access: u8,
+    pub ptype: u8,
+    pub services: u8,
+    pub marker: u32,
+}
+
+// How many expansion bytes stand from a place on, at most 16 and none past La; 0 where that is broken.
+pub fn expansion_length(pdu: &[u8], at: u16, la: u8) -> usize
+    ensures { λ r. ⌜ r ≡ expansionLength (now (pdu .entry)) at la ⌝ }
+{
+    let last = la as usize;
+    let mut i: usize = 0;
+    while i < 16 {
+        let place = at as usize + i;
+        if last < place {
+            return 0;
+        }
+        if pdu.len() <= place {
+            return 0;
+        }
+        if pdu[place] < 128 {
+            return i + 1;
+        }
+        i += 1;
+    }
+    0
+}
+
+fn nothing(right: bool) -> Interpreted
+    ensures { λ r. ⌜ r ≡ nothingOf right ⌝ }
+{
+    Interpreted {
+        right: right,
+        class: 0,
+        program: 0,
+        displaced: false,
+        displacement: 0,
+        access: 0,
+        ptype: 0,
+        services: 0,
+        marker: 0,
+    }
+}
+
+// Whether interpretation goes on at an ID and first byte.
+fn known(id: u8, b: u8) -> bool
+    ensures { λ r. ⌜ r ≡ knownOf id b ⌝ }
+{
+    if id < 3 {
+        return true;
+    }
+    if id == 4 {
+        return b / 8 % 2 == 1;
+    }
+    false
+}
+
+// A field's bytes after its first.
+fn more_bytes(id: u8, b: u8) -> usize
+    ensures { λ r. ⌜ (r ≡ moreBytes id b) × (r ≤ 3) ⌝ }
+{
+    if id == 0 {
+        return 0;
+    }
+    if id == 1 {
+        return 2 * (wide(b) % 2);
+    }
+    if id == 2 {
+        return 1;
+    }
+    3
+}
+
+fn wide(x: u8) -> usize
+    ensures { λ r. ⌜ (r ≡ x) × (r < 256) ⌝ }
+{
+    x as usize
+}
+
+// Septet j of the n from a place on; 0 past them.
+fn septet(pdu: &[u8], at: usize, n: usize, j: usize) -> u8
+    requires { ⌜ (at ≤ 65535) × (n ≤ 16) ⌝ }
+    ensures { λ r. ⌜ (r ≡ getD (septetsAt (now (pdu .entry)) at n) j 0) × (r < 128) ⌝ }
+{
+    if j < n {
+        return layout::byte_at(pdu, at + j) % 128;
+    }
+    0
+}
+
+// What is known with one more field: its ID, its first septet and the three that follow.
+fn absorbed(v: Interpreted, id: u8, b: u8, r0: u8, r1: u8, r2: u8) -> Interpreted
+    requires { ⌜ (b < 128) × (r0 < 128) × (r1 < 128) × (r2 < 128) ⌝ }
+    ensures { λ r. ⌜ r ≡ absorb (fieldOf id b (r0 ∷ r1 ∷ r2 ∷ [])) v ⌝ }
+{
+    let mut out = v;
+    match id {
+        0 => {
+            out.class = b % 16;
+        }
+        1 => {
+            out.program = b / 2 % 8;
+            if b % 2 == 1 {
+                out.displaced = true;
+                out.displacement = fourteen(r0, r1);
+            }
+        }
+        2 => {
+            out.access = b / 8 % 2;
+            out.ptype = 128 * (b % 2) + r0;
+        }
+        _ => {
+            out.services = b % 8;
+            out.marker = twenty_one(r0, r1, r2);
+        }
+    }
+    out
+}
+
+fn fourteen(r0: u8, r1: u8) -> u16
+    requires { ⌜ (r0 < 128) × (r1 < 128) ⌝ }
+    ensures { λ r. ⌜ r ≡ 128 * r0 + r1 ⌝ }
+{
+    128 * (r0 as u16) + r1 as u16
+}
+
+fn twenty_one(r0: u8, r1: u8, r2: u8) -> u32
+    requires { ⌜ (r0 < 128) × (r1 < 128) × (r2 < 128) ⌝ }
+    ensures { λ r. ⌜ r ≡ 16384 * r0 + 128 * r1 + r2 ⌝ }
+{
+    16384 * (r0 as u32) + 128 * (r1 as u32) + r2 as u32
+}
