@@ -2,15 +2,15 @@
 use mathlib.Core.Path.{_≡_, refl, sym, ap, _∙_, subst}
 use mathlib.Core.Bool.{Bool, true, false, cond}
 use mathlib.Core.List.{List, [], _∷_}
-use Prim.Native.Nat.{ℕ, zero, suc, _+_, _-_, _<_, _≤_}
+use Prim.Native.Nat.{ℕ, zero, suc, _+_, _-_, _%_, _<_, _≤_}
 use native.Mathlib.Decide.{decLt}
 use native.Mathlib.Numerals.{add-one}
 use native.Mathlib.Omega.{arith}
 use lib.Dec.{eqb, ltb}
-use lib.ListN.{length, getD, take, drop, drop-of-length-le}
+use lib.ListN.{length, getD, take, drop, drop-of-length-le, length-drop, length-map}
 use lib.Seq.{drop-cons, take-all, take-nil, length-take-le, getD-take}
 use borrow.Author.Tests.{lt-ltb, le-ltb}
-use Rattle.expansion.specs.Expansion.{oneMore, chainLength, expansionLength}
+use Rattle.expansion.specs.Expansion.{oneMore, chainLength, expansionLength, septetsAt}
 
 -- n bytes after i others; 0 stays 0
 abbrev pub past : ℕ → ℕ → ℕ
@@ -97,3 +97,43 @@ module _ (p : List ℕ) (at la : ℕ) where
         rw (a, b)
         (sym (past-more i (chainLength (take (15 - i) (drop (suc (at + i)) (take (la + 1) p)))))
         ∙ sym (ap (λ (u : List ℕ). past i (chainLength u)) rest ∙ rw t) ∙ l)
+
+-- ---- a chain is as long as it is counted
+
+chain-le : (l : List ℕ) → chainLength l ≤ length l
+unfolding chainLength
+chain-le [] = omega arith
+chain-le (b ∷ l) = go (ltb b 128) (chainLength l) (chain-le l)
+  where
+    go : (t : Bool) (n : ℕ) → n ≤ length l → cond t 1 (oneMore n) ≤ suc (length l)
+    go true n h = omega arith
+    go false zero h = omega arith
+    go false (suc n) h = omega arith
+
+take-le : (n : ℕ) (l : List ℕ) → length (take n l) ≤ n
+take-le n l = outside n n l (omega arith)
+
+drop-take-le : (a b : ℕ) (l : List ℕ) → length (drop a (take b l)) ≤ length (drop a l)
+drop-take-le a b l =
+    let x : length (drop a (take b l)) ≡ length (take b l) - a = length-drop a (take b l) in
+    let y : length (drop a l) ≡ length l - a = length-drop a l in
+    let z : length (take b l) ≤ length l = shorter b l in
+    omega arith
+
+module _ (p : List ℕ) (at la : ℕ) where
+  pub expansion-few : expansionLength p at la ≤ 16
+  unfolding expansionLength
+  expansion-few =
+      let a : chainLength (take 16 (drop at (take (la + 1) p))) ≤ length (take 16 (drop at (take (la + 1) p))) = chain-le (take 16 (drop at (take (la + 1) p))) in
+      let b : length (take 16 (drop at (take (la + 1) p))) ≤ 16 = take-le 16 (drop at (take (la + 1) p)) in
+      omega arith
+
+  pub expansion-there : length (septetsAt p at (expansionLength p at la)) ≡ expansionLength p at la
+  unfolding expansionLength septetsAt
+  expansion-there =
+      let w : List ℕ = drop at (take (la + 1) p) in
+      let a : chainLength (take 16 (drop at (take (la + 1) p))) ≤ length (take 16 (drop at (take (la + 1) p))) = chain-le (take 16 (drop at (take (la + 1) p))) in
+      let b : length (take 16 (drop at (take (la + 1) p))) ≤ length (drop at (take (la + 1) p)) = shorter 16 (drop at (take (la + 1) p)) in
+      let d : length (drop at (take (la + 1) p)) ≤ length (drop at p) = drop-take-le at (la + 1) p in
+      length-map (take (chainLength (take 16 (drop at (take (la + 1) p)))) (drop at p)) (λ b. b % 128)
+      ∙ length-take-le (chainLength (take 16 (drop at (take (la + 1) p)))) (drop at p) (omega arith)

@@ -112,3 +112,7 @@ outcome v (some fs) = absorbAll v fs
 -- what septets say
 unfoldable pub interpretation : List ℕ → Interpreted
 interpretation l = outcome (nothing true) (fieldsFrom 0 0 l)
+
+-- what the expansion bytes from a place on say; a chain over 16 bytes or past La breaks the rules
+unfoldable pub expansionAt : List ℕ → ℕ → ℕ → Interpreted
+expansionAt p at la = cond (eqb (expansionLength p at la) 0) (nothing false) (interpretation (septetsAt p at (expansionLength p at la)))

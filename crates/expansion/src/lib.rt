@@ -3,7 +3,7 @@ ghost use mathlib.Core.Path.{_≡_};
 ghost use Prim.Native.Nat.{_+_, _*_, _/_, _%_, _<_, _≤_};
 ghost use mathlib.Core.List.{List, [], _∷_};
 ghost use lib.ListN.{length, getD};
-ghost use Rattle.expansion.specs.Expansion.{expansionLength, septetsAt, known as knownOf, moreBytes, fieldOf, absorb, nothing as nothingOf, interpretation};
+ghost use Rattle.expansion.specs.Expansion.{expansionLength, septetsAt, known as knownOf, moreBytes, fieldOf, absorb, nothing as nothingOf, interpretation, expansionAt};
 
 // What expansion bytes say: values are 0 where not sent or not interpreted.
 pub struct Interpreted {
@@ -21,7 +21,7 @@ pub struct Interpreted {
 }
 
 // How many expansion bytes stand from a place on, at most 16 and none past La; 0 where that is broken.
-pub fn expansion_length(pdu: &[u8], at: u16, la: u8) -> usize
+fn expansion_length(pdu: &[u8], at: u16, la: u8) -> usize
     ensures { λ r. ⌜ r ≡ expansionLength (now (pdu .entry)) at la ⌝ }
 {
     let last = la as usize;
@@ -42,7 +42,8 @@ pub fn expansion_length(pdu: &[u8], at: u16, la: u8) -> usize
     0
 }
 
-fn nothing(right: bool) -> Interpreted
+// No field, and whether no rule is broken.
+pub fn nothing(right: bool) -> Interpreted
     ensures { λ r. ⌜ r ≡ nothingOf right ⌝ }
 {
     Interpreted {
@@ -145,4 +146,66 @@ fn twenty_one(r0: u8, r1: u8, r2: u8) -> u32
     ensures { λ r. ⌜ r ≡ 16384 * r0 + 128 * r1 + r2 ⌝ }
 {
     16384 * (r0 as u32) + 128 * (r1 as u32) + r2 as u32
+}
+
+// What the n septets from a place on say.
+fn interpret(pdu: &[u8], at: usize, n: usize) -> Interpreted
+    requires { ⌜ (at ≤ 65535) × (n ≤ 16) ⌝ }
+    requires { ⌜ length (septetsAt (now pdu) at n) ≡ n ⌝ }
+    ensures { λ r. ⌜ r ≡ interpretation (septetsAt (now (pdu .entry)) at n) ⌝ }
+{
+    let mut v = nothing(true);
+    let mut next: u8 = 0;
+    let mut i: usize = 0;
+    while i < n {
+        let b = septet(pdu, at, n, i);
+        let id = b / 16;
+        if id < next {
+            return nothing(false);
+        }
+        if !known(id, b) {
+            return v;
+        }
+        if b == 0 {
+            return nothing(false);
+        }
+        let m = more_bytes(id, b);
+        if n < i + 1 + m {
+            return nothing(false);
+        }
+        let r0 = septet(pdu, at, n, i + 1);
+        let r1 = septet(pdu, at, n, i + 2);
+        let r2 = septet(pdu, at, n, i + 3);
+        let w = absorbed(v, id, b, r0, r1, r2);
+        v = w;
+        next = id + 1;
+        i = i + 1 + m;
+    }
+    v
+}
+
+// The expansion bytes from a place on: how many there are, and what they say.
+pub struct Expansion {
+    pub length: usize,
+    pub values: Interpreted,
+}
+
+// Reads the expansion bytes from a place on, none past La.
+pub fn read_expansion(pdu: &[u8], at: u16, la: u8) -> Expansion
+    ensures { λ r. ⌜ r .length ≡ expansionLength (now (pdu .entry)) at la ⌝ }
+    ensures { λ r. ⌜ r .values ≡ expansionAt (now (pdu .entry)) at la ⌝ }
+{
+    let n = expansion_length(pdu, at, la);
+    if n == 0 {
+        let none = nothing(false);
+        return Expansion {
+            length: n,
+            values: none,
+        };
+    }
+    let values = interpret(pdu, at as usize, n);
+    Expansion {
+        length: n,
+        values: values,
+    }
 }
