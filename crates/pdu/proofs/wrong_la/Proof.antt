@@ -1,0 +1,35 @@
+use native.Mathlib.Omega.{arith}
+use mathlib.Core.Path.{_≡_, refl, ap, sym, _∙_}
+use Prim.Native.Nat.{ℕ, _+_, _-_, _*_, _≤_, _<_}
+use lib.ListN.{length, take, drop, getD, set, length-set}
+use mathlib.Core.List.{List, [], _∷_, _++_}
+use borrow.Author.Needs.{needs}
+use denote.Ref.{now}
+use Rattle.pdu.proofs.Judging.{la-low, la-high}
+use Rattle.pdu.proofs.wrong_la.Statement.{statement}
+use Rattle.pdu.proofs.wrong_la.Tie as tie
+use Rattle.pdu.proofs.wrong_la.Reads as reads
+use Rattle.pdu.proofs.wrong_la.Lts as lts
+use Rattle.pdu.proofs.after_locators.Reads as after-locators-reads
+
+cast-la : tie.Need-cast-la
+cast-la c = search needs
+
+add-if1 : tie.Need-add-if1
+add-if1 c = search needs
+
+after-locators-requires : tie.Need-after-locators-requires
+after-locators-requires c κs = search needs
+
+cast-if1 : tie.Need-cast-if1
+cast-if1 c = search needs
+
+returns : tie.Need-returns
+returns c = let a = c .before .before .before .before .args in la-low (a .width) (a .c) (now (a .y)) _ (c .before .after-locators .ensures .0) (c .if1 .taken)
+
+returns-2 : tie.Need-returns-2
+returns-2 c = let a = c .before .before .before .before .args in la-high (a .width) (a .c) (now (a .y)) _ (c .before .after-locators .ensures .0) (c .if1 .left)
+
+pub wrong-la-spec : {M : Type 1} → statement M
+wrong-la-spec =
+    tie.close (tie.spec cast-la add-if1 after-locators-requires cast-if1 returns returns-2)

@@ -1,0 +1,51 @@
+use native.Mathlib.Omega.{arith}
+use mathlib.Core.Path.{_≡_, refl, ap, sym, _∙_}
+use Prim.Native.Nat.{ℕ, _+_, _-_, _*_, _≤_, _<_}
+use lib.ListN.{length, take, drop, getD, set, length-set}
+use mathlib.Core.List.{List, [], _∷_, _++_}
+use borrow.Author.Needs.{needs}
+use denote.Ref.{now}
+use Rattle.pdu.proofs.Judging.{locator-low, locator-high}
+use Rattle.pdu.proofs.wrong_locator.Statement.{statement}
+use Rattle.pdu.proofs.wrong_locator.Tie as tie
+use Rattle.pdu.proofs.wrong_locator.Reads as reads
+use Rattle.pdu.proofs.wrong_locator.Lts as lts
+use Rattle.layout.proofs.locator.Reads as locator-reads
+use Rattle.pdu.proofs.mark.Reads as mark-reads
+
+locator-requires : tie.Need-locator-requires
+locator-requires c κs = search needs
+
+cast-l : tie.Need-cast-l
+cast-l c = search needs
+
+mark-requires : tie.Need-mark-requires
+mark-requires c κs = search needs
+
+cast-before : tie.Need-cast-before
+cast-before c = search needs
+
+add-if1 : tie.Need-add-if1
+add-if1 c = search needs
+
+add-if1-2 : tie.Need-add-if1-2
+add-if1-2 c = search needs
+
+returns : tie.Need-returns
+returns c = let a = c .before .before .before .before .args in locator-low (a .width) (a .c) (now (a .y)) (a .k) _ _ (c .before .before .locator .ensures) (c .before .mark .ensures) (c .if1 .taken)
+
+returns-2 : tie.Need-returns-2
+returns-2 c = let a = c .before .before .before .before .args in locator-high (a .width) (a .c) (now (a .y)) (a .k) _ _ (c .before .before .locator .ensures) (c .before .mark .ensures) (c .if1 .left)
+
+pub wrong-locator-spec : {M : Type 1} → statement M
+wrong-locator-spec =
+    tie.close
+    (tie.spec
+    locator-requires
+    cast-l
+    mark-requires
+    cast-before
+    add-if1
+    add-if1-2
+    returns
+    returns-2)

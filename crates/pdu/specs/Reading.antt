@@ -1,0 +1,159 @@
+-- Document 01, "Reading without a receiver": a corrected PDU's control word, expansion fields, PSD and pieces, and
+-- refusals 3 to 5 and 7 to 12 in the table's order.
+use mathlib.Core.Path.{_≡_}
+use mathlib.Core.Bool.{Bool, true, false, not, _&&_, _||_, cond}
+use mathlib.Core.List.{List, [], _∷_}
+use Prim.Native.Nat.{ℕ, zero, suc, _+_, _-_, _<_}
+use lib.Dec.{eqb, ltb, leb}
+use lib.ListN.{length, replicate}
+use Rattle.refusal.specs.Refusal.{firstOf, anyOf}
+use Rattle.modes.specs.Modes.{listing}
+use Rattle.modes.specs.declared.Mode.{Mode}
+use Rattle.modes.specs.declared.Listing.{Listing}
+use Rattle.modes.specs.declared.Listing.the-variants.{Listed, Refused}
+use Rattle.layout.specs.Control.{controlAt}
+use Rattle.layout.specs.declared.ControlWord.{ControlWord}
+use Rattle.layout.specs.Locators.{locatorSize, mostPieces, locatorAt}
+use Rattle.expansion.specs.Expansion.{nothing, expansionLength, expansionAt}
+use Rattle.expansion.specs.declared.Interpreted.{Interpreted}
+use Rattle.correction.specs.Correction.{correctionOf, correctedPdu, numberOf}
+use Rattle.pdu.specs.declared.ExpansionFields.{ExpansionFields}
+use Rattle.pdu.specs.declared.Part.{Part}
+use Rattle.pdu.specs.declared.Reading.{Reading}
+
+-- ---- the parts of a corrected PDU y with the control word c and locators of a width
+
+-- the place after the locators
+abbrev pub afterLocators : ℕ → ControlWord → ℕ
+afterLocators width c = 14 + locatorSize width (c .nop)
+
+-- how many expansion bytes follow the locators, and what they say
+abbrev pub expansionBytes : ℕ → ControlWord → List ℕ → ℕ
+expansionBytes width c y = cond (c .flag) (expansionLength y (afterLocators width c) (c .la)) 0
+
+abbrev pub fieldsOf : ℕ → ControlWord → List ℕ → Interpreted
+fieldsOf width c y = cond (c .flag) (expansionAt y (afterLocators width c) (c .la)) (nothing true)
+
+-- the place before piece k: La, or the previous locator
+abbrev pub markAt : ℕ → ControlWord → List ℕ → ℕ → ℕ
+markAt width c y zero = c .la
+markAt width c y (suc k) = locatorAt width y k
+
+-- piece k starts after La or the previous locator and ends before its locator
+abbrev pub startAt : ℕ → ControlWord → List ℕ → ℕ → ℕ
+startAt width c y k = markAt width c y k + 1
+
+abbrev pub lengthAt : ℕ → ControlWord → List ℕ → ℕ → ℕ
+lengthAt width c y k = locatorAt width y k - startAt width c y k
+
+-- locator k is under its piece's start plus 1, or not below the length
+unfoldable pub wrongLocator : ℕ → ControlWord → List ℕ → ℕ → Bool
+wrongLocator width c y k = ltb (locatorAt width y k) (startAt width c y k + 1) || leb (length y) (locatorAt width y k)
+
+unfoldable pub anyBelow : ℕ → (ℕ → Bool) → Bool
+anyBelow zero t = false
+anyBelow (suc n) t = anyBelow n t || t n
+
+-- ---- what is turned down, 7 to 12
+
+-- NOP over its limit, or Pfirst or Plast with NOP 0
+abbrev pub wrongPieces : ℕ → ControlWord → Bool
+wrongPieces width c = anyOf (ltb (mostPieces width) (c .nop) ∷ (eqb (c .nop) 0 && c .pfirst) ∷ (eqb (c .nop) 0 && c .plast) ∷ [])
+
+-- La before the last locator byte, or not below the length
+abbrev pub wrongLa : ℕ → ControlWord → List ℕ → Bool
+wrongLa width c y = anyOf (ltb (c .la + 1) (afterLocators width c) ∷ leb (length y) (c .la) ∷ [])
+
+-- displacement before the last piece's end (La if none), or not below the length
+abbrev pub wrongDisplacement : ℕ → ControlWord → List ℕ → Interpreted → Bool
+wrongDisplacement width c y x = x .displaced && (ltb (x .displacement) (markAt width c y (c .nop)) || leb (length y) (x .displacement))
+
+abbrev pub readerTests : Mode → ControlWord → List ℕ → List (Bool × ℕ)
+readerTests m c y =
+    (leb (m .sequences) (c .sequence), 7)
+    ∷ (wrongPieces (m .width) c, 8)
+    ∷ (wrongLa (m .width) c y, 9)
+    ∷ (not (fieldsOf (m .width) c y .right), 10)
+    ∷ (anyBelow (c .nop) (wrongLocator (m .width) c y), 11)
+    ∷ (wrongDisplacement (m .width) c y (fieldsOf (m .width) c y), 12)
+    ∷ []
+
+-- ---- the answer
+
+-- 64 entries: f below n, 0 from there on
+abbrev pub entriesFrom : ℕ → ℕ → ℕ → (ℕ → ℕ) → List ℕ
+entriesFrom zero k n f = []
+entriesFrom (suc m) k n f = cond (ltb k n) (f k) 0 ∷ entriesFrom m (suc k) n f
+
+abbrev pub entries : ℕ → (ℕ → ℕ) → List ℕ
+entries n f = entriesFrom 64 0 n f
+
+abbrev pub answered : Interpreted → ExpansionFields
+answered x = record { class = x .class; program = x .program; displacement = x .displacement; access = x .access; ptype = x .ptype; services = x .services; marker = x .marker }
+
+-- PSD runs from the expansion's end to La
+abbrev pub psdOf : ℕ → ControlWord → List ℕ → Part
+psdOf width c y = record {
+  start = afterLocators width c + expansionBytes width c y;
+  length = c .la + 1 - (afterLocators width c + expansionBytes width c y);
+}
+
+unfoldable pub accepted : ℕ → ControlWord → List ℕ → Reading
+accepted width c y = record {
+  refusal = 0;
+  wrong = 0;
+  control = c;
+  fields = answered (fieldsOf width c y);
+  psd = psdOf width c y;
+  starts = entries (c .nop) (startAt width c y);
+  lengths = entries (c .nop) (lengthAt width c y);
+}
+
+abbrev pub noControl : ControlWord
+noControl = record { mode = 0; stream = 0; sequence = 0; blend = 0; gain = 0; common = 0; latency = 0; pfirst = false; plast = false; start = 0; nop = 0; flag = false; la = 0 }
+
+-- a refusal with its number, and k where it is 11
+unfoldable pub refused : ℕ → ℕ → Reading
+refused number k = record {
+  refusal = number;
+  wrong = k;
+  control = noControl;
+  fields = answered (nothing true);
+  psd = record { start = 0; length = 0 };
+  starts = replicate 64 0;
+  lengths = replicate 64 0;
+}
+
+-- the lowest number from 5 to 12 that applies to a corrected PDU
+abbrev pub listedNumber : Listing → ControlWord → List ℕ → ℕ
+listedNumber (Refused n) c y = n
+listedNumber (Listed m) c y = firstOf (readerTests m c y)
+
+unfoldable pub judged : List ℕ → ℕ
+judged y = listedNumber (listing (controlAt y .mode) (controlAt y .stream)) (controlAt y) y
+
+abbrev pub listedWidth : Listing → ℕ
+listedWidth (Refused n) = 0
+listedWidth (Listed m) = m .width
+
+-- the locator width of a PDU's mode and stream
+unfoldable pub widthOf : List ℕ → ℕ
+widthOf y = listedWidth (listing (controlAt y .mode) (controlAt y .stream))
+
+-- the lowest number that applies to a PDU, 0 where it is accepted
+unfoldable pub readNumber : List ℕ → ℕ
+readNumber p = cond (eqb (numberOf (correctionOf p)) 0) (judged (correctedPdu p)) (numberOf (correctionOf p))
+
+-- the answer, with whatever k comes with 11
+unfoldable pub readingWith : ℕ → List ℕ → Reading
+readingWith k p = cond (eqb (readNumber p) 0) (accepted (widthOf (correctedPdu p)) (controlAt (correctedPdu p)) (correctedPdu p)) (refused (readNumber p) k)
+
+-- k is that of a wrong locator where the number is 11, else 0
+pub record WrongOne (number : ℕ) (y : List ℕ) (k : ℕ) : Type 0 where
+  pub inside : number ≡ 11 → k < controlAt y .nop
+  pub wrong : number ≡ 11 → wrongLocator (widthOf y) (controlAt y) y k ≡ true
+  pub none : ¬ (number ≡ 11) → k ≡ 0
+
+-- the PDU after the call: corrected, or as it was
+unfoldable pub readPdu : List ℕ → List ℕ
+readPdu p = cond (eqb (readNumber p) 0) (correctedPdu p) p

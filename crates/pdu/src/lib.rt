@@ -1,0 +1,129 @@
+// Reading a PDU without a receiver (document 01, "Reading without a receiver").
+use correction::Correction;
+use expansion::Expansion;
+use expansion::Interpreted;
+use layout::ControlWord;
+use modes::Listing;
+use modes::Mode;
+ghost use mathlib.Core.Path.{_≡_};
+ghost use Prim.Native.Nat.{_+_, _<_, _≤_};
+ghost use lib.ListN.{length};
+ghost use Rattle.layout.specs.Control.{controlAt};
+ghost use Rattle.layout.specs.Locators.{locatorSize};
+ghost use Rattle.pdu.specs.Reading.{afterLocators, expansionBytes, fieldsOf, markAt, wrongLocator, wrongPieces, wrongLa, wrongDisplacement};
+
+// Expansion fields: 0 where not sent or not interpreted.
+#[repr(C)]
+pub struct ExpansionFields {
+    pub class: u8,
+    pub program: u8,
+    pub displacement: u16,
+    pub access: u8,
+    pub ptype: u8,
+    pub services: u8,
+    pub marker: u32,
+}
+
+// A part of a PDU.
+#[repr(C)]
+pub struct Part {
+    pub start: u32,
+    pub length: u32,
+}
+
+// What a PDU holds, or the number it is refused with; every other field is 0 then, but for the wrong locator with 11.
+#[repr(C)]
+pub struct Reading {
+    pub refusal: u32,
+    // With refusal 11, k of a wrong locator.
+    pub wrong: u32,
+    pub control: ControlWord,
+    pub fields: ExpansionFields,
+    pub psd: Part,
+    // Each piece's start and length; 0 from NOP on.
+    pub starts: [u16; 64],
+    pub lengths: [u16; 64],
+}
+
+// The place after the locators.
+fn after_locators(width: u8, nop: u8) -> u16
+    ensures { λ r. ⌜ (r ≡ 14 + locatorSize width nop) × (r ≤ 600) ⌝ }
+{
+    (14 + layout::locator_size(width, nop) % 1024) as u16
+}
+
+// The expansion bytes, if flagged.
+fn expansion_of(y: &[u8], width: u8, c: ControlWord) -> Expansion
+    ensures { λ r. ⌜ (r .length ≡ expansionBytes width c (now (y .entry))) × (r .values ≡ fieldsOf width c (now (y .entry))) ⌝ }
+{
+    if c.flag {
+        return expansion::read_expansion(y, after_locators(width, c.nop), c.la);
+    }
+    let none = expansion::nothing(true);
+    Expansion {
+        length: 0,
+        values: none,
+    }
+}
+
+// The place before piece k: La, or the previous locator.
+fn mark(y: &[u8], width: u8, c: ControlWord, k: u8) -> u16
+    ensures { λ r. ⌜ r ≡ markAt width c (now (y .entry)) k ⌝ }
+{
+    if k == 0 {
+        return c.la as u16;
+    }
+    layout::locator(width, y, k - 1)
+}
+
+// Whether locator k is wrong.
+fn wrong_locator(y: &[u8], width: u8, c: ControlWord, k: u8) -> bool
+    ensures { λ r. ⌜ r ≡ wrongLocator width c (now (y .entry)) k ⌝ }
+{
+    let l = layout::locator(width, y, k) as usize;
+    let before = mark(y, width, c, k) as usize;
+    if l < before + 1 + 1 {
+        return true;
+    }
+    y.len() <= l
+}
+
+// NOP over its limit, or Pfirst or Plast with NOP 0.
+fn wrong_pieces(width: u8, c: ControlWord) -> bool
+    ensures { λ r. ⌜ r ≡ wrongPieces width c ⌝ }
+{
+    if layout::most_pieces(width) < c.nop {
+        return true;
+    }
+    if c.nop == 0 {
+        if c.pfirst {
+            return true;
+        }
+        return c.plast;
+    }
+    false
+}
+
+// La before the last locator byte, or not below the length.
+fn wrong_la(y: &[u8], width: u8, c: ControlWord) -> bool
+    ensures { λ r. ⌜ r ≡ wrongLa width c (now (y .entry)) ⌝ }
+{
+    let la = c.la as usize;
+    if la + 1 < after_locators(width, c.nop) as usize {
+        return true;
+    }
+    y.len() <= la
+}
+
+// A displacement that was sent, before the last piece's end or not below the length.
+fn wrong_displacement(y: &[u8], width: u8, c: ControlWord, x: Interpreted) -> bool
+    ensures { λ r. ⌜ r ≡ wrongDisplacement width c (now (y .entry)) x ⌝ }
+{
+    if x.displaced {
+        if x.displacement < mark(y, width, c, c.nop) {
+            return true;
+        }
+        return y.len() <= x.displacement as usize;
+    }
+    false
+}
