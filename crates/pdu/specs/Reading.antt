@@ -78,6 +78,12 @@ readerTests m c y =
     ∷ (wrongDisplacement (m .width) c y (fieldsOf (m .width) c y), 12)
     ∷ []
 
+-- k is that of a wrong locator where the number is 11, else 0
+pub record WrongIn (width : ℕ) (c : ControlWord) (y : List ℕ) (number k : ℕ) : Type 0 where
+  pub inside : number ≡ 11 → k < c .nop
+  pub wrong : number ≡ 11 → wrongLocator width c y k ≡ true
+  pub none : ¬ (number ≡ 11) → k ≡ 0
+
 -- ---- the answer
 
 -- 64 entries: f below n, 0 from there on
@@ -147,12 +153,6 @@ readNumber p = cond (eqb (numberOf (correctionOf p)) 0) (judged (correctedPdu p)
 -- the answer, with whatever k comes with 11
 unfoldable pub readingWith : ℕ → List ℕ → Reading
 readingWith k p = cond (eqb (readNumber p) 0) (accepted (widthOf (correctedPdu p)) (controlAt (correctedPdu p)) (correctedPdu p)) (refused (readNumber p) k)
-
--- k is that of a wrong locator where the number is 11, else 0
-pub record WrongOne (number : ℕ) (y : List ℕ) (k : ℕ) : Type 0 where
-  pub inside : number ≡ 11 → k < controlAt y .nop
-  pub wrong : number ≡ 11 → wrongLocator (widthOf y) (controlAt y) y k ≡ true
-  pub none : ¬ (number ≡ 11) → k ≡ 0
 
 -- the PDU after the call: corrected, or as it was
 unfoldable pub readPdu : List ℕ → List ℕ

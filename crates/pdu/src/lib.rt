@@ -7,10 +7,13 @@ use modes::Listing;
 use modes::Mode;
 ghost use mathlib.Core.Path.{_≡_};
 ghost use Prim.Native.Nat.{_+_, _<_, _≤_};
+ghost use mathlib.Core.Bool.{true};
+ghost use lib.Dec.{ltb};
+ghost use Rattle.refusal.specs.Refusal.{firstOf};
 ghost use lib.ListN.{length};
 ghost use Rattle.layout.specs.Control.{controlAt};
 ghost use Rattle.layout.specs.Locators.{locatorSize};
-ghost use Rattle.pdu.specs.Reading.{afterLocators, expansionBytes, fieldsOf, markAt, wrongLocator, wrongPieces, wrongLa, wrongDisplacement};
+ghost use Rattle.pdu.specs.Reading.{afterLocators, expansionBytes, fieldsOf, markAt, wrongLocator, wrongPieces, wrongLa, wrongDisplacement, anyBelow, readerTests, WrongIn};
 
 // Expansion fields: 0 where not sent or not interpreted.
 #[repr(C)]
@@ -126,4 +129,67 @@ fn wrong_displacement(y: &[u8], width: u8, c: ControlWord, x: Interpreted) -> bo
         return y.len() <= x.displacement as usize;
     }
     false
+}
+
+// The first wrong locator, or NOP where none is wrong.
+fn first_wrong(y: &[u8], width: u8, c: ControlWord) -> u8
+    ensures { λ r. ⌜ anyBelow (c .nop) (wrongLocator width c (now (y .entry))) ≡ ltb r (c .nop) ⌝ }
+    ensures { λ r. ⌜ ((r < c .nop) → wrongLocator width c (now (y .entry)) r ≡ true) ⌝ }
+{
+    let nop = c.nop;
+    let mut k: u8 = 0;
+    while k < nop {
+        if wrong_locator(y, width, c, k) {
+            return k;
+        }
+        k += 1;
+    }
+    nop
+}
+
+// A refusal number from 7 to 12 or 0, and with 11 the k of a wrong locator.
+struct Verdict {
+    number: u32,
+    wrong: u8,
+}
+
+fn plain(number: u32) -> Verdict
+    ensures { λ r. ⌜ (r .number ≡ number) × (r .wrong ≡ 0) ⌝ }
+{
+    Verdict {
+        number: number,
+        wrong: 0,
+    }
+}
+
+// The lowest number from 7 to 12 that applies.
+fn judge(y: &[u8], c: ControlWord, m: Mode) -> Verdict
+    ensures { λ r. ⌜ r .number ≡ firstOf (readerTests m c (now (y .entry))) ⌝ }
+    ensures { λ r. ⌜ WrongIn (m .width) c (now (y .entry)) (r .number) (r .wrong) ⌝ }
+{
+    if m.sequences <= c.sequence {
+        return plain(7);
+    }
+    if wrong_pieces(m.width, c) {
+        return plain(8);
+    }
+    if wrong_la(y, m.width, c) {
+        return plain(9);
+    }
+    let x = expansion_of(y, m.width, c);
+    let fields = x.values;
+    if !fields.right {
+        return plain(10);
+    }
+    let k = first_wrong(y, m.width, c);
+    if k < c.nop {
+        return Verdict {
+            number: 11,
+            wrong: k,
+        };
+    }
+    if wrong_displacement(y, m.width, c, fields) {
+        return plain(12);
+    }
+    plain(0)
 }

@@ -1,0 +1,45 @@
+-- The lowest number that applies, test by test.
+use mathlib.Core.Path.{_≡_, refl, sym, ap, _∙_, subst}
+use mathlib.Core.Bool.{Bool, true, false, not, cond}
+use mathlib.Core.List.{List}
+use Prim.Native.Nat.{ℕ, _<_}
+use native.Mathlib.Omega.{arith}
+use lib.Dec.{leb}
+use Rattle.refusal.specs.Refusal.{firstOf}
+use Rattle.modes.specs.declared.Mode.{Mode}
+use Rattle.layout.specs.declared.ControlWord.{ControlWord}
+use Rattle.pdu.specs.Reading.{fieldsOf, wrongLocator, anyBelow, wrongPieces, wrongLa, wrongDisplacement, readerTests, WrongIn}
+
+module _ (m : Mode) (c : ControlWord) (y : List ℕ) where
+  -- the number n and the k beside it are the right ones
+  abbrev pub Judged : ℕ → ℕ → Type 0
+  Judged n k = (n ≡ firstOf (readerTests m c y)) × WrongIn (m .width) c y n k
+
+  without-k : (n k : ℕ) → ¬ (n ≡ 11) → k ≡ 0 → WrongIn (m .width) c y n k
+  without-k n k d e = record { inside = λ q. absurd (d q); wrong = λ q. absurd (d q); none = λ q. e }
+
+  pub number-7 : leb (m .sequences) (c .sequence) ≡ true → (n k : ℕ) → n ≡ 7 → k ≡ 0 → Judged n k
+  number-7 t n k en ek = (en ∙ sym (rw t), without-k n k (λ q. omega arith) ek)
+
+  module _ (s : leb (m .sequences) (c .sequence) ≡ false) where
+    pub number-8 : wrongPieces (m .width) c ≡ true → (n k : ℕ) → n ≡ 8 → k ≡ 0 → Judged n k
+    number-8 t n k en ek = (en ∙ sym (rw (s, t)), without-k n k (λ q. omega arith) ek)
+
+    module _ (p : wrongPieces (m .width) c ≡ false) where
+      pub number-9 : wrongLa (m .width) c y ≡ true → (n k : ℕ) → n ≡ 9 → k ≡ 0 → Judged n k
+      number-9 t n k en ek = (en ∙ sym (rw (s, p, t)), without-k n k (λ q. omega arith) ek)
+
+      module _ (l : wrongLa (m .width) c y ≡ false) where
+        pub number-10 : fieldsOf (m .width) c y .right ≡ false → (n k : ℕ) → n ≡ 10 → k ≡ 0 → Judged n k
+        number-10 t n k en ek = (en ∙ sym (rw (s, p, l, t)), without-k n k (λ q. omega arith) ek)
+
+        module _ (x : fieldsOf (m .width) c y .right ≡ true) where
+          pub number-11 : anyBelow (c .nop) (wrongLocator (m .width) c y) ≡ true → (k : ℕ) → k < c .nop → wrongLocator (m .width) c y k ≡ true → Judged 11 k
+          number-11 t k h w = (sym (rw (s, p, l, x, t)), record { inside = λ q. h; wrong = λ q. w; none = λ d. absurd (d refl) })
+
+          module _ (a : anyBelow (c .nop) (wrongLocator (m .width) c y) ≡ false) where
+            pub number-12 : wrongDisplacement (m .width) c y (fieldsOf (m .width) c y) ≡ true → (n k : ℕ) → n ≡ 12 → k ≡ 0 → Judged n k
+            number-12 t n k en ek = (en ∙ sym (rw (s, p, l, x, a, t)), without-k n k (λ q. omega arith) ek)
+
+            pub number-0 : wrongDisplacement (m .width) c y (fieldsOf (m .width) c y) ≡ false → (n k : ℕ) → n ≡ 0 → k ≡ 0 → Judged n k
+            number-0 t n k en ek = (en ∙ sym (rw (s, p, l, x, a, t)), without-k n k (λ q. omega arith) ek)

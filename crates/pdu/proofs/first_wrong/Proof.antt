@@ -1,0 +1,66 @@
+use borrow.Author.Needs.{needs}
+use native.Mathlib.Omega.{arith}
+use mathlib.Core.Path.{_≡_, refl, ap, sym, _∙_}
+use Prim.Native.Nat.{ℕ, _+_, _-_, _*_, _≤_, _<_}
+use lib.ListN.{length, take, drop, getD, set, length-set}
+use mathlib.Core.List.{List, [], _∷_, _++_}
+use denote.Ref.{now}
+use mathlib.Core.Bool.{true, false}
+use Rattle.pdu.specs.Reading.{anyBelow, wrongLocator}
+use Rattle.pdu.proofs.Any.{any-start, any-next, any-found, any-none}
+use Rattle.pdu.proofs.first_wrong.Statement.{statement}
+use Rattle.pdu.proofs.first_wrong.Tie as tie
+use Rattle.pdu.proofs.first_wrong.Reads as reads
+use Rattle.pdu.proofs.first_wrong.Lts as lts
+use Rattle.pdu.proofs.wrong_locator.Reads as wrong-locator-reads
+
+abbrev Inv-loop : tie.InvT-loop
+Inv-loop y width c nop k₀ k = (k ≤ c .nop) × (anyBelow k (wrongLocator width c y) ≡ false)
+
+abbrev μ-loop : tie.MeasureT-loop
+μ-loop y width c nop k₀ k = c .nop - k
+
+loop-holds : tie.Need-loop-holds Inv-loop μ-loop
+loop-holds c = (omega arith, any-start _)
+
+wrong-locator-requires : tie.Need-wrong-locator-requires Inv-loop μ-loop
+wrong-locator-requires c κs = search needs
+
+returns : tie.Need-returns Inv-loop μ-loop
+returns c =
+    let p = c .before .before .before in
+    let a = p .before .before .args in
+    let e : wrongLocator (a .width) (a .c) (now (a .y)) (p .loop .k) ≡ true = sym (c .before .wrong-locator .ensures) ∙ c .if1 .taken in
+    (any-found (wrongLocator (a .width) (a .c) (now (a .y))) (a .c .nop) (p .loop .k) (omega arith) e, λ h. e)
+
+add-k : tie.Need-add-k Inv-loop μ-loop
+add-k c = search needs
+
+loop-less : tie.Need-loop-less Inv-loop μ-loop
+loop-less c = search needs
+
+loop-again : tie.Need-loop-again Inv-loop μ-loop
+loop-again c =
+    let p = c .before .before .before in
+    let a = p .before .before .args in
+    (omega arith, any-next (wrongLocator (a .width) (a .c) (now (a .y))) (p .loop .k) (p .loop .inv .1) (sym (c .before .wrong-locator .ensures) ∙ c .if1 .left))
+
+returns-2 : tie.Need-returns-2 Inv-loop μ-loop
+returns-2 c =
+    let p = c .before in
+    let a = p .before .before .args in
+    (any-none (wrongLocator (a .width) (a .c) (now (a .y))) (a .c .nop) (p .loop .k) (omega arith) (p .loop .inv .1), λ h. absurd (omega arith))
+
+pub first-wrong-spec : {M : Type 1} → statement M
+first-wrong-spec =
+    tie.close
+    (tie.spec
+    Inv-loop
+    μ-loop
+    loop-holds
+    wrong-locator-requires
+    returns
+    add-k
+    loop-less
+    loop-again
+    returns-2)
