@@ -1,3 +1,4 @@
 pub mod Judging
 pub mod Any
 pub mod Numbers
+pub mod Filling

@@ -7,13 +7,13 @@ use modes::Listing;
 use modes::Mode;
 ghost use mathlib.Core.Path.{_≡_};
 ghost use Prim.Native.Nat.{_+_, _<_, _≤_};
-ghost use mathlib.Core.Bool.{true};
+ghost use mathlib.Core.Bool.{true, false};
 ghost use lib.Dec.{ltb};
 ghost use Rattle.refusal.specs.Refusal.{firstOf};
 ghost use lib.ListN.{length};
 ghost use Rattle.layout.specs.Control.{controlAt};
 ghost use Rattle.layout.specs.Locators.{locatorSize};
-ghost use Rattle.pdu.specs.Reading.{afterLocators, expansionBytes, fieldsOf, markAt, wrongLocator, wrongPieces, wrongLa, wrongDisplacement, anyBelow, readerTests, WrongIn};
+ghost use Rattle.pdu.specs.Reading.{afterLocators, expansionBytes, fieldsOf, markAt, wrongLocator, wrongPieces, wrongLa, wrongDisplacement, anyBelow, readerTests, WrongIn, entries, startAt, lengthAt};
 
 // Expansion fields: 0 where not sent or not interpreted.
 #[repr(C)]
@@ -192,4 +192,34 @@ fn judge(y: &[u8], c: ControlWord, m: Mode) -> Verdict
         return plain(12);
     }
     plain(0)
+}
+
+// Each piece's start and length; 0 from NOP on.
+struct Spans {
+    starts: [u16; 64],
+    lengths: [u16; 64],
+}
+
+fn piece_spans(y: &[u8], width: u8, c: ControlWord) -> Spans
+    requires { ⌜ c .nop < 64 ⌝ }
+    requires { ⌜ anyBelow (c .nop) (wrongLocator width c (now y)) ≡ false ⌝ }
+    ensures { λ r. ⌜ r .starts ≡ entries (c .nop) (startAt width c (now (y .entry))) ⌝ }
+    ensures { λ r. ⌜ r .lengths ≡ entries (c .nop) (lengthAt width c (now (y .entry))) ⌝ }
+{
+    let nop = c.nop;
+    let mut starts = [0u16; 64];
+    let mut lengths = [0u16; 64];
+    let mut k: u8 = 0;
+    while k < nop {
+        let l = layout::locator(width, y, k);
+        let before = mark(y, width, c, k);
+        let i = k as usize;
+        starts[i] = before + 1;
+        lengths[i] = l - (before + 1);
+        k += 1;
+    }
+    Spans {
+        starts: starts,
+        lengths: lengths,
+    }
 }
