@@ -192,7 +192,7 @@ pub struct Expansion {
 
 // Reads the expansion bytes from a place on, none past La.
 pub fn read_expansion(pdu: &[u8], at: u16, la: u8) -> Expansion
-    ensures { λ r. ⌜ r .length ≡ expansionLength (now (pdu .entry)) at la ⌝ }
+    ensures { λ r. ⌜ (r .length ≡ expansionLength (now (pdu .entry)) at la) × (r .length ≤ 16) ⌝ }
     ensures { λ r. ⌜ r .values ≡ expansionAt (now (pdu .entry)) at la ⌝ }
 {
     let n = expansion_length(pdu, at, la);

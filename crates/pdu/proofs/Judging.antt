@@ -28,11 +28,11 @@ after-right width n r h e =
 
 module _ (width : ℕ) (c : ControlWord) (y : List ℕ) where
   pub flagged : c .flag ≡ true → (at n : ℕ) (v : Interpreted) → at ≡ 14 + locatorSize width (c .nop) → n ≡ expansionLength y at (c .la) → v ≡ expansionAt y at (c .la)
-      → (n ≡ expansionBytes width c y) × (v ≡ fieldsOf width c y)
-  flagged f at n v e en ev = (rw f (en ∙ ap (λ (k : ℕ). expansionLength y k (c .la)) e), rw f (ev ∙ ap (λ (k : ℕ). expansionAt y k (c .la)) e))
+      → n ≤ 16 → (n ≡ expansionBytes width c y) × (n ≤ 16) × (v ≡ fieldsOf width c y)
+  flagged f at n v e en ev few = (rw f (en ∙ ap (λ (k : ℕ). expansionLength y k (c .la)) e), few, rw f (ev ∙ ap (λ (k : ℕ). expansionAt y k (c .la)) e))
 
-  pub unflagged : c .flag ≡ false → (v : Interpreted) → v ≡ nothing true → (0 ≡ expansionBytes width c y) × (v ≡ fieldsOf width c y)
-  unflagged f v e = (rw f, rw f e)
+  pub unflagged : c .flag ≡ false → (v : Interpreted) → v ≡ nothing true → (0 ≡ expansionBytes width c y) × (0 ≤ 16) × (v ≡ fieldsOf width c y)
+  unflagged f v e = (rw f, omega arith, rw f e)
 
   pub mark-first : (k : ℕ) → k ≡ 0 → c .la ≡ markAt width c y k
   mark-first k e = rw e

@@ -2,3 +2,4 @@ pub mod Judging
 pub mod Any
 pub mod Numbers
 pub mod Filling
+pub mod Assembling

@@ -130,6 +130,10 @@ refused number k = record {
   lengths = replicate 64 0;
 }
 
+-- the answer for a mode, with whatever k comes with 11
+unfoldable pub listedReading : Mode → ControlWord → List ℕ → ℕ → Reading
+listedReading m c y k = cond (eqb (firstOf (readerTests m c y)) 0) (accepted (m .width) c y) (refused (firstOf (readerTests m c y)) k)
+
 -- the lowest number from 5 to 12 that applies to a corrected PDU
 abbrev pub listedNumber : Listing → ControlWord → List ℕ → ℕ
 listedNumber (Refused n) c y = n
@@ -146,13 +150,17 @@ listedWidth (Listed m) = m .width
 unfoldable pub widthOf : List ℕ → ℕ
 widthOf y = listedWidth (listing (controlAt y .mode) (controlAt y .stream))
 
+-- the answer for a corrected PDU, with whatever k comes with 11
+unfoldable pub judgedReading : List ℕ → ℕ → Reading
+judgedReading y k = cond (eqb (judged y) 0) (accepted (widthOf y) (controlAt y) y) (refused (judged y) k)
+
 -- the lowest number that applies to a PDU, 0 where it is accepted
 unfoldable pub readNumber : List ℕ → ℕ
 readNumber p = cond (eqb (numberOf (correctionOf p)) 0) (judged (correctedPdu p)) (numberOf (correctionOf p))
 
 -- the answer, with whatever k comes with 11
 unfoldable pub readingWith : ℕ → List ℕ → Reading
-readingWith k p = cond (eqb (readNumber p) 0) (accepted (widthOf (correctedPdu p)) (controlAt (correctedPdu p)) (correctedPdu p)) (refused (readNumber p) k)
+readingWith k p = cond (eqb (numberOf (correctionOf p)) 0) (judgedReading (correctedPdu p) k) (refused (numberOf (correctionOf p)) k)
 
 -- the PDU after the call: corrected, or as it was
 unfoldable pub readPdu : List ℕ → List ℕ

@@ -6,14 +6,14 @@ use layout::ControlWord;
 use modes::Listing;
 use modes::Mode;
 ghost use mathlib.Core.Path.{_≡_};
-ghost use Prim.Native.Nat.{_+_, _<_, _≤_};
+ghost use Prim.Native.Nat.{_+_, _-_, _<_, _≤_};
 ghost use mathlib.Core.Bool.{true, false};
 ghost use lib.Dec.{ltb};
 ghost use Rattle.refusal.specs.Refusal.{firstOf};
 ghost use lib.ListN.{length};
 ghost use Rattle.layout.specs.Control.{controlAt};
 ghost use Rattle.layout.specs.Locators.{locatorSize};
-ghost use Rattle.pdu.specs.Reading.{afterLocators, expansionBytes, fieldsOf, markAt, wrongLocator, wrongPieces, wrongLa, wrongDisplacement, anyBelow, readerTests, WrongIn, entries, startAt, lengthAt};
+ghost use Rattle.pdu.specs.Reading.{afterLocators, expansionBytes, fieldsOf, markAt, wrongLocator, wrongPieces, wrongLa, wrongDisplacement, anyBelow, readerTests, WrongIn, entries, startAt, lengthAt, answered, accepted, noControl, refused, listedReading, widthOf, judgedReading};
 
 // Expansion fields: 0 where not sent or not interpreted.
 #[repr(C)]
@@ -57,7 +57,7 @@ fn after_locators(width: u8, nop: u8) -> u16
 
 // The expansion bytes, if flagged.
 fn expansion_of(y: &[u8], width: u8, c: ControlWord) -> Expansion
-    ensures { λ r. ⌜ (r .length ≡ expansionBytes width c (now (y .entry))) × (r .values ≡ fieldsOf width c (now (y .entry))) ⌝ }
+    ensures { λ r. ⌜ (r .length ≡ expansionBytes width c (now (y .entry))) × (r .length ≤ 16) × (r .values ≡ fieldsOf width c (now (y .entry))) ⌝ }
 {
     if c.flag {
         return expansion::read_expansion(y, after_locators(width, c.nop), c.la);
@@ -221,5 +221,130 @@ fn piece_spans(y: &[u8], width: u8, c: ControlWord) -> Spans
     Spans {
         starts: starts,
         lengths: lengths,
+    }
+}
+
+fn answered_fields(x: Interpreted) -> ExpansionFields
+    ensures { λ r. ⌜ r ≡ answered x ⌝ }
+{
+    ExpansionFields {
+        class: x.class,
+        program: x.program,
+        displacement: x.displacement,
+        access: x.access,
+        ptype: x.ptype,
+        services: x.services,
+        marker: x.marker,
+    }
+}
+
+// The PSD, from a place to La.
+fn psd_part(start: u16, la: u8) -> Part
+    requires { ⌜ start ≤ 1000 ⌝ }
+    ensures { λ r. ⌜ (r .start ≡ start) × (r .length ≡ la + 1 - start) ⌝ }
+{
+    let from = start as u32;
+    let end = la as u32 + 1;
+    if end < from {
+        return Part {
+            start: from,
+            length: 0,
+        };
+    }
+    Part {
+        start: from,
+        length: end - from,
+    }
+}
+
+// What an accepted PDU holds.
+fn accepted_reading(y: &[u8], width: u8, c: ControlWord) -> Reading
+    requires { ⌜ c .nop < 64 ⌝ }
+    requires { ⌜ anyBelow (c .nop) (wrongLocator width c (now y)) ≡ false ⌝ }
+    ensures { λ r. ⌜ r ≡ accepted width c (now (y .entry)) ⌝ }
+{
+    let x = expansion_of(y, width, c);
+    let v = x.values;
+    let fields = answered_fields(v);
+    let start = after_locators(width, c.nop) + x.length as u16;
+    let psd = psd_part(start, c.la);
+    let spans = piece_spans(y, width, c);
+    let starts = spans.starts;
+    let lengths = spans.lengths;
+    Reading {
+        refusal: 0,
+        wrong: 0,
+        control: c,
+        fields: fields,
+        psd: psd,
+        starts: starts,
+        lengths: lengths,
+    }
+}
+
+fn no_control() -> ControlWord
+    ensures { λ r. ⌜ r ≡ noControl ⌝ }
+{
+    ControlWord {
+        mode: 0,
+        stream: 0,
+        sequence: 0,
+        blend: 0,
+        gain: 0,
+        common: 0,
+        latency: 0,
+        pfirst: false,
+        plast: false,
+        start: 0,
+        nop: 0,
+        flag: false,
+        la: 0,
+    }
+}
+
+// A refusal with its number, and k where it is 11.
+fn refused_reading(number: u32, k: u32) -> Reading
+    ensures { λ r. ⌜ r ≡ refused number k ⌝ }
+{
+    let none = expansion::nothing(true);
+    let fields = answered_fields(none);
+    let control = no_control();
+    Reading {
+        refusal: number,
+        wrong: k,
+        control: control,
+        fields: fields,
+        psd: Part {
+            start: 0,
+            length: 0,
+        },
+        starts: [0; 64],
+        lengths: [0; 64],
+    }
+}
+
+// What a corrected PDU of a mode holds, or its refusal from 7 to 12.
+fn read_listed(y: &[u8], c: ControlWord, m: Mode) -> Reading
+    requires { ⌜ c .nop < 64 ⌝ }
+    ensures { λ r. ⌜ r ≡ listedReading m c (now (y .entry)) (r .wrong) ⌝ }
+    ensures { λ r. ⌜ WrongIn (m .width) c (now (y .entry)) (r .refusal) (r .wrong) ⌝ }
+{
+    let v = judge(y, c, m);
+    if v.number == 0 {
+        return accepted_reading(y, m.width, c);
+    }
+    refused_reading(v.number, v.wrong as u32)
+}
+
+// What a corrected PDU holds, or its refusal from 5 on.
+fn read_corrected(y: &[u8]) -> Reading
+    ensures { λ r. ⌜ r ≡ judgedReading (now (y .entry)) (r .wrong) ⌝ }
+    ensures { λ r. ⌜ WrongIn (widthOf (now (y .entry))) (controlAt (now (y .entry))) (now (y .entry)) (r .refusal) (r .wrong) ⌝ }
+{
+    let c = layout::control_word(y);
+    let listing = modes::look_up(c.mode, c.stream);
+    match listing {
+        Listing::Listed(m) => read_listed(y, c, m),
+        Listing::Refused(n) => refused_reading(n, 0),
     }
 }

@@ -28,7 +28,7 @@ returns c =
     let l = c .before .before in
     let a = l .before .before .args in
     let e : expansionLength (now (a .pdu)) (a .at) (a .la) ≡ 0 = sym (l .expansion-length .ensures) ∙ c .before .if1 .taken in
-    (l .expansion-length .ensures, broken (now (a .pdu)) (a .at) (a .la) (c .nothing .result) e (c .nothing .ensures))
+    ((l .expansion-length .ensures, omega (arith, l .expansion-length .ensures, expansion-few (now (a .pdu)) (a .at) (a .la))), broken (now (a .pdu)) (a .at) (a .la) (c .nothing .result) e (c .nothing .ensures))
 
 interpret-requires : tie.Need-interpret-requires
 interpret-requires c κs =
@@ -44,7 +44,7 @@ returns-2 c =
     let l = c .before .before in
     let a = l .before .before .args in
     let e : ¬ (expansionLength (now (a .pdu)) (a .at) (a .la) ≡ 0) = λ z. c .before .if1 .left (l .expansion-length .ensures ∙ z) in
-    (l .expansion-length .ensures, said (now (a .pdu)) (a .at) (a .la) (l .expansion-length .result) (c .interpret .result) e (l .expansion-length .ensures) (c .interpret .ensures))
+    ((l .expansion-length .ensures, omega (arith, l .expansion-length .ensures, expansion-few (now (a .pdu)) (a .at) (a .la))), said (now (a .pdu)) (a .at) (a .la) (l .expansion-length .result) (c .interpret .result) e (l .expansion-length .ensures) (c .interpret .ensures))
 
 pub read-expansion-spec : {M : Type 1} → statement M
 read-expansion-spec =

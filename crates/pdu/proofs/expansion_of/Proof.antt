@@ -21,7 +21,7 @@ read-expansion-requires : tie.Need-read-expansion-requires
 read-expansion-requires c κs = search needs
 
 returns : tie.Need-returns
-returns c = let a = c .before .before .before .before .args in flagged (a .width) (a .c) (now (a .y)) (c .before .before .if1 .taken) _ _ _ (c .before .after-locators .ensures .0) (c .read-expansion .ensures .0) (c .read-expansion .ensures .1)
+returns c = let a = c .before .before .before .before .args in flagged (a .width) (a .c) (now (a .y)) (c .before .before .if1 .taken) _ _ _ (c .before .after-locators .ensures .0) (c .read-expansion .ensures .0 .0) (c .read-expansion .ensures .1) (c .read-expansion .ensures .0 .1)
 
 nothing-requires : tie.Need-nothing-requires
 nothing-requires c κs = search needs

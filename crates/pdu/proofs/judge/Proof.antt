@@ -33,7 +33,7 @@ la-right e = sym (e .before .wrong-la .ensures) ∙ e .if3 .left
 
 fields-same : (e : tie.After-struct-known3)
     → e .before .before .expansion-of .result .values ≡ fieldsOf (e .before .before .before .before .before .before .before .before .before .before .before .args .m .width) (e .before .before .before .before .before .before .before .before .before .before .before .args .c) (now (e .before .before .before .before .before .before .before .before .before .before .before .args .y))
-fields-same e = e .before .before .expansion-of .ensures .1
+fields-same e = e .before .before .expansion-of .ensures .2
 
 fields-right : (e : tie.Else4) → fieldsOf (e .before .before .before .before .before .before .before .before .before .before .before .before .args .m .width) (e .before .before .before .before .before .before .before .before .before .before .before .before .args .c) (now (e .before .before .before .before .before .before .before .before .before .before .before .before .args .y)) .right ≡ true
 fields-right e = ap (λ (x : Interpreted). x .right) (sym (fields-same (e .before))) ∙ not-false _ (e .if4 .left)

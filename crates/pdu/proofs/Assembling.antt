@@ -1,0 +1,121 @@
+-- A reading, from its parts.
+use mathlib.Core.Path.{_≡_, refl, sym, ap, ap₂, _∙_}
+use mathlib.Core.Bool.{Bool, true, false, not, cond}
+use mathlib.Core.List.{List, [], _∷_}
+use Prim.Native.Nat.{ℕ, _+_, _-_, _/_, _%_, _<_}
+use native.Mathlib.Nat.{mod-lt}
+use native.Mathlib.Omega.{arith}
+use lib.Dec.{eqb, leb, lit<}
+use lib.ListN.{getD, replicate}
+use borrow.Author.Tests.{ne-eqb}
+use Rattle.refusal.specs.Refusal.{firstOf}
+use Rattle.modes.specs.Modes.{listing}
+use Rattle.modes.specs.declared.Mode.{Mode}
+use Rattle.modes.specs.declared.Listing.the-variants.{Listed, Refused}
+use Rattle.modes.proofs.Lines.{refusal-five}
+use Rattle.layout.specs.Control.{controlOf, controlAt}
+use Rattle.layout.specs.declared.ControlWord.{ControlWord}
+use Rattle.layout.specs.Locators.{locatorSize}
+use Rattle.expansion.specs.Expansion.{nothing}
+use Rattle.expansion.specs.declared.Interpreted.{Interpreted}
+use Rattle.pdu.specs.Reading.{expansionBytes, fieldsOf, startAt, lengthAt, entries, answered, psdOf, accepted, noControl, refused, wrongLocator, anyBelow, wrongPieces, wrongLa, wrongDisplacement, readerTests, WrongIn, listedReading, listedWidth, widthOf, judged, judgedReading}
+use Rattle.pdu.specs.declared.ExpansionFields.{ExpansionFields}
+use Rattle.pdu.specs.declared.Part.{Part}
+use Rattle.pdu.specs.declared.Reading.{Reading}
+
+part-same : (width : ℕ) (c : ControlWord) (y : List ℕ) (p : Part) (s : ℕ) → s ≡ 14 + locatorSize width (c .nop) + expansionBytes width c y
+    → p .start ≡ s → p .length ≡ c .la + 1 - s → p ≡ psdOf width c y
+part-same width c y p s e es el =
+    let a : p .start ≡ 14 + locatorSize width (c .nop) + expansionBytes width c y = es ∙ e in
+    let b : p .length ≡ c .la + 1 - (14 + locatorSize width (c .nop) + expansionBytes width c y) = el ∙ ap (λ (n : ℕ). c .la + 1 - n) e in
+    λ i. record { start = a i; length = b i }
+
+pub accepted-parts : (width : ℕ) (c : ControlWord) (y : List ℕ) (v : Interpreted) (f : ExpansionFields) (p : Part) (s l : List ℕ) (at n start : ℕ)
+    → v ≡ fieldsOf width c y → f ≡ answered v
+    → at ≡ 14 + locatorSize width (c .nop) → n ≡ expansionBytes width c y → start ≡ at + n → p .start ≡ start → p .length ≡ c .la + 1 - start
+    → s ≡ entries (c .nop) (startAt width c y) → l ≡ entries (c .nop) (lengthAt width c y)
+    → record { refusal = 0; wrong = 0; control = c; fields = f; psd = p; starts = s; lengths = l } ≡ accepted width c y
+unfolding accepted
+accepted-parts width c y v f p s l at n start ev ef ea en et ps pl es el =
+    let a : f ≡ answered (fieldsOf width c y) = ef ∙ ap answered ev in
+    let b : p ≡ psdOf width c y = part-same width c y p start (et ∙ ap₂ (λ (j k : ℕ). j + k) ea en) ps pl in
+    λ i. record { refusal = 0; wrong = 0; control = c; fields = a i; psd = b i; starts = es i; lengths = el i }
+
+pub refused-parts : (number k : ℕ) (c : ControlWord) (v : Interpreted) (f : ExpansionFields) → c ≡ noControl → v ≡ nothing true → f ≡ answered v
+    → record { refusal = number; wrong = k; control = c; fields = f; psd = record { start = 0; length = 0 }; starts = replicate 64 0; lengths = replicate 64 0 } ≡ refused number k
+unfolding refused
+refused-parts number k c v f ec ev ef =
+    let a : f ≡ answered (nothing true) = ef ∙ ap answered ev in
+    λ i. record { refusal = number; wrong = k; control = ec i; fields = a i; psd = record { start = 0; length = 0 }; starts = replicate 64 0; lengths = replicate 64 0 }
+
+module _ (m : Mode) (c : ControlWord) (y : List ℕ) where
+  -- where nothing applies, no locator is wrong
+  pub none-wrong : firstOf (readerTests m c y) ≡ 0 → anyBelow (c .nop) (wrongLocator (m .width) c y) ≡ false
+  none-wrong e =
+      go (leb (m .sequences) (c .sequence)) (wrongPieces (m .width) c) (wrongLa (m .width) c y) (not (fieldsOf (m .width) c y .right))
+      (anyBelow (c .nop) (wrongLocator (m .width) c y)) (wrongDisplacement (m .width) c y (fieldsOf (m .width) c y)) e
+    where
+      go : (s p l x a d : Bool) → firstOf ((s, 7) ∷ (p, 8) ∷ (l, 9) ∷ (x, 10) ∷ (a, 11) ∷ (d, 12) ∷ []) ≡ 0 → a ≡ false
+      go true p l x a d e = absurd (omega arith)
+      go false true l x a d e = absurd (omega arith)
+      go false false true x a d e = absurd (omega arith)
+      go false false false true a d e = absurd (omega arith)
+      go false false false false true d e = absurd (omega arith)
+      go false false false false false d e = refl
+
+  pub listed-accepted : (r : Reading) → firstOf (readerTests m c y) ≡ 0 → r ≡ accepted (m .width) c y
+      → (r ≡ listedReading m c y (r .wrong)) × WrongIn (m .width) c y (r .refusal) (r .wrong)
+  unfolding listedReading accepted
+  listed-accepted r e q = (
+    q ∙ sym (rw e),
+    record {
+      inside = λ z. absurd (zero z);
+      wrong = λ z. absurd (zero z);
+      none = λ z. ap (λ (x : Reading). x .wrong) q;
+    },
+  )
+    where
+      zero : r .refusal ≡ 11 → ⊥
+      zero z = let a : r .refusal ≡ 0 = ap (λ (x : Reading). x .refusal) q in omega arith
+
+  pub listed-refused : (r : Reading) (n k : ℕ) → n ≡ firstOf (readerTests m c y) → ¬ (n ≡ 0) → WrongIn (m .width) c y n k → r ≡ refused n k
+      → (r ≡ listedReading m c y (r .wrong)) × WrongIn (m .width) c y (r .refusal) (r .wrong)
+  unfolding listedReading refused
+  listed-refused r n k e d w q =
+      let t : eqb (firstOf (readerTests m c y)) 0 ≡ false = ne-eqb _ _ (λ z. d (e ∙ z)) in
+      let a : r .refusal ≡ n = ap (λ (x : Reading). x .refusal) q in
+      let b : r .wrong ≡ k = ap (λ (x : Reading). x .wrong) q in
+      (q ∙ ap₂ (λ (i j : ℕ). refused i j) e (sym b) ∙ sym (rw t), subst₂ a b)
+    where
+      subst₂ : r .refusal ≡ n → r .wrong ≡ k → WrongIn (m .width) c y (r .refusal) (r .wrong)
+      subst₂ a b = rw (a, b) w
+
+-- ---- a corrected PDU
+
+pub nop-small : (y : List ℕ) → controlAt y .nop < 64
+unfolding controlOf
+nop-small y = mod-lt (getD y 12 0 / 2) (lit< tt)
+
+module _ (y : List ℕ) where
+  pub judged-listed : (m : Mode) (r : Reading) → listing (controlAt y .mode) (controlAt y .stream) ≡ Listed m
+      → (r ≡ listedReading m (controlAt y) y (r .wrong)) × WrongIn (m .width) (controlAt y) y (r .refusal) (r .wrong)
+      → (r ≡ judgedReading y (r .wrong)) × WrongIn (widthOf y) (controlAt y) y (r .refusal) (r .wrong)
+  unfolding judgedReading judged widthOf listedReading
+  judged-listed m r e q =
+      let w : widthOf y ≡ m .width = ap listedWidth e in
+      (q .0 ∙ sym (rw e), rw w (q .1))
+
+  pub judged-refused : (n : ℕ) (r : Reading) → listing (controlAt y .mode) (controlAt y .stream) ≡ Refused n → r ≡ refused n 0
+      → (r ≡ judgedReading y (r .wrong)) × WrongIn (widthOf y) (controlAt y) y (r .refusal) (r .wrong)
+  unfolding judgedReading judged refused
+  judged-refused n r e q =
+      let f : n ≡ 5 = refusal-five _ _ n e in
+      let a : r .refusal ≡ n = ap (λ (x : Reading). x .refusal) q in
+      let b : r .wrong ≡ 0 = ap (λ (x : Reading). x .wrong) q in
+      let t : eqb n 0 ≡ false = ne-eqb n 0 (λ z. omega arith) in (
+        q ∙ ap (refused n) (sym b) ∙ sym (rw (e, t)),
+        record { inside = λ z. absurd (omega arith); wrong = λ z. absurd (five a f z); none = λ z. b },
+      )
+    where
+      five : r .refusal ≡ n → n ≡ 5 → r .refusal ≡ 11 → ⊥
+      five a f z = omega arith

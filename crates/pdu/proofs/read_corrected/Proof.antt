@@ -1,0 +1,82 @@
+use native.Mathlib.Omega.{arith}
+use mathlib.Core.Path.{_≡_, refl, ap, sym, _∙_}
+use Prim.Native.Nat.{ℕ, _+_, _-_, _*_, _≤_, _<_}
+use lib.ListN.{length, take, drop, getD, set, length-set}
+use mathlib.Core.List.{List, [], _∷_, _++_}
+use borrow.Author.Needs.{needs}
+use denote.Ref.{now}
+use mathlib.Core.Path.{subst}
+use Rattle.modes.specs.Modes.{listing}
+use Rattle.modes.specs.declared.Mode.{Mode}
+use Rattle.modes.specs.declared.Listing.{Listing}
+use Rattle.layout.specs.Control.{controlAt}
+use Rattle.layout.specs.declared.ControlWord.{ControlWord}
+use Rattle.pdu.specs.Reading.{listedReading, WrongIn}
+use Rattle.pdu.specs.declared.Reading.{Reading}
+use Rattle.pdu.proofs.Assembling.{nop-small, judged-listed, judged-refused}
+use Rattle.pdu.proofs.read_corrected.Statement.{statement}
+use Rattle.pdu.proofs.read_corrected.Tie as tie
+use Rattle.pdu.proofs.read_corrected.Reads as reads
+use Rattle.pdu.proofs.read_corrected.Lts as lts
+use Rattle.layout.proofs.control_word.Reads as control-word-reads
+use Rattle.modes.proofs.look_up.Reads as look-up-reads
+use Rattle.pdu.proofs.read_listed.Reads as read-listed-reads
+use Rattle.pdu.proofs.refused_reading.Reads as refused-reading-reads
+
+listed-here : (y : List ℕ) (c : ControlWord) (l x : Listing) → c ≡ controlAt y → l ≡ listing (c .mode) (c .stream) → l ≡ x → listing (controlAt y .mode) (controlAt y .stream) ≡ x
+listed-here y c l x ec el ex = ap (λ (w : ControlWord). listing (w .mode) (w .stream)) (sym ec) ∙ sym el ∙ ex
+
+same-word : (y : List ℕ) (c : ControlWord) (m : Mode) (r : Reading) → c ≡ controlAt y
+    → (r ≡ listedReading m c y (r .wrong)) × WrongIn (m .width) c y (r .refusal) (r .wrong)
+    → (r ≡ listedReading m (controlAt y) y (r .wrong)) × WrongIn (m .width) (controlAt y) y (r .refusal) (r .wrong)
+same-word y c m r e q = subst (λ (w : ControlWord). (r ≡ listedReading m w y (r .wrong)) × WrongIn (m .width) w y (r .refusal) (r .wrong)) e q
+
+control-word-requires : tie.Need-control-word-requires
+control-word-requires c κs = search needs
+
+look-up-requires : tie.Need-look-up-requires
+look-up-requires c κs = search needs
+
+enum-known-listing : tie.Need-enum-known-listing
+enum-known-listing c = search needs
+
+read-listed-requires : tie.Need-read-listed-requires
+read-listed-requires c κs =
+    let w = c .before .before .before .before in
+    let y : List ℕ = now (w .before .before .args .y) in
+    subst (λ (x : ControlWord). x .nop < 64) (sym (w .control-word .ensures)) (nop-small y)
+
+enum-known-listing-2 : tie.Need-enum-known-listing-2
+enum-known-listing-2 c = search needs
+
+refused-reading-requires : tie.Need-refused-reading-requires
+refused-reading-requires c κs = search needs
+
+returns : tie.Need-returns
+returns c =
+    let g = c .before .before in
+    let l = g .before .before in
+    let w = l .before in
+    let y : List ℕ = now (w .before .before .args .y) in
+    judged-listed y _ _ (listed-here y _ _ _ (w .control-word .ensures) (l .look-up .ensures) (g .listing .given .1)) (same-word y _ _ _ (w .control-word .ensures) (c .read-listed .ensures))
+
+returns-2 : tie.Need-returns-2
+returns-2 c =
+    let g = c .before .before in
+    let l = g .before .before in
+    let w = l .before in
+    let y : List ℕ = now (w .before .before .args .y) in
+    judged-refused y _ _ (listed-here y _ _ _ (w .control-word .ensures) (l .look-up .ensures) (g .listing2 .given .1)) (c .refused-reading .ensures)
+
+pub read-corrected-spec : {M : Type 1} → statement M
+read-corrected-spec =
+    tie.close
+    (tie.spec
+    control-word-requires
+    look-up-requires
+    enum-known-listing
+    read-listed-requires
+    enum-known-listing-2
+    refused-reading-requires
+    returns
+    returns-2)

@@ -1,0 +1,53 @@
+use native.Mathlib.Omega.{arith}
+use mathlib.Core.Path.{_≡_, refl, ap, sym, _∙_}
+use Prim.Native.Nat.{ℕ, _+_, _-_, _*_, _≤_, _<_}
+use lib.ListN.{length, take, drop, getD, set, length-set}
+use mathlib.Core.List.{List, [], _∷_, _++_}
+use borrow.Author.Needs.{needs}
+use denote.Ref.{now}
+use Rattle.pdu.proofs.Assembling.{none-wrong, listed-accepted, listed-refused}
+use Rattle.pdu.proofs.read_listed.Statement.{statement}
+use Rattle.pdu.proofs.read_listed.Tie as tie
+use Rattle.pdu.proofs.read_listed.Reads as reads
+use Rattle.pdu.proofs.read_listed.Lts as lts
+use Rattle.pdu.proofs.accepted_reading.Reads as accepted-reading-reads
+use Rattle.pdu.proofs.judge.Reads as judge-reads
+use Rattle.pdu.proofs.refused_reading.Reads as refused-reading-reads
+
+judge-requires : tie.Need-judge-requires
+judge-requires c κs = search needs
+
+accepted-reading-requires : tie.Need-accepted-reading-requires
+accepted-reading-requires c κs =
+    let j = c .before .before in
+    let a = j .before .before .args in
+    (j .before .before .pre, none-wrong (a .m) (a .c) (now (a .y)) (sym (j .judge .ensures .0) ∙ c .if1 .taken))
+
+returns : tie.Need-returns
+returns c =
+    let j = c .before .before .before in
+    let a = j .before .before .args in
+    listed-accepted (a .m) (a .c) (now (a .y)) _ (sym (j .judge .ensures .0) ∙ c .before .if1 .taken) (c .accepted-reading .ensures)
+
+cast-refused-reading : tie.Need-cast-refused-reading
+cast-refused-reading c = search needs
+
+refused-reading-requires : tie.Need-refused-reading-requires
+refused-reading-requires c κs = search needs
+
+returns-2 : tie.Need-returns-2
+returns-2 c =
+    let j = c .before .before .before .before in
+    let a = j .before .before .args in
+    listed-refused (a .m) (a .c) (now (a .y)) _ _ _ (j .judge .ensures .0) (c .before .before .if1 .left) (j .judge .ensures .1) (c .refused-reading .ensures)
+
+pub read-listed-spec : {M : Type 1} → statement M
+read-listed-spec =
+    tie.close
+    (tie.spec
+    judge-requires
+    accepted-reading-requires
+    returns
+    cast-refused-reading
+    refused-reading-requires
+    returns-2)
