@@ -1,11 +1,12 @@
 -- The answer, and the header or PDU after the call, by what the candidate is.
 use mathlib.Core.Path.{_≡_, refl, sym, _∙_, ap, subst}
-use mathlib.Core.Bool.{true, false, true≢false}
+use mathlib.Core.Bool.{Bool, true, false, true≢false, cond}
 use mathlib.Core.List.{List, [], _∷_, _++_}
 use mathlib.Core.Option.{Option, none, some}
 use Prim.Native.Nat.{ℕ, zero, suc, _<_, _≤_}
 use native.Mathlib.Omega.{arith}
-use lib.ListN.{length, getD, take, drop}
+use lib.Dec.{eqb}
+use lib.ListN.{length, getD, take, drop, take-append-drop}
 use lib.Seq.{length-take-le}
 use Rattle.algebra.specs.Places.{All}
 use Rattle.header.specs.Header.{lengthRefusal, isCodeWord, distance, headerOf, frontReplaced}
@@ -55,7 +56,7 @@ module _ (w : List ℕ) (l : length w ≡ 96) (a : All (λ x. x < 256) w) where
   header-after-length = after-length (corrected w) refl
 
 -- the bytes of a header are those of its PDU
-header-bytes : (n : ℕ) (p : List ℕ) → ((i : ℕ) → getD p i 0 < 256) → All (λ x. x < 256) (take n p)
+pub header-bytes : (n : ℕ) (p : List ℕ) → ((i : ℕ) → getD p i 0 < 256) → All (λ x. x < 256) (take n p)
 header-bytes zero p h = tt
 header-bytes (suc n) [] h = tt
 header-bytes (suc n) (x ∷ p) h = (h 0, header-bytes n p (λ i. h (suc i)))
@@ -84,3 +85,17 @@ module _ (p w : List ℕ) (lo : 96 ≤ length p) (hi : length p ≤ 20480) (b : 
         s .0 ∙ rw (e, first),
         f ∙ front-fits p v (omega arith) ∙ ap (λ (k : ℕ). v ++ drop k p) m ∙ ap (λ (u : List ℕ). u ++ drop 96 p) (s .1) ∙ rw (e, first),
       )
+
+-- a refused PDU is left as it was
+isRefused : Correction → Bool
+isRefused (Corrected n) = false
+isRefused (Refused n) = true
+
+pub refused-unchanged : (p : List ℕ) (n : ℕ) → correctionOf p ≡ Refused n → correctedPdu p ≡ p
+unfolding correctionOf correctedPdu isRefused
+refused-unchanged p n e = go (eqb (lengthRefusal (length p)) 0) (corrected (take 96 p)) (ap isRefused e)
+  where
+    go : (b : Bool) (o : Option (List ℕ)) → isRefused (cond b (answerFor (take 96 p) o) (Refused 3)) ≡ true → cond b (headerAfter (take 96 p) o ++ drop 96 p) p ≡ p
+    go true (some c) q = absurd (true≢false (sym q))
+    go true none q = take-append-drop 96 p
+    go false o q = refl

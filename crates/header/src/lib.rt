@@ -1,8 +1,8 @@
 // The header code: syndromes, and parity by division with the generator (document 01, "Header code").
 ghost use mathlib.Core.Path.{_≡_};
-ghost use Prim.Native.Nat.{_<_, _≤_};
-ghost use lib.ListN.{length};
-ghost use Rattle.header.specs.Header.{syndrome as syndromeOf, syndromes as syndromesOf, tap as tapOf, divideStep, parityOf, headerOf, allZero, isCodeWord, frontReplaced, lengthRefusal, withParity};
+ghost use Prim.Native.Nat.{_-_, _<_, _≤_};
+ghost use lib.ListN.{length, getD};
+ghost use Rattle.header.specs.Header.{syndrome as syndromeOf, syndromes as syndromesOf, exponents, tap as tapOf, divideStep, parityOf, headerOf, allZero, isCodeWord, frontReplaced, lengthRefusal, withParity};
 
 // The exponents of the generator's coefficients, constant first.
 const EXPONENTS: [u8; 9] = [36, 203, 3, 220, 253, 211, 240, 176, 0];
@@ -35,12 +35,20 @@ pub fn syndromes(header: &[u8; 96]) -> [u8; 8]
     ]
 }
 
+// The exponent of the generator's coefficient k.
+fn exponent(k: usize) -> usize
+    requires { ⌜ k < 9 ⌝ }
+    ensures { λ r. ⌜ r ≡ getD exponents k 0 ⌝ }
+{
+    EXPONENTS[k] as usize
+}
+
 // Coefficient k of X times r plus f times the generator.
 fn tap(r: [u8; 8], f: u8, k: usize) -> u8
     requires { ⌜ k < 8 ⌝ }
     ensures { λ s. ⌜ s ≡ tapOf r f k ⌝ }
 {
-    let g = field::product(field::power(EXPONENTS[k] as usize), f);
+    let g = field::product(field::power(exponent(k)), f);
     if k == 0 {
         return g;
     }
@@ -64,16 +72,24 @@ fn divide_step(r: [u8; 8], b: u8) -> [u8; 8]
     ]
 }
 
+// The byte that step k of the division takes: the highest coefficient first.
+fn place(k: usize) -> usize
+    requires { ⌜ k < 88 ⌝ }
+    ensures { λ r. ⌜ r ≡ 95 - k ⌝ }
+{
+    95 - k
+}
+
 // The remainder of bytes 8 to 95 by the generator.
 fn divide(header: [u8; 96]) -> [u8; 8]
     ensures { λ r. ⌜ r ≡ parityOf header ⌝ }
 {
     let mut r = [0u8; 8];
-    let mut i: usize = 96;
-    while 8 < i {
-        i -= 1;
-        let next = divide_step(r, header[i]);
+    let mut k: usize = 0;
+    while k < 88 {
+        let next = divide_step(r, header[place(k)]);
         r = next;
+        k += 1;
     }
     r
 }
