@@ -265,9 +265,9 @@ fn examples() {
 
 #[test]
 fn altered_anywhere() {
-    let mut class = Class::new("0 to 12 bytes altered anywhere", 0x4E_0002, 977);
+    let mut class = Class::new("0 to 12 bytes altered anywhere", 0x4E_0002, 2_999);
     for count in 0..=12 {
-        for _ in 0..5_000 {
+        for _ in 0..15_400 {
             let word = class.code_word();
             let places = class.rng.places(count, 0, 95);
             let header = class.altered(&word, &places);

@@ -48,9 +48,6 @@ module _ (𝓕 : Field) where
       go true q e = zero-true x q
       go false q e = let z : _≡_ {A = ℕ} 0 1 = cc in absurd (omega arith)
 
-  pub not-true : (x : F) → not (zero? x) ≡ true → ¬ (x ≡ 𝟘)
-  not-true x e h = let q : zero? x ≡ true = true-zero x h in let f : false ≡ true = (rw q at e) in let z : _≡_ {A = ℕ} 0 1 = cc in omega arith
-
   add-step : (a b p t u v : F) → t ≡ u ⊕ v → ((a ⊕ b) ⊗ p) ⊕ t ≡ ((a ⊗ p) ⊕ u) ⊕ ((b ⊗ p) ⊕ v)
   add-step a b p t u v e = rw e (simp ring)
 

@@ -11,6 +11,7 @@ use lib.Seq.{length-take-le}
 use Rattle.algebra.specs.Places.{All}
 use Rattle.header.specs.Header.{lengthRefusal, isCodeWord, distance, headerOf, frontReplaced}
 use Rattle.header.proofs.Distances.{distance-self}
+use Rattle.header.proofs.Unique.{all-take}
 use Rattle.header.proofs.Lengths.{length-allowed, header-of-long, front-fits}
 use Rattle.correction.specs.Correction.{Candidate, corrected, answerFor, headerAfter, correctionOf, correctedPdu}
 use Rattle.correction.proofs.Decoding.{corrected-near, corrected-self, candidate-some, candidate-none}
@@ -55,12 +56,6 @@ module _ (w : List ℕ) (l : length w ≡ 96) (a : All (λ x. x < 256) w) where
   pub header-after-length : length (headerAfter w (corrected w)) ≡ 96
   header-after-length = after-length (corrected w) refl
 
--- the bytes of a header are those of its PDU
-pub header-bytes : (n : ℕ) (p : List ℕ) → ((i : ℕ) → getD p i 0 < 256) → All (λ x. x < 256) (take n p)
-header-bytes zero p h = tt
-header-bytes (suc n) [] h = tt
-header-bytes (suc n) (x ∷ p) h = (h 0, header-bytes n p (λ i. h (suc i)))
-
 -- what is promised of the answer r and of the PDU q after the call
 abbrev pub Promised : List ℕ → Correction → List ℕ → Type 0
 Promised p r q = (r ≡ correctionOf p) × (q ≡ correctedPdu p)
@@ -75,7 +70,7 @@ module _ (p w : List ℕ) (lo : 96 ≤ length p) (hi : length p ≤ 20480) (b : 
   first = ew ∙ header-of-long p lo
 
   pub header-all-bytes : All (λ x. x < 256) w
-  header-all-bytes = subst (All (λ x. x < 256)) (sym first) (header-bytes 96 p b)
+  header-all-bytes = subst (All (λ x. x < 256)) (sym first) (all-take 96 p b)
 
   pub pdu-answered : (r : Correction) (v q : List ℕ) → Answered w r v → q ≡ frontReplaced p v → Promised p r q
   unfolding correctionOf correctedPdu

@@ -8,3 +8,4 @@ pub mod Repairing
 pub mod Candidates
 pub mod Decoding
 pub mod Answers
+pub mod Theorem

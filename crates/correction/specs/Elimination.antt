@@ -28,7 +28,7 @@ scaledBy row b i = mul (inverse b) (getD row i 0)
 abbrev pub clearedBy : List ℕ → List ℕ → ℕ → ℕ → ℕ
 clearedBy row p k i = bitXor (getD row i 0) (mul (getD row k 0) (getD p i 0))
 
--- The first row from k on with a nonzero entry in column k, or h.
+-- The first row from k on with a nonzero entry in column k, or 4.
 pub record Pivot (m : List (List ℕ)) (k p : ℕ) : Type 0 where
   pub low : k ≤ p
   pub high : p ≤ 4

@@ -21,11 +21,12 @@ abbrev pub product : List ℕ → ℕ → ℕ → ℕ
 product [] p f = f
 product (x ∷ xs) p f = product xs p (mul f (bitXor p x))
 
--- The first m points of z but the kth.
+-- x after xs, unless it is the one left out.
 abbrev pub unlessSame : {P : Type 0} → Dec P → ℕ → List ℕ → List ℕ
 unlessSame (yes p) x xs = xs
 unlessSame (no p) x xs = xs ++ (x ∷ [])
 
+-- The first m points of z but the kth.
 abbrev pub others : List ℕ → ℕ → ℕ → List ℕ
 others z k zero = []
 others z k (suc q) = unlessSame (ℕ-discrete q k) (getD z q 0) (others z k q)

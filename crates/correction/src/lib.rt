@@ -58,6 +58,7 @@ fn pivot(m: [[u8; 5]; 4], k: usize) -> usize
     4
 }
 
+// Row p scaled to a 1 in column k and moved to row k, and column k cleared in every other row.
 fn reduce(m: [[u8; 5]; 4], k: usize, p: usize) -> [[u8; 5]; 4]
     requires { ⌜ k < 4 ⌝ }
     requires { ⌜ p < 4 ⌝ }
@@ -79,6 +80,7 @@ fn reduce(m: [[u8; 5]; 4], k: usize, p: usize) -> [[u8; 5]; 4]
     out
 }
 
+// The polynomial with a 1 at its degree and these coefficients below, zero at the points of the wrong bytes.
 struct Locator {
     pub degree: usize,
     pub coefficients: [u8; 4],
@@ -134,7 +136,7 @@ fn filtered(t: [u8; 8], x: u8) -> [u8; 8]
     out
 }
 
-// The weight at the point z[k], one of the first m points of z, from the sums s.
+// The error value at the point z[k], one of the first m points of z, from the syndromes s.
 fn error_value(s: [u8; 8], z: [u8; 8], m: usize, k: usize) -> u8
     requires { ⌜ m ≤ 8 ⌝ }
     requires { ⌜ k < m ⌝ }
@@ -169,6 +171,7 @@ fn evaluate(coefficients: [u8; 4], degree: usize, x: u8) -> u8
     v
 }
 
+// The first `count` of these places.
 struct Places {
     pub count: usize,
     pub places: [usize; 4],
@@ -280,7 +283,7 @@ fn candidate(header: [u8; 96], s: [u8; 8]) -> [u8; 96]
 }
 
 // A header after correction, and the answer.
-pub struct Decoded {
+struct Decoded {
     pub header: [u8; 96],
     pub answer: Correction,
 }

@@ -87,9 +87,6 @@ mul-assoc x y z hx hy hz =
     (ap (λ (w : ℕ). mul w z) (mul-zero-l y) ∙ mul-zero-l z ∙ sym (mul-zero-l (mul y z)))
     (λ m. ap (λ (w : ℕ). mul w z) (mul-pow m y hy) ∙ mul-shift m y z ∙ sym (mul-pow m (mul y z) (mul-lt y z hy hz))) x hx
 
-pub mul-one-r : (x : ℕ) → x < 256 → mul x 1 ≡ x
-mul-one-r x h = mul-comm x 1 h (lit< tt) ∙ mul-one-l x h
-
 -- ---- inverses
 
 -- a to the power 255 less the logarithm

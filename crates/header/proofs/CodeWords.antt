@@ -4,14 +4,11 @@ use mathlib.Core.Bool.{Bool, true, false, _&&_, true≢false}
 use mathlib.Core.List.{List, [], _∷_, map}
 use Prim.Native.Nat.{ℕ, zero, suc, _*_, _<_, _≤_}
 use native.Mathlib.Omega.{arith}
-use lib.Bits.{bitXor}
 use lib.Dec.{eqb, eqb→eq, lit<}
-use lib.ListN.{length, getD, take}
-use lib.Seq.{getD-take}
+use lib.ListN.{length, getD}
 use borrow.Author.Tests.{eqb-true, eq-eqb}
 use Rattle.bits.proofs.Computed.{below}
-use Rattle.field.specs.Field.{mul, pow}
-use Rattle.header.specs.Header.{sumUp, term, syndrome, syndromes, allZero, isCodeWord}
+use Rattle.header.specs.Header.{syndrome, syndromes, allZero, isCodeWord}
 
 -- every entry is a byte, and so is what stands for one past the end
 abbrev pub Bytes : List ℕ → Type 0
@@ -59,14 +56,3 @@ pub zero-code-word : (w : List ℕ) → ((j : ℕ) → j < 8 → syndrome (suc j
 unfolding isCodeWord
 zero-code-word w z =
     at-all-zero (syndromes w) (λ j h. (let b : j < 8 = rw (syndromes-length w) at h in syndromes-at w j b ∙ z j b))
-
-sumUp-below : (f g : ℕ → ℕ) (n : ℕ) → ((i : ℕ) → i < n → f i ≡ g i) → sumUp f n ≡ sumUp g n
-unfolding sumUp
-sumUp-below f g zero e = refl
-sumUp-below f g (suc n) e = ap₂ bitXor (sumUp-below f g n (λ i h. e i (omega arith))) (e n (omega arith))
-
--- syndromes read the first 96 bytes only
-pub syndrome-take : (j : ℕ) (w : List ℕ) → syndrome j (take 96 w) ≡ syndrome j w
-unfolding syndrome term
-syndrome-take j w =
-    sumUp-below (term j (take 96 w)) (term j w) 96 (λ i h. ap (λ (x : ℕ). mul x (pow (i * j))) (getD-take 96 w i 0 h))

@@ -161,7 +161,7 @@ drop-take zero m l = ap (λ (k : ℕ). take k l) (zero-add m)
 drop-take (suc n) m [] = ap (drop (suc n)) (take-nil (suc n + m)) ∙ sym (take-nil m)
 drop-take (suc n) m (x ∷ l) = ap (λ (k : ℕ). drop (suc n) (take k (x ∷ l))) (suc-add n m) ∙ drop-take n m l
 
-all-take : (n : ℕ) (w : List ℕ) → Bytes w → All (λ x. x < 256) (take n w)
+pub all-take : (n : ℕ) (w : List ℕ) → Bytes w → All (λ x. x < 256) (take n w)
 all-take zero w h = tt
 all-take (suc n) [] h = tt
 all-take (suc n) (x ∷ w) h = (h 0, all-take n w (λ k. h (suc k)))
