@@ -1,18 +1,19 @@
 -- The answer, and the header or PDU after the call, by what the candidate is.
-use mathlib.Core.Path.{_≡_, refl, sym, _∙_, ap, subst}
+use mathlib.Core.Path.{_≡_, refl, sym, _∙_, ap, ap₂, subst}
 use mathlib.Core.Bool.{Bool, true, false, true≢false, cond}
 use mathlib.Core.List.{List, [], _∷_, _++_}
 use mathlib.Core.Option.{Option, none, some}
-use Prim.Native.Nat.{ℕ, zero, suc, _<_, _≤_}
+use Prim.Native.Nat.{ℕ, zero, suc, _+_, _<_, _≤_}
+use native.Mathlib.Decide.{decLt}
 use native.Mathlib.Omega.{arith}
 use lib.Dec.{eqb}
-use lib.ListN.{length, getD, take, drop, take-append-drop}
-use lib.Seq.{length-take-le}
+use lib.ListN.{length, getD, take, drop, length-append, take-append-drop}
+use lib.Seq.{length-take-le, drop-at}
 use Rattle.algebra.specs.Places.{All}
 use Rattle.header.specs.Header.{lengthRefusal, isCodeWord, distance, headerOf, frontReplaced}
 use Rattle.header.proofs.Distances.{distance-self}
 use Rattle.header.proofs.Unique.{all-take}
-use Rattle.header.proofs.Lengths.{length-allowed, header-of-long, front-fits}
+use Rattle.header.proofs.Lengths.{short-refused, long-refused, length-allowed, header-of-long, front-fits}
 use Rattle.correction.specs.Correction.{Candidate, corrected, answerFor, headerAfter, correctionOf, correctedPdu}
 use Rattle.correction.proofs.Decoding.{corrected-near, corrected-self, candidate-some, candidate-none}
 use Rattle.correction.specs.declared.Correction.{Correction}
@@ -94,3 +95,36 @@ refused-unchanged p n e = go (eqb (lengthRefusal (length p)) 0) (corrected (take
     go true (some c) q = absurd (true≢false (sym q))
     go true none q = take-append-drop 96 p
     go false o q = refl
+
+-- a PDU that is corrected has an allowed length
+pub corrected-allowed : (p : List ℕ) (n : ℕ) → correctionOf p ≡ Corrected n → (96 ≤ length p) × (length p ≤ 20480)
+unfolding isRefused
+corrected-allowed p n e = (low (decLt (length p) 96), high (decLt 20480 (length p)))
+  where
+    not-refused : lengthRefusal (length p) ≡ 3 → ⊥
+    not-refused r = true≢false (ap isRefused (length-refused p r .0 ∙ e))
+
+    low : Dec (length p < 96) → 96 ≤ length p
+    low (yes h) = absurd (not-refused (short-refused (length p) h))
+    low (no h) = omega arith
+
+    high : Dec (20480 < length p) → length p ≤ 20480
+    high (yes h) = absurd (not-refused (long-refused (length p) h))
+    high (no h) = omega arith
+
+-- putting its former header back undoes the correction of an allowed PDU
+pub header-put-back : (p : List ℕ) → 96 ≤ length p → length p ≤ 20480 → ((i : ℕ) → getD p i 0 < 256) → frontReplaced (correctedPdu p) (headerOf p) ≡ p
+unfolding correctedPdu
+header-put-back p lo hi b =
+    let w : List ℕ = take 96 p in
+    let h : List ℕ = headerAfter w (corrected w) in
+    let lw : length w ≡ 96 = length-take-le 96 p lo in
+    let lh : length h ≡ 96 = header-after-length w lw (all-take 96 p b) in
+    let e : lengthRefusal (length p) ≡ 0 = length-allowed (length p) lo hi in
+    let y : correctedPdu p ≡ h ++ drop 96 p = rw e in
+    let n : length (h ++ drop 96 p) ≡ length h + length (drop 96 p) = length-append h (drop 96 p) in
+    ap₂ frontReplaced y (header-of-long p lo)
+    ∙ front-fits (h ++ drop 96 p) w (omega arith)
+    ∙ ap (λ (k : ℕ). w ++ drop k (h ++ drop 96 p)) lw
+    ∙ ap (λ (u : List ℕ). w ++ u) (drop-at h (drop 96 p) 96 lh)
+    ∙ take-append-drop 96 p

@@ -3,3 +3,4 @@ pub mod Any
 pub mod Numbers
 pub mod Filling
 pub mod Assembling
+pub mod Restoring

@@ -162,6 +162,10 @@ readNumber p = cond (eqb (numberOf (correctionOf p)) 0) (judged (correctedPdu p)
 unfoldable pub readingWith : ℕ → List ℕ → Reading
 readingWith k p = cond (eqb (numberOf (correctionOf p)) 0) (judgedReading (correctedPdu p) k) (refused (numberOf (correctionOf p)) k)
 
+-- k is that of a wrong locator of the corrected PDU where the number is 11, else 0
+abbrev pub WrongOne : List ℕ → ℕ → ℕ → Type 0
+WrongOne p number k = WrongIn (widthOf (correctedPdu p)) (controlAt (correctedPdu p)) (correctedPdu p) number k
+
 -- the PDU after the call: corrected, or as it was
 unfoldable pub readPdu : List ℕ → List ℕ
 readPdu p = cond (eqb (readNumber p) 0) (correctedPdu p) p

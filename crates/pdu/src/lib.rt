@@ -7,13 +7,14 @@ use modes::Listing;
 use modes::Mode;
 ghost use mathlib.Core.Path.{_≡_};
 ghost use Prim.Native.Nat.{_+_, _-_, _<_, _≤_};
-ghost use mathlib.Core.Bool.{true, false};
-ghost use lib.Dec.{ltb};
+ghost use mathlib.Core.Bool.{true, false, cond};
+ghost use lib.Dec.{ltb, eqb};
+ghost use Rattle.header.specs.Header.{frontReplaced};
 ghost use Rattle.refusal.specs.Refusal.{firstOf};
 ghost use lib.ListN.{length};
 ghost use Rattle.layout.specs.Control.{controlAt};
 ghost use Rattle.layout.specs.Locators.{locatorSize};
-ghost use Rattle.pdu.specs.Reading.{afterLocators, expansionBytes, fieldsOf, markAt, wrongLocator, wrongPieces, wrongLa, wrongDisplacement, anyBelow, readerTests, WrongIn, entries, startAt, lengthAt, answered, accepted, noControl, refused, listedReading, widthOf, judgedReading};
+ghost use Rattle.pdu.specs.Reading.{afterLocators, expansionBytes, fieldsOf, markAt, wrongLocator, wrongPieces, wrongLa, wrongDisplacement, anyBelow, readerTests, WrongIn, entries, startAt, lengthAt, answered, accepted, noControl, refused, listedReading, widthOf, judged, judgedReading, readingWith, WrongOne, readPdu};
 
 // Expansion fields: 0 where not sent or not interpreted.
 #[repr(C)]
@@ -346,5 +347,33 @@ fn read_corrected(y: &[u8]) -> Reading
     match listing {
         Listing::Listed(m) => read_listed(y, c, m),
         Listing::Refused(n) => refused_reading(n, 0),
+    }
+}
+
+// Reads a corrected PDU; where it is refused, the header that it had before is put back.
+fn read_or_restore(pdu: &mut [u8], before: [u8; 96]) -> Reading
+    ensures { λ r. ⌜ r ≡ judgedReading (now (pdu .entry)) (r .wrong) ⌝ }
+    ensures { λ r. ⌜ WrongIn (widthOf (now (pdu .entry))) (controlAt (now (pdu .entry))) (now (pdu .entry)) (r .refusal) (r .wrong) ⌝ }
+    ensures { λ _. ⌜ now (pdu .exit) ≡ cond (eqb (judged (now (pdu .entry))) 0) (now (pdu .entry)) (frontReplaced (now (pdu .entry)) before) ⌝ }
+{
+    let r = read_corrected(pdu);
+    if r.refusal == 0 {
+        return r;
+    }
+    header::put_front(pdu, &before);
+    r
+}
+
+// Reads a PDU without a receiver: its header is corrected in place, or it is refused with 3 to 5 or 7 to 12 and left as it was.
+pub fn read(pdu: &mut [u8]) -> Reading
+    ensures { λ r. ⌜ r ≡ readingWith (r .wrong) (now (pdu .entry)) ⌝ }
+    ensures { λ r. ⌜ WrongOne (now (pdu .entry)) (r .refusal) (r .wrong) ⌝ }
+    ensures { λ _. ⌜ now (pdu .exit) ≡ readPdu (now (pdu .entry)) ⌝ }
+{
+    let before = header::header_of(pdu);
+    let answer = correction::correct(pdu);
+    match answer {
+        Correction::Corrected(_) => read_or_restore(pdu, before),
+        Correction::Refused(n) => refused_reading(n, 0),
     }
 }

@@ -1,0 +1,94 @@
+-- A whole call: what correction answers, what is read, and what is put back.
+use mathlib.Core.Path.{_≡_, refl, sym, ap, _∙_, subst}
+use mathlib.Core.Bool.{Bool, true, false, cond}
+use mathlib.Core.List.{List}
+use mathlib.Core.Logic.{_⊎_, inl, inr, ⊎-elim}
+use mathlib.Core.Option.{Option, none, some}
+use Prim.Native.Nat.{ℕ, _<_, _≤_}
+use native.Mathlib.Omega.{arith}
+use lib.Dec.{eqb}
+use lib.ListN.{length, getD, take}
+use borrow.Author.Tests.{ne-eqb, eqb-true}
+use Rattle.header.specs.Header.{lengthRefusal, headerOf, frontReplaced}
+use Rattle.correction.specs.Correction.{corrected, answerFor, correctionOf, correctedPdu}
+use Rattle.correction.specs.declared.Correction.{Correction}
+use Rattle.correction.specs.declared.Correction.the-variants.{Corrected, Refused}
+use Rattle.correction.proofs.Answers.{refused-unchanged, corrected-allowed, header-put-back}
+use Rattle.layout.specs.Control.{controlAt}
+use Rattle.pdu.specs.Reading.{accepted, refused, judged, judgedReading, widthOf, readNumber, readingWith, WrongIn, WrongOne, readPdu}
+use Rattle.pdu.specs.declared.Reading.{Reading}
+
+-- ---- the number that is read
+
+judged-number : (y : List ℕ) (k : ℕ) → judgedReading y k .refusal ≡ judged y
+unfolding judgedReading accepted refused
+judged-number y k = go (eqb (judged y) 0) refl
+  where
+    go : (b : Bool) → eqb (judged y) 0 ≡ b → cond b (accepted (widthOf y) (controlAt y) y) (refused (judged y) k) .refusal ≡ judged y
+    go true e = sym (eqb-true (judged y) 0 e)
+    go false e = refl
+
+pub read-number : (y : List ℕ) (r : Reading) → r ≡ judgedReading y (r .wrong) → r .refusal ≡ judged y
+read-number y r e = ap (λ (x : Reading). x .refusal) e ∙ judged-number y (r .wrong)
+
+pub kept : (y v : List ℕ) (r : Reading) → r ≡ judgedReading y (r .wrong) → r .refusal ≡ 0 → y ≡ cond (eqb (judged y) 0) y v
+kept y v r e z = let n : judged y ≡ 0 = sym (read-number y r e) ∙ z in rw n
+
+pub put-back : (y v : List ℕ) (r : Reading) → r ≡ judgedReading y (r .wrong) → ¬ (r .refusal ≡ 0) → v ≡ cond (eqb (judged y) 0) y v
+put-back y v r e d = let t : eqb (judged y) 0 ≡ false = ne-eqb (judged y) 0 (λ z. d (read-number y r e ∙ z)) in rw t
+
+-- ---- the numbers that correction answers
+
+refusalIn : Correction → ℕ
+refusalIn (Corrected n) = 3
+refusalIn (Refused n) = n
+
+three-or-four : (p : List ℕ) → (refusalIn (correctionOf p) ≡ 3) ⊎ (refusalIn (correctionOf p) ≡ 4)
+unfolding refusalIn correctionOf
+three-or-four p = go (eqb (lengthRefusal (length p)) 0) (corrected (take 96 p))
+  where
+    go : (b : Bool) (o : Option (List ℕ)) → (refusalIn (cond b (answerFor (take 96 p) o) (Refused 3)) ≡ 3) ⊎ (refusalIn (cond b (answerFor (take 96 p) o) (Refused 3)) ≡ 4)
+    go true (some c) = inl refl
+    go true none = inr refl
+    go false o = inl refl
+
+-- what `read` promises of its answer r, and of the PDU q after the call
+abbrev pub Promised : List ℕ → Reading → List ℕ → Type 0
+Promised p r q = (r ≡ readingWith (r .wrong) p) × (WrongOne p (r .refusal) (r .wrong) × (q ≡ readPdu p))
+
+module _ (p : List ℕ) where
+  refused-number : (n : ℕ) → correctionOf p ≡ Refused n → eqb n 0 ≡ false → readNumber p ≡ n
+  unfolding readNumber
+  refused-number n e t = rw (e, t)
+
+  -- correction refuses it
+  pub turned-down : (n : ℕ) (r : Reading) (q : List ℕ) → correctionOf p ≡ Refused n → r ≡ refused n 0 → q ≡ correctedPdu p → Promised p r q
+  unfolding refusalIn readingWith readPdu refused
+  turned-down n r q e er eq =
+      let c : (n ≡ 3) ⊎ (n ≡ 4) = subst (λ (x : Correction). (refusalIn x ≡ 3) ⊎ (refusalIn x ≡ 4)) e (three-or-four p) in
+      let t : eqb n 0 ≡ false = ne-eqb n 0 (λ z. ⊎-elim (λ (u : n ≡ 3). absurd (omega arith)) (λ (u : n ≡ 4). absurd (omega arith)) c) in
+      let m : readNumber p ≡ n = refused-number n e t in
+      let a : r .refusal ≡ n = ap (λ (x : Reading). x .refusal) er in
+      let b : r .wrong ≡ 0 = ap (λ (x : Reading). x .wrong) er in
+      let d : ¬ (r .refusal ≡ 11) = λ z. ⊎-elim (λ (u : n ≡ 3). absurd (omega arith)) (λ (u : n ≡ 4). absurd (omega arith)) c in (
+        er ∙ ap (refused n) (sym b) ∙ sym (rw (e, t)),
+        (
+          record { inside = λ z. absurd (d z); wrong = λ z. absurd (d z); none = λ z. b },
+          eq ∙ refused-unchanged p n e ∙ sym (rw (m, t)),
+        ),
+      )
+
+  -- correction takes it, and w is its header before
+  pub taken : (n : ℕ) (r : Reading) (y q w : List ℕ) → ((i : ℕ) → getD p i 0 < 256) → correctionOf p ≡ Corrected n → w ≡ headerOf p → y ≡ correctedPdu p
+      → r ≡ judgedReading y (r .wrong) → WrongIn (widthOf y) (controlAt y) y (r .refusal) (r .wrong) → q ≡ cond (eqb (judged y) 0) y (frontReplaced y w)
+      → Promised p r q
+  unfolding readingWith readPdu readNumber
+  taken n r y q w b e ew ey er wr eq =
+      let l : (96 ≤ length p) × (length p ≤ 20480) = corrected-allowed p n e in
+      let u : frontReplaced y w ≡ p = rw (ew, ey) (header-put-back p (l .0) (l .1) b) in (
+        er ∙ rw (e, ey),
+        (
+          subst (λ (x : List ℕ). WrongIn (widthOf x) (controlAt x) x (r .refusal) (r .wrong)) ey wr,
+          eq ∙ ap (λ (x : List ℕ). cond (eqb (judged y) 0) y x) u ∙ rw (e, ey),
+        ),
+      )

@@ -1,0 +1,70 @@
+use native.Mathlib.Omega.{arith}
+use mathlib.Core.Path.{_≡_, refl, ap, sym, _∙_}
+use Prim.Native.Nat.{ℕ, _+_, _-_, _*_, _≤_, _<_}
+use lib.ListN.{length, take, drop, getD, set, length-set}
+use mathlib.Core.List.{List, [], _∷_, _++_}
+use borrow.Author.Needs.{needs}
+use mathlib.Core.Path.{sym, _∙_}
+use Rattle.pdu.proofs.Restoring.{taken, turned-down}
+use Rattle.pdu.proofs.read.Statement.{statement}
+use Rattle.pdu.proofs.read.Tie as tie
+use Rattle.pdu.proofs.read.Reads as reads
+use Rattle.pdu.proofs.read.Lts as lts
+use Rattle.correction.proofs.correct.Reads as correct-reads
+use Rattle.header.proofs.header_of.Reads as header-of-reads
+use Rattle.pdu.proofs.read_or_restore.Reads as read-or-restore-reads
+use Rattle.pdu.proofs.refused_reading.Reads as refused-reading-reads
+
+header-of-requires : tie.Need-header-of-requires
+header-of-requires c κs = search needs
+
+correct-requires : tie.Need-correct-requires
+correct-requires c κs = search needs
+
+enum-told : tie.Need-enum-told
+enum-told c = search needs
+
+read-or-restore-requires : tie.Need-read-or-restore-requires
+read-or-restore-requires c κs = search needs
+
+enum-known-answer : tie.Need-enum-known-answer
+enum-known-answer c = search needs
+
+refused-reading-requires : tie.Need-refused-reading-requires
+refused-reading-requires c κs = search needs
+
+same-length : tie.Need-same-length
+same-length c = search needs
+
+returns : tie.Need-returns
+returns c =
+    let f = c .before .before in
+    let g = f .before .before in
+    let k = g .before .before .before .before in
+    let h = k .before .before in
+    taken _ _ _ _ _ _ (λ i. h .before .before .slice-known .given i .fits) (sym (k .correct .ensures .0) ∙ g .enum-told .given .1) (h .header-of .ensures) (k .correct .ensures .1)
+    (f .read-or-restore .ensures .0) (f .read-or-restore .ensures .1 .0) (f .read-or-restore .ensures .1 .1)
+
+same-length-2 : tie.Need-same-length-2
+same-length-2 c = search needs
+
+returns-2 : tie.Need-returns-2
+returns-2 c =
+    let g = c .before .before in
+    let k = g .before .before .before .before in
+    turned-down _ _ _ _ (sym (k .correct .ensures .0) ∙ g .answer .given .1) (c .refused-reading .ensures) (k .correct .ensures .1)
+
+pub read-spec : {M : Type 1} → statement M
+read-spec =
+    tie.close
+    (tie.spec
+    header-of-requires
+    correct-requires
+    enum-told
+    read-or-restore-requires
+    enum-known-answer
+    refused-reading-requires
+    same-length
+    returns
+    same-length-2
+    returns-2)

@@ -1,0 +1,54 @@
+use native.Mathlib.Omega.{arith}
+use mathlib.Core.Path.{_≡_, refl, ap, sym, _∙_}
+use Prim.Native.Nat.{ℕ, _+_, _-_, _*_, _≤_, _<_}
+use lib.ListN.{length, take, drop, getD, set, length-set}
+use mathlib.Core.List.{List, [], _∷_, _++_}
+use borrow.Author.Needs.{needs}
+use mathlib.Core.Path.{_∙_}
+use Rattle.pdu.proofs.Restoring.{kept, put-back}
+use Rattle.pdu.proofs.read_or_restore.Statement.{statement}
+use Rattle.pdu.proofs.read_or_restore.Tie as tie
+use Rattle.pdu.proofs.read_or_restore.Reads as reads
+use Rattle.pdu.proofs.read_or_restore.Lts as lts
+use Rattle.header.proofs.put_front.Reads as put-front-reads
+use Rattle.pdu.proofs.read_corrected.Reads as read-corrected-reads
+
+read-corrected-requires : tie.Need-read-corrected-requires
+read-corrected-requires c κs = search needs
+
+same-length : tie.Need-same-length
+same-length c = search needs
+
+returns : tie.Need-returns
+returns c =
+    let j = c .before .before in
+    (j .read-corrected .ensures .0, (j .read-corrected .ensures .1, kept _ _ _ (j .read-corrected .ensures .0) (c .if1 .taken)))
+
+slice-aggregate-put-front : tie.Need-slice-aggregate-put-front
+slice-aggregate-put-front c = search needs
+
+put-front-requires : tie.Need-put-front-requires
+put-front-requires c κs = search needs
+
+same-length-2 : tie.Need-same-length-2
+same-length-2 c = search needs
+
+returns-2 : tie.Need-returns-2
+returns-2 c =
+    let f = c .before .before in
+    let j = f .before .before .before .before .before in (
+      j .read-corrected .ensures .0,
+      (j .read-corrected .ensures .1, f .put-front .ensures ∙ put-back _ _ _ (j .read-corrected .ensures .0) (f .before .before .before .if1 .left)),
+    )
+
+pub read-or-restore-spec : {M : Type 1} → statement M
+read-or-restore-spec =
+    tie.close
+    (tie.spec
+    read-corrected-requires
+    same-length
+    returns
+    slice-aggregate-put-front
+    put-front-requires
+    same-length-2
+    returns-2)
