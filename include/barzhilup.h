@@ -136,6 +136,64 @@ barzhilup_correct_header(uint8_t *pdu, size_t length);
  */
 uint8_t barzhilup_crc8(const uint8_t *bytes, size_t length);
 
+/* ---- Reading without a receiver (document 01) --------------------------- */
+
+/* The control word, bytes 8 to 13 of a PDU. */
+typedef struct {
+    uint8_t mode;
+    uint8_t stream;
+    uint8_t sequence;
+    uint8_t blend;
+    /* Gain (core) or stream delay (enhanced). */
+    uint8_t gain;
+    uint8_t common_delay;
+    uint8_t latency;
+    /* 1 or 0. */
+    uint8_t pfirst;
+    uint8_t plast;
+    uint8_t start;
+    uint8_t nop;
+    /* 1 where expansion bytes follow the locators, else 0. */
+    uint8_t expansion;
+    uint8_t la;
+} barzhilup_control_word;
+
+/* The expansion fields; 0 where not sent or not interpreted. */
+typedef struct {
+    uint8_t class_code;
+    uint8_t program;
+    uint16_t displacement;
+    uint8_t access;
+    uint8_t type_code;
+    uint8_t services;
+    uint32_t marker;
+} barzhilup_expansion;
+
+/* What a PDU holds. If it is refused, every field but `refusal` is 0, and
+ * `wrong_locator` too unless the number is 11. */
+typedef struct {
+    /* BARZHILUP_ACCEPTED, or 3 to 5 or 7 to 12 of document 01's table. */
+    uint32_t refusal;
+    /* With 11, the number k of a wrong locator, from 0. */
+    uint32_t wrong_locator;
+    barzhilup_control_word control;
+    barzhilup_expansion expansion;
+    /* Where the PSD starts in the PDU, and its length. */
+    uint32_t psd_start;
+    uint32_t psd_length;
+    /* Piece k's start in the PDU and its length, without its CRC byte; 0 from
+     * NOP on. */
+    uint16_t starts[64];
+    uint16_t lengths[64];
+} barzhilup_reading;
+
+/*
+ * Reads a PDU without a receiver: corrects its header in place and says what it
+ * holds. `pdu` is the whole PDU, `length` its length in bytes. If it is refused,
+ * no byte has changed.
+ */
+barzhilup_reading barzhilup_read(uint8_t *pdu, size_t length);
+
 #ifdef __cplusplus
 }
 #endif

@@ -456,6 +456,72 @@ static void test_uncorrectable(void)
     report("uncorrectable: 5 to 8 bytes altered, no code word near by search");
 }
 
+/* A PDU of 701 bytes with these bytes from byte 8 on, and its parity; up to four
+ * bytes of the header are altered. Reading answers it and mends the header. */
+static barzhilup_reading read_altered(const uint8_t *words, size_t n, unsigned count)
+{
+    static uint8_t pdu[701], right[701];
+    uint8_t *lent;
+    barzhilup_reading answer;
+    memset(right, 0, sizeof right);
+    memcpy(right + 8, words, n);
+    barzhilup_write_parity(right, sizeof right);
+    memcpy(pdu, right, sizeof pdu);
+    alter(pdu, count);
+    lent = lend(pdu, sizeof pdu);
+    answer = barzhilup_read(lent, sizeof pdu);
+    check(memcmp(lent, right, sizeof right) == 0, "read corrects the header", count);
+    return answer;
+}
+
+/* (a) to (c): the control word, and the same pieces by locators of 16 and of 12 bits. */
+static void test_reading(void)
+{
+    static const uint8_t ab[] = {0x40, 0x04, 0x05, 0x0B, 0x05, 0x11, 0x2C, 0x01, 0xBC, 0x02};
+    static const uint8_t c[] = {0x41, 0x04, 0x05, 0x0B, 0x05, 0x11, 0x2C, 0xC1, 0x2B};
+    unsigned count;
+    for (count = 0; count <= BARZHILUP_CORRECTED_MAX; count++) {
+        barzhilup_reading a = read_altered(ab, sizeof ab, count);
+        barzhilup_reading b = read_altered(c, sizeof c, count);
+        check(a.refusal == BARZHILUP_ACCEPTED && b.refusal == BARZHILUP_ACCEPTED, "read", count);
+        check(a.control.mode == 0 && a.control.stream == 0 && a.control.sequence == 1, "(a)", 1);
+        check(a.control.blend == 2 && a.control.gain == 0, "(a)", 2);
+        check(a.control.common_delay == 5 && a.control.latency == 4, "(a)", 3);
+        check(a.control.pfirst == 1 && a.control.plast == 0, "(a)", 4);
+        check(a.control.start == 33 && a.control.nop == 2 && a.control.la == 17, "(a)", 5);
+        check(a.starts[0] == 18 && a.lengths[0] == 282, "(b) first piece", count);
+        check(a.starts[1] == 301 && a.lengths[1] == 399, "(b) second piece", count);
+        check(a.psd_start == 18 && a.psd_length == 0, "(b) PSD", count);
+        check(b.psd_start == 17 && b.psd_length == 1, "(c) PSD", count);
+        check(memcmp(a.starts, b.starts, sizeof a.starts) == 0, "(c) starts", count);
+        check(memcmp(a.lengths, b.lengths, sizeof a.lengths) == 0, "(c) lengths", count);
+    }
+    report("reading, (a) to (c), 0 to 4 bytes altered");
+}
+
+/* Refused: a length, a header, a mode; no byte changes. */
+static void check_reading_refused(const uint8_t *pdu, size_t length, uint32_t refusal)
+{
+    uint8_t *lent = lend(pdu, length);
+    barzhilup_reading answer = barzhilup_read(lent, length);
+    check(answer.refusal == refusal, "reading refused", refusal);
+    check(answer.control.la == 0 && answer.starts[0] == 0, "reading refused, fields", refusal);
+    check(as_expected(), "reading refused and changed", refusal);
+}
+
+static void test_reading_refused(void)
+{
+    static uint8_t pdu[200];
+    make_pdu(pdu, sizeof pdu);
+    check_reading_refused(pdu, 95, 3);
+    memset(pdu, 0, sizeof pdu);
+    pdu[8] = 0x3F;
+    barzhilup_write_parity(pdu, sizeof pdu);
+    pdu[50] ^= 0x11;
+    check_reading_refused(pdu, sizeof pdu, 5);
+    report("reading refused, and the header left damaged");
+}
+
 int main(void)
 {
     make_tables();
@@ -468,6 +534,8 @@ int main(void)
     test_lengths();
     test_corrections();
     test_uncorrectable();
+    test_reading();
+    test_reading_refused();
     printf("C: %lu checks, %lu failed\n", checks, failed);
     return failed != 0;
 }

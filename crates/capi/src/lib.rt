@@ -1,10 +1,12 @@
 // The C library: each public operation with C's types, and the core's contract. include/barzhilup.h declares them.
 use correction::Correction;
+use pdu::Reading;
 ghost use mathlib.Core.Path.{_≡_};
 ghost use lib.ListN.{length};
 ghost use Rattle.field.specs.Field.{mul};
 ghost use Rattle.crc.specs.Crc.{crcFrom};
 ghost use Rattle.header.specs.Header.{syndromes, parityOf, lengthRefusal, withParity};
+ghost use Rattle.pdu.specs.Reading.{readingWith, WrongOne, readPdu};
 ghost use Rattle.correction.specs.Correction.{correctionOf, correctedPdu, numberOf, countOf};
 
 // S1 to S8.
@@ -87,4 +89,14 @@ pub extern "C" fn barzhilup_crc8(bytes: &[u8]) -> u8
     ensures { λ r. ⌜ r ≡ crcFrom 0 (now (bytes .entry)) ⌝ }
 {
     crc::crc8(bytes)
+}
+
+// Reads a PDU without a receiver: its header is corrected in place, or it is refused with 3 to 5 or 7 to 12 and left as it was.
+#[no_mangle]
+pub extern "C" fn barzhilup_read(pdu: &mut [u8]) -> Reading
+    ensures { λ r. ⌜ r ≡ readingWith (r .wrong) (now (pdu .entry)) ⌝ }
+    ensures { λ r. ⌜ WrongOne (now (pdu .entry)) (r .refusal) (r .wrong) ⌝ }
+    ensures { λ _. ⌜ now (pdu .exit) ≡ readPdu (now (pdu .entry)) ⌝ }
+{
+    pdu::read(pdu)
 }

@@ -32,6 +32,92 @@ mod c {
         pub fn barzhilup_write_parity(pdu: *mut u8, length: usize) -> u32;
         pub fn barzhilup_correct_header(pdu: *mut u8, length: usize) -> Correction;
         pub fn barzhilup_crc8(bytes: *const u8, length: usize) -> u8;
+        pub fn barzhilup_read(pdu: *mut u8, length: usize) -> super::Reading;
+    }
+}
+
+/// The control word in an answer. Yes and no are bytes here, so that a byte
+/// that is neither 1 nor 0 shows.
+#[repr(C)]
+#[derive(Clone, Copy, Debug, PartialEq, Eq)]
+pub struct ControlWord {
+    pub mode: u8,
+    pub stream: u8,
+    pub sequence: u8,
+    pub blend: u8,
+    pub gain: u8,
+    pub common_delay: u8,
+    pub latency: u8,
+    pub pfirst: u8,
+    pub plast: u8,
+    pub start: u8,
+    pub nop: u8,
+    pub expansion: u8,
+    pub la: u8,
+}
+
+/// The expansion fields in an answer.
+#[repr(C)]
+#[derive(Clone, Copy, Debug, PartialEq, Eq)]
+pub struct Expansion {
+    pub class_code: u8,
+    pub program: u8,
+    pub displacement: u16,
+    pub access: u8,
+    pub type_code: u8,
+    pub services: u8,
+    pub marker: u32,
+}
+
+/// The answer to reading a PDU without a receiver.
+#[repr(C)]
+#[derive(Clone, Copy, Debug, PartialEq, Eq)]
+pub struct Reading {
+    pub refusal: u32,
+    pub wrong_locator: u32,
+    pub control: ControlWord,
+    pub expansion: Expansion,
+    pub psd_start: u32,
+    pub psd_length: u32,
+    pub starts: [u16; 64],
+    pub lengths: [u16; 64],
+}
+
+impl Reading {
+    /// An answer with 0 in every field.
+    pub fn zero() -> Reading {
+        Reading {
+            refusal: 0,
+            wrong_locator: 0,
+            control: ControlWord {
+                mode: 0,
+                stream: 0,
+                sequence: 0,
+                blend: 0,
+                gain: 0,
+                common_delay: 0,
+                latency: 0,
+                pfirst: 0,
+                plast: 0,
+                start: 0,
+                nop: 0,
+                expansion: 0,
+                la: 0,
+            },
+            expansion: Expansion {
+                class_code: 0,
+                program: 0,
+                displacement: 0,
+                access: 0,
+                type_code: 0,
+                services: 0,
+                marker: 0,
+            },
+            psd_start: 0,
+            psd_length: 0,
+            starts: [0; 64],
+            lengths: [0; 64],
+        }
     }
 }
 
@@ -64,6 +150,11 @@ pub fn correct_header(pdu: &mut [u8]) -> (u32, u32) {
 /// The CRC-8 of the bytes.
 pub fn crc8(bytes: &[u8]) -> u8 {
     unsafe { c::barzhilup_crc8(bytes.as_ptr(), bytes.len()) }
+}
+
+/// Reads a PDU without a receiver.
+pub fn read(pdu: &mut [u8]) -> Reading {
+    unsafe { c::barzhilup_read(pdu.as_mut_ptr(), pdu.len()) }
 }
 
 /// How many guard bytes stand on each side of a lent buffer, at least. A whole
