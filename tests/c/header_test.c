@@ -457,7 +457,7 @@ static void test_uncorrectable(void)
 }
 
 /* A PDU of 701 bytes with these bytes from byte 8 on, and its parity; up to four
- * bytes of the header are altered. Reading answers it and mends the header. */
+ * bytes of the header are altered. Reading answers it and corrects the header. */
 static barzhilup_reading read_altered(const uint8_t *words, size_t n, unsigned count)
 {
     static uint8_t pdu[701], right[701];

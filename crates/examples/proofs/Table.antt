@@ -14,6 +14,8 @@ use Rattle.bits.proofs.Computed.{below, at, every}
 use Rattle.field.specs.Field.{timesA, mul, shift, pow}
 use Rattle.field.proofs.Laws.{mul-zero-l}
 use Rattle.algebra.specs.Places.{All}
+use Rattle.layout.specs.Control.{controlBytes}
+use Rattle.layout.specs.Locators.{bytes16, bytes12}
 use Rattle.crc.proofs.Examples as crc
 use Rattle.header.specs.Header.{sumUp, term, syndrome, isCodeWord, distance, exponents}
 use Rattle.header.proofs.CodeWords.{Bytes, zero-code-word}
@@ -155,7 +157,11 @@ module _ (choice : List Bool) (l : length choice ≡ 9) where
       })
 
 pub examples : Examples
+unfolding controlBytes bytes16 bytes12
 examples = record {
+  a = refl;
+  b = refl;
+  c = refl;
   d = crc.of-01;
   e = crc.of-80;
   f = crc.of-01-00;

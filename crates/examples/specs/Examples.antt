@@ -5,6 +5,9 @@ use mathlib.Core.List.{List, [], _∷_, _++_, map}
 use mathlib.Core.Option.{some}
 use Prim.Native.Nat.{ℕ, suc}
 use lib.ListN.{length, replicate}
+use Rattle.layout.specs.declared.ControlWord.{ControlWord}
+use Rattle.layout.specs.Control.{controlBytes}
+use Rattle.layout.specs.Locators.{locatorBytes}
 use Rattle.field.specs.Field.{pow}
 use Rattle.crc.specs.Crc.{crcFrom}
 use Rattle.header.specs.Header.{exponents, isCodeWord}
@@ -27,7 +30,17 @@ chosen (true ∷ choice) = suc (chosen choice)
 chosen (false ∷ choice) = chosen choice
 chosen [] = 0
 
+-- mode 0, core, sequence 1, blend 2, gain 0, common delay 5, latency 4, Pfirst, start 33, NOP 2, La 17
+abbrev pub controlExample : ControlWord
+controlExample = record { mode = 0; stream = 0; sequence = 1; blend = 2; gain = 0; common = 5; latency = 4; pfirst = true; plast = false; start = 33; nop = 2; flag = false; la = 17 }
+
 pub record Examples : Type 0 where
+  -- the control word above: 40 04 05 0B 05 11
+  pub a : controlBytes controlExample ≡ 0x40 ∷ 0x04 ∷ 0x05 ∷ 0x0B ∷ 0x05 ∷ 0x11 ∷ []
+  -- 300, 700 in 16 bits: 2C 01 BC 02
+  pub b : locatorBytes 16 (300 ∷ 700 ∷ []) ≡ 0x2C ∷ 0x01 ∷ 0xBC ∷ 0x02 ∷ []
+  -- in 12 bits: 2C C1 2B
+  pub c : locatorBytes 12 (300 ∷ 700 ∷ []) ≡ 0x2C ∷ 0xC1 ∷ 0x2B ∷ []
   -- CRC of 01 is 0x31
   pub d : crcFrom 0 (0x01 ∷ []) ≡ 0x31
   -- of 80: 0x7A

@@ -1,5 +1,6 @@
 // Runs the examples of document 01 on the proved code, and writes what it answers.
 use correction::Correction;
+use layout::ControlWord;
 use libc::STDOUT_FILENO;
 ghost use mathlib.Core.Path.{_≡_};
 ghost use Prim.Native.Nat.{_≤_};
@@ -8,6 +9,17 @@ ghost use lib.ListN.{length};
 const EXPONENTS: [usize; 9] = [36, 203, 3, 220, 253, 211, 240, 176, 0];
 
 fn main() {
+    control_line();
+    locators_line(
+        b"(b) 2C 01 BC 02 read in 16 bits:",
+        16,
+        b"\0\0\0\0\0\0\0\0\0\0\0\0\0\0\x2c\x01\xbc\x02",
+    );
+    locators_line(
+        b"(c) 2C C1 2B read in 12 bits:",
+        12,
+        b"\0\0\0\0\0\0\0\0\0\0\0\0\0\0\x2c\xc1\x2b",
+    );
     crc_line(b"(d) CRC of 01: ", b"\x01");
     crc_line(b"(e) CRC of 80: ", b"\x80");
     crc_line(b"(f) CRC of 01 00: ", b"\x01\x00");
@@ -31,6 +43,48 @@ fn say(text: &[u8]) {
 
 fn end_line() {
     say(b"\n");
+}
+
+fn hex_byte(b: u8) {
+    say(b" ");
+    io::print_hex(STDOUT_FILENO, b as u64, 2);
+}
+
+// (a)
+fn control_line() {
+    let c = ControlWord {
+        mode: 0,
+        stream: 0,
+        sequence: 1,
+        blend: 2,
+        gain: 0,
+        common: 5,
+        latency: 4,
+        pfirst: true,
+        plast: false,
+        start: 33,
+        nop: 2,
+        flag: false,
+        la: 17,
+    };
+    let b = layout::control_bytes(c);
+    say(b"(a) control word:");
+    let mut i: usize = 0;
+    while i < 6 {
+        hex_byte(b[i]);
+        i += 1;
+    }
+    end_line();
+}
+
+// (b), (c): the first two locators of a PDU.
+fn locators_line(label: &[u8], width: u8, pdu: &[u8]) {
+    say(label);
+    say(b" ");
+    io::print_decimal(STDOUT_FILENO, layout::locator(width, pdu, 0) as u64);
+    say(b" ");
+    io::print_decimal(STDOUT_FILENO, layout::locator(width, pdu, 1) as u64);
+    end_line();
 }
 
 fn crc_line(label: &[u8], bytes: &[u8]) {
