@@ -1,2 +1,3 @@
 pub mod ControlLaw
 pub mod LocatorLaw
+pub mod LocatorWriting

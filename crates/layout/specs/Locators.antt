@@ -1,7 +1,7 @@
 -- Document 01, "Control word": locators begin at byte 14. A width is 12 or 16 bits; any other is read as 12.
 use mathlib.Core.Bool.{cond}
 use mathlib.Core.List.{List, [], _∷_}
-use Prim.Native.Nat.{ℕ, zero, suc, _+_, _*_, _%_, _/_}
+use Prim.Native.Nat.{ℕ, _+_, _*_, _%_, _/_}
 use lib.Dec.{eqb}
 use lib.ListN.{getD}
 
@@ -40,11 +40,3 @@ locator12 p k =
 
 abbrev pub locatorAt : ℕ → List ℕ → ℕ → ℕ
 locatorAt width p k = cond (eqb width 16) (locator16 p k) (locator12 p k)
-
--- n locators from k on
-unfoldable pub locatorsFrom : ℕ → List ℕ → ℕ → ℕ → List ℕ
-locatorsFrom width p k zero = []
-locatorsFrom width p k (suc n) = locatorAt width p k ∷ locatorsFrom width p (suc k) n
-
-abbrev pub locatorsAt : ℕ → List ℕ → ℕ → List ℕ
-locatorsAt width p n = locatorsFrom width p 0 n

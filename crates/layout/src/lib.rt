@@ -2,6 +2,7 @@
 ghost use mathlib.Core.Path.{_≡_};
 ghost use Prim.Native.Nat.{_+_, _*_, _/_, _%_, _<_, _≤_};
 ghost use lib.ListN.{length, getD};
+ghost use Rattle.buffer.specs.Buffer.{putAt};
 ghost use Rattle.layout.specs.Control.{bit, controlBytes, controlOf, controlAt};
 ghost use Rattle.layout.specs.Locators.{bytes16, bytes12, locatorBytes, locatorSize, mostPieces, locator16 as locator16Of, locator12 as locator12Of, locatorAt};
 
@@ -162,6 +163,65 @@ pub fn locator(width: u8, pdu: &[u8], k: u8) -> u16
         return locator16(pdu, k as usize);
     }
     locator12(pdu, k as usize)
+}
+
+// The low eight bits of a number from a place on, by the power of two there.
+fn byte_from(x: u16, unit: u16) -> u8
+    requires { ⌜ 0 < unit ⌝ }
+    ensures { λ r. ⌜ r ≡ x / unit % 256 ⌝ }
+{
+    (x / unit % 256) as u8
+}
+
+// The top four bits of a locator of 12 bits, with the low four of the next above them.
+fn middle(a: u16, b: u16) -> u8
+    ensures { λ r. ⌜ r ≡ a / 256 % 16 + 16 * (b % 16) ⌝ }
+{
+    (a / 256 % 16 + 16 * (b % 16)) as u8
+}
+
+fn put_locators16(pdu: &mut [u8], locators: &[u16])
+    requires { ⌜ 14 + 2 * length (now locators) ≤ length (now pdu) ⌝ }
+    ensures { λ _. ⌜ now (pdu .exit) ≡ putAt (now (pdu .entry)) 14 (bytes16 (now (locators .entry))) ⌝ }
+{
+    let mut k: usize = 0;
+    while k < locators.len() {
+        let a = locators[k];
+        pdu[14 + 2 * k] = byte_from(a, 1);
+        pdu[15 + 2 * k] = byte_from(a, 256);
+        k += 1;
+    }
+}
+
+fn put_locators12(pdu: &mut [u8], locators: &[u16])
+    requires { ⌜ 28 + 3 * length (now locators) ≤ 2 * length (now pdu) ⌝ }
+    ensures { λ _. ⌜ now (pdu .exit) ≡ putAt (now (pdu .entry)) 14 (bytes12 (now (locators .entry))) ⌝ }
+{
+    let mut j: usize = 0;
+    while 2 * j < locators.len() {
+        let a = locators[2 * j];
+        pdu[14 + 3 * j] = byte_from(a, 1);
+        if 2 * j + 1 == locators.len() {
+            pdu[15 + 3 * j] = middle(a, 0);
+            return;
+        }
+        let b = locators[2 * j + 1];
+        pdu[15 + 3 * j] = middle(a, b);
+        pdu[16 + 3 * j] = byte_from(b, 16);
+        j += 1;
+    }
+}
+
+// Writes the locators into a PDU, from byte 14 on.
+pub fn put_locators(width: u8, pdu: &mut [u8], locators: &[u16])
+    requires { ⌜ 14 + locatorSize width (length (now locators)) ≤ length (now pdu) ⌝ }
+    ensures { λ _. ⌜ now (pdu .exit) ≡ putAt (now (pdu .entry)) 14 (locatorBytes width (now (locators .entry))) ⌝ }
+{
+    if width == 16 {
+        put_locators16(pdu, locators);
+        return;
+    }
+    put_locators12(pdu, locators);
 }
 
 // How many bytes n locators take.

@@ -4,3 +4,4 @@ pub mod Numbers
 pub mod Filling
 pub mod Assembling
 pub mod Restoring
+pub mod ContentsLaw

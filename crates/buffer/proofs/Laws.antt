@@ -1,0 +1,70 @@
+-- Laws of a list put into another from a place on.
+use mathlib.Core.Path.{_≡_, refl, ap, sym, _∙_}
+use Prim.Native.Nat.{ℕ, suc, zero, _+_, _≤_, _<_}
+use mathlib.Core.List.{List, [], _∷_, _++_, append-assoc, append-nil}
+use native.Mathlib.Omega.{arith}
+use native.Mathlib.Numerals.{add-one}
+use native.Mathlib.Nat.{add-zero, add-assoc}
+use lib.ListN.{length, take, drop, getD, set, take-append-drop, drop-of-length-le, length-drop, length-append}
+use lib.Seq.{drop-cons, drop-drop, take-at, length-take-le, drop-append-add, set-split}
+use Rattle.buffer.specs.Buffer.{putAt}
+
+-- the length stays
+pub put-length : (l : List ℕ) (k : ℕ) (w : List ℕ) → k + length w ≤ length l → length (putAt l k w) ≡ length l
+unfolding putAt
+put-length l k w h =
+    let h' : k ≤ length l = omega arith in
+    simp (length-append, length-drop, length-take-le k l h') (omega arith)
+
+-- two lists put one after the other
+pub put-put : (l : List ℕ) (k : ℕ) (v w : List ℕ) → k + length v ≤ length l → putAt (putAt l k v) (k + length v) w ≡ putAt l k (v ++ w)
+unfolding putAt
+put-put l k v w h =
+    let h' : k ≤ length l = omega arith in
+    let p : length (take k l ++ v) ≡ k + length v = simp (length-append, length-take-le k l h') in
+    let q : take (k + length v) ((take k l ++ v) ++ drop (k + length v) l) ≡ take k l ++ v = take-at (take k l ++ v) (drop (k + length v) l) (k + length v) p in
+    let d : drop (k + length v + length w) ((take k l ++ v) ++ drop (k + length v) l) ≡ drop (k + length v + length w) l =
+    ap (λ (n : ℕ). drop (n + length w) ((take k l ++ v) ++ drop (k + length v) l)) (sym p) ∙ drop-append-add (take k l ++ v) (drop (k + length v) l) (length w) ∙ drop-drop (length w) (k + length v) l in
+    ap (λ (r : List ℕ). r ++ w ++ drop (k + length v + length w) ((take k l ++ v) ++ drop (k + length v) l)) q
+    ∙ ap (λ (r : List ℕ). take k l ++ v ++ w ++ r) d
+    ∙ simp (length-append, append-assoc, add-assoc)
+
+-- the same, as a call after another says it
+pub put-then : (l l1 l2 v w : List ℕ) (k m : ℕ) → k + length v ≤ length l → m ≡ k + length v → l1 ≡ putAt l k v → l2 ≡ putAt l1 m w → l2 ≡ putAt l k (v ++ w)
+put-then l l1 l2 v w k m h e f g = g ∙ ap (λ (r : List ℕ). putAt r m w) f ∙ ap (λ (r : ℕ). putAt (putAt l k v) r w) e ∙ put-put l k v w h
+
+-- nothing put
+pub put-nil : (l : List ℕ) (k : ℕ) → putAt l k [] ≡ l
+unfolding putAt
+put-nil l k = rw (add-zero k, append-nil (take k l)) (take-append-drop k l)
+
+-- a list as long put in its place
+pub put-all : (l w : List ℕ) → length w ≡ length l → putAt l 0 w ≡ w
+unfolding putAt
+put-all l w e =
+    let d : drop (0 + length w) l ≡ [] = drop-of-length-le l {i = 0 + length w} (omega arith) in
+    rw (d, append-nil w)
+
+-- a store is a list of one put
+pub put-one : (l : List ℕ) (k v : ℕ) → k < length l → set l k v ≡ putAt l k (v ∷ [])
+unfolding putAt
+put-one l k v h = set-split l k v h ∙ rw (add-one k) (sym (append-assoc (take k l) (v ∷ []) (drop (suc k) l)))
+
+-- a store, and a list after it
+pub put-cons : (l w : List ℕ) (k v : ℕ) → k < length l → putAt (set l k v) (k + 1) w ≡ putAt l k (v ∷ w)
+put-cons l w k v h = put-then l (set l k v) (putAt (set l k v) (k + 1) w) (v ∷ []) w k (k + 1) (omega arith) refl (put-one l k v h) refl
+
+-- a turn of a copy: the first of the bytes that are left is stored
+pub put-turn : (l₀ l s : List ℕ) (at j v : ℕ) → at + j < length l → j < length s → v ≡ getD s j 0 → putAt l (at + j) (drop j s) ≡ putAt l₀ at s
+    → putAt (set l (at + j) v) (at + (j + 1)) (drop (j + 1) s) ≡ putAt l₀ at s
+put-turn l₀ l s at j v h more e i =
+    let k : at + (j + 1) ≡ at + j + 1 = omega arith in
+    rw (k, add-one j) (put-cons l (drop (suc j) s) (at + j) v h ∙ rw (e, ← drop-cons s j 0 more) i)
+
+-- the first bytes kept, and more after them
+pub put-front : (l w : List ℕ) (k : ℕ) → k ≤ length l → putAt l k w ≡ putAt l 0 (take k l ++ w)
+unfolding putAt
+put-front l w k h =
+    let e : length (take k l ++ w) ≡ k + length w = simp (length-append, length-take-le k l h) in
+    let z : 0 + (k + length w) ≡ k + length w = omega arith in
+    rw (e, z)

@@ -1,0 +1,87 @@
+use Rattle.pieces.proofs.Cutting.{total-drop, turn-locators, no-locator-left}
+use Rattle.pieces.specs.Pieces.{locatorsFrom, total}
+use Rattle.buffer.specs.Buffer.{putAt}
+use native.Mathlib.Nat.{zero-add}
+use borrow.Author.Needs.{needs}
+use native.Mathlib.Omega.{arith}
+use mathlib.Core.Path.{_≡_, refl, ap, ap₂, sym, subst, _∙_}
+use denote.Ref.{now}
+use Prim.Native.Nat.{ℕ, _+_, _-_, _*_, _≤_, _<_}
+use lib.ListN.{length, take, drop, getD, set, length-set}
+use mathlib.Core.List.{List, [], _∷_, _++_}
+use Rattle.pieces.proofs.locators.Statement.{statement}
+use Rattle.pieces.proofs.locators.Tie as tie
+use Rattle.pieces.proofs.locators.Reads as reads
+use Rattle.pieces.proofs.locators.Lts as lts
+
+abbrev Inv-loop : tie.InvT-loop
+Inv-loop at lengths out₀ place₀ k₀ out place k = (k ≤ length lengths) × (length out ≡ 64) × (place + total (drop k lengths) + (length lengths - k) ≤ 65535) × (putAt out k (locatorsFrom place (drop k lengths)) ≡ putAt out₀ 0 (locatorsFrom at lengths))
+
+abbrev μ-loop : tie.MeasureT-loop
+μ-loop at lengths out₀ place₀ k₀ out place k = length lengths - k
+
+loop-holds : tie.Need-loop-holds Inv-loop μ-loop
+loop-holds c = (omega arith, refl, omega (arith, c .pre .1), refl)
+
+mul-place : tie.Need-mul-place Inv-loop μ-loop
+mul-place c = search needs
+
+shared-slice-read-place : tie.Need-shared-slice-read-place Inv-loop μ-loop
+shared-slice-read-place c = search needs
+
+add-place : tie.Need-add-place Inv-loop μ-loop
+add-place c =
+    let p = c .before .before in
+    let t = total-drop (now (p .before .args .lengths)) (p .loop .k) (c .before .loop-test .taken) in
+    omega (arith, t, p .loop .inv .2)
+
+mul-out : tie.Need-mul-out Inv-loop μ-loop
+mul-out c = search needs
+
+array-write-out : tie.Need-array-write-out Inv-loop μ-loop
+array-write-out c = search needs
+
+add-place-2 : tie.Need-add-place-2 Inv-loop μ-loop
+add-place-2 c =
+    let p = c .before .before in
+    let t = total-drop (now (p .before .args .lengths)) (p .loop .k) (c .before .loop-test .taken) in
+    omega (arith, t, p .loop .inv .2)
+
+add-k : tie.Need-add-k Inv-loop μ-loop
+add-k c = search needs
+
+loop-less : tie.Need-loop-less Inv-loop μ-loop
+loop-less c = search needs
+
+loop-again : tie.Need-loop-again Inv-loop μ-loop
+loop-again c =
+    let p = c .before .before in
+    let a = p .before .args in
+    let ls = now (a .lengths) in
+    let t = total-drop ls (p .loop .k) (c .before .loop-test .taken) in
+    let i = p .loop .inv .2 in
+    (omega arith, length-set (p .loop .out) (p .loop .k) (p .loop .place + getD ls (p .loop .k) 0) ∙ p .loop .inv .1, omega arith, turn-locators (p .loop .out) ls _ (p .loop .place) (p .loop .k) (c .before .loop-test .taken) (omega arith) (p .loop .inv .3))
+
+returns : tie.Need-returns Inv-loop μ-loop
+returns c =
+    let p = c .before in
+    let a = p .before .args in
+    no-locator-left (p .loop .out) (now (a .lengths)) _ (p .loop .place) (p .loop .k) (c .loop-test .left) (p .loop .inv .3)
+
+pub locators-spec : {M : Type 1} → statement M
+locators-spec =
+    tie.close
+    (tie.spec
+    Inv-loop
+    μ-loop
+    loop-holds
+    mul-place
+    shared-slice-read-place
+    add-place
+    mul-out
+    array-write-out
+    add-place-2
+    add-k
+    loop-less
+    loop-again
+    returns)

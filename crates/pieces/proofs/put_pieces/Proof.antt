@@ -1,0 +1,151 @@
+use Rattle.pieces.proofs.Cutting.{total-drop, turn, none-left}
+use Rattle.pieces.specs.Pieces.{cutBy, withCrc, pieceBytes, total}
+use Rattle.buffer.specs.Buffer.{putAt}
+use Rattle.buffer.proofs.Laws.{put-length}
+use borrow.Author.Needs.{needs}
+use native.Mathlib.Omega.{arith}
+use mathlib.Core.Path.{_≡_, refl, ap, ap₂, sym, subst, _∙_}
+use denote.Ref.{now}
+use Prim.Native.Nat.{ℕ, _+_, _-_, _*_, _≤_, _<_}
+use lib.ListN.{length, take, drop, getD, set, length-set, length-drop, length-append}
+use lib.Seq.{length-take-le}
+use mathlib.Core.List.{List, [], _∷_, _++_}
+use Rattle.pieces.proofs.put_pieces.Statement.{statement}
+use Rattle.pieces.proofs.put_pieces.Tie as tie
+use Rattle.pieces.proofs.put_pieces.Reads as reads
+use Rattle.pieces.proofs.put_pieces.Lts as lts
+use Rattle.pieces.proofs.put_piece.Reads as put-piece-reads
+
+abbrev Inv-loop : tie.InvT-loop
+Inv-loop pdu₀ at lengths bytes place₀ from₀ k₀ pdu place from k = (k ≤ length lengths) × (length pdu ≡ length pdu₀) × (place + total (drop k lengths) + (length lengths - k) ≤ length pdu₀) × (from + total (drop k lengths) ≤ length bytes) × (putAt pdu place (pieceBytes (cutBy (drop k lengths) (drop from bytes))) ≡ putAt pdu₀ at (pieceBytes (cutBy lengths bytes)))
+
+abbrev μ-loop : tie.MeasureT-loop
+μ-loop pdu₀ at lengths bytes place₀ from₀ k₀ pdu place from k = length lengths - k
+
+loop-holds : tie.Need-loop-holds Inv-loop μ-loop
+loop-holds c = (omega arith, refl, omega (arith, c .before .before .before .pre .0), omega (arith, c .before .before .before .pre .1), refl)
+
+mul-n : tie.Need-mul-n Inv-loop μ-loop
+mul-n c = search needs
+
+shared-slice-read-n : tie.Need-shared-slice-read-n Inv-loop μ-loop
+shared-slice-read-n c = search needs
+
+cast-n : tie.Need-cast-n Inv-loop μ-loop
+cast-n c =
+    let p = c .before .before in
+    let ls = now (p .before .before .before .before .args .lengths) in
+    let t = total-drop ls (p .loop .k) (c .before .loop-test .taken) in
+    omega (arith, t, p .loop .inv .2, p .loop .inv .3)
+
+add-put-piece : tie.Need-add-put-piece Inv-loop μ-loop
+add-put-piece c =
+    let p = c .before .before .before in
+    let ls = now (p .before .before .before .before .args .lengths) in
+    let t = total-drop ls (p .loop .k) (c .before .before .loop-test .taken) in
+    omega (arith, t, p .loop .inv .2, p .loop .inv .3)
+
+sub-put-piece : tie.Need-sub-put-piece Inv-loop μ-loop
+sub-put-piece c = search needs
+
+part-put-piece-start : tie.Need-part-put-piece-start Inv-loop μ-loop
+part-put-piece-start c = search needs
+
+part-put-piece-end : tie.Need-part-put-piece-end Inv-loop μ-loop
+part-put-piece-end c =
+    let p = c .before .before .before in
+    let ls = now (p .before .before .before .before .args .lengths) in
+    let t = total-drop ls (p .loop .k) (c .before .before .loop-test .taken) in
+    omega (arith, t, p .loop .inv .3)
+
+put-piece-requires : tie.Need-put-piece-requires Inv-loop μ-loop
+put-piece-requires c κs =
+    let p = c .before .before .before .before in
+    let ls = now (p .before .before .before .before .args .lengths) in
+    let t = total-drop ls (p .loop .k) (c .before .before .before .loop-test .taken) in
+    let from = p .loop .from in
+    let n = getD ls (p .loop .k) 0 in
+    let bytes = now (p .before .before .before .before .args .bytes) in
+    let m : from + n - from ≡ n = omega arith in
+    let q : length (drop from bytes) ≡ length bytes - from = length-drop from bytes in
+    let w : length (take n (drop from bytes)) ≡ n = length-take-le n (drop from bytes) (omega (arith, t, p .loop .inv .3)) in
+    let r : p .loop .place + length (take n (drop from bytes)) + 1 ≤ length (p .loop .pdu) = omega (arith, t, w, p .loop .inv .1, p .loop .inv .2) in
+    rw m r
+
+add-place : tie.Need-add-place Inv-loop μ-loop
+add-place c =
+    let p = c .before .before .before .before .before .before .before in
+    let ls = now (p .before .before .before .before .args .lengths) in
+    let t = total-drop ls (p .loop .k) (c .before .before .before .before .before .before .loop-test .taken) in
+    omega (arith, t, p .loop .inv .2, p .loop .inv .3)
+
+add-place-2 : tie.Need-add-place-2 Inv-loop μ-loop
+add-place-2 c =
+    let p = c .before .before .before .before .before .before .before in
+    let ls = now (p .before .before .before .before .args .lengths) in
+    let t = total-drop ls (p .loop .k) (c .before .before .before .before .before .before .loop-test .taken) in
+    omega (arith, t, p .loop .inv .2, p .loop .inv .3)
+
+add-from : tie.Need-add-from Inv-loop μ-loop
+add-from c =
+    let p = c .before .before .before .before .before .before .before in
+    let ls = now (p .before .before .before .before .args .lengths) in
+    let t = total-drop ls (p .loop .k) (c .before .before .before .before .before .before .loop-test .taken) in
+    omega (arith, t, p .loop .inv .2, p .loop .inv .3)
+
+add-k : tie.Need-add-k Inv-loop μ-loop
+add-k c = search needs
+
+loop-less : tie.Need-loop-less Inv-loop μ-loop
+loop-less c = search needs
+
+loop-again : tie.Need-loop-again Inv-loop μ-loop
+loop-again c =
+    let p = c .before .before .before .before .before .before .before in
+    let ls = now (p .before .before .before .before .args .lengths) in
+    let t = total-drop ls (p .loop .k) (c .before .before .before .before .before .before .loop-test .taken) in
+    let a = p .before .before .before .before .args in
+    let n = getD ls (p .loop .k) 0 in
+    let from = p .loop .from in
+    let l2 = c .before .before .put-piece .last .0 in
+    let m : from + n - from ≡ n = omega arith in
+    let e0 : l2 ≡ putAt (p .loop .pdu) (p .loop .place) (withCrc (take (from + n - from) (drop from (now (a .bytes))))) = c .before .before .put-piece .ensures in
+    let e : l2 ≡ putAt (p .loop .pdu) (p .loop .place) (withCrc (take n (drop from (now (a .bytes))))) = rw m at e0 in
+    let q : length (drop from (now (a .bytes))) ≡ length (now (a .bytes)) - from = length-drop from (now (a .bytes)) in
+    let w : length (take n (drop from (now (a .bytes)))) ≡ n = length-take-le n (drop from (now (a .bytes))) (omega (arith, t, p .loop .inv .3)) in
+    let z : length (withCrc (take n (drop from (now (a .bytes))))) ≡ n + 1 = simp (length-append, w) in
+    let k : length l2 ≡ length (p .loop .pdu) = ap length e ∙ put-length (p .loop .pdu) (p .loop .place) (withCrc (take n (drop from (now (a .bytes))))) (omega (arith, z, t, p .loop .inv .1, p .loop .inv .2)) in
+    (omega arith, k ∙ p .loop .inv .1, omega (arith, t, p .loop .inv .2), omega (arith, t, p .loop .inv .3), turn (p .loop .pdu) l2 ls (now (a .bytes)) (putAt (now (a .pdu)) (a .at) (pieceBytes (cutBy ls (now (a .bytes))))) (p .loop .place) from (p .loop .k) n (c .before .before .before .before .before .before .loop-test .taken) refl (omega (arith, t, p .loop .inv .3)) (omega (arith, t, p .loop .inv .1, p .loop .inv .2)) e (p .loop .inv .4))
+
+same-length : tie.Need-same-length Inv-loop μ-loop
+same-length c = search needs
+
+returns : tie.Need-returns Inv-loop μ-loop
+returns c =
+    let p = c .before in
+    let a = p .before .before .before .before .args in
+    none-left (p .loop .pdu) (now (a .lengths)) (now (a .bytes)) (putAt (now (a .pdu)) (a .at) (pieceBytes (cutBy (now (a .lengths)) (now (a .bytes))))) (p .loop .place) (p .loop .from) (p .loop .k) (c .loop-test .left) (p .loop .inv .4)
+
+pub put-pieces-spec : {M : Type 1} → statement M
+put-pieces-spec =
+    tie.close
+    (tie.spec
+    Inv-loop
+    μ-loop
+    loop-holds
+    mul-n
+    shared-slice-read-n
+    cast-n
+    add-put-piece
+    sub-put-piece
+    part-put-piece-start
+    part-put-piece-end
+    put-piece-requires
+    add-place
+    add-place-2
+    add-from
+    add-k
+    loop-less
+    loop-again
+    same-length
+    returns)
