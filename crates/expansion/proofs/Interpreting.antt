@@ -17,7 +17,7 @@ outcome-before : (v : Interpreted) (f : Field) (o : Option (List Field)) → out
 outcome-before v f none = refl
 outcome-before v f (some fs) = refl
 
-skipped : (skip next : ℕ) (l : List ℕ) → fieldsFrom skip next l ≡ fieldsFrom 0 next (drop skip l)
+pub skipped : (skip next : ℕ) (l : List ℕ) → fieldsFrom skip next l ≡ fieldsFrom 0 next (drop skip l)
 unfolding fieldsFrom
 skipped zero next l = refl
 skipped (suc skip) next [] = refl

@@ -15,13 +15,13 @@ pub data Field : Type 0 where
 
 -- ---- fields to bytes
 
--- bits 6-0 of a field's bytes: bits 6-4 of the first are its ID
+-- bits 6-0 of a field's bytes: bits 6-4 of the first are its ID; each value modulo its width
 abbrev pub septetsOf : Field → List ℕ
-septetsOf (class c) = c ∷ []
-septetsOf (program p none) = (16 + 2 * p) ∷ []
-septetsOf (program p (some d)) = (16 + 2 * p + 1) ∷ d / 128 ∷ d % 128 ∷ []
-septetsOf (ptype a t) = (32 + 8 * a + t / 128) ∷ t % 128 ∷ []
-septetsOf (services s m) = (64 + 8 + s) ∷ m / 16384 ∷ m / 128 % 128 ∷ m % 128 ∷ []
+septetsOf (class c) = c % 16 ∷ []
+septetsOf (program p none) = (16 + 2 * (p % 8)) ∷ []
+septetsOf (program p (some d)) = (16 + 2 * (p % 8) + 1) ∷ d / 128 % 128 ∷ d % 128 ∷ []
+septetsOf (ptype a t) = (32 + 8 * (a % 2) + t / 128 % 2) ∷ t % 128 ∷ []
+septetsOf (services s m) = (64 + 8 + s % 8) ∷ m / 16384 % 128 ∷ m / 128 % 128 ∷ m % 128 ∷ []
 
 abbrev pub septetsOfAll : List Field → List ℕ
 septetsOfAll [] = []

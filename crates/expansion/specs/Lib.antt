@@ -1,1 +1,2 @@
 pub mod Expansion
+pub mod Writing

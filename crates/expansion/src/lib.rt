@@ -1,9 +1,10 @@
-// Expansion bytes of a PDU, read (document 01, "Expansion, PSD, pieces").
+// Expansion bytes of a PDU, read and written (document 01, "Expansion, PSD, pieces").
 ghost use mathlib.Core.Path.{_≡_};
 ghost use Prim.Native.Nat.{_+_, _*_, _/_, _%_, _<_, _≤_};
-ghost use mathlib.Core.List.{List, [], _∷_};
-ghost use lib.ListN.{length, getD};
-ghost use Rattle.expansion.specs.Expansion.{expansionLength, septetsAt, known as knownOf, moreBytes, fieldOf, absorb, nothing as nothingOf, interpretation, expansionAt};
+ghost use mathlib.Core.List.{List, [], _∷_, _++_};
+ghost use lib.ListN.{length, getD, take};
+ghost use Rattle.expansion.specs.Expansion.{expansionLength, septetsAt, known as knownOf, moreBytes, fieldOf, absorb, nothing as nothingOf, interpretation, expansionAt, septetsOfAll};
+ghost use Rattle.expansion.specs.Writing.{classField, programField, typeField, servicesField, expansionBytes, marked};
 
 // What expansion bytes say: values are 0 where not sent or not interpreted.
 pub struct Interpreted {
@@ -207,5 +208,137 @@ pub fn read_expansion(pdu: &[u8], at: u16, la: u8) -> Expansion
     Expansion {
         length: n,
         values: values,
+    }
+}
+
+// The fields to be sent, each with a flag that says whether it is.
+#[repr(C)]
+pub struct Fields {
+    pub classed: bool,
+    pub class: u8,
+    pub programmed: bool,
+    pub program: u8,
+    // Counts only with `programmed`.
+    pub displaced: bool,
+    pub displacement: u16,
+    // Access and type.
+    pub typed: bool,
+    pub access: u8,
+    pub ptype: u8,
+    // Applied services and marker.
+    pub serviced: bool,
+    pub services: u8,
+    pub marker: u32,
+}
+
+// The first `length` of `bytes`.
+pub struct ExpansionBytes {
+    pub bytes: [u8; 16],
+    pub length: usize,
+}
+
+// One septet more, with bit 7 set.
+fn put(l: ExpansionBytes, b: u8) -> ExpansionBytes
+    requires { ⌜ (l .length < 16) × (b < 128) ⌝ }
+    ensures { λ r. ⌜ take (r .length) (r .bytes) ≡ take (l .length) (l .bytes) ++ marked (b ∷ []) ⌝ }
+    ensures { λ r. ⌜ (r .length ≡ l .length + 1) × (length (r .bytes) ≡ 16) ⌝ }
+{
+    let n = l.length;
+    let mut bytes = l.bytes;
+    bytes[n] = 128 + b;
+    ExpansionBytes {
+        bytes: bytes,
+        length: n + 1,
+    }
+}
+
+// The low seven bits.
+fn low(n: u32) -> u8
+    ensures { λ r. ⌜ (r ≡ n % 128) × (r < 128) ⌝ }
+{
+    (n % 128) as u8
+}
+
+// The class's septets more, if it is sent.
+fn put_class(l: ExpansionBytes, x: Fields) -> ExpansionBytes
+    requires { ⌜ l .length ≤ 12 ⌝ }
+    ensures { λ r. ⌜ take (r .length) (r .bytes) ≡ take (l .length) (l .bytes) ++ marked (septetsOfAll (classField x)) ⌝ }
+    ensures { λ r. ⌜ r .length ≤ l .length + 1 ⌝ }
+{
+    if !x.classed {
+        return l;
+    }
+    put(l, x.class % 16)
+}
+
+// The program's septets more, if it is sent.
+fn put_program(l: ExpansionBytes, x: Fields) -> ExpansionBytes
+    requires { ⌜ l .length ≤ 12 ⌝ }
+    ensures { λ r. ⌜ take (r .length) (r .bytes) ≡ take (l .length) (l .bytes) ++ marked (septetsOfAll (programField x)) ⌝ }
+    ensures { λ r. ⌜ r .length ≤ l .length + 3 ⌝ }
+{
+    if !x.programmed {
+        return l;
+    }
+    if !x.displaced {
+        return put(l, 16 + 2 * (x.program % 8));
+    }
+    let first = put(l, 16 + 2 * (x.program % 8) + 1);
+    let second = put(first, low(x.displacement as u32 / 128));
+    put(second, low(x.displacement as u32))
+}
+
+// The type's septets more, if it is sent.
+fn put_type(l: ExpansionBytes, x: Fields) -> ExpansionBytes
+    requires { ⌜ l .length ≤ 12 ⌝ }
+    ensures { λ r. ⌜ take (r .length) (r .bytes) ≡ take (l .length) (l .bytes) ++ marked (septetsOfAll (typeField x)) ⌝ }
+    ensures { λ r. ⌜ r .length ≤ l .length + 2 ⌝ }
+{
+    if !x.typed {
+        return l;
+    }
+    let first = put(l, 32 + 8 * (x.access % 2) + x.ptype / 128 % 2);
+    put(first, x.ptype % 128)
+}
+
+// The services' septets more, if they are sent.
+fn put_services(l: ExpansionBytes, x: Fields) -> ExpansionBytes
+    requires { ⌜ l .length ≤ 12 ⌝ }
+    ensures { λ r. ⌜ take (r .length) (r .bytes) ≡ take (l .length) (l .bytes) ++ marked (septetsOfAll (servicesField x)) ⌝ }
+    ensures { λ r. ⌜ (r .length ≤ l .length + 4) × (length (r .bytes) ≡ 16) ⌝ }
+{
+    if !x.serviced {
+        return l;
+    }
+    let first = put(l, 64 + 8 + x.services % 8);
+    let second = put(first, low(x.marker / 16384));
+    let third = put(second, low(x.marker / 128));
+    put(third, low(x.marker))
+}
+
+// The bytes of the fields to be sent.
+pub fn expansion_bytes(x: Fields) -> ExpansionBytes
+    ensures { λ r. ⌜ (r .length ≡ length (expansionBytes x)) × (r .length ≤ 10) ⌝ }
+    ensures { λ r. ⌜ take (r .length) (r .bytes) ≡ expansionBytes x ⌝ }
+{
+    let zeros: [u8; 16] = [0; 16];
+    let empty = ExpansionBytes {
+        bytes: zeros,
+        length: 0,
+    };
+    let class = put_class(empty, x);
+    let program = put_program(class, x);
+    let typed = put_type(program, x);
+    let all = put_services(typed, x);
+    let n = all.length;
+    if n == 0 {
+        return all;
+    }
+    // No byte follows the last.
+    let mut bytes = all.bytes;
+    bytes[n - 1] = bytes[n - 1] % 128;
+    ExpansionBytes {
+        bytes: bytes,
+        length: n,
     }
 }

@@ -1,0 +1,81 @@
+use native.Mathlib.Omega.{arith}
+use mathlib.Core.Path.{_≡_, refl, ap, sym, _∙_}
+use Prim.Native.Nat.{ℕ, _+_, _-_, _*_, _≤_, _<_}
+use lib.ListN.{length, take, drop, getD, set, length-set}
+use mathlib.Core.List.{List, [], _∷_, _++_}
+use borrow.Author.Needs.{needs}
+use Rattle.expansion.specs.Expansion.{septetsOfAll}
+use Rattle.expansion.specs.Writing.{classField, programField, typeField, servicesField, fieldsOf, marked, expansionBytes}
+use Rattle.expansion.proofs.Marks.{all-septets}
+use Rattle.expansion.proofs.Putting.{soFar, further, four, none-put, some-put}
+use Rattle.expansion.proofs.expansion_bytes.Statement.{statement}
+use Rattle.expansion.proofs.expansion_bytes.Tie as tie
+use Rattle.expansion.proofs.expansion_bytes.Reads as reads
+use Rattle.expansion.proofs.expansion_bytes.Lts as lts
+use Rattle.expansion.proofs.put_class.Reads as put-class-reads
+use Rattle.expansion.proofs.put_program.Reads as put-program-reads
+use Rattle.expansion.proofs.put_services.Reads as put-services-reads
+use Rattle.expansion.proofs.put_type.Reads as put-type-reads
+
+put-class-requires : tie.Need-put-class-requires
+put-class-requires c κs = search needs
+
+put-program-requires : tie.Need-put-program-requires
+put-program-requires c κs = search needs
+
+put-type-requires : tie.Need-put-type-requires
+put-type-requires c κs = search needs
+
+put-services-requires : tie.Need-put-services-requires
+put-services-requires c κs = search needs
+
+-- bit 7 set in each
+all : (c : tie.After-put-services) → soFar (c .put-services .result) ≡ marked (septetsOfAll (fieldsOf (c .before .before .before .before .args .x)))
+all c =
+    let t = c .before in
+    let p = t .before in
+    let d = p .before in
+    let x = d .before .args .x in
+    further [] (soFar (t .put-type .result)) _ (septetsOfAll (classField x) ++ septetsOfAll (programField x) ++ septetsOfAll (typeField x)) (septetsOfAll (servicesField x))
+    (further [] (soFar (p .put-program .result)) _ (septetsOfAll (classField x) ++ septetsOfAll (programField x)) (septetsOfAll (typeField x))
+    (further [] (soFar (d .put-class .result)) _ (septetsOfAll (classField x)) (septetsOfAll (programField x)) (d .put-class .ensures .0) (p .put-program .ensures .0))
+    (t .put-type .ensures .0))
+    (c .put-services .ensures .0)
+    ∙ ap marked (four x)
+
+returns : tie.Need-returns
+returns c =
+    let a = c .before in
+    none-put (a .before .before .before .before .args .x) (a .put-services .result) (all a) (a .put-services .ensures .1 .1) (c .if1 .taken)
+
+sub-bytes : tie.Need-sub-bytes
+sub-bytes c = search needs
+
+array-read-bytes : tie.Need-array-read-bytes
+array-read-bytes c = search needs
+
+sub-bytes-2 : tie.Need-sub-bytes-2
+sub-bytes-2 c = search needs
+
+array-write-bytes : tie.Need-array-write-bytes
+array-write-bytes c = search needs
+
+returns-2 : tie.Need-returns-2
+returns-2 c =
+    let a = c .before .before in
+    some-put (a .before .before .before .before .args .x) (a .put-services .result) (all a) (a .put-services .ensures .1 .1) _ (c .before .if1 .left) (omega arith) (omega arith)
+
+pub expansion-bytes-spec : {M : Type 1} → statement M
+expansion-bytes-spec =
+    tie.close
+    (tie.spec
+    put-class-requires
+    put-program-requires
+    put-type-requires
+    put-services-requires
+    returns
+    sub-bytes
+    array-read-bytes
+    sub-bytes-2
+    array-write-bytes
+    returns-2)

@@ -1,0 +1,29 @@
+use native.Mathlib.Omega.{arith}
+use mathlib.Core.Path.{_≡_, refl, ap, sym, _∙_}
+use Prim.Native.Nat.{ℕ, _+_, _-_, _*_, _≤_, _<_}
+use lib.ListN.{length, take, drop, getD, set, length-set}
+use mathlib.Core.List.{List, [], _∷_, _++_}
+use borrow.Author.Needs.{needs}
+use Rattle.expansion.proofs.Putting.{full, one-more}
+use Rattle.expansion.proofs.put.Statement.{statement}
+use Rattle.expansion.proofs.put.Tie as tie
+use Rattle.expansion.proofs.put.Reads as reads
+use Rattle.expansion.proofs.put.Lts as lts
+
+add-bytes : tie.Need-add-bytes
+add-bytes c = search needs
+
+array-write-bytes : tie.Need-array-write-bytes
+array-write-bytes c = search needs
+
+add-t9 : tie.Need-add-t9
+add-t9 c = search needs
+
+returns : tie.Need-returns
+returns c =
+    let a = c .before .args in
+    let g : length (a .l .bytes) ≡ 16 = full (a .l .bytes) 16 (c .before .good .0 .1 .1 .0 .1 .0 .1) in
+    (one-more (a .l .bytes) (a .l .length) _ (a .b) (omega arith) (omega arith), (refl, length-set (a .l .bytes) _ _ ∙ g))
+
+pub put-spec : {M : Type 1} → statement M
+put-spec = tie.close (tie.spec add-bytes array-write-bytes add-t9 returns)

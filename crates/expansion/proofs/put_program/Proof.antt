@@ -1,0 +1,110 @@
+use native.Mathlib.Omega.{arith}
+use mathlib.Core.Path.{_≡_, refl, ap, sym, _∙_}
+use Prim.Native.Nat.{ℕ, _+_, _-_, _*_, _≤_, _<_}
+use lib.ListN.{length, take, drop, getD, set, length-set}
+use mathlib.Core.List.{List, [], _∷_, _++_}
+use borrow.Author.Needs.{needs}
+use mathlib.Core.Bool.{cond}
+use mathlib.Core.Option.{some, none}
+use Prim.Native.Nat.{_%_, _/_}
+use Rattle.expansion.specs.Expansion.{program}
+use Rattle.expansion.proofs.Putting.{soFar, one, further, not-put, all-put, with, without}
+use Rattle.expansion.proofs.put_program.Statement.{statement}
+use Rattle.expansion.proofs.put_program.Tie as tie
+use Rattle.expansion.proofs.put_program.Reads as reads
+use Rattle.expansion.proofs.put_program.Lts as lts
+use Rattle.expansion.proofs.low.Reads as low-reads
+use Rattle.expansion.proofs.put.Reads as put-reads
+
+returns : tie.Need-returns
+returns c =
+    let a = c .before .before .args in
+    (not-put (a .x .programmed) (program (a .x .program) (cond (a .x .displaced) (some (a .x .displacement)) none)) (soFar (a .l)) (c .if1 .taken), omega arith)
+
+mul-put : tie.Need-mul-put
+mul-put c = search needs
+
+add-put : tie.Need-add-put
+add-put c = search needs
+
+put-requires : tie.Need-put-requires
+put-requires c κs = search needs
+
+returns-2 : tie.Need-returns-2
+returns-2 c =
+    let d = c .before .before in
+    let e = d .before .before in
+    let a = e .before .before .args in
+    let t = soFar (a .l) in
+    let h = one t (soFar (c .put .result)) _ (16 + 2 * (a .x .program % 8)) (omega arith) (c .put .ensures .0) in (
+      all-put (a .x .programmed) (program (a .x .program) (cond (a .x .displaced) (some (a .x .displacement)) none)) t _ (e .if1 .left) (without (a .x .displaced) (a .x .program) (a .x .displacement) t (soFar (c .put .result)) (d .if2 .taken) h),
+      omega arith,
+    )
+
+mul-put-2 : tie.Need-mul-put-2
+mul-put-2 c = search needs
+
+add-put-2 : tie.Need-add-put-2
+add-put-2 c = search needs
+
+add-put-3 : tie.Need-add-put-3
+add-put-3 c = search needs
+
+put-requires-2 : tie.Need-put-requires-2
+put-requires-2 c κs = search needs
+
+cast-low : tie.Need-cast-low
+cast-low c = search needs
+
+low-requires : tie.Need-low-requires
+low-requires c κs = search needs
+
+put-requires-3 : tie.Need-put-requires-3
+put-requires-3 c κs = search needs
+
+cast-low-2 : tie.Need-cast-low-2
+cast-low-2 c = search needs
+
+low-requires-2 : tie.Need-low-requires-2
+low-requires-2 c κs = search needs
+
+put-requires-4 : tie.Need-put-requires-4
+put-requires-4 c κs = search needs
+
+returns-3 : tie.Need-returns-3
+returns-3 c =
+    let p3 = c .before .before .before in
+    let p2 = p3 .before .before .before in
+    let d = p2 .before .before in
+    let e = d .before .before in
+    let a = e .before .before .args in
+    let t = soFar (a .l) in
+    let q2 : p3 .before .low .result ≡ a .x .displacement / 128 % 128 = omega (arith, p3 .before .low .ensures .0) in
+    let q3 : c .before .low2 .result ≡ a .x .displacement % 128 = omega (arith, c .before .low2 .ensures .0) in
+    let h = one t (soFar (p2 .put2 .result)) _ (16 + 2 * (a .x .program % 8) + 1) (omega arith) (p2 .put2 .ensures .0) in
+    let h2 = further t _ (soFar (p3 .put3 .result)) (_ ∷ []) (_ ∷ []) h (one (soFar (p2 .put2 .result)) _ _ _ q2 (p3 .put3 .ensures .0)) in
+    let h3 = further t _ (soFar (c .put4 .result)) (_ ∷ _ ∷ []) (_ ∷ []) h2 (one (soFar (p3 .put3 .result)) _ _ _ q3 (c .put4 .ensures .0)) in (
+      all-put (a .x .programmed) (program (a .x .program) (cond (a .x .displaced) (some (a .x .displacement)) none)) t _ (e .if1 .left) (with (a .x .displaced) (a .x .program) (a .x .displacement) t (soFar (c .put4 .result)) (d .if2 .left) h3),
+      omega arith,
+    )
+
+pub put-program-spec : {M : Type 1} → statement M
+put-program-spec =
+    tie.close
+    (tie.spec
+    returns
+    mul-put
+    add-put
+    put-requires
+    returns-2
+    mul-put-2
+    add-put-2
+    add-put-3
+    put-requires-2
+    cast-low
+    low-requires
+    put-requires-3
+    cast-low-2
+    low-requires-2
+    put-requires-4
+    returns-3)

@@ -1,0 +1,80 @@
+use native.Mathlib.Omega.{arith}
+use mathlib.Core.Path.{_≡_, refl, ap, sym, _∙_}
+use Prim.Native.Nat.{ℕ, _+_, _-_, _*_, _≤_, _<_}
+use lib.ListN.{length, take, drop, getD, set, length-set}
+use mathlib.Core.List.{List, [], _∷_, _++_}
+use borrow.Author.Needs.{needs}
+use Prim.Native.Nat.{_%_, _/_}
+use Rattle.expansion.specs.Expansion.{services}
+use Rattle.expansion.proofs.Putting.{soFar, full, one, further, not-put, all-put}
+use Rattle.expansion.proofs.put_services.Statement.{statement}
+use Rattle.expansion.proofs.put_services.Tie as tie
+use Rattle.expansion.proofs.put_services.Reads as reads
+use Rattle.expansion.proofs.put_services.Lts as lts
+use Rattle.expansion.proofs.low.Reads as low-reads
+use Rattle.expansion.proofs.put.Reads as put-reads
+
+returns : tie.Need-returns
+returns c =
+    let a = c .before .before .args in
+    (not-put (a .x .serviced) (services (a .x .services) (a .x .marker)) (soFar (a .l)) (c .if1 .taken), (omega arith, full (a .l .bytes) 16 (c .before .before .good .0 .1 .1 .0 .1 .0 .1)))
+
+add-put : tie.Need-add-put
+add-put c = search needs
+
+add-put-2 : tie.Need-add-put-2
+add-put-2 c = search needs
+
+put-requires : tie.Need-put-requires
+put-requires c κs = search needs
+
+low-requires : tie.Need-low-requires
+low-requires c κs = search needs
+
+put-requires-2 : tie.Need-put-requires-2
+put-requires-2 c κs = search needs
+
+low-requires-2 : tie.Need-low-requires-2
+low-requires-2 c κs = search needs
+
+put-requires-3 : tie.Need-put-requires-3
+put-requires-3 c κs = search needs
+
+low-requires-3 : tie.Need-low-requires-3
+low-requires-3 c κs = search needs
+
+put-requires-4 : tie.Need-put-requires-4
+put-requires-4 c κs = search needs
+
+returns-2 : tie.Need-returns-2
+returns-2 c =
+    let p3 = c .before .before in
+    let p2 = p3 .before .before .before in
+    let p = p2 .before .before .before in
+    let e = p .before .before in
+    let a = e .before .before .args in
+    let t = soFar (a .l) in
+    let q2 : p2 .before .low .result ≡ a .x .marker / 16384 % 128 = p2 .before .low .ensures .0 in
+    let q3 : p3 .before .low2 .result ≡ a .x .marker / 128 % 128 = p3 .before .low2 .ensures .0 in
+    let q4 : c .before .low3 .result ≡ a .x .marker % 128 = c .before .low3 .ensures .0 in
+    let h = one t (soFar (p .put .result)) _ (64 + 8 + a .x .services % 8) (omega arith) (p .put .ensures .0) in
+    let h2 = further t _ (soFar (p2 .put2 .result)) (_ ∷ []) (_ ∷ []) h (one (soFar (p .put .result)) _ _ _ q2 (p2 .put2 .ensures .0)) in
+    let h3 = further t _ (soFar (p3 .put3 .result)) (_ ∷ _ ∷ []) (_ ∷ []) h2 (one (soFar (p2 .put2 .result)) _ _ _ q3 (p3 .put3 .ensures .0)) in
+    let h4 = further t _ (soFar (c .put4 .result)) (_ ∷ _ ∷ _ ∷ []) (_ ∷ []) h3 (one (soFar (p3 .put3 .result)) _ _ _ q4 (c .put4 .ensures .0)) in
+    (all-put (a .x .serviced) (services (a .x .services) (a .x .marker)) t (soFar (c .put4 .result)) (e .if1 .left) h4, (omega arith, c .put4 .ensures .1 .1))
+
+pub put-services-spec : {M : Type 1} → statement M
+put-services-spec =
+    tie.close
+    (tie.spec
+    returns
+    add-put
+    add-put-2
+    put-requires
+    low-requires
+    put-requires-2
+    low-requires-2
+    put-requires-3
+    low-requires-3
+    put-requires-4
+    returns-2)
