@@ -77,11 +77,7 @@ module _ (width : ℕ) (c : ControlWord) (y : List ℕ) where
     pub la-high : at ≤ c .la + 1 → leb (length y) (c .la) ≡ wrongLa width c y
     la-high h =
         let t : ltb (c .la + 1) (afterLocators width c) ≡ false = le-ltb (c .la + 1) (afterLocators width c) (omega (arith, sym e)) in
-        rw t (last (leb (length y) (c .la)))
-      where
-        last : (b : Bool) → b ≡ (b || false)
-        last true = refl
-        last false = refl
+        rw t
 
 module _ (width : ℕ) (c : ControlWord) (m : ℕ) (em : m ≡ mostPieces width) where
   pub pieces-many : m < c .nop → true ≡ wrongPieces width c
@@ -102,8 +98,4 @@ module _ (width : ℕ) (c : ControlWord) (m : ℕ) (em : m ≡ mostPieces width)
       none-first f = rw (few, none, f)
 
       pub none-last : c .pfirst ≡ false → c .plast ≡ wrongPieces width c
-      none-last f = rw (few, none, f) (last (c .plast))
-        where
-          last : (b : Bool) → b ≡ (b || false)
-          last true = refl
-          last false = refl
+      none-last f = rw (few, none, f)

@@ -10,4 +10,5 @@ firstOf (t ∷ ts) = cond (t .0) (t .1) (firstOf ts)
 
 abbrev pub anyOf : List Bool → Bool
 anyOf [] = false
-anyOf (t ∷ ts) = t || anyOf ts
+anyOf (t ∷ []) = t
+anyOf (t ∷ u ∷ ts) = t || anyOf (u ∷ ts)
