@@ -1,11 +1,11 @@
 -- Laws of a list put into another from a place on.
 use mathlib.Core.Path.{_≡_, refl, ap, sym, _∙_}
-use Prim.Native.Nat.{ℕ, suc, zero, _+_, _≤_, _<_}
+use Prim.Native.Nat.{ℕ, suc, zero, _+_, _-_, _≤_, _<_}
 use mathlib.Core.List.{List, [], _∷_, _++_, append-assoc, append-nil}
 use native.Mathlib.Omega.{arith}
 use native.Mathlib.Numerals.{add-one}
 use native.Mathlib.Nat.{add-zero, add-assoc}
-use lib.ListN.{length, take, drop, getD, set, take-append-drop, drop-of-length-le, length-drop, length-append}
+use lib.ListN.{length, take, drop, getD, set, replicate, take-append-drop, drop-of-length-le, length-drop, length-append}
 use lib.Seq.{drop-cons, drop-drop, take-at, length-take-le, drop-append-add, set-split}
 use Rattle.buffer.specs.Buffer.{putAt}
 
@@ -45,6 +45,11 @@ put-all l w e =
     let d : drop (0 + length w) l ≡ [] = drop-of-length-le l {i = 0 + length w} (omega arith) in
     rw (d, append-nil w)
 
+-- what a list that was put at the front of another begins with
+pub take-put : (l w : List ℕ) → take (length w) (putAt l 0 w) ≡ w
+unfolding putAt
+take-put l w = take-at w (drop (0 + length w) l) (length w) refl
+
 -- a store is a list of one put
 pub put-one : (l : List ℕ) (k v : ℕ) → k < length l → set l k v ≡ putAt l k (v ∷ [])
 unfolding putAt
@@ -68,3 +73,21 @@ put-front l w k h =
     let e : length (take k l ++ w) ≡ k + length w = simp (length-append, length-take-le k l h) in
     let z : 0 + (k + length w) ≡ k + length w = omega arith in
     rw (e, z)
+
+-- a list put into zeros
+pub put-zeros : (n k : ℕ) (w : List ℕ) → k + length w ≤ n → putAt (replicate n 0) k w ≡ replicate k 0 ++ (w ++ replicate (n - (k + length w)) 0)
+unfolding putAt
+put-zeros n k w h =
+    let t : take k (replicate {A = ℕ} n 0) ≡ replicate k 0 = take-zeros k n (omega arith) in
+    let d : drop (k + length w) (replicate {A = ℕ} n 0) ≡ replicate (n - (k + length w)) 0 = drop-zeros (k + length w) n in
+    rw (t, d) (append-assoc (replicate k 0) w (replicate (n - (k + length w)) 0))
+  where
+    take-zeros : (k n : ℕ) → k ≤ n → take k (replicate {A = ℕ} n 0) ≡ replicate k 0
+    take-zeros zero n h = refl
+    take-zeros (suc k) zero h = absurd (omega arith)
+    take-zeros (suc k) (suc n) h = ap (λ (r : List ℕ). 0 ∷ r) (take-zeros k n (omega arith))
+
+    drop-zeros : (k n : ℕ) → drop k (replicate {A = ℕ} n 0) ≡ replicate (n - k) 0
+    drop-zeros zero n = let e : n - 0 ≡ n = omega arith in rw e
+    drop-zeros (suc k) zero = let e : 0 - suc k ≡ 0 = omega arith in rw e
+    drop-zeros (suc k) (suc n) = let e : suc n - suc k ≡ n - k = omega arith in rw e (drop-zeros k n)

@@ -1,13 +1,14 @@
 -- Reading the control word that was written gives its fields.
-use Prim.Native.Nat.{ℕ, _+_, _*_, _%_, _/_, _<_, _≤_}
+use Prim.Native.Nat.{ℕ, _+_, _*_, _%_, _/_, _<_}
 use mathlib.Core.Path.{_≡_, refl, sym, ap, _∙_}
 use mathlib.Core.Bool.{Bool, true, false}
-use mathlib.Core.List.{List, [], _∷_}
+use mathlib.Core.List.{List, _++_}
 use native.Mathlib.Omega.{arith}
 use borrow.Author.Tests.{eq-eqb, ne-eqb}
-use lib.Dec.{eqb}
+use lib.ListN.{length, getD}
+use lib.Seq.{getD-append-add}
 use Rattle.layout.specs.declared.ControlWord.{ControlWord}
-use Rattle.layout.specs.Control.{bit, odd, InWidth, controlBytes, controlOf, byte8, byte9, byte10, byte11, byte12}
+use Rattle.layout.specs.Control.{bit, odd, InWidth, controlBytes, controlOf, controlAt, byte8, byte9, byte10, byte11, byte12}
 
 pub odd-bit : (n : ℕ) (b : Bool) → n % 2 ≡ bit b → odd n ≡ b
 odd-bit n true e = eq-eqb (n % 2) 1 e
@@ -24,13 +25,10 @@ bit-alone false = refl
 low-six : (n x : ℕ) → n < 64 → (n + 64 * x) % 64 ≡ n
 low-six n x h = omega arith
 
--- the fields of the bytes that a control word is written to
-abbrev readBack : ControlWord → ControlWord
-readBack c = controlOf (byte8 c) (byte9 c) (byte10 c) (byte11 c) (byte12 c) (c .la)
-
-pub control-law : (c : ControlWord) → InWidth c → readBack c ≡ c
+-- the fields of the six bytes
+six-bytes : (c : ControlWord) → InWidth c → controlOf (byte8 c) (byte9 c) (byte10 c) (byte11 c) (byte12 c) (c .la) ≡ c
 unfolding controlOf
-control-law c h =
+six-bytes c h =
     let p = bit-small (c .pfirst) in
     let q = bit-small (c .plast) in
     let f = bit-small (c .flag) in
@@ -77,3 +75,11 @@ control-law c h =
     let d12 : byte12 c / 128 ≡ bit (c .flag) = omega arith in
     let e12 : odd (byte12 c / 128) ≡ c .flag = odd-bit (byte12 c / 128) (c .flag) (rw d12 (bit-alone (c .flag))) in
     λ i. record { mode = e1 i; stream = e2 i; sequence = e3 i; blend = e4 i; gain = e5 i; common = e6 i; latency = e7 i; pfirst = e8 i; plast = e9 i; start = e10 i; nop = e11 i; flag = e12 i; la = c .la }
+
+-- with 8 bytes before those of a control word and anything behind them, it is read as it was written
+pub control-law : (pre rest : List ℕ) (c : ControlWord) → length pre ≡ 8 → InWidth c → controlAt (pre ++ (controlBytes c ++ rest)) ≡ c
+unfolding controlBytes
+control-law pre rest c long h = (λ i. controlOf (byte 0 i) (byte 1 i) (byte 2 i) (byte 3 i) (byte 4 i) (byte 5 i)) ∙ six-bytes c h
+  where
+    byte : (j : ℕ) → getD (pre ++ (controlBytes c ++ rest)) (8 + j) 0 ≡ getD (controlBytes c ++ rest) j 0
+    byte j = ap (λ (n : ℕ). getD (pre ++ (controlBytes c ++ rest)) (n + j) 0) (sym long) ∙ getD-append-add pre (controlBytes c ++ rest) j 0

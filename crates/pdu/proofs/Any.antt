@@ -35,3 +35,9 @@ any-found t n k h e = found t n k h e ∙ sym (lt-ltb k n h)
 
 pub any-none : (t : ℕ → Bool) (n k : ℕ) → k ≡ n → anyBelow k t ≡ false → anyBelow n t ≡ ltb n n
 any-none t n k e a = ap (λ (m : ℕ). anyBelow m t) (sym e) ∙ a ∙ sym (le-ltb n n (omega arith))
+
+-- tests that agree below a bound
+pub any-same : (t u : ℕ → Bool) (n : ℕ) → ((k : ℕ) → k < n → t k ≡ u k) → anyBelow n t ≡ anyBelow n u
+unfolding anyBelow
+any-same t u zero h = refl
+any-same t u (suc n) h = ap₂ _||_ (any-same t u n (λ k l. h k (omega arith))) (h n (omega arith))

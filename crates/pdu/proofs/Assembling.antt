@@ -9,8 +9,9 @@ use lib.Dec.{eqb, leb, lit<}
 use lib.ListN.{getD, replicate}
 use borrow.Author.Tests.{ne-eqb}
 use Rattle.refusal.specs.Refusal.{firstOf}
-use Rattle.modes.specs.Modes.{listing}
+use Rattle.modes.specs.Modes.{listing, numberOf}
 use Rattle.modes.specs.declared.Mode.{Mode}
+use Rattle.modes.specs.declared.Listing.{Listing}
 use Rattle.modes.specs.declared.Listing.the-variants.{Listed, Refused}
 use Rattle.modes.proofs.Lines.{refusal-five}
 use Rattle.layout.specs.Control.{controlOf, controlAt}
@@ -18,7 +19,7 @@ use Rattle.layout.specs.declared.ControlWord.{ControlWord}
 use Rattle.layout.specs.Locators.{locatorSize}
 use Rattle.expansion.specs.Expansion.{nothing}
 use Rattle.expansion.specs.declared.Interpreted.{Interpreted}
-use Rattle.pdu.specs.Reading.{expansionBytes, fieldsOf, startAt, lengthAt, entries, answered, psdOf, accepted, noControl, refused, wrongLocator, anyBelow, wrongPieces, wrongLa, wrongDisplacement, readerTests, WrongIn, listedReading, listedWidth, widthOf, judged, judgedReading}
+use Rattle.pdu.specs.Reading.{expansionBytes, fieldsOf, startAt, lengthAt, entries, answered, psdOf, accepted, noControl, refused, wrongLocator, anyBelow, wrongPieces, wrongLa, wrongDisplacement, readerTests, WrongIn, listedReading, modeIn, widthOf, judged, judgedReading}
 use Rattle.pdu.specs.declared.ExpansionFields.{ExpansionFields}
 use Rattle.pdu.specs.declared.Part.{Part}
 use Rattle.pdu.specs.declared.Reading.{Reading}
@@ -97,13 +98,19 @@ unfolding controlOf
 nop-small y = mod-lt (getD y 12 0 / 2) (lit< tt)
 
 module _ (y : List ℕ) where
+  number-listed : (m : Mode) → listing (controlAt y .mode) (controlAt y .stream) ≡ Listed m → judged y ≡ firstOf (readerTests m (controlAt y) y)
+  unfolding judged
+  number-listed m e = ap (λ (l : Listing). firstOf ((not (eqb (numberOf l) 0), 5) ∷ readerTests (modeIn l) (controlAt y) y)) e
+
+  width-listed : (m : Mode) → listing (controlAt y .mode) (controlAt y .stream) ≡ Listed m → widthOf y ≡ m .width
+  unfolding widthOf
+  width-listed m e = ap (λ (l : Listing). modeIn l .width) e
+
   pub judged-listed : (m : Mode) (r : Reading) → listing (controlAt y .mode) (controlAt y .stream) ≡ Listed m
       → (r ≡ listedReading m (controlAt y) y (r .wrong)) × WrongIn (m .width) (controlAt y) y (r .refusal) (r .wrong)
       → (r ≡ judgedReading y (r .wrong)) × WrongIn (widthOf y) (controlAt y) y (r .refusal) (r .wrong)
-  unfolding judgedReading judged widthOf listedReading
-  judged-listed m r e q =
-      let w : widthOf y ≡ m .width = ap listedWidth e in
-      (q .0 ∙ sym (rw e), rw w (q .1))
+  unfolding judgedReading listedReading
+  judged-listed m r e q = (q .0 ∙ sym (rw (number-listed m e, width-listed m e)), rw (width-listed m e) (q .1))
 
   pub judged-refused : (n : ℕ) (r : Reading) → listing (controlAt y .mode) (controlAt y .stream) ≡ Refused n → r ≡ refused n 0
       → (r ≡ judgedReading y (r .wrong)) × WrongIn (widthOf y) (controlAt y) y (r .refusal) (r .wrong)
@@ -113,7 +120,7 @@ module _ (y : List ℕ) where
       let a : r .refusal ≡ n = ap (λ (x : Reading). x .refusal) q in
       let b : r .wrong ≡ 0 = ap (λ (x : Reading). x .wrong) q in
       let t : eqb n 0 ≡ false = ne-eqb n 0 (λ z. omega arith) in (
-        q ∙ ap (refused n) (sym b) ∙ sym (rw (e, t)),
+        q ∙ ap₂ (λ (i j : ℕ). refused i j) f (sym b) ∙ sym (rw (e, t)),
         record { inside = λ z. absurd (omega arith); wrong = λ z. absurd (five a f z); none = λ z. b },
       )
     where

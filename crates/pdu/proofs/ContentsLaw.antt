@@ -10,18 +10,14 @@ use Rattle.layout.specs.Locators.{locatorBytes, locatorSize, locatorAt}
 use Rattle.layout.proofs.LocatorLaw.{roof, locator-law, length-locators}
 use Rattle.crc.specs.Crc.{crcFrom}
 use Rattle.pieces.specs.Pieces.{withCrc, pieceBytes, locatorsFrom}
+use Rattle.pieces.proofs.Cutting.{length-from}
 use Rattle.pdu.specs.Reading.{markAt, startAt, lengthAt}
-use Rattle.pdu.specs.Contents.{firstPiece, locatorsOf, contents}
+use Rattle.contents.specs.Contents.{firstPiece, locatorsOf, contents}
 
 -- where piece k starts, with the first at a place and these locators
 abbrev pub startFrom : ℕ → List ℕ → ℕ → ℕ
 startFrom at ls zero = at
 startFrom at ls (suc k) = getD ls k 0 + 1
-
-pub length-from : (ns : List ℕ) (at : ℕ) → length (locatorsFrom at ns) ≡ length ns
-unfolding locatorsFrom
-length-from [] at = refl
-length-from (n ∷ ns) at = ap suc (length-from ns (at + n + 1))
 
 pub length-map : (ps : List (List ℕ)) → length (map length ps) ≡ length ps
 length-map [] = refl

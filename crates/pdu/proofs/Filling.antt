@@ -54,8 +54,17 @@ filled-end f n k s e g =
     let z : 0 + j ≡ j = omega arith in
     g .entry j b ∙ ap (λ (m : ℕ). cond (ltb j m) (f j) 0) e ∙ sym (entry-from 64 0 n j f b ∙ ap (λ (i : ℕ). cond (ltb i n) (f i) 0) z)))
 
+-- functions that agree below n
+pub entries-same : (m k n : ℕ) (f g : ℕ → ℕ) → ((j : ℕ) → j < n → f j ≡ g j) → entriesFrom m k n f ≡ entriesFrom m k n g
+entries-same zero k n f g h = refl
+entries-same (suc m) k n f g h = ap₂ _∷_ (entry (decLt k n)) (entries-same m (suc k) n f g h)
+  where
+    entry : Dec (k < n) → cond (ltb k n) (f k) 0 ≡ cond (ltb k n) (g k) 0
+    entry (yes l) = ap (λ (x : ℕ). cond (ltb k n) x 0) (h k l)
+    entry (no l) = let t : ltb k n ≡ false = le-ltb k n (omega arith) in rw t
+
 -- where no locator is wrong, each is past its piece's start
-or-left : (a b : Bool) → (a || b) ≡ false → a ≡ false
+pub or-left : (a b : Bool) → (a || b) ≡ false → a ≡ false
 or-left true b e = e
 or-left false b e = refl
 

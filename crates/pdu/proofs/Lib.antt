@@ -5,3 +5,4 @@ pub mod Filling
 pub mod Assembling
 pub mod Restoring
 pub mod ContentsLaw
+pub mod Ignored

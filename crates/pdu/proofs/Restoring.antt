@@ -1,21 +1,22 @@
 -- A whole call: what correction answers, what is read, and what is put back.
 use mathlib.Core.Path.{_≡_, refl, sym, ap, _∙_, subst}
-use mathlib.Core.Bool.{Bool, true, false, cond}
-use mathlib.Core.List.{List}
+use mathlib.Core.Bool.{Bool, true, false, not, _&&_, cond}
+use mathlib.Core.List.{List, _∷_}
 use mathlib.Core.Logic.{_⊎_, inl, inr, ⊎-elim}
 use mathlib.Core.Option.{Option, none, some}
 use Prim.Native.Nat.{ℕ, _<_, _≤_}
 use native.Mathlib.Omega.{arith}
-use lib.Dec.{eqb}
+use lib.Dec.{eqb, leb}
 use lib.ListN.{length, getD, take}
 use borrow.Author.Tests.{ne-eqb, eqb-true}
+use Rattle.refusal.specs.Refusal.{firstOf}
 use Rattle.header.specs.Header.{lengthRefusal, headerOf, frontReplaced}
-use Rattle.correction.specs.Correction.{corrected, answerFor, correctionOf, correctedPdu}
+use Rattle.correction.specs.Correction.{corrected, answerFor, correctionOf, correctedPdu, numberOf}
 use Rattle.correction.specs.declared.Correction.{Correction}
 use Rattle.correction.specs.declared.Correction.the-variants.{Corrected, Refused}
 use Rattle.correction.proofs.Answers.{refused-unchanged, corrected-allowed, header-put-back}
 use Rattle.layout.specs.Control.{controlAt}
-use Rattle.pdu.specs.Reading.{accepted, refused, judged, judgedReading, widthOf, readNumber, readingWith, WrongIn, WrongOne, readPdu}
+use Rattle.pdu.specs.Reading.{accepted, refused, correctedTests, uncorrectable, judged, judgedReading, widthOf, readNumber, readingWith, WrongIn, WrongOne, readPdu}
 use Rattle.pdu.specs.declared.Reading.{Reading}
 
 -- ---- the number that is read
@@ -56,10 +57,26 @@ three-or-four p = go (eqb (lengthRefusal (length p)) 0) (corrected (take 96 p))
 abbrev pub Promised : List ℕ → Reading → List ℕ → Type 0
 Promised p r q = (r ≡ readingWith (r .wrong) p) × (WrongOne p (r .refusal) (r .wrong) × (q ≡ readPdu p))
 
+-- rows 3 and 4 of the table are correction's numbers; the others are asked of a corrected PDU
+pub by-correction : (p : List ℕ) → readNumber p ≡ cond (eqb (numberOf (correctionOf p)) 0) (judged (correctedPdu p)) (numberOf (correctionOf p))
+unfolding readNumber judged correctionOf lengthRefusal
+by-correction p = go (leb 96 (length p) && leb (length p) 20480) (corrected (take 96 p)) (correctedPdu p)
+  where
+    answer : Bool → Option (List ℕ) → Correction
+    answer b o = cond (eqb (cond b 0 3) 0) (answerFor (take 96 p) o) (Refused 3)
+
+    go : (b : Bool) (o : Option (List ℕ)) (y : List ℕ)
+        → firstOf ((not b, 3) ∷ (uncorrectable o, 4) ∷ correctedTests (controlAt y) y) ≡ cond (eqb (numberOf (answer b o)) 0) (judged y) (numberOf (answer b o))
+    go true none y = refl
+    go true (some c) y = refl
+    go false o y = refl
+
 module _ (p : List ℕ) where
   refused-number : (n : ℕ) → correctionOf p ≡ Refused n → eqb n 0 ≡ false → readNumber p ≡ n
-  unfolding readNumber
-  refused-number n e t = rw (e, t)
+  refused-number n e t = by-correction p ∙ rw (e, t)
+
+  pub corrected-number : (n : ℕ) → correctionOf p ≡ Corrected n → readNumber p ≡ judged (correctedPdu p)
+  corrected-number n e = by-correction p ∙ rw e
 
   -- correction refuses it
   pub turned-down : (n : ℕ) (r : Reading) (q : List ℕ) → correctionOf p ≡ Refused n → r ≡ refused n 0 → q ≡ correctedPdu p → Promised p r q
@@ -71,7 +88,7 @@ module _ (p : List ℕ) where
       let a : r .refusal ≡ n = ap (λ (x : Reading). x .refusal) er in
       let b : r .wrong ≡ 0 = ap (λ (x : Reading). x .wrong) er in
       let d : ¬ (r .refusal ≡ 11) = λ z. ⊎-elim (λ (u : n ≡ 3). absurd (omega arith)) (λ (u : n ≡ 4). absurd (omega arith)) c in (
-        er ∙ ap (refused n) (sym b) ∙ sym (rw (e, t)),
+        er ∙ ap (refused n) (sym b) ∙ sym (rw (m, t)),
         (
           record { inside = λ z. absurd (d z); wrong = λ z. absurd (d z); none = λ z. b },
           eq ∙ refused-unchanged p n e ∙ sym (rw (m, t)),
@@ -82,13 +99,14 @@ module _ (p : List ℕ) where
   pub taken : (n : ℕ) (r : Reading) (y q w : List ℕ) → ((i : ℕ) → getD p i 0 < 256) → correctionOf p ≡ Corrected n → w ≡ headerOf p → y ≡ correctedPdu p
       → r ≡ judgedReading y (r .wrong) → WrongIn (widthOf y) (controlAt y) y (r .refusal) (r .wrong) → q ≡ cond (eqb (judged y) 0) y (frontReplaced y w)
       → Promised p r q
-  unfolding readingWith readPdu readNumber
+  unfolding readingWith readPdu judgedReading
   taken n r y q w b e ew ey er wr eq =
       let l : (96 ≤ length p) × (length p ≤ 20480) = corrected-allowed p n e in
+      let m : readNumber p ≡ judged (correctedPdu p) = corrected-number n e in
       let u : frontReplaced y w ≡ p = rw (ew, ey) (header-put-back p (l .0) (l .1) b) in (
-        er ∙ rw (e, ey),
+        er ∙ rw (m, ey),
         (
           subst (λ (x : List ℕ). WrongIn (widthOf x) (controlAt x) x (r .refusal) (r .wrong)) ey wr,
-          eq ∙ ap (λ (x : List ℕ). cond (eqb (judged y) 0) y x) u ∙ rw (e, ey),
+          eq ∙ ap (λ (x : List ℕ). cond (eqb (judged y) 0) y x) u ∙ rw (m, ey),
         ),
       )

@@ -3,11 +3,12 @@
 use mathlib.Core.Path.{_≡_}
 use mathlib.Core.Bool.{Bool, true, false, not, _&&_, _||_, cond}
 use mathlib.Core.List.{List, [], _∷_}
+use mathlib.Core.Option.{Option, none, some}
 use Prim.Native.Nat.{ℕ, zero, suc, _+_, _-_, _<_}
 use lib.Dec.{eqb, ltb, leb}
-use lib.ListN.{length, replicate}
+use lib.ListN.{length, take, replicate}
 use Rattle.refusal.specs.Refusal.{firstOf, anyOf}
-use Rattle.modes.specs.Modes.{listing}
+use Rattle.modes.specs.Modes.{listing, numberOf}
 use Rattle.modes.specs.declared.Mode.{Mode}
 use Rattle.modes.specs.declared.Listing.{Listing}
 use Rattle.modes.specs.declared.Listing.the-variants.{Listed, Refused}
@@ -16,7 +17,7 @@ use Rattle.layout.specs.declared.ControlWord.{ControlWord}
 use Rattle.layout.specs.Locators.{locatorSize, mostPieces, locatorAt}
 use Rattle.expansion.specs.Expansion.{nothing, expansionLength, expansionAt}
 use Rattle.expansion.specs.declared.Interpreted.{Interpreted}
-use Rattle.correction.specs.Correction.{correctionOf, correctedPdu, numberOf}
+use Rattle.correction.specs.Correction.{corrected, correctedPdu}
 use Rattle.pdu.specs.declared.ExpansionFields.{ExpansionFields}
 use Rattle.pdu.specs.declared.Part.{Part}
 use Rattle.pdu.specs.declared.Reading.{Reading}
@@ -78,6 +79,33 @@ readerTests m c y =
     ∷ (wrongDisplacement (m .width) c y (fieldsOf (m .width) c y), 12)
     ∷ []
 
+-- ---- the whole table, 3 to 5 and 7 to 12
+
+-- the mode that rows 7 to 12 take. Where the table has no line for a PDU's mode and stream, 5 applies and is lower than these
+-- rows' numbers, so any mode does: one of zeros
+abbrev pub modeIn : Listing → Mode
+modeIn (Listed m) = m
+modeIn (Refused n) = record { width = 0; sequences = 0; limit = 0; psd = false }
+
+abbrev pub listingOf : ControlWord → Listing
+listingOf c = listing (c .mode) (c .stream)
+
+-- rows 5 and 7 to 12, of a corrected PDU y with the control word c
+abbrev pub correctedTests : ControlWord → List ℕ → List (Bool × ℕ)
+correctedTests c y = (not (eqb (numberOf (listingOf c)) 0), 5) ∷ readerTests (modeIn (listingOf c)) c y
+
+-- no code word differs from the header in at most four bytes
+abbrev pub uncorrectable : Option (List ℕ) → Bool
+uncorrectable none = true
+uncorrectable (some c) = false
+
+-- the rows that reading asks of a PDU, in the table's order
+abbrev pub readTests : List ℕ → List (Bool × ℕ)
+readTests p =
+    (not (leb 96 (length p) && leb (length p) 20480), 3)  -- length not 96 to 20,480
+    ∷ (uncorrectable (corrected (take 96 p)), 4)  -- the paper's beyond mending
+    ∷ correctedTests (controlAt (correctedPdu p)) (correctedPdu p)
+
 -- k is that of a wrong locator where the number is 11, else 0
 pub record WrongIn (width : ℕ) (c : ControlWord) (y : List ℕ) (number k : ℕ) : Type 0 where
   pub inside : number ≡ 11 → k < c .nop
@@ -134,21 +162,13 @@ refused number k = record {
 unfoldable pub listedReading : Mode → ControlWord → List ℕ → ℕ → Reading
 listedReading m c y k = cond (eqb (firstOf (readerTests m c y)) 0) (accepted (m .width) c y) (refused (firstOf (readerTests m c y)) k)
 
--- the lowest number from 5 to 12 that applies to a corrected PDU
-abbrev pub listedNumber : Listing → ControlWord → List ℕ → ℕ
-listedNumber (Refused n) c y = n
-listedNumber (Listed m) c y = firstOf (readerTests m c y)
-
+-- the lowest number from 5 to 12 that applies to a corrected PDU, 0 where it is accepted
 unfoldable pub judged : List ℕ → ℕ
-judged y = listedNumber (listing (controlAt y .mode) (controlAt y .stream)) (controlAt y) y
-
-abbrev pub listedWidth : Listing → ℕ
-listedWidth (Refused n) = 0
-listedWidth (Listed m) = m .width
+judged y = firstOf (correctedTests (controlAt y) y)
 
 -- the locator width of a PDU's mode and stream
 unfoldable pub widthOf : List ℕ → ℕ
-widthOf y = listedWidth (listing (controlAt y .mode) (controlAt y .stream))
+widthOf y = modeIn (listingOf (controlAt y)) .width
 
 -- the answer for a corrected PDU, with whatever k comes with 11
 unfoldable pub judgedReading : List ℕ → ℕ → Reading
@@ -156,11 +176,11 @@ judgedReading y k = cond (eqb (judged y) 0) (accepted (widthOf y) (controlAt y) 
 
 -- the lowest number that applies to a PDU, 0 where it is accepted
 unfoldable pub readNumber : List ℕ → ℕ
-readNumber p = cond (eqb (numberOf (correctionOf p)) 0) (judged (correctedPdu p)) (numberOf (correctionOf p))
+readNumber p = firstOf (readTests p)
 
 -- the answer, with whatever k comes with 11
 unfoldable pub readingWith : ℕ → List ℕ → Reading
-readingWith k p = cond (eqb (numberOf (correctionOf p)) 0) (judgedReading (correctedPdu p) k) (refused (numberOf (correctionOf p)) k)
+readingWith k p = cond (eqb (readNumber p) 0) (accepted (widthOf (correctedPdu p)) (controlAt (correctedPdu p)) (correctedPdu p)) (refused (readNumber p) k)
 
 -- k is that of a wrong locator of the corrected PDU where the number is 11, else 0
 abbrev pub WrongOne : List ℕ → ℕ → ℕ → Type 0

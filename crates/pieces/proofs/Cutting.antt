@@ -7,7 +7,7 @@ use native.Mathlib.Numerals.{add-one}
 use lib.ListN.{length, getD, set, take, drop, length-append, length-drop, drop-of-length-le}
 use lib.Seq.{drop-cons, drop-drop, length-take-le}
 use Rattle.buffer.specs.Buffer.{putAt}
-use Rattle.buffer.proofs.Laws.{put-put, put-then, put-nil, put-cons}
+use Rattle.buffer.proofs.Laws.{put-then, put-nil, put-cons, take-put}
 use Rattle.pieces.specs.Pieces.{cutBy, withCrc, pieceBytes, locatorsFrom, total}
 
 -- what is left after k lengths
@@ -55,3 +55,12 @@ unfolding locatorsFrom
 no-locator-left l ns goal place k h g =
     let t : putAt l k [] ≡ goal = rw (drop-of-length-le ns {i = k} h) at g in
     sym (put-nil l k) ∙ t
+
+pub length-from : (ns : List ℕ) (at : ℕ) → length (locatorsFrom at ns) ≡ length ns
+unfolding locatorsFrom
+length-from [] at = refl
+length-from (n ∷ ns) at = ap suc (length-from ns (at + n + 1))
+
+-- the locators at the front of what was filled with them
+pub filled : (out z ns : List ℕ) (at : ℕ) → out ≡ putAt z 0 (locatorsFrom at ns) → take (length ns) out ≡ locatorsFrom at ns
+filled out z ns at e = ap₂ (λ (n : ℕ) (r : List ℕ). take n r) (sym (length-from ns at)) e ∙ take-put z (locatorsFrom at ns)

@@ -1,7 +1,7 @@
 // Pieces of packets in a PDU (document 01, "Expansion, PSD, pieces").
 ghost use mathlib.Core.Path.{_≡_};
 ghost use Prim.Native.Nat.{_+_, _≤_};
-ghost use lib.ListN.{length, replicate};
+ghost use lib.ListN.{length, take};
 ghost use Rattle.buffer.specs.Buffer.{putAt};
 ghost use Rattle.pieces.specs.Pieces.{cutBy, withCrc, pieceBytes, locatorsFrom, total};
 
@@ -33,11 +33,11 @@ pub fn put_pieces(pdu: &mut [u8], at: usize, lengths: &[u16], bytes: &[u8])
     }
 }
 
-// The locators of pieces of these lengths, the first of which starts at a place; 0 after them.
+// The locators of pieces of these lengths, the first of which starts at a place, at the front of an array.
 pub fn locators(at: u16, lengths: &[u16]) -> [u16; 64]
     requires { ⌜ length (now lengths) ≤ 64 ⌝ }
     requires { ⌜ at + total (now lengths) + length (now lengths) ≤ 65535 ⌝ }
-    ensures { λ r. ⌜ r ≡ putAt (replicate 64 0) 0 (locatorsFrom at (now (lengths .entry))) ⌝ }
+    ensures { λ r. ⌜ (length r ≡ 64) × (take (length (now (lengths .entry))) r ≡ locatorsFrom at (now (lengths .entry))) ⌝ }
 {
     let mut out: [u16; 64] = [0; 64];
     let mut place = at;

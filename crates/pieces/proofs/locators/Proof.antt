@@ -1,4 +1,4 @@
-use Rattle.pieces.proofs.Cutting.{total-drop, turn-locators, no-locator-left}
+use Rattle.pieces.proofs.Cutting.{total-drop, turn-locators, no-locator-left, filled}
 use Rattle.pieces.specs.Pieces.{locatorsFrom, total}
 use Rattle.buffer.specs.Buffer.{putAt}
 use native.Mathlib.Nat.{zero-add}
@@ -66,7 +66,7 @@ returns : tie.Need-returns Inv-loop μ-loop
 returns c =
     let p = c .before in
     let a = p .before .args in
-    no-locator-left (p .loop .out) (now (a .lengths)) _ (p .loop .place) (p .loop .k) (c .loop-test .left) (p .loop .inv .3)
+    (p .loop .inv .1, filled (p .loop .out) _ (now (a .lengths)) (a .at) (no-locator-left (p .loop .out) (now (a .lengths)) _ (p .loop .place) (p .loop .k) (c .loop-test .left) (p .loop .inv .3)))
 
 pub locators-spec : {M : Type 1} → statement M
 locators-spec =

@@ -1,0 +1,97 @@
+use Rattle.contents.proofs.Putting.{first, two-puts}
+use Rattle.contents.specs.Contents.{contents}
+use Rattle.pieces.proofs.Cutting.{length-from}
+use Rattle.pieces.specs.Pieces.{cutBy, pieceBytes, locatorsFrom, total}
+use Rattle.layout.proofs.LocatorLaw.{length-locators}
+use Rattle.layout.specs.Locators.{locatorBytes, locatorSize}
+use Rattle.buffer.proofs.Laws.{put-then}
+use Rattle.buffer.specs.Buffer.{putAt}
+use lib.ListN.{replicate, length-replicate, length-append}
+use borrow.Author.Needs.{counted-is}
+use denote.Ref.{now}
+use native.Mathlib.Omega.{arith}
+use mathlib.Core.Path.{_≡_, refl, ap, sym, _∙_}
+use Prim.Native.Nat.{ℕ, _+_, _-_, _*_, _≤_, _<_}
+use lib.ListN.{length, take, drop, getD, set, length-set}
+use mathlib.Core.List.{List, [], _∷_, _++_}
+use borrow.Author.Needs.{needs}
+use Rattle.contents.proofs.put_contents.Statement.{statement}
+use Rattle.contents.proofs.put_contents.Tie as tie
+use Rattle.contents.proofs.put_contents.Reads as reads
+use Rattle.contents.proofs.put_contents.Lts as lts
+use Rattle.contents.proofs.put_front.Reads as put-front-reads
+use Rattle.layout.proofs.locator_size.Reads as locator-size-reads
+use Rattle.pieces.proofs.locators.Reads as locators-reads
+use Rattle.pieces.proofs.put_pieces.Reads as put-pieces-reads
+
+cast-locator-size : tie.Need-cast-locator-size
+cast-locator-size c = search needs
+
+locator-size-requires : tie.Need-locator-size-requires
+locator-size-requires c κs = search needs
+
+add-first : tie.Need-add-first
+add-first c = search needs
+
+add-first-2 : tie.Need-add-first-2
+add-first-2 c = search needs
+
+add-first-3 : tie.Need-add-first-3
+add-first-3 c = search needs
+
+cast-locators : tie.Need-cast-locators
+cast-locators c = search needs
+
+locators-requires : tie.Need-locators-requires
+locators-requires c κs = search needs
+
+array-share-prefix-locators : tie.Need-array-share-prefix-locators
+array-share-prefix-locators c = search needs
+
+slice-aggregate-put-front : tie.Need-slice-aggregate-put-front
+slice-aggregate-put-front c = sym (ap length (c .before .before .locators .ensures .1) ∙ length-from (now (c .before .before .before .before .before .before .before .before .before .args .lengths)) _)
+
+put-front-requires : tie.Need-put-front-requires
+put-front-requires c κs =
+    let a = c .before .before .before .before .before .before .before .before .before .args in
+    let ls = now (a .lengths) in
+    let n : length (take (length ls) (c .before .before .locators .result)) ≡ length ls = ap length (c .before .before .locators .ensures .1) ∙ length-from ls _ in
+    let room : 14 + locatorSize (a .width) (length ls) + length (now (a .expansion)) + length (now (a .psd)) + total ls + length ls ≤ length (now (a .pdu)) = c .before .before .before .before .before .before .before .before .before .pre .0 in
+    let more : 14 + locatorSize (a .width) (length (take (length ls) (c .before .before .locators .result))) + length (now (a .expansion)) + length (now (a .psd)) ≤ length (now (a .pdu)) = rw n (omega (arith, room)) in
+    (more, omega (arith, n, c .before .before .before .before .before .before .before .before .before .pre .1 .0))
+
+put-pieces-requires : tie.Need-put-pieces-requires
+put-pieces-requires c κs = search needs
+
+same-length : tie.Need-same-length
+same-length c = search needs
+
+returns : tie.Need-returns
+returns c =
+    let a = c .before .before .before .before .before .before .before .before .before .before .before .before .before .before .before .before .args in
+    let ls = now (a .lengths) in
+    let n = length (now (a .pdu)) in
+    let z : List ℕ = replicate n 0 in
+    let lz : length z ≡ n = length-replicate n 0 in
+    let s : c .before .before .before .before .before .before .before .before .before .before .locator-size .result ≡ locatorSize (a .width) (length ls) = c .before .before .before .before .before .before .before .before .before .before .locator-size .ensures in
+    let room : 14 + locatorSize (a .width) (length ls) + length (now (a .expansion)) + length (now (a .psd)) + total ls + length ls ≤ n = c .before .before .before .before .before .before .before .before .before .before .before .before .before .before .before .before .pre .0 in
+    let el : take (length ls) (c .before .before .before .before .before .before .before .before .before .locators .result) ≡ locatorsFrom (first (a .width) (now (a .expansion)) (now (a .psd)) ls (now (a .bytes)) (c .before .before .before .before .before .before .before .before .before .before .before .before .before .before .before .before .pre .1 .2)) ls = c .before .before .before .before .before .before .before .before .before .locators .ensures .1 ∙ ap (λ (k : ℕ). locatorsFrom (14 + k + length (now (a .expansion)) + length (now (a .psd))) ls) s in
+    two-puts (a .width) (now (a .expansion)) (now (a .psd)) ls (now (a .bytes)) (c .before .before .before .before .before .before .before .before .before .before .before .before .before .before .before .before .pre .1 .2) z (c .before .before .before .before .before .before .put-front .last .0) (c .before .before .put-pieces .last .0) (a .control) (take (length ls) (c .before .before .before .before .before .before .before .before .before .locators .result)) (14 + c .before .before .before .before .before .before .before .before .before .before .locator-size .result + length (now (a .expansion)) + length (now (a .psd))) (omega (arith, c .before .before .before .before .before .before .before .before .before .before .before .before .before .before .before .before .good .1 .1 .0)) (omega (arith, lz, room)) el (omega (arith, s)) (c .before .before .before .before .before .before .put-front .ensures) (c .before .before .put-pieces .ensures)
+
+pub put-contents-spec : {M : Type 1} → statement M
+put-contents-spec =
+    tie.close
+    (tie.spec
+    cast-locator-size
+    locator-size-requires
+    add-first
+    add-first-2
+    add-first-3
+    cast-locators
+    locators-requires
+    array-share-prefix-locators
+    slice-aggregate-put-front
+    put-front-requires
+    put-pieces-requires
+    same-length
+    returns)

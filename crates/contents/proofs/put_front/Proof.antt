@@ -1,0 +1,84 @@
+use Rattle.contents.proofs.Putting.{four-puts}
+use Rattle.layout.proofs.LocatorLaw.{length-locators}
+use Rattle.layout.specs.Locators.{locatorBytes, locatorSize}
+use Rattle.buffer.specs.Buffer.{putAt}
+use lib.ListN.{replicate, length-replicate}
+use denote.Ref.{now}
+use native.Mathlib.Omega.{arith}
+use mathlib.Core.Path.{_≡_, refl, ap, sym, _∙_}
+use Prim.Native.Nat.{ℕ, _+_, _-_, _*_, _≤_, _<_}
+use lib.ListN.{length, take, drop, getD, set, length-set}
+use mathlib.Core.List.{List, [], _∷_, _++_}
+use borrow.Author.Needs.{needs}
+use Rattle.contents.proofs.put_front.Statement.{statement}
+use Rattle.contents.proofs.put_front.Tie as tie
+use Rattle.contents.proofs.put_front.Reads as reads
+use Rattle.contents.proofs.put_front.Lts as lts
+use Rattle.buffer.proofs.clear.Reads as clear-reads
+use Rattle.buffer.proofs.put_bytes.Reads as put-bytes-reads
+use Rattle.layout.proofs.locator_size.Reads as locator-size-reads
+use Rattle.layout.proofs.put_locators.Reads as put-locators-reads
+
+cast-locator-size : tie.Need-cast-locator-size
+cast-locator-size c = search needs
+
+locator-size-requires : tie.Need-locator-size-requires
+locator-size-requires c κs = search needs
+
+add-at : tie.Need-add-at
+add-at c = search needs
+
+clear-requires : tie.Need-clear-requires
+clear-requires c κs = search needs
+
+slice-aggregate-put-bytes : tie.Need-slice-aggregate-put-bytes
+slice-aggregate-put-bytes c = search needs
+
+put-bytes-requires : tie.Need-put-bytes-requires
+put-bytes-requires c κs = search needs
+
+put-locators-requires : tie.Need-put-locators-requires
+put-locators-requires c κs = search needs
+
+put-bytes-requires-2 : tie.Need-put-bytes-requires-2
+put-bytes-requires-2 c κs = search needs
+
+add-put-bytes : tie.Need-add-put-bytes
+add-put-bytes c = search needs
+
+put-bytes-requires-3 : tie.Need-put-bytes-requires-3
+put-bytes-requires-3 c κs = search needs
+
+same-length : tie.Need-same-length
+same-length c = search needs
+
+returns : tie.Need-returns
+returns c =
+    let a = c .before .before .before .before .before .before .before .before .before .before .before .before .before .before .before .before .before .before .before .before .before .before .before .before .before .before .args in
+    let n = length (now (a .pdu)) in
+    let z : List ℕ = replicate n 0 in
+    let lz : length z ≡ n = length-replicate n 0 in
+    let ll : length (locatorBytes (a .width) (now (a .locators))) ≡ locatorSize (a .width) (length (now (a .locators))) = length-locators (a .width) (now (a .locators)) in
+    let six : length (a .t3) ≡ 6 = omega (arith, c .before .before .before .before .before .before .before .before .before .before .before .before .before .before .before .before .before .before .before .before .before .before .before .before .before .before .good .1 .1 .0) in
+    let s : c .before .before .before .before .before .before .before .before .before .before .before .before .before .before .before .before .before .before .before .before .before .locator-size .result ≡ locatorSize (a .width) (length (now (a .locators))) = c .before .before .before .before .before .before .before .before .before .before .before .before .before .before .before .before .before .before .before .before .before .locator-size .ensures in
+    let room : 14 + locatorSize (a .width) (length (now (a .locators))) + length (now (a .expansion)) + length (now (a .psd)) ≤ n = c .before .before .before .before .before .before .before .before .before .before .before .before .before .before .before .before .before .before .before .before .before .before .before .before .before .before .pre .0 in
+    let e0 : c .before .before .before .before .before .before .before .before .before .before .before .before .before .before .before .before .before .before .before .clear .last .0 ≡ z = c .before .before .before .before .before .before .before .before .before .before .before .before .before .before .before .before .before .before .before .clear .ensures in
+    let e1 : c .before .before .before .before .before .before .before .before .before .before .before .before .before .before .put-bytes .last .0 ≡ putAt z 8 (a .t3) = c .before .before .before .before .before .before .before .before .before .before .before .before .before .before .put-bytes .ensures ∙ ap (λ (r : List ℕ). putAt r 8 (a .t3)) e0 in
+    four-puts z (c .before .before .before .before .before .before .before .before .before .before .before .before .before .before .put-bytes .last .0) (c .before .before .before .before .before .before .before .before .before .before .put-locators .last .1 .0) (c .before .before .before .before .before .before .put-bytes2 .last .0) (c .before .before .put-bytes3 .last .0) (a .t3) (locatorBytes (a .width) (now (a .locators))) (now (a .expansion)) (now (a .psd)) 14 (14 + c .before .before .before .before .before .before .before .before .before .before .before .before .before .before .before .before .before .before .before .before .before .locator-size .result) (14 + c .before .before .before .before .before .before .before .before .before .before .before .before .before .before .before .before .before .before .before .before .before .locator-size .result + length (now (a .expansion))) (omega (arith, lz, ll, six, room)) (omega (arith, six)) (omega (arith, s, ll)) refl e1 (c .before .before .before .before .before .before .before .before .before .before .put-locators .ensures) (c .before .before .before .before .before .before .put-bytes2 .ensures) (c .before .before .put-bytes3 .ensures)
+
+pub put-front-spec : {M : Type 1} → statement M
+put-front-spec =
+    tie.close
+    (tie.spec
+    cast-locator-size
+    locator-size-requires
+    add-at
+    clear-requires
+    slice-aggregate-put-bytes
+    put-bytes-requires
+    put-locators-requires
+    put-bytes-requires-2
+    add-put-bytes
+    put-bytes-requires-3
+    same-length
+    returns)
