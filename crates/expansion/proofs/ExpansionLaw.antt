@@ -171,6 +171,19 @@ all-told x =
     ∙ type-told (x .typed) _ _ _ _ (x .access) (x .ptype) (servicesField x)
     ∙ services-told (x .serviced) _ _ _ _ _ _ (x .services) (x .marker)
 
+-- where there are no bytes, nothing is sent
+pub none-sent : (x : Fields) → length (expansionBytes x) ≡ 0 → interpretedOf x ≡ nothing true
+unfolding expansionBytes
+none-sent x h = sym (all-told x) ∙ ap (absorbAll (nothing true)) (no-field (fieldsOf x) (sym (length-chained (septetsOfAll (fieldsOf x))) ∙ h))
+  where
+    no-field : (fs : List Field) → length (septetsOfAll fs) ≡ 0 → fs ≡ []
+    no-field [] e = refl
+    no-field (class c ∷ fs) e = absurd (omega arith)
+    no-field (program p none ∷ fs) e = absurd (omega arith)
+    no-field (program p (some d) ∷ fs) e = absurd (omega arith)
+    no-field (ptype a t ∷ fs) e = absurd (omega arith)
+    no-field (services a m ∷ fs) e = absurd (omega arith)
+
 -- ---- the bytes at their place
 
 -- n bytes from a place on, in a list that is cut off behind them

@@ -74,6 +74,18 @@ pieces-stand q rest (p ∷ ps) at (suc k) e h =
       crc = sym (ap (λ (r : List ℕ). getD r (getD ls k 0) 0) a) ∙ s .crc;
     }
 
+with-crc : (p : List ℕ) (ps : List (List ℕ)) → length (withCrc p ++ pieceBytes ps) ≡ length p + 1 + length (pieceBytes ps)
+with-crc p ps =
+    let w : length (withCrc p) ≡ length p + 1 = length-append p (crcFrom 0 p ∷ []) in
+    length-append (withCrc p) (pieceBytes ps) ∙ omega (arith, w)
+
+-- a locator stands before the end of the pieces
+pub locator-below : (ps : List (List ℕ)) (at k : ℕ) → k < length ps → getD (locatorsFrom at (map length ps)) k 0 < at + length (pieceBytes ps)
+unfolding pieceBytes locatorsFrom
+locator-below [] at k h = absurd (omega arith)
+locator-below (p ∷ ps) at zero h = let n = with-crc p ps in omega (arith, n)
+locator-below (p ∷ ps) at (suc k) h = let n = with-crc p ps in let r = locator-below ps (at + length p + 1) k (omega arith) in omega (arith, r, n)
+
 -- a part of a list, from where it stands
 part-at : (y q part after : List ℕ) (n : ℕ) → y ≡ q ++ (part ++ after) → length q ≡ n → take (length part) (drop n y) ≡ part
 part-at y q part after n e long =
@@ -114,6 +126,17 @@ module _ (width : ℕ) (pre expansion psd rest : List ℕ) (ps : List (List ℕ)
   unfolding front
   front-length = simp (length-append, size, long) (omega arith)
 
+  pub written-length : length written ≡ at + length (pieceBytes ps) + length rest
+  written-length =
+      ap length behind
+      ∙ length-append front (pieceBytes ps ++ rest)
+      ∙ ap₂ (λ (i j : ℕ). i + j) front-length (length-append (pieceBytes ps) rest)
+      ∙ omega arith
+
+  -- every locator is below the length
+  pub locators-below : (k : ℕ) → k < length ps → getD ls k 0 < length written
+  locators-below k h = let r = locator-below ps at k h in omega (arith, r, written-length)
+
   pub locators-back : (k : ℕ) → k < length ps → getD ls k 0 < roof width → locatorAt width written k ≡ getD ls k 0
   locators-back k h fits =
       ap (λ (r : List ℕ). locatorAt width r k) apart ∙ locator-law pre ls (expansion ++ (psd ++ (pieceBytes ps ++ rest))) long k (omega (arith, count)) width fits
@@ -128,6 +151,7 @@ module _ (width : ℕ) (pre expansion psd rest : List ℕ) (ps : List (List ℕ)
       pub start : startAt width c written k ≡ startFrom at ls k
       pub size : lengthAt width c written k ≡ length piece
       pub bytes : take (lengthAt width c written k) (drop (startAt width c written k) written) ≡ piece
+      pub ends : locatorAt width written k ≡ startAt width c written k + lengthAt width c written k
       pub crc : getD written (locatorAt width written k) 0 ≡ crcFrom 0 piece
 
     -- each piece is read as it was written, and the byte at its locator is its CRC
@@ -144,6 +168,7 @@ module _ (width : ℕ) (pre expansion psd rest : List ℕ) (ps : List (List ℕ)
               ap₂ (λ (m d : ℕ). take m (drop d written)) n b
               ∙ ap (λ (r : List ℕ). take (length (getD ps k [])) (drop (startFrom at ls k) r)) behind
               ∙ s .bytes;
+          ends = l ∙ omega (arith, s .ends, b, n);
           crc = ap (λ (m : ℕ). getD written m 0) l ∙ ap (λ (r : List ℕ). getD r (getD ls k 0) 0) behind ∙ s .crc;
         }
 

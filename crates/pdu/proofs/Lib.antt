@@ -6,3 +6,4 @@ pub mod Assembling
 pub mod Restoring
 pub mod ContentsLaw
 pub mod Ignored
+pub mod ReadBack
