@@ -59,6 +59,28 @@ extern "C" {
  * "beyond mending"). */
 #define BARZHILUP_REFUSED_UNCORRECTABLE 4
 
+/* Mode and stream are not in the table of document 01, "Modes". */
+#define BARZHILUP_REFUSED_MODE 5
+
+/* The PDU sequence is outside its mode's range. */
+#define BARZHILUP_REFUSED_SEQUENCE 7
+
+/* NOP is over its limit, or Pfirst or Plast is set with NOP 0. */
+#define BARZHILUP_REFUSED_PIECES 8
+
+/* La is before the last locator byte, or not below the length. */
+#define BARZHILUP_REFUSED_LA 9
+
+/* The expansion: over 16 bytes, past La, IDs out of order, class 0, a field
+ * cut; for a writer also its rules (document 01, "Expansion, PSD, pieces"). */
+#define BARZHILUP_REFUSED_EXPANSION 10
+
+/* A locator is under its piece's start plus 1, or not below the length. */
+#define BARZHILUP_REFUSED_LOCATOR 11
+
+/* The displacement is before the last piece's end, or not below the length. */
+#define BARZHILUP_REFUSED_DISPLACEMENT 12
+
 /* ---- Header code (document 01, "Header code"; 001, 5.2.3.1) -------------- */
 
 /*
@@ -172,13 +194,14 @@ typedef struct {
 /* What a PDU holds. If it is refused, every field but `refusal` is 0, and
  * `wrong_locator` too unless the number is 11. */
 typedef struct {
-    /* BARZHILUP_ACCEPTED, or 3 to 5 or 7 to 12 of document 01's table. */
+    /* BARZHILUP_ACCEPTED, or a BARZHILUP_REFUSED_ number: 3 to 5 or 7 to 12. */
     uint32_t refusal;
-    /* With 11, the number k of a wrong locator, from 0. */
+    /* With BARZHILUP_REFUSED_LOCATOR, the number k of a wrong locator, from 0. */
     uint32_t wrong_locator;
     barzhilup_control_word control;
     barzhilup_expansion expansion;
-    /* Where the PSD starts in the PDU, and its length. */
+    /* Where the PSD starts in the PDU, and its length. With no PSD these are
+     * La + 1 and 0. */
     uint32_t psd_start;
     uint32_t psd_length;
     /* Piece k's start in the PDU and its length, without its CRC byte; 0 from
