@@ -8,7 +8,8 @@
  *  - It ends on every input, allocates nothing, keeps nothing between calls and
  *    can be called from several threads at once on different buffers.
  *  - No pointer may be NULL, not even one that comes with length 0, and each
- *    must point at as many bytes as said. Any alignment will do.
+ *    must point at as many elements as said. Any alignment will do for bytes;
+ *    other elements are aligned as C aligns them.
  *  - A refused call returns a number of the table in document 01, "What is
  *    turned down", and leaves every byte lent to it as it was. If several causes
  *    apply, the lowest number is returned.
@@ -21,6 +22,7 @@
 #ifndef BARZHILUP_H
 #define BARZHILUP_H
 
+#include <stdbool.h>
 #include <stddef.h>
 #include <stdint.h>
 
@@ -47,12 +49,22 @@ extern "C" {
 #define BARZHILUP_PDU_MIN 96
 #define BARZHILUP_PDU_MAX 20480
 
+/* The longest PDU that a writer writes with locators of 12 bits, in bytes. */
+#define BARZHILUP_PDU_MAX_12_BITS 4096
+
+/* The longest packet, in bytes. (Document 01, "Writer".) */
+#define BARZHILUP_PACKET_MAX 4096
+
 /* ---- Refusal numbers (document 01, "What is turned down") --------------- */
 
 /* Not refused. */
 #define BARZHILUP_ACCEPTED 0
 
-/* The PDU's length is not 96 to 20,480. */
+/* A field of a writer's or receiver's state is outside its range. */
+#define BARZHILUP_REFUSED_STATE 1
+
+/* The PDU's length is not 96 to 20,480; for a writer with locators of 12 bits,
+ * it is over 4,096. */
 #define BARZHILUP_REFUSED_PDU_LENGTH 3
 
 /* No code word differs from the header in at most four bytes (document 01:
@@ -80,6 +92,22 @@ extern "C" {
 
 /* The displacement is before the last piece's end, or not below the length. */
 #define BARZHILUP_REFUSED_DISPLACEMENT 12
+
+/* A value that is not sent: blend 3, or nonzero with a nonzero program; core
+ * gain 7 to 23; one past its width. */
+#define BARZHILUP_REFUSED_VALUE 14
+
+/* A packet's length is 0 or over 4,096; the lengths don't sum to the bytes; or
+ * bytes of a packet are sent that is absent or not longer. */
+#define BARZHILUP_REFUSED_PACKETS 15
+
+/* PSD plus expansion is past the mode's limit, or there is PSD on a stream
+ * without. */
+#define BARZHILUP_REFUSED_PSD 16
+
+/* There is no room for a piece of one byte; with no packet offered, none for
+ * the overhead. */
+#define BARZHILUP_REFUSED_ROOM 17
 
 /* ---- Header code (document 01, "Header code"; 001, 5.2.3.1) -------------- */
 
@@ -216,6 +244,92 @@ typedef struct {
  * no byte has changed.
  */
 barzhilup_reading barzhilup_read(uint8_t *pdu, size_t length);
+
+/* ---- Writer (document 01, "Writer") -------------------------------------- */
+
+/* What a writer remembers. A caller keeps it between calls and need not look
+ * inside. */
+typedef struct {
+    uint8_t mode;
+    /* 0 core, 1 enhanced. */
+    uint8_t stream;
+    /* The next PDU's sequence. */
+    uint8_t sequence;
+    /* The number, 0 to 63, of the first unfinished packet. */
+    uint8_t number;
+    /* How many bytes of it are sent. */
+    uint16_t sent;
+} barzhilup_writer;
+
+/* What came of opening a writer. */
+typedef struct {
+    /* BARZHILUP_ACCEPTED or BARZHILUP_REFUSED_MODE. */
+    uint32_t refusal;
+    /* All 0 if refused. */
+    barzhilup_writer writer;
+} barzhilup_writer_opened;
+
+/* A PDU's settings. All 0: no expansion bytes. */
+typedef struct {
+    /* 0 to 2. */
+    uint8_t blend;
+    /* Gain (core: 0 to 6, 24 to 31) or stream delay (enhanced: 0 to 31). */
+    uint8_t gain;
+    /* 0 to 63. */
+    uint8_t common_delay;
+    /* 0 to 7. */
+    uint8_t latency;
+    /* Expansion fields, each behind a flag that says whether it is asked for;
+     * without it, its values make no difference. The program field (ID 1) is
+     * sent whenever any is, with program 0 if it is not asked for.
+     * Class: only 1, with a nonzero program and access 1. */
+    bool classed;
+    uint8_t class_code;
+    /* Program number, 0 to 7. */
+    bool programmed;
+    uint8_t program;
+    /* The displacement, which is the PDU's length minus 1; lengths to 16,384. */
+    bool displaced;
+    /* Access, 0 or (with class 1) 1, and type. */
+    bool typed;
+    uint8_t access;
+    uint8_t type_code;
+    /* Applied services, 0 or (with class 1) 1, and marker, 0 to 2,097,151. */
+    bool serviced;
+    uint8_t services;
+    uint32_t marker;
+} barzhilup_settings;
+
+/* What came of writing a PDU. */
+typedef struct {
+    /* BARZHILUP_ACCEPTED, or a BARZHILUP_REFUSED_ number: 1, 3, 10 or 14 to
+     * 17. */
+    uint32_t refusal;
+    /* How many of the packets offered ended in this PDU. 0 if refused. */
+    uint32_t ended;
+    /* The writer for the next call; as it came if refused. */
+    barzhilup_writer writer;
+} barzhilup_written;
+
+/* Opens a writer for a mode and stream of document 01's table. */
+barzhilup_writer_opened barzhilup_open_writer(uint8_t mode, uint8_t stream);
+
+/*
+ * Writes one PDU: all `pdu_length` bytes of `pdu`, whatever they held.
+ *
+ * `lengths` has the lengths, 1 to 4,096, of the `count` packets that are
+ * offered, `bytes` their bytes, joined. The first is the unfinished packet,
+ * whole, if there is one. As many are placed as fit, and then a part of the
+ * next: offer again from the first that did not end.
+ *
+ * If it is refused, no byte of `pdu` has changed.
+ */
+barzhilup_written barzhilup_write(barzhilup_writer writer,
+                                  barzhilup_settings settings,
+                                  const uint8_t *psd, size_t psd_length,
+                                  const uint16_t *lengths, size_t count,
+                                  const uint8_t *bytes, size_t bytes_length,
+                                  uint8_t *pdu, size_t pdu_length);
 
 #ifdef __cplusplus
 }

@@ -1,5 +1,6 @@
-//! Makes PDUs for the tests out of any parts, right or wrong ones: nothing is
-//! checked. The parity is always right, each piece's CRC as asked for.
+//! Makes PDUs out of any parts, for the tests right or wrong ones: nothing is
+//! checked. The parity is always right, each piece's CRC as asked for. The
+//! writer hands over parts that fit, and bytes that are all zero.
 
 use crate::control::{self, ControlWord};
 use crate::crc::crc8;

@@ -1,7 +1,7 @@
 //! The reference for the audio transport layer: the rules of document 01 in
 //! their plainest form, for the tests to compare the product with. It covers
-//! the header code, the CRC-8, reading without a receiver and the refusals 3
-//! to 5 and 7 to 12:
+//! the header code, the CRC-8, reading without a receiver, the writer and the
+//! refusals 1, 3 to 5, 7 to 12 and 14 to 17:
 //!
 //! - `field`: the bytes as elements of GF(256);
 //! - `linear`: systems of linear equations over them;
@@ -11,8 +11,11 @@
 //! - `modes`: the modes and streams, and what they decide;
 //! - `control`, `locators`, `expansion`: the parts of a PDU before its PSD;
 //! - `reading`: reading a PDU without a receiver;
+//! - `settings`: what a PDU to be written is asked to say;
+//! - `placing`: which pieces of the offered packets go into a PDU;
+//! - `writer`: the writer, opened and writing;
 //! - `refusal`: the numbers of the table of refusals, and their causes;
-//! - `encode`: PDUs for the tests, made of any parts;
+//! - `encode`: PDUs made of any parts, for the writer and the tests;
 //! - `rng`: repeatable random numbers for the tests.
 
 #![forbid(unsafe_code)]
@@ -26,7 +29,10 @@ pub mod header;
 pub mod linear;
 pub mod locators;
 pub mod modes;
+pub mod placing;
 pub mod reading;
 pub mod refusal;
 pub mod rng;
 pub mod search;
+pub mod settings;
+pub mod writer;

@@ -2,7 +2,11 @@
 //! several apply, the lowest number is answered, and a refusal changes nothing
 //! that was lent.
 
-/// The PDU length isn't 96 to 20,480.
+/// A field of a lent state is outside its range.
+pub const STATE: u32 = 1;
+
+/// The PDU length isn't 96 to 20,480; for the writer also: over 4,096 with
+/// 12-bit locators.
 pub const LENGTH: u32 = 3;
 
 /// No code word differs from the header in at most four bytes.
@@ -20,7 +24,8 @@ pub const PIECES: u32 = 8;
 /// La is before the last locator byte, or not below the length.
 pub const LA: u32 = 9;
 
-/// The expansion is too long, or its fields are wrong.
+/// The expansion is too long, or its fields are wrong; for the writer: it may
+/// not send them.
 pub const EXPANSION: u32 = 10;
 
 /// A locator is under its piece's start plus 1, or not below the length.
@@ -28,6 +33,20 @@ pub const LOCATOR: u32 = 11;
 
 /// The displacement is before the last piece's end, or not below the length.
 pub const DISPLACEMENT: u32 = 12;
+
+/// The writer may not send a value, or it is past its width.
+pub const VALUE: u32 = 14;
+
+/// A packet's length is wrong, the lengths don't sum to the bytes, or the
+/// unfinished packet is absent or not longer than what was sent of it.
+pub const PACKETS: u32 = 15;
+
+/// PSD and expansion are past the mode's column, or there is PSD where it
+/// says no PSD.
+pub const PSD: u32 = 16;
+
+/// The overhead leaves no room.
+pub const OVERHEAD: u32 = 17;
 
 /// Each single cause for turning down a PDU that is read without a receiver.
 #[derive(Clone, Copy, Debug, PartialEq, Eq, PartialOrd, Ord)]
@@ -78,6 +97,77 @@ impl Cause {
         match self {
             Cause::LocatorUnderStart(k) | Cause::LocatorNotBelowLength(k) => Some(k),
             _ => None,
+        }
+    }
+}
+
+/// Each single cause for turning down a writing call.
+#[derive(Clone, Copy, Debug, PartialEq, Eq, PartialOrd, Ord)]
+pub enum WriterCause {
+    /// The state's mode and stream aren't in the table.
+    ModeAndStream,
+    /// The state's fields, outside their ranges.
+    Sequence,
+    Number,
+    Sent,
+    /// The PDU length isn't 96 to 20,480.
+    Length,
+    /// It is over 4,096 with 12-bit locators.
+    LengthOver4096,
+    ClassNot1,
+    ClassWithoutProgram,
+    ClassWithoutAccess,
+    AccessWithoutClass,
+    ServicesOver1,
+    ServicesWithoutClass,
+    /// The displacement is wanted for a length over 16,384.
+    DisplacementTooFar,
+    Blend3,
+    BlendWithProgram,
+    CoreGain7To23,
+    PastWidth(Value),
+    PacketLength0,
+    PacketLengthOver4096,
+    LengthsDontSum,
+    UnfinishedAbsent,
+    UnfinishedNotLonger,
+    PsdPlusExpansionPastColumn,
+    NoPsdHere,
+    /// Overhead for one piece plus 2 over R, with packets offered.
+    NoRoomForAPiece,
+    /// Overhead over R, with none offered.
+    NoRoomForOverhead,
+}
+
+/// The values that a writing call can be asked to send.
+#[derive(Clone, Copy, Debug, PartialEq, Eq, PartialOrd, Ord)]
+pub enum Value {
+    Blend,
+    Gain,
+    CommonDelay,
+    Latency,
+    Class,
+    Program,
+    Access,
+    Type,
+    Services,
+    Marker,
+}
+
+impl WriterCause {
+    /// The number of the table's row which names this cause.
+    pub fn number(self) -> u32 {
+        use WriterCause::*;
+        match self {
+            ModeAndStream | Sequence | Number | Sent => STATE,
+            Length | LengthOver4096 => LENGTH,
+            ClassNot1 | ClassWithoutProgram | ClassWithoutAccess | AccessWithoutClass
+            | ServicesOver1 | ServicesWithoutClass | DisplacementTooFar => EXPANSION,
+            Blend3 | BlendWithProgram | CoreGain7To23 | PastWidth(_) => VALUE,
+            PacketLength0 | PacketLengthOver4096 | LengthsDontSum | UnfinishedAbsent
+            | UnfinishedNotLonger => PACKETS,
+            PsdPlusExpansionPastColumn | NoPsdHere => PSD,
+            NoRoomForAPiece | NoRoomForOverhead => OVERHEAD,
         }
     }
 }

@@ -1,9 +1,10 @@
 //! Compares the product's CRC-8 with the reference: all short messages, and
 //! every length from 0 to 20,480.
 
+mod lent;
 mod product;
 
-use product::Lent;
+use lent::Lent;
 use referee::crc;
 use referee::rng::Rng;
 

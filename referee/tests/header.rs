@@ -2,9 +2,10 @@
 //! parity, writing parity and mending, with the refusals 3 and 4. Every byte
 //! of each lent PDU is compared after each call, and the guards around it.
 
+mod lent;
 mod product;
 
-use product::Lent;
+use lent::Lent;
 use referee::field;
 use referee::header::{self, Header, LONGEST, MENDABLE, PLACES, SUMS};
 use referee::linear::bytes_with_sums;

@@ -3,11 +3,12 @@
 //! ones made for each cause of the refusals 3 to 5 and 7 to 12.
 
 mod comparison;
+mod lent;
 mod product;
 mod samples;
 
 use comparison::{Class, Known, Outcomes};
-use product::Lent;
+use lent::Lent;
 use referee::control;
 use referee::encode::{Field, Parts};
 use referee::expansion::MOST;

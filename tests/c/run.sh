@@ -14,14 +14,16 @@ build=$(mktemp -d)
 trap 'rm -rf "$build"' EXIT
 warnings=(-Wall -Wextra -Wpedantic -Werror -I "$root/include")
 
-echo "C99, gcc:"
-gcc -std=c99 "${warnings[@]}" -O2 -o "$build/header_test" "$root/tests/c/header_test.c" "$library"
-"$build/header_test"
+for test in header_test writer_test; do
+    echo "C99, gcc, $test:"
+    gcc -std=c99 "${warnings[@]}" -O2 -o "$build/$test" "$root/tests/c/$test.c" "$library"
+    "$build/$test"
 
-echo "C99, gcc, address and undefined behaviour sanitizers:"
-gcc -std=c99 "${warnings[@]}" -O2 -g -fsanitize=address,undefined -fno-sanitize-recover=all \
-    -o "$build/sanitized_test" "$root/tests/c/header_test.c" "$library"
-"$build/sanitized_test"
+    echo "C99, gcc, $test, address and undefined behaviour sanitizers:"
+    gcc -std=c99 "${warnings[@]}" -O2 -g -fsanitize=address,undefined -fno-sanitize-recover=all \
+        -o "$build/sanitized" "$root/tests/c/$test.c" "$library"
+    "$build/sanitized"
+done
 
 cat > "$build/header.cpp" <<'CPP'
 #include "barzhilup.h"

@@ -1,12 +1,17 @@
 // The C library: each public operation with C's types, and the core's contract. include/barzhilup.h declares them.
 use correction::Correction;
 use pdu::Reading;
+use settings::Settings;
+use writer::Opened;
+use writer::Writer;
+use writer::Written;
 ghost use mathlib.Core.Path.{_≡_};
 ghost use lib.ListN.{length};
 ghost use Rattle.field.specs.Field.{mul};
 ghost use Rattle.crc.specs.Crc.{crcFrom};
 ghost use Rattle.header.specs.Header.{syndromes, parityOf, lengthRefusal, withParity};
 ghost use Rattle.pdu.specs.Reading.{readingWith, WrongOne, readPdu};
+ghost use Rattle.writer.specs.Writing.{opened, writeAnswer, writtenPdu};
 ghost use Rattle.correction.specs.Correction.{correctionOf, correctedPdu, numberOf, countOf};
 
 // S1 to S8.
@@ -99,4 +104,29 @@ pub extern "C" fn barzhilup_read(pdu: &mut [u8]) -> Reading
     ensures { λ _. ⌜ now (pdu .exit) ≡ readPdu (now (pdu .entry)) ⌝ }
 {
     pdu::read(pdu)
+}
+
+// Opens a writer for a mode and stream, or refuses with 5.
+#[no_mangle]
+pub extern "C" fn barzhilup_open_writer(mode: u8, stream: u8) -> Opened
+    ensures { λ r. ⌜ r ≡ opened mode stream ⌝ }
+{
+    writer::open(mode, stream)
+}
+
+// Writes a PDU from settings, PSD, and the packets' lengths and joined bytes, the unfinished packet first and whole; or refuses with 1, 3, 10
+// or 14 to 17, and nothing is changed.
+#[no_mangle]
+pub extern "C" fn barzhilup_write(
+    writer: Writer,
+    settings: Settings,
+    psd: &[u8],
+    lengths: &[u16],
+    bytes: &[u8],
+    pdu: &mut [u8],
+) -> Written
+    ensures { λ r. ⌜ r ≡ writeAnswer settings (now (psd .entry)) (now (lengths .entry)) (now (bytes .entry)) (length (now (pdu .entry))) writer ⌝ }
+    ensures { λ _. ⌜ now (pdu .exit) ≡ writtenPdu settings (now (psd .entry)) (now (lengths .entry)) (now (bytes .entry)) (length (now (pdu .entry))) writer (now (pdu .entry)) ⌝ }
+{
+    writer.write(settings, psd, lengths, bytes, pdu)
 }

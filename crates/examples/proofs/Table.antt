@@ -16,6 +16,13 @@ use Rattle.field.proofs.Laws.{mul-zero-l}
 use Rattle.algebra.specs.Places.{All}
 use Rattle.layout.specs.Control.{controlBytes}
 use Rattle.layout.specs.Locators.{bytes16, bytes12}
+use Rattle.modes.specs.Modes.{listing}
+use Rattle.expansion.specs.Expansion.{chained}
+use Rattle.expansion.specs.Writing.{expansionBytes}
+use Rattle.settings.specs.Settings.{fieldsFor}
+use Rattle.pieces.specs.Pieces.{cutBy, locatorsFrom, total}
+use Rattle.packing.specs.Packing.{fit, wholesFrom, partAfter, partFrom}
+use Rattle.writer.specs.Writing.{opened, writeAnswer}
 use Rattle.crc.proofs.Examples as crc
 use Rattle.header.specs.Header.{sumUp, term, syndrome, isCodeWord, distance, exponents}
 use Rattle.header.proofs.CodeWords.{Bytes, zero-code-word}
@@ -157,7 +164,7 @@ module _ (choice : List Bool) (l : length choice ≡ 9) where
       })
 
 pub examples : Examples
-unfolding controlBytes bytes16 bytes12
+unfolding controlBytes bytes16 bytes12 listing opened writeAnswer fieldsFor expansionBytes chained total fit wholesFrom partAfter partFrom cutBy locatorsFrom
 examples = record {
   a = refl;
   b = refl;
@@ -168,4 +175,14 @@ examples = record {
   g = generator-code-word;
   h = four;
   i = five;
+  j = refl;
+  j-mode = refl;
+  j-locators = refl;
+  j-plast = refl;
+  k = refl;
+  k-locators = refl;
+  k-start = refl;
+  l = refl;
+  m-fits = refl;
+  m-not = refl;
 }

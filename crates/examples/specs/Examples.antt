@@ -8,6 +8,15 @@ use lib.ListN.{length, replicate}
 use Rattle.layout.specs.declared.ControlWord.{ControlWord}
 use Rattle.layout.specs.Control.{controlBytes}
 use Rattle.layout.specs.Locators.{locatorBytes}
+use Rattle.modes.specs.Modes.{listing}
+use Rattle.modes.specs.declared.Mode.{Mode}
+use Rattle.modes.specs.declared.Listing.the-variants.{Listed}
+use Rattle.settings.specs.declared.Settings.{Settings}
+use Rattle.pieces.specs.Pieces.{total}
+use Rattle.contents.specs.Contents.{locatorsOf}
+use Rattle.writer.specs.Writing.{opened, expansionOf, piecesOf, controlFor, writeAnswer}
+use Rattle.writer.specs.declared.Writer.{Writer}
+use Rattle.writer.specs.declared.Written.{Written}
 use Rattle.field.specs.Field.{pow}
 use Rattle.crc.specs.Crc.{crcFrom}
 use Rattle.header.specs.Header.{exponents, isCodeWord}
@@ -34,6 +43,26 @@ chosen [] = 0
 abbrev pub controlExample : ControlWord
 controlExample = record { mode = 0; stream = 0; sequence = 1; blend = 2; gain = 0; common = 5; latency = 4; pfirst = true; plast = false; start = 33; nop = 2; flag = false; la = 17 }
 
+-- a writer for mode 0, core, and a call with PDUs of 96 bytes, no settings, a PSD of n bytes and packets of these lengths
+abbrev pub mode0 : Mode
+mode0 = record { width = 16; sequences = 2; limit = 128; psd = true }
+
+abbrev pub noSettings : Settings
+noSettings = record { blend = 0; gain = 0; common = 0; latency = 0; classed = false; class = 0; programmed = false; program = 0; displaced = false; typed = false; access = 0; ptype = 0; serviced = false; services = 0; marker = 0 }
+
+abbrev pub answered : ℕ → List ℕ → Writer → Written
+answered n lengths w = writeAnswer noSettings (replicate n 0) lengths (replicate (total lengths) 0) 96 w
+
+abbrev pub locators : List ℕ → Writer → List ℕ
+locators lengths w = locatorsOf 16 (expansionOf noSettings [] lengths (replicate (total lengths) 0) 96) [] (piecesOf noSettings [] lengths (replicate (total lengths) 0) 96 mode0 w)
+
+abbrev pub control : List ℕ → Writer → ControlWord
+control lengths w = controlFor noSettings [] lengths (replicate (total lengths) 0) 96 mode0 w
+
+-- the writer that (j) leaves
+abbrev pub next : Writer
+next = record { mode = 0; stream = 0; sequence = 1; number = 0; sent = 79 }
+
 pub record Examples : Type 0 where
   -- the control word above: 40 04 05 0B 05 11
   pub a : controlBytes controlExample ≡ 0x40 ∷ 0x04 ∷ 0x05 ∷ 0x0B ∷ 0x05 ∷ 0x11 ∷ []
@@ -53,3 +82,17 @@ pub record Examples : Type 0 where
   pub h : (choice : List Bool) → length choice ≡ 9 → chosen choice ≡ 4 → corrected (zeroing choice generatorWord) ≡ some generatorWord
   -- with five to all zero
   pub i : (choice : List Bool) → length choice ≡ 9 → chosen choice ≡ 5 → corrected (zeroing choice generatorWord) ≡ some (replicate 96 0)
+  -- mode 0, 96 bytes, packet of 100: 79 sent, locator 95, Plast
+  pub j : answered 0 (100 ∷ []) (opened 0 0 .writer) ≡ record { refusal = 0; ended = 0; writer = next }
+  pub j-mode : listing 0 0 ≡ Listed mode0
+  pub j-locators : locators (100 ∷ []) (opened 0 0 .writer) ≡ 95 ∷ []
+  pub j-plast : control (100 ∷ []) (opened 0 0 .writer) .plast ≡ true
+  -- next, with one of 50: locators 39 and 90, start 1
+  pub k : answered 0 (100 ∷ 50 ∷ []) next .refusal ≡ 0
+  pub k-locators : locators (100 ∷ 50 ∷ []) next ≡ 39 ∷ 90 ∷ []
+  pub k-start : control (100 ∷ 50 ∷ []) next .start ≡ 1
+  -- with 56 instead, 55 of it sent
+  pub l : answered 0 (100 ∷ 56 ∷ []) next ≡ record { refusal = 0; ended = 1; writer = record { mode = 0; stream = 0; sequence = 0; number = 1; sent = 55 } }
+  -- mode 0, 96 bytes, packets offered: PSD 78 fits, 79 is 17
+  pub m-fits : answered 78 (100 ∷ []) (opened 0 0 .writer) .refusal ≡ 0
+  pub m-not : answered 79 (100 ∷ []) (opened 0 0 .writer) .refusal ≡ 17

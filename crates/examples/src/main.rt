@@ -2,6 +2,8 @@
 use correction::Correction;
 use layout::ControlWord;
 use libc::STDOUT_FILENO;
+use settings::Settings;
+use writer::Writer;
 ghost use mathlib.Core.Path.{_≡_};
 ghost use Prim.Native.Nat.{_≤_};
 ghost use lib.ListN.{length};
@@ -34,6 +36,7 @@ fn main() {
         5,
         511,
     );
+    writing_lines();
     length_line();
 }
 
@@ -214,6 +217,84 @@ fn choices_line(label: &[u8], set: u32, wanted: u32) {
     say(b" of ");
     io::print_decimal(STDOUT_FILENO, all as u64);
     end_line();
+}
+
+fn no_settings() -> Settings {
+    Settings {
+        blend: 0,
+        gain: 0,
+        common: 0,
+        latency: 0,
+        classed: false,
+        class: 0,
+        programmed: false,
+        program: 0,
+        displaced: false,
+        typed: false,
+        access: 0,
+        ptype: 0,
+        serviced: false,
+        services: 0,
+        marker: 0,
+    }
+}
+
+fn number(label: &[u8], n: u64) {
+    say(label);
+    io::print_decimal(STDOUT_FILENO, n);
+}
+
+// The PDU's locators of 16 bits, and its starting number.
+fn locators_and_start(pdu: &[u8]) {
+    let c = layout::control_word(pdu);
+    say(b", locators");
+    let mut k: u8 = 0;
+    while k < c.nop {
+        number(b" ", layout::locator(16, pdu, k) as u64);
+        k += 1;
+    }
+    number(b", start ", c.start as u64);
+    if c.plast {
+        say(b", Plast");
+    }
+}
+
+// Writes a PDU of 96 bytes with a PSD of so many bytes, and says what the call answers.
+fn writing_line(label: &[u8], w: Writer, psd: usize, lengths: &[u16], count: usize) -> Writer
+    requires { ⌜ (psd ≤ 128) × (count ≤ 156) ⌝ }
+{
+    let psds = [0u8; 128];
+    let bytes = [0u8; 156];
+    let mut pdu = [0u8; 96];
+    let r = w.write(
+        no_settings(),
+        &psds[..psd],
+        lengths,
+        &bytes[..count],
+        &mut pdu,
+    );
+    say(label);
+    number(b" refusal ", r.refusal as u64);
+    if r.refusal == 0 {
+        number(b", ended ", r.ended as u64);
+        number(b", sent ", r.writer.sent as u64);
+        locators_and_start(&pdu);
+    }
+    end_line();
+    r.writer
+}
+
+// (j) to (m)
+fn writing_lines() {
+    let one: [u16; 1] = [100];
+    let fifty: [u16; 2] = [100, 50];
+    let more: [u16; 2] = [100, 56];
+    let opened = writer::open(0, 0);
+    let next = writing_line(b"(j) packet of 100:", opened.writer, 0, &one, 100);
+    writing_line(b"(k) next, with one of 50:", next, 0, &fifty, 150);
+    writing_line(b"(l) with 56 instead:", next, 0, &more, 156);
+    writing_line(b"(m) PSD 78:", opened.writer, 78, &one, 100);
+    writing_line(b"(m) PSD 79:", opened.writer, 79, &one, 100);
 }
 
 // Length 95

@@ -23,9 +23,10 @@ use Rattle.expansion.specs.Writing.{InRange, interpretedOf, expansionBytes}
 use Rattle.expansion.specs.declared.Fields.{Fields}
 use Rattle.expansion.specs.declared.Interpreted.{Interpreted}
 use Rattle.expansion.proofs.ExpansionLaw.{expansion-law, none-sent}
+use Rattle.correction.specs.Correction.{correctedPdu}
 use Rattle.crc.specs.Crc.{crcFrom}
 use Rattle.contents.specs.Contents.{firstPiece, locatorsOf, contents}
-use Rattle.pdu.specs.Reading.{afterLocators, expansionBytes as expansionCount, fieldsOf, markAt, startAt, lengthAt, wrongLocator, anyBelow, wrongPieces, wrongLa, wrongDisplacement, readerTests, listingOf, modeIn, correctedTests, judged, widthOf, psdOf}
+use Rattle.pdu.specs.Reading.{afterLocators, expansionBytes as expansionCount, fieldsOf, markAt, startAt, lengthAt, wrongLocator, anyBelow, wrongPieces, wrongLa, wrongDisplacement, readerTests, listingOf, modeIn, correctedTests, judged, widthOf, psdOf, answered, accepted, refused, readNumber, readingWith, readPdu}
 use Rattle.pdu.specs.declared.Part.{Part}
 use Rattle.pdu.proofs.ContentsLaw.{locators-back, locators-below, written-length, expansion-back, psd-back, pieces-back}
 
@@ -215,3 +216,24 @@ module _ (m : Mode) (c : ControlWord) (x : Fields) (psd : List ℕ) (ps : List (
     pub width-back : widthOf sent ≡ m .width
     unfolding widthOf
     width-back = ap (λ (d : ControlWord). modeIn (listingOf d) .width) control-back ∙ ap (λ (i : Listing). modeIn i .width) (s .listed)
+
+-- the answer for a PDU that is accepted, and what is left of it
+pub read-accepted : (q p : List ℕ) (width : ℕ) (c : ControlWord) → readNumber q ≡ 0 → correctedPdu q ≡ p → widthOf p ≡ width → controlAt p ≡ c
+    → (readPdu q ≡ p) × ((k : ℕ) → readingWith k q ≡ accepted width c p)
+unfolding readPdu readingWith
+read-accepted q p width c z e d o =
+    let t : eqb (readNumber q) 0 ≡ true = eq-eqb (readNumber q) 0 z in (
+      ap (λ (b : Bool). cond b (correctedPdu q) q) t ∙ e,
+      λ k. ap (λ (b : Bool). cond b (accepted (widthOf (correctedPdu q)) (controlAt (correctedPdu q)) (correctedPdu q)) (refused (readNumber q) k)) t
+          ∙ ap (λ (r : List ℕ). accepted (widthOf r) (controlAt r) r) e
+          ∙ ap₂ (λ (i : ℕ) (j : ControlWord). accepted i j p) d o,
+    )
+
+-- the parts of an answer
+pub answer-fields : (width : ℕ) (c : ControlWord) (p : List ℕ) (x : Fields) → fieldsOf width c p ≡ interpretedOf x → accepted width c p .fields ≡ answered (interpretedOf x)
+unfolding accepted
+answer-fields width c p x e = ap answered e
+
+pub answer-psd : (width : ℕ) (c : ControlWord) (p : List ℕ) (place : Part) → psdOf width c p ≡ place → accepted width c p .psd ≡ place
+unfolding accepted
+answer-psd width c p place e = e

@@ -2,7 +2,8 @@
 //! field, the refusal and its k, each byte of the lent PDU after the call, and
 //! the guards around it.
 
-use crate::product::{self, Lent};
+use crate::lent::Lent;
+use crate::product;
 use crate::samples::{Sample, Wish};
 use referee::control::ControlWord;
 use referee::expansion::Fields;

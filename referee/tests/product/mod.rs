@@ -1,10 +1,12 @@
 //! The product's calls as the tests make them: its static library behind
-//! plain functions, and buffers lent to it with guards on both sides.
+//! plain functions.
 
 #![allow(dead_code)]
 
 use referee::header::Header;
-use referee::rng::Rng;
+
+/// The writer's calls.
+pub mod writer;
 
 /// The C side of the product.
 mod c {
@@ -155,59 +157,4 @@ pub fn crc8(bytes: &[u8]) -> u8 {
 /// Reads a PDU without a receiver.
 pub fn read(pdu: &mut [u8]) -> Reading {
     unsafe { c::barzhilup_read(pdu.as_mut_ptr(), pdu.len()) }
-}
-
-/// How many guard bytes stand on each side of a lent buffer, at least. A whole
-/// header fits behind the shortest buffer.
-const GUARD: usize = 104;
-
-/// A buffer to be lent to the product. Bytes before and after it belong to
-/// nobody and must never change; comparing two compares these as well.
-#[derive(Clone, PartialEq, Eq)]
-pub struct Lent {
-    bytes: Vec<u8>,
-    start: usize,
-    length: usize,
-}
-
-impl Lent {
-    /// A buffer of the length, filled at random, beginning at any alignment.
-    pub fn random(rng: &mut Rng, length: usize) -> Lent {
-        let start = GUARD + rng.below(8);
-        let mut bytes = vec![0; start + length + GUARD];
-        rng.fill(&mut bytes);
-        Lent {
-            bytes,
-            start,
-            length,
-        }
-    }
-
-    /// The lent bytes.
-    pub fn bytes(&self) -> &[u8] {
-        &self.bytes[self.start..self.start + self.length]
-    }
-
-    /// The lent bytes, to be changed.
-    pub fn bytes_mut(&mut self) -> &mut [u8] {
-        &mut self.bytes[self.start..self.start + self.length]
-    }
-
-    /// Puts a header at the beginning. Behind a shorter buffer it goes on
-    /// into the guard.
-    pub fn put_header(&mut self, header: &Header) {
-        self.bytes[self.start..self.start + header.len()].copy_from_slice(header);
-    }
-
-    /// Where two buffers differ: places counted from the lent bytes' first,
-    /// negative ones before it. At most the first ten are told.
-    pub fn differences(&self, other: &Lent) -> String {
-        assert_eq!(self.bytes.len(), other.bytes.len());
-        let places: Vec<isize> = (0..self.bytes.len())
-            .filter(|&place| self.bytes[place] != other.bytes[place])
-            .map(|place| place as isize - self.start as isize)
-            .collect();
-        let told = &places[..places.len().min(10)];
-        format!("{} bytes differ, at {told:?}", places.len())
-    }
 }

@@ -1,0 +1,53 @@
+-- What it means that pieces fit.
+use mathlib.Core.Path.{_≡_, refl, sym, subst}
+use mathlib.Core.Bool.{Bool, true, false, _&&_, cond}
+use Prim.Native.Nat.{ℕ, zero, suc, _+_, _*_, _/_, _-_, _<_, _≤_}
+use native.Mathlib.Omega.{arith}
+use native.Mathlib.Numerals.{add-one}
+use lib.Dec.{eqb, leb, T}
+use borrow.Author.Tests.{leb-true, le-leb, lt-leb}
+use Rattle.layout.specs.Locators.{locatorSize, mostPieces}
+use Rattle.packing.specs.Packing.{overhead, fit, partAfter}
+
+pub size-small : (width k : ℕ) → locatorSize width k ≤ 2 * k
+size-small width k = go (eqb width 16)
+  where
+    go : (b : Bool) → cond b ((16 * k + 7) / 8) ((12 * k + 7) / 8) ≤ 2 * k
+    go true = omega arith
+    go false = omega arith
+
+pub most-small : (width : ℕ) → mostPieces width ≤ 54
+most-small width = go (eqb width 16)
+  where
+    go : (b : Bool) → cond b 41 54 ≤ 54
+    go true = omega arith
+    go false = omega arith
+
+both : (a b : Bool) → (a && b) ≡ true → (a ≡ true) × (b ≡ true)
+both true b e = (refl, e)
+both false b e = absurd (subst T (sym e) tt)
+
+module _ (width extra size k used : ℕ) where
+  pub fit-most : fit width extra size k used ≡ true → k ≤ mostPieces width
+  unfolding fit
+  fit-most e = leb-true k (mostPieces width) (both (leb k (mostPieces width)) (leb (overhead width extra k + used) size) e .0)
+
+  pub fit-room : fit width extra size k used ≡ true → overhead width extra k + used ≤ size
+  unfolding fit
+  fit-room e = leb-true (overhead width extra k + used) size (both (leb k (mostPieces width)) (leb (overhead width extra k + used) size) e .1)
+
+  pub fit-within : k ≤ mostPieces width → leb (overhead width extra k + used) size ≡ fit width extra size k used
+  unfolding fit
+  fit-within h = rw (le-leb k (mostPieces width) h)
+
+  pub fit-past : mostPieces width < k → false ≡ fit width extra size k used
+  unfolding fit
+  fit-past h = rw (lt-leb k (mostPieces width) h)
+
+  pub part-none : fit width extra size (k + 1) (used + 2) ≡ false → 0 ≡ partAfter width extra size k used
+  unfolding partAfter
+  part-none e = let f : fit width extra size (suc k) (used + 2) ≡ false = rw (add-one k) at e in rw f
+
+  pub part-some : fit width extra size (k + 1) (used + 2) ≡ true → size - (overhead width extra (k + 1) + used + 1) ≡ partAfter width extra size k used
+  unfolding partAfter
+  part-some e = let f : fit width extra size (suc k) (used + 2) ≡ true = rw (add-one k) at e in rw (f, add-one k)

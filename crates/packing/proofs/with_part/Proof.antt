@@ -1,0 +1,37 @@
+use Rattle.packing.proofs.Packs.{take-stored, any-none, any-some}
+use Rattle.packing.specs.Packing.{ifAny}
+use mathlib.Core.List.{append-nil}
+use native.Mathlib.Omega.{arith}
+use mathlib.Core.Path.{_≡_, refl, ap, sym, _∙_}
+use Prim.Native.Nat.{ℕ, _+_, _-_, _*_, _≤_, _<_}
+use lib.ListN.{length, take, drop, getD, set, length-set}
+use mathlib.Core.List.{List, [], _∷_, _++_}
+use borrow.Author.Needs.{needs}
+use Rattle.packing.proofs.with_part.Statement.{statement}
+use Rattle.packing.proofs.with_part.Tie as tie
+use Rattle.packing.proofs.with_part.Reads as reads
+use Rattle.packing.proofs.with_part.Lts as lts
+
+returns : tie.Need-returns
+returns c =
+    let a = c .before .args in
+    let e : ifAny (a .part) ≡ [] = any-none (a .part) (c .if1 .taken) in
+    ((refl, sym (c .if1 .taken)), (rw e (omega arith), rw e (sym (append-nil (take (a .k) (a .lengths))))))
+
+mul-out : tie.Need-mul-out
+mul-out c = search needs
+
+array-write-out : tie.Need-array-write-out
+array-write-out c = search needs
+
+add-t11 : tie.Need-add-t11
+add-t11 c = search needs
+
+returns-2 : tie.Need-returns-2
+returns-2 c =
+    let a = c .before .args in
+    let e : ifAny (a .part) ≡ a .part ∷ [] = any-some (a .part) (c .if1 .left) in
+    ((refl, refl), (rw e refl, rw e (take-stored (a .lengths) (a .k) (a .part) (omega arith))))
+
+pub with-part-spec : {M : Type 1} → statement M
+with-part-spec = tie.close (tie.spec returns mul-out array-write-out add-t11 returns-2)

@@ -1,0 +1,59 @@
+-- A writer's state after an accepted call, and what it sent.
+use mathlib.Core.Path.{_≡_, refl, sym, ap, subst, _∙_}
+use mathlib.Core.Bool.{Bool, true, false, _||_, cond}
+use mathlib.Core.List.{List, [], _∷_, _++_}
+use Prim.Native.Nat.{ℕ, zero, suc, _+_, _%_, _<_, _≤_}
+use native.Mathlib.Omega.{arith}
+use native.Mathlib.Nat.{mod-lt}
+use lib.Dec.{eqb, ltb, leb}
+use borrow.Author.Tests.{le-ltb, lt-leb, ltb-false}
+use lib.ListN.{length}
+use Rattle.refusal.specs.Refusal.{anyOf}
+use Rattle.modes.specs.Modes.{listing}
+use Rattle.modes.specs.declared.Mode.{Mode}
+use Rattle.modes.specs.declared.Listing.the-variants.{Listed}
+use Rattle.modes.proofs.Listable.{listable}
+use Rattle.settings.specs.declared.Settings.{Settings}
+use Rattle.pieces.specs.Pieces.{total}
+use Rattle.packing.specs.Packing.{overhead, pieceLengths}
+use Rattle.packing.proofs.Bounds.{AtMost, Positive, sent-after, some-placed}
+use Rattle.writer.specs.Writing.{wrongLengths, wrongState, noRoom, extraOf, placed, nextOf}
+use Rattle.writer.specs.declared.Writer.{Writer}
+use Rattle.writer.proofs.Judging.{first-fails, second-fails}
+use Rattle.writer.proofs.Accepted.{Fine}
+use Rattle.writer.proofs.Sending.{one-piece, positive}
+
+at-most : (ns : List ℕ) → wrongLengths ns ≡ false → AtMost 4096 ns
+at-most [] e = tt
+at-most (n ∷ ns) e =
+    let r = second-fails (eqb n 0) (ltb 4096 n || wrongLengths ns) e in
+    (ltb-false 4096 n (first-fails (ltb 4096 n) (wrongLengths ns) r), at-most ns (second-fails (ltb 4096 n) (wrongLengths ns) r))
+
+module _ (settings : Settings) (psd lengths bytes : List ℕ) (size : ℕ) (m : Mode) (w : Writer) (f : Fine settings psd lengths bytes size m w) (l : listing (w .mode) (w .stream) ≡ Listed m) where
+  -- the next state is not refused with 1
+  pub next-right : anyOf (wrongState m (nextOf settings psd lengths bytes size m w)) ≡ false
+  next-right =
+      let b = listable (w .mode) (w .stream) m l in
+      let n = nextOf settings psd lengths bytes size m w in
+      let h : n .sequence < m .sequences = mod-lt (w .sequence + 1) (omega (arith, b .least)) in
+      let s : n .sent ≤ 4095 = sent-after (m .width) (extraOf settings psd lengths bytes size) size lengths 0 0 (w .sent) 4095 (at-most lengths (f .right)) (f .sent) in
+      let u : leb (m .sequences) (n .sequence) ≡ false = lt-leb (m .sequences) (n .sequence) h in
+      let v : ltb 63 (n .number) ≡ false = le-ltb 63 (n .number) (omega arith) in
+      let x : ltb 4095 (n .sent) ≡ false = le-ltb 4095 (n .sent) s in
+      rw (u, v, x)
+
+  -- with packets offered, at least one byte is sent
+  pub sends-a-byte : 0 < length lengths → 0 < total (placed settings psd lengths bytes size m w)
+  unfolding total
+  sends-a-byte h = go (placed settings psd lengths bytes size m w) (offered lengths refl h) (positive settings psd lengths bytes size m w f l)
+    where
+      offered : (ns : List ℕ) → lengths ≡ ns → 0 < length ns → 0 < length (placed settings psd lengths bytes size m w)
+      offered [] e h = absurd (omega arith)
+      offered (n ∷ ns) e h =
+          let r : noRoom m (extraOf settings psd lengths bytes size) size (n ∷ ns) ≡ false = subst (λ (k : List ℕ). noRoom m (extraOf settings psd lengths bytes size) size k ≡ false) e (f .room) in
+          subst (λ (k : List ℕ). 0 < length (pieceLengths (m .width) (extraOf settings psd lengths bytes size) size (w .sent) k)) (sym e)
+          (some-placed (m .width) (extraOf settings psd lengths bytes size) size (w .sent) n ns (ltb-false size (overhead (m .width) (extraOf settings psd lengths bytes size) 1 + 2) r) (one-piece (m .width)))
+
+      go : (ps : List ℕ) → 0 < length ps → Positive ps → 0 < total ps
+      go [] n p = absurd (omega arith)
+      go (k ∷ ps) n p = let q = p .0 in omega arith

@@ -1,0 +1,93 @@
+-- All that a PDU is composed of are bytes.
+use mathlib.Core.Path.{_≡_, refl, sym, ap, subst, _∙_}
+use mathlib.Core.Bool.{Bool, true, false, cond}
+use mathlib.Core.List.{List, [], _∷_, _++_}
+use Prim.Native.Nat.{ℕ, zero, suc, _+_, _*_, _%_, _/_, _<_, _≤_}
+use native.Mathlib.Omega.{arith}
+use lib.Dec.{eqb}
+use lib.ListN.{length, take, drop, replicate}
+use Rattle.algebra.specs.Places.{All}
+use Rattle.algebra.proofs.Places.{all-join}
+use Rattle.header.proofs.Unique.{all-drop}
+use Rattle.crc.specs.Crc.{crcFrom}
+use Rattle.crc.proofs.Below.{crc-below}
+use Rattle.layout.specs.Control.{bit, byte8, byte9, byte10, byte11, byte12, controlBytes}
+use Rattle.layout.specs.declared.ControlWord.{ControlWord}
+use Rattle.layout.specs.Locators.{bytes16, bytes12, locatorBytes}
+use Rattle.expansion.specs.Expansion.{septetsOfAll, chained}
+use Rattle.expansion.specs.Writing.{fieldsOf, expansionBytes}
+use Rattle.expansion.specs.declared.Fields.{Fields}
+use Rattle.expansion.proofs.Marks.{Septets, all-septets}
+use Rattle.pieces.specs.Pieces.{cutBy, withCrc, pieceBytes}
+use Rattle.contents.specs.Contents.{locatorsOf, contents}
+
+abbrev pub Byte : ℕ → Type 0
+Byte n = n < 256
+
+bit-small : (b : Bool) → bit b < 2
+bit-small true = omega arith
+bit-small false = omega arith
+
+all-control : (c : ControlWord) → c .la < 256 → All Byte (controlBytes c)
+unfolding controlBytes
+all-control c h =
+    let p = bit-small (c .pfirst) in
+    let q = bit-small (c .plast) in
+    let r = bit-small (c .flag) in
+    (omega arith, (omega arith, (omega arith, (omega (arith, p, q), (omega (arith, r), (h, tt))))))
+
+all16 : (ls : List ℕ) → All Byte (bytes16 ls)
+unfolding bytes16
+all16 [] = tt
+all16 (a ∷ ls) = (omega arith, (omega arith, all16 ls))
+
+all12 : (ls : List ℕ) → All Byte (bytes12 ls)
+unfolding bytes12
+all12 [] = tt
+all12 (a ∷ []) = (omega arith, (omega arith, tt))
+all12 (a ∷ b ∷ ls) = (omega arith, (omega arith, (omega arith, all12 ls)))
+
+all-locators : (width : ℕ) (ls : List ℕ) → All Byte (locatorBytes width ls)
+all-locators width ls = go (eqb width 16)
+  where
+    go : (b : Bool) → All Byte (cond b (bytes16 ls) (bytes12 ls))
+    go true = all16 ls
+    go false = all12 ls
+
+all-chained : (l : List ℕ) → Septets l → All Byte (chained l)
+unfolding chained
+all-chained [] h = tt
+all-chained (b ∷ []) h = let q = h .0 in (omega arith, tt)
+all-chained (b ∷ c ∷ l) h = let q = h .0 in (omega arith, all-chained (c ∷ l) (h .1))
+
+pub all-expansion : (x : Fields) → All Byte (expansionBytes x)
+unfolding expansionBytes
+all-expansion x = all-chained (septetsOfAll (fieldsOf x)) (all-septets (fieldsOf x))
+
+all-front : (n : ℕ) (l : List ℕ) → All Byte l → All Byte (take n l)
+all-front zero l h = tt
+all-front (suc n) [] h = tt
+all-front (suc n) (x ∷ l) h = (h .0, all-front n l (h .1))
+
+all-pieces : (ns bytes : List ℕ) → All Byte bytes → All Byte (pieceBytes (cutBy ns bytes))
+unfolding cutBy pieceBytes
+all-pieces [] bytes h = tt
+all-pieces (n ∷ ns) bytes h =
+    let p = take n bytes in
+    all-join Byte (withCrc p) (pieceBytes (cutBy ns (drop n bytes)))
+    (all-join Byte p (crcFrom 0 p ∷ []) (all-front n bytes h) (crc-below p 0 (omega arith), tt))
+    (all-pieces ns (drop n bytes) (all-drop n bytes h))
+
+pub all-zeros : (n : ℕ) → All Byte (replicate n 0)
+all-zeros zero = tt
+all-zeros (suc n) = (omega arith, all-zeros n)
+
+pub all-contents : (width : ℕ) (c : ControlWord) (x : Fields) (psd ns bytes : List ℕ) → c .la < 256 → All Byte psd → All Byte bytes
+    → All Byte (controlBytes c ++ contents width (expansionBytes x) psd (cutBy ns bytes))
+all-contents width c x psd ns bytes la hp hb =
+    let e = expansionBytes x in
+    let ls = locatorsOf width e psd (cutBy ns bytes) in
+    all-join Byte (controlBytes c) (contents width e psd (cutBy ns bytes)) (all-control c la)
+    (all-join Byte (locatorBytes width ls) (e ++ (psd ++ pieceBytes (cutBy ns bytes))) (all-locators width ls)
+    (all-join Byte e (psd ++ pieceBytes (cutBy ns bytes)) (all-expansion x)
+    (all-join Byte psd (pieceBytes (cutBy ns bytes)) hp (all-pieces ns bytes hb))))

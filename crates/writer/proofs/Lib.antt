@@ -1,0 +1,10 @@
+pub mod Counting
+pub mod Opening
+pub mod Judging
+pub mod Accepted
+pub mod Composed
+pub mod Calling
+pub mod Bytes
+pub mod Sending
+pub mod RoundTrip
+pub mod Advancing

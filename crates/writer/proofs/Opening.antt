@@ -1,0 +1,14 @@
+-- Opening, by what the mode table says.
+use mathlib.Core.Path.{_≡_, refl, sym, ap, _∙_}
+use Prim.Native.Nat.{ℕ}
+use Rattle.modes.specs.Modes.{listing}
+use Rattle.modes.specs.declared.Mode.{Mode}
+use Rattle.modes.specs.declared.Listing.{Listing}
+use Rattle.modes.specs.declared.Listing.the-variants.{Listed, Refused}
+use Rattle.writer.specs.Writing.{noWriter, openedAs, opened}
+use Rattle.writer.specs.declared.Writer.{Writer}
+use Rattle.writer.specs.declared.Opened.{Opened}
+
+pub opened-by : (l k : Listing) (mode stream : ℕ) → l ≡ listing mode stream → l ≡ k → openedAs k mode stream ≡ opened mode stream
+unfolding opened
+opened-by l k mode stream e f = ap (λ (x : Listing). openedAs x mode stream) (sym f ∙ e)

@@ -1,0 +1,56 @@
+use denote.Ref.{now}
+use Rattle.writer.proofs.Calling.{called}
+use native.Mathlib.Omega.{arith}
+use mathlib.Core.Path.{_≡_, refl, ap, sym, _∙_}
+use Prim.Native.Nat.{ℕ, _+_, _-_, _*_, _≤_, _<_}
+use lib.ListN.{length, take, drop, getD, set, length-set}
+use mathlib.Core.List.{List, [], _∷_, _++_}
+use borrow.Author.Needs.{needs}
+use Rattle.writer.proofs.Writer.write.Statement.{statement}
+use Rattle.writer.proofs.Writer.write.Tie as tie
+use Rattle.writer.proofs.Writer.write.Reads as reads
+use Rattle.writer.proofs.Writer.write.Lts as lts
+use Rattle.modes.proofs.look_up.Reads as look-up-reads
+use Rattle.writer.proofs.refused.Reads as refused-reads
+use Rattle.writer.proofs.write_or_refuse.Reads as write-or-refuse-reads
+
+look-up-requires : tie.Need-look-up-requires
+look-up-requires c κs = search needs
+
+enum-known-m : tie.Need-enum-known-m
+enum-known-m c = search needs
+
+write-or-refuse-requires : tie.Need-write-or-refuse-requires
+write-or-refuse-requires c κs = sym (c .before .before .before .before .look-up .ensures) ∙ c .before .before .m .given .1
+
+enum-told : tie.Need-enum-told
+enum-told c = search needs
+
+refused-requires : tie.Need-refused-requires
+refused-requires c κs = search needs
+
+same-length : tie.Need-same-length
+same-length c = search needs
+
+returns : tie.Need-returns
+returns c =
+    let a = c .before .before .before .before .before .before .before .before .before .before .before .before .args in
+    called (a .settings) (now (a .psd)) (now (a .lengths)) (now (a .bytes)) (length (now (a .pdu))) (a .self) (now (a .pdu)) _ _ _ _ (c .before .before .before .before .before .before .before .look-up .ensures) (c .before .before .before .before .before .m .given .1) (c .before .before .write-or-refuse .ensures)
+
+returns-2 : tie.Need-returns-2
+returns-2 c =
+    let a = c .before .before .before .before .before .before .before .before .args in
+    called (a .settings) (now (a .psd)) (now (a .lengths)) (now (a .bytes)) (length (now (a .pdu))) (a .self) (now (a .pdu)) _ _ _ _ (c .before .before .before .look-up .ensures) (c .before .enum-told .given .1) (c .refused .ensures, refl)
+
+pub write-spec : {M : Type 1} → statement M
+write-spec =
+    tie.close
+    (tie.spec
+    look-up-requires
+    enum-known-m
+    write-or-refuse-requires
+    enum-told
+    refused-requires
+    same-length
+    returns
+    returns-2)

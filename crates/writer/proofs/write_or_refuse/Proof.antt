@@ -1,0 +1,48 @@
+use Rattle.writer.proofs.Calling.{accepted-call, refused-call}
+use denote.Ref.{now}
+use native.Mathlib.Omega.{arith}
+use mathlib.Core.Path.{_≡_, refl, ap, sym, _∙_}
+use Prim.Native.Nat.{ℕ, _+_, _-_, _*_, _≤_, _<_}
+use lib.ListN.{length, take, drop, getD, set, length-set}
+use mathlib.Core.List.{List, [], _∷_, _++_}
+use borrow.Author.Needs.{needs}
+use Rattle.writer.proofs.write_or_refuse.Statement.{statement}
+use Rattle.writer.proofs.write_or_refuse.Tie as tie
+use Rattle.writer.proofs.write_or_refuse.Reads as reads
+use Rattle.writer.proofs.write_or_refuse.Lts as lts
+use Rattle.writer.proofs.refusal.Reads as refusal-reads
+use Rattle.writer.proofs.refused.Reads as refused-reads
+use Rattle.writer.proofs.write_listed.Reads as write-listed-reads
+
+refusal-requires : tie.Need-refusal-requires
+refusal-requires c κs = search needs
+
+write-listed-requires : tie.Need-write-listed-requires
+write-listed-requires c κs = search needs
+
+same-length : tie.Need-same-length
+same-length c = search needs
+
+returns : tie.Need-returns
+returns c =
+    let a = c .before .before .before .before .before .before .before .before .before .before .args in
+    accepted-call (a .s) (now (a .psd)) (now (a .lengths)) (now (a .bytes)) (length (now (a .pdu))) (a .w) (now (a .pdu)) (a .m) (c .before .before .write-listed .result) (c .before .before .write-listed .last .1 .1 .1 .1 .1 .1 .0) (sym (c .before .before .before .before .before .refusal .ensures) ∙ c .before .before .before .before .if1 .taken) (c .before .before .write-listed .ensures .0) (c .before .before .write-listed .ensures .1)
+
+refused-requires : tie.Need-refused-requires
+refused-requires c κs = search needs
+
+returns-2 : tie.Need-returns-2
+returns-2 c =
+    let a = c .before .before .before .before .before .before .before .args in
+    refused-call (a .s) (now (a .psd)) (now (a .lengths)) (now (a .bytes)) (length (now (a .pdu))) (a .w) (now (a .pdu)) (a .m) (c .before .before .refusal .result) (c .refused .result) (c .before .before .refusal .ensures) (c .before .if1 .left) (c .refused .ensures)
+
+pub write-or-refuse-spec : {M : Type 1} → statement M
+write-or-refuse-spec =
+    tie.close
+    (tie.spec
+    refusal-requires
+    write-listed-requires
+    same-length
+    returns
+    refused-requires
+    returns-2)

@@ -1,0 +1,184 @@
+/*
+ * Tests of the C library's writer against document 01: its examples (j) to (m),
+ * refusals that change nothing, and whole lists of packets that are written,
+ * damaged in up to four header bytes of each PDU, read back and joined.
+ */
+#include "barzhilup.h"
+
+#include <stdio.h>
+#include <string.h>
+
+static unsigned long checks, failed;
+
+static void check(int holds, const char *what, unsigned long which)
+{
+    checks++;
+    if (holds)
+        return;
+    failed++;
+    if (failed <= 20)
+        printf("  WRONG: %s, case %lu\n", what, which);
+}
+
+static uint32_t state = 88172645u;
+
+static uint32_t random_below(uint32_t n)
+{
+    state ^= state << 13;
+    state ^= state >> 17;
+    state ^= state << 5;
+    return state % n;
+}
+
+static const barzhilup_settings none; /* all 0 */
+static uint8_t zeros[4096];
+
+/* Offers packets of zeros in mode 0 with PDUs of 96 bytes. */
+static barzhilup_written offer(barzhilup_writer writer, size_t psd, const uint16_t *lengths,
+                               size_t count, uint8_t *pdu)
+{
+    size_t i, sum = 0;
+    for (i = 0; i < count; i++)
+        sum += lengths[i];
+    return barzhilup_write(writer, none, zeros, psd, lengths, count, zeros, sum, pdu, 96);
+}
+
+static void test_examples(void)
+{
+    const uint16_t one[1] = {100}, fifty[2] = {100, 50}, more[2] = {100, 56};
+    uint8_t pdu[96], before[96];
+    barzhilup_reading r;
+    barzhilup_written w;
+    barzhilup_writer fresh = barzhilup_open_writer(0, 0).writer, next;
+
+    w = offer(fresh, 0, one, 1, pdu); /* (j) */
+    r = barzhilup_read(pdu, 96);
+    check(w.refusal == 0 && w.ended == 0 && w.writer.sent == 79, "(j)", 0);
+    check(r.refusal == 0 && r.control.nop == 1 && r.control.plast == 1 && !r.control.pfirst, "(j)", 1);
+    check(r.starts[0] + r.lengths[0] == 95 && r.lengths[0] == 79, "(j)", 2);
+    next = w.writer;
+
+    w = offer(next, 0, fifty, 2, pdu); /* (k) */
+    r = barzhilup_read(pdu, 96);
+    check(w.refusal == 0 && w.ended == 2 && w.writer.sent == 0 && w.writer.number == 2, "(k)", 0);
+    check(r.starts[0] + r.lengths[0] == 39 && r.starts[1] + r.lengths[1] == 90, "(k)", 1);
+    check(r.control.start == 1 && r.control.pfirst == 1 && r.control.plast == 0, "(k)", 2);
+
+    w = offer(next, 0, more, 2, pdu); /* (l) */
+    check(w.refusal == 0 && w.ended == 1 && w.writer.sent == 55, "(l)", 0);
+
+    w = offer(fresh, 78, one, 1, pdu); /* (m) */
+    check(w.refusal == 0, "(m)", 78);
+    memset(pdu, 0xA5, sizeof pdu);
+    memcpy(before, pdu, sizeof pdu);
+    w = offer(fresh, 79, one, 1, pdu);
+    check(w.refusal == BARZHILUP_REFUSED_ROOM && w.ended == 0, "(m)", 79);
+    check(memcmp(pdu, before, sizeof pdu) == 0, "(m) changes nothing", 79);
+    check(memcmp(&w.writer, &fresh, sizeof fresh) == 0, "(m) leaves the writer", 79);
+}
+
+/* A call that is refused with a number, and changes nothing. */
+static void refused(uint32_t number, barzhilup_writer writer, barzhilup_settings settings,
+                    size_t psd, uint16_t length, size_t bytes, size_t pdu_length)
+{
+    static uint8_t pdu[BARZHILUP_PDU_MAX + 1], before[BARZHILUP_PDU_MAX + 1];
+    barzhilup_written w;
+    memset(pdu, 0x5A, sizeof pdu);
+    memcpy(before, pdu, sizeof pdu);
+    w = barzhilup_write(writer, settings, zeros, psd, &length, 1, zeros, bytes, pdu, pdu_length);
+    check(w.refusal == number && w.ended == 0, "refused with", number);
+    check(memcmp(pdu, before, sizeof pdu) == 0, "refused, PDU unchanged", number);
+    check(w.writer.mode == writer.mode && w.writer.stream == writer.stream
+              && w.writer.sequence == writer.sequence && w.writer.number == writer.number
+              && w.writer.sent == writer.sent,
+          "refused, writer unchanged", number);
+}
+
+static void test_refusals(void)
+{
+    barzhilup_writer core = barzhilup_open_writer(1, 0).writer;
+    barzhilup_writer enhanced = barzhilup_open_writer(1, 1).writer;
+    barzhilup_writer bad = core;
+    barzhilup_settings s = none;
+
+    check(barzhilup_open_writer(4, 0).refusal == BARZHILUP_REFUSED_MODE, "opening", 4);
+    check(barzhilup_open_writer(13, 1).refusal == BARZHILUP_REFUSED_MODE, "opening", 13);
+    bad.sequence = 8;
+    refused(BARZHILUP_REFUSED_STATE, bad, none, 0, 1, 1, 96);
+    refused(BARZHILUP_REFUSED_PDU_LENGTH, core, none, 0, 1, 1, 95);
+    refused(BARZHILUP_REFUSED_PDU_LENGTH, core, none, 0, 1, 1, 4097);
+    refused(BARZHILUP_REFUSED_PDU_LENGTH, enhanced, none, 0, 1, 1, 20481);
+    s.classed = true;
+    s.class_code = 1;
+    refused(BARZHILUP_REFUSED_EXPANSION, core, s, 0, 1, 1, 96);
+    s = none;
+    s.gain = 7;
+    refused(BARZHILUP_REFUSED_VALUE, core, s, 0, 1, 1, 96);
+    refused(BARZHILUP_REFUSED_PACKETS, core, none, 0, 0, 0, 96);
+    refused(BARZHILUP_REFUSED_PACKETS, core, none, 0, 4097, 4096, 96);
+    refused(BARZHILUP_REFUSED_PACKETS, core, none, 0, 2, 1, 96);
+    refused(BARZHILUP_REFUSED_PSD, core, none, 22, 1, 1, 96);
+    refused(BARZHILUP_REFUSED_PSD, enhanced, none, 1, 1, 1, 96);
+}
+
+#define PACKETS 40
+
+/* Writes a list of packets in one mode, damages each header, and reads it. */
+static void run(uint8_t mode, uint8_t stream, unsigned long which)
+{
+    static uint8_t bytes[PACKETS * 4096], pdu[BARZHILUP_PDU_MAX], clean[BARZHILUP_PDU_MAX];
+    static uint8_t back[PACKETS * 4096];
+    uint16_t lengths[PACKETS];
+    barzhilup_writer writer = barzhilup_open_writer(mode, stream).writer;
+    size_t first = 0, start = 0, total = 0, got = 0, i, k;
+
+    for (i = 0; i < PACKETS; i++) {
+        lengths[i] = (uint16_t)(1 + random_below(random_below(4) == 0 ? 4096 : 200));
+        total += lengths[i];
+    }
+    for (i = 0; i < total; i++)
+        bytes[i] = (uint8_t)random_below(256);
+    while (first < PACKETS) {
+        size_t length = 96 + random_below(random_below(2) == 0 ? 100 : 4001);
+        size_t offered = 1 + random_below((uint32_t)(PACKETS - first)), sum = 0;
+        barzhilup_written w;
+        barzhilup_reading r;
+        for (i = 0; i < offered; i++)
+            sum += lengths[first + i];
+        w = barzhilup_write(writer, none, zeros, 0, lengths + first, offered, bytes + start, sum,
+                            pdu, length);
+        check(w.refusal == 0, "accepted", which);
+        memcpy(clean, pdu, length);
+        for (i = random_below(5); i > 0; i--)
+            pdu[random_below(96)] = (uint8_t)random_below(256);
+        r = barzhilup_read(pdu, length);
+        check(r.refusal == 0 && memcmp(pdu, clean, length) == 0, "read back", which);
+        check(r.control.pfirst == (writer.sent > 0) && r.control.plast == (w.writer.sent > 0),
+              "flags", which);
+        for (k = 0; k < r.control.nop; k++) {
+            check(barzhilup_crc8(pdu + r.starts[k], r.lengths[k]) == pdu[r.starts[k] + r.lengths[k]],
+                  "CRC", which);
+            memcpy(back + got, pdu + r.starts[k], r.lengths[k]);
+            got += r.lengths[k];
+        }
+        for (i = 0; i < w.ended; i++)
+            start += lengths[first + i];
+        first += w.ended;
+        writer = w.writer;
+    }
+    check(got == total && memcmp(back, bytes, total) == 0, "all bytes, joined", which);
+}
+
+int main(void)
+{
+    static const uint8_t table[10][2] = {{0, 0}, {1, 0}, {2, 0}, {3, 0}, {1, 1},
+                                         {2, 1}, {3, 1}, {10, 0}, {10, 1}, {13, 0}};
+    unsigned long n;
+
+    test_examples();
+    test_refusals();
+    for (n = 0; n < 100; n++)
+        run(table[n % 10][0], table[n % 10][1], n);
+    printf("  writer: %lu checks, %lu failed\n", checks, failed);
+    return failed == 0 ? 0 : 1;
+}
