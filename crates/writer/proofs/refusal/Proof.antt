@@ -26,14 +26,36 @@ use Rattle.writer.proofs.wrong_packets.Reads as wrong-packets-reads
 use Rattle.writer.proofs.wrong_size.Reads as wrong-size-reads
 use Rattle.writer.proofs.wrong_state.Reads as wrong-state-reads
 
+-- the rows that do not apply
+not1 : (e : tie.Else1) → let a = e .before .before .before .before .before .args in anyOf (wrongState (a .m) (a .w)) ≡ false
+not1 e = let a = e .before .before .before .before .before .args in sym (e .before .wrong-state .ensures) ∙ e .if1 .left
+
+not2 : (e : tie.Else2) → let a = e .before .before .before .before .before .before .before .args in anyOf (wrongSize (a .m) (a .size)) ≡ false
+not2 e = let a = e .before .before .before .before .before .before .before .args in sym (e .before .wrong-size .ensures) ∙ e .if2 .left
+
+not3 : (e : tie.Else3) → let a = e .before .before .before .before .before .before .before .before .before .args in anyOf (brokenRules (a .s) (a .size)) ≡ false
+not3 e = let a = e .before .before .before .before .before .before .before .before .before .args in sym (e .before .breaks-rules .ensures) ∙ e .if3 .left
+
+not4 : (e : tie.Else4) → let a = e .before .before .before .before .before .before .before .before .before .before .before .args in anyOf (wrongValues (a .w .stream) (a .s)) ≡ false
+not4 e = let a = e .before .before .before .before .before .before .before .before .before .before .before .args in sym (e .before .wrong-values .ensures) ∙ e .if4 .left
+
+not5 : (e : tie.Else5) → let a = e .before .before .before .before .before .before .before .before .before .before .before .before .before .args in anyOf (wrongPackets (a .w .sent) (now (a .lengths)) (length (now (a .bytes)))) ≡ false
+not5 e = let a = e .before .before .before .before .before .before .before .before .before .before .before .before .before .args in sym (e .before .wrong-packets .ensures) ∙ e .if5 .left
+
+x-length : (e : tie.After-expansion-bytes) → let a = e .before .before .before .before .before .before .before .before .before .before .before .before .before .before .before .args in e .expansion-bytes .result .length ≡ length (expansionOf (a .s) (now (a .psd)) (now (a .lengths)) (now (a .bytes)) (a .size))
+x-length e = e .expansion-bytes .ensures .0 .0 ∙ ap (λ (y : Fields). length (expansionBytes y)) (e .before .fields-for .ensures)
+
+not6 : (e : tie.Else6) → let a = e .before .before .before .before .before .before .before .before .before .before .before .before .before .before .before .before .before .args in anyOf (wrongExtra (a .m) (length (expansionOf (a .s) (now (a .psd)) (now (a .lengths)) (now (a .bytes)) (a .size))) (length (now (a .psd)))) ≡ false
+not6 e = let a = e .before .before .before .before .before .before .before .before .before .before .before .before .before .before .before .before .before .args in ap (λ (k : ℕ). anyOf (wrongExtra (a .m) k (length (now (a .psd))))) (sym (x-length (e .before .before))) ∙ sym (e .before .wrong-extra .ensures .0) ∙ e .if6 .left
+
 wrong-state-requires : tie.Need-wrong-state-requires
 wrong-state-requires c κs = search needs
 
 returns : tie.Need-returns
 returns c =
     let a = c .before .before .before .before .before .args in
-    let t1 : anyOf (wrongState (a .m) (a .w)) ≡ true = sym (c .before .wrong-state .ensures) ∙ c .if1 .taken in
-    rw (t1)
+    let t : anyOf (wrongState (a .m) (a .w)) ≡ true = sym (c .before .wrong-state .ensures) ∙ c .if1 .taken in
+    rw (t)
 
 wrong-size-requires : tie.Need-wrong-size-requires
 wrong-size-requires c κs = search needs
@@ -41,9 +63,8 @@ wrong-size-requires c κs = search needs
 returns-2 : tie.Need-returns-2
 returns-2 c =
     let a = c .before .before .before .before .before .before .before .args in
-    let t1 : anyOf (wrongState (a .m) (a .w)) ≡ false = sym (c .before .before .before .wrong-state .ensures) ∙ c .before .before .if1 .left in
-    let t2 : anyOf (wrongSize (a .m) (a .size)) ≡ true = sym (c .before .wrong-size .ensures) ∙ c .if2 .taken in
-    rw (t1, t2)
+    let t : anyOf (wrongSize (a .m) (a .size)) ≡ true = sym (c .before .wrong-size .ensures) ∙ c .if2 .taken in
+    rw (not1 (c .before .before), t)
 
 breaks-rules-requires : tie.Need-breaks-rules-requires
 breaks-rules-requires c κs = search needs
@@ -51,10 +72,8 @@ breaks-rules-requires c κs = search needs
 returns-3 : tie.Need-returns-3
 returns-3 c =
     let a = c .before .before .before .before .before .before .before .before .before .args in
-    let t1 : anyOf (wrongState (a .m) (a .w)) ≡ false = sym (c .before .before .before .before .before .wrong-state .ensures) ∙ c .before .before .before .before .if1 .left in
-    let t2 : anyOf (wrongSize (a .m) (a .size)) ≡ false = sym (c .before .before .before .wrong-size .ensures) ∙ c .before .before .if2 .left in
-    let t3 : anyOf (brokenRules (a .s) (a .size)) ≡ true = sym (c .before .breaks-rules .ensures) ∙ c .if3 .taken in
-    rw (t1, t2, t3)
+    let t : anyOf (brokenRules (a .s) (a .size)) ≡ true = sym (c .before .breaks-rules .ensures) ∙ c .if3 .taken in
+    rw (not1 (c .before .before .before .before), not2 (c .before .before), t)
 
 wrong-values-requires : tie.Need-wrong-values-requires
 wrong-values-requires c κs = search needs
@@ -62,11 +81,8 @@ wrong-values-requires c κs = search needs
 returns-4 : tie.Need-returns-4
 returns-4 c =
     let a = c .before .before .before .before .before .before .before .before .before .before .before .args in
-    let t1 : anyOf (wrongState (a .m) (a .w)) ≡ false = sym (c .before .before .before .before .before .before .before .wrong-state .ensures) ∙ c .before .before .before .before .before .before .if1 .left in
-    let t2 : anyOf (wrongSize (a .m) (a .size)) ≡ false = sym (c .before .before .before .before .before .wrong-size .ensures) ∙ c .before .before .before .before .if2 .left in
-    let t3 : anyOf (brokenRules (a .s) (a .size)) ≡ false = sym (c .before .before .before .breaks-rules .ensures) ∙ c .before .before .if3 .left in
-    let t4 : anyOf (wrongValues (a .w .stream) (a .s)) ≡ true = sym (c .before .wrong-values .ensures) ∙ c .if4 .taken in
-    rw (t1, t2, t3, t4)
+    let t : anyOf (wrongValues (a .w .stream) (a .s)) ≡ true = sym (c .before .wrong-values .ensures) ∙ c .if4 .taken in
+    rw (not1 (c .before .before .before .before .before .before), not2 (c .before .before .before .before), not3 (c .before .before), t)
 
 wrong-packets-requires : tie.Need-wrong-packets-requires
 wrong-packets-requires c κs = search needs
@@ -74,24 +90,14 @@ wrong-packets-requires c κs = search needs
 returns-5 : tie.Need-returns-5
 returns-5 c =
     let a = c .before .before .before .before .before .before .before .before .before .before .before .before .before .args in
-    let t1 : anyOf (wrongState (a .m) (a .w)) ≡ false = sym (c .before .before .before .before .before .before .before .before .before .wrong-state .ensures) ∙ c .before .before .before .before .before .before .before .before .if1 .left in
-    let t2 : anyOf (wrongSize (a .m) (a .size)) ≡ false = sym (c .before .before .before .before .before .before .before .wrong-size .ensures) ∙ c .before .before .before .before .before .before .if2 .left in
-    let t3 : anyOf (brokenRules (a .s) (a .size)) ≡ false = sym (c .before .before .before .before .before .breaks-rules .ensures) ∙ c .before .before .before .before .if3 .left in
-    let t4 : anyOf (wrongValues (a .w .stream) (a .s)) ≡ false = sym (c .before .before .before .wrong-values .ensures) ∙ c .before .before .if4 .left in
-    let t5 : anyOf (wrongPackets (a .w .sent) (now (a .lengths)) (length (now (a .bytes)))) ≡ true = sym (c .before .wrong-packets .ensures) ∙ c .if5 .taken in
-    rw (t1, t2, t3, t4, t5)
+    let t : anyOf (wrongPackets (a .w .sent) (now (a .lengths)) (length (now (a .bytes)))) ≡ true = sym (c .before .wrong-packets .ensures) ∙ c .if5 .taken in
+    rw (not1 (c .before .before .before .before .before .before .before .before), not2 (c .before .before .before .before .before .before), not3 (c .before .before .before .before), not4 (c .before .before), t)
 
 cast-fields-for : tie.Need-cast-fields-for
-cast-fields-for c =
-    let a = c .before .before .before .before .before .before .before .before .before .before .before .before .before .args in
-    let h = size-right (a .m) (a .size) (sym (c .before .before .before .before .before .before .before .wrong-size .ensures) ∙ c .before .before .before .before .before .before .if2 .left) in
-    omega (arith, h .0, h .1)
+cast-fields-for c = let a = c .before .before .before .before .before .before .before .before .before .before .before .before .before .args in let h = size-right (a .m) (a .size) (not2 (c .before .before .before .before .before .before)) in omega (arith, h .0, h .1)
 
 fields-for-requires : tie.Need-fields-for-requires
-fields-for-requires c κs =
-    let a = c .before .before .before .before .before .before .before .before .before .before .before .before .before .args in
-    let h = size-right (a .m) (a .size) (sym (c .before .before .before .before .before .before .before .wrong-size .ensures) ∙ c .before .before .before .before .before .before .if2 .left) in
-    omega (arith, h .0, h .1)
+fields-for-requires c κs = let a = c .before .before .before .before .before .before .before .before .before .before .before .before .before .args in let h = size-right (a .m) (a .size) (not2 (c .before .before .before .before .before .before)) in omega (arith, h .0, h .1)
 
 expansion-bytes-requires : tie.Need-expansion-bytes-requires
 expansion-bytes-requires c κs = search needs
@@ -102,53 +108,26 @@ wrong-extra-requires c κs = search needs
 returns-6 : tie.Need-returns-6
 returns-6 c =
     let a = c .before .before .before .before .before .before .before .before .before .before .before .before .before .before .before .before .before .args in
-    let f : c .before .before .before .fields-for .result ≡ fieldsFor (a .s) (a .size) = c .before .before .before .fields-for .ensures in
-    let x : c .before .before .expansion-bytes .result .length ≡ length (expansionBytes (fieldsFor (a .s) (a .size))) = c .before .before .expansion-bytes .ensures .0 .0 ∙ ap (λ (y : Fields). length (expansionBytes y)) f in
-    let t1 : anyOf (wrongState (a .m) (a .w)) ≡ false = sym (c .before .before .before .before .before .before .before .before .before .before .before .before .before .wrong-state .ensures) ∙ c .before .before .before .before .before .before .before .before .before .before .before .before .if1 .left in
-    let t2 : anyOf (wrongSize (a .m) (a .size)) ≡ false = sym (c .before .before .before .before .before .before .before .before .before .before .before .wrong-size .ensures) ∙ c .before .before .before .before .before .before .before .before .before .before .if2 .left in
-    let t3 : anyOf (brokenRules (a .s) (a .size)) ≡ false = sym (c .before .before .before .before .before .before .before .before .before .breaks-rules .ensures) ∙ c .before .before .before .before .before .before .before .before .if3 .left in
-    let t4 : anyOf (wrongValues (a .w .stream) (a .s)) ≡ false = sym (c .before .before .before .before .before .before .before .wrong-values .ensures) ∙ c .before .before .before .before .before .before .if4 .left in
-    let t5 : anyOf (wrongPackets (a .w .sent) (now (a .lengths)) (length (now (a .bytes)))) ≡ false = sym (c .before .before .before .before .before .wrong-packets .ensures) ∙ c .before .before .before .before .if5 .left in
-    let t6 : anyOf (wrongExtra (a .m) (length (expansionOf (a .s) (now (a .psd)) (now (a .lengths)) (now (a .bytes)) (a .size))) (length (now (a .psd)))) ≡ true = ap (λ (k : ℕ). anyOf (wrongExtra (a .m) k (length (now (a .psd))))) (sym x) ∙ sym (c .before .wrong-extra .ensures .0) ∙ c .if6 .taken in
-    rw (t1, t2, t3, t4, t5, t6)
+    let t : anyOf (wrongExtra (a .m) (length (expansionOf (a .s) (now (a .psd)) (now (a .lengths)) (now (a .bytes)) (a .size))) (length (now (a .psd)))) ≡ true = ap (λ (k : ℕ). anyOf (wrongExtra (a .m) k (length (now (a .psd))))) (sym (x-length (c .before .before))) ∙ sym (c .before .wrong-extra .ensures .0) ∙ c .if6 .taken in
+    rw (not1 (c .before .before .before .before .before .before .before .before .before .before .before .before), not2 (c .before .before .before .before .before .before .before .before .before .before), not3 (c .before .before .before .before .before .before .before .before), not4 (c .before .before .before .before .before .before), not5 (c .before .before .before .before), t)
 
 add-no-room : tie.Need-add-no-room
-add-no-room c =
-    let h = c .before .before .wrong-extra .ensures .1 (c .before .if6 .left) in
-    omega (arith, h)
+add-no-room c = let h = c .before .before .wrong-extra .ensures .1 (c .before .if6 .left) in omega (arith, h)
 
 no-room-requires : tie.Need-no-room-requires
-no-room-requires c κs =
-    let h = c .before .before .wrong-extra .ensures .1 (c .before .if6 .left) in
-    omega (arith, h)
+no-room-requires c κs = let h = c .before .before .wrong-extra .ensures .1 (c .before .if6 .left) in omega (arith, h)
 
 returns-7 : tie.Need-returns-7
 returns-7 c =
     let a = c .before .before .before .before .before .before .before .before .before .before .before .before .before .before .before .before .before .before .before .before .args in
-    let f : c .before .before .before .before .before .before .fields-for .result ≡ fieldsFor (a .s) (a .size) = c .before .before .before .before .before .before .fields-for .ensures in
-    let x : c .before .before .before .before .before .expansion-bytes .result .length ≡ length (expansionBytes (fieldsFor (a .s) (a .size))) = c .before .before .before .before .before .expansion-bytes .ensures .0 .0 ∙ ap (λ (y : Fields). length (expansionBytes y)) f in
-    let t1 : anyOf (wrongState (a .m) (a .w)) ≡ false = sym (c .before .before .before .before .before .before .before .before .before .before .before .before .before .before .before .before .wrong-state .ensures) ∙ c .before .before .before .before .before .before .before .before .before .before .before .before .before .before .before .if1 .left in
-    let t2 : anyOf (wrongSize (a .m) (a .size)) ≡ false = sym (c .before .before .before .before .before .before .before .before .before .before .before .before .before .before .wrong-size .ensures) ∙ c .before .before .before .before .before .before .before .before .before .before .before .before .before .if2 .left in
-    let t3 : anyOf (brokenRules (a .s) (a .size)) ≡ false = sym (c .before .before .before .before .before .before .before .before .before .before .before .before .breaks-rules .ensures) ∙ c .before .before .before .before .before .before .before .before .before .before .before .if3 .left in
-    let t4 : anyOf (wrongValues (a .w .stream) (a .s)) ≡ false = sym (c .before .before .before .before .before .before .before .before .before .before .wrong-values .ensures) ∙ c .before .before .before .before .before .before .before .before .before .if4 .left in
-    let t5 : anyOf (wrongPackets (a .w .sent) (now (a .lengths)) (length (now (a .bytes)))) ≡ false = sym (c .before .before .before .before .before .before .before .before .wrong-packets .ensures) ∙ c .before .before .before .before .before .before .before .if5 .left in
-    let t6 : anyOf (wrongExtra (a .m) (length (expansionOf (a .s) (now (a .psd)) (now (a .lengths)) (now (a .bytes)) (a .size))) (length (now (a .psd)))) ≡ false = ap (λ (k : ℕ). anyOf (wrongExtra (a .m) k (length (now (a .psd))))) (sym x) ∙ sym (c .before .before .before .before .wrong-extra .ensures .0) ∙ c .before .before .before .if6 .left in
-    let t7 : noRoom (a .m) (extraOf (a .s) (now (a .psd)) (now (a .lengths)) (now (a .bytes)) (a .size)) (a .size) (now (a .lengths)) ≡ true = ap (λ (k : ℕ). noRoom (a .m) (k + length (now (a .psd))) (a .size) (now (a .lengths))) (sym x) ∙ sym (c .before .no-room .ensures) ∙ c .if7 .taken in
-    rw (t1, t2, t3, t4, t5, t6, t7)
+    let t : noRoom (a .m) (extraOf (a .s) (now (a .psd)) (now (a .lengths)) (now (a .bytes)) (a .size)) (a .size) (now (a .lengths)) ≡ true = ap (λ (k : ℕ). noRoom (a .m) (k + length (now (a .psd))) (a .size) (now (a .lengths))) (sym (x-length (c .before .before .before .before .before))) ∙ sym (c .before .no-room .ensures) ∙ c .if7 .taken in
+    rw (not1 (c .before .before .before .before .before .before .before .before .before .before .before .before .before .before .before), not2 (c .before .before .before .before .before .before .before .before .before .before .before .before .before), not3 (c .before .before .before .before .before .before .before .before .before .before .before), not4 (c .before .before .before .before .before .before .before .before .before), not5 (c .before .before .before .before .before .before .before), not6 (c .before .before .before), t)
 
 returns-8 : tie.Need-returns-8
 returns-8 c =
     let a = c .before .before .before .before .before .before .before .before .before .before .before .before .before .before .before .before .before .before .before .before .args in
-    let f : c .before .before .before .before .before .before .fields-for .result ≡ fieldsFor (a .s) (a .size) = c .before .before .before .before .before .before .fields-for .ensures in
-    let x : c .before .before .before .before .before .expansion-bytes .result .length ≡ length (expansionBytes (fieldsFor (a .s) (a .size))) = c .before .before .before .before .before .expansion-bytes .ensures .0 .0 ∙ ap (λ (y : Fields). length (expansionBytes y)) f in
-    let t1 : anyOf (wrongState (a .m) (a .w)) ≡ false = sym (c .before .before .before .before .before .before .before .before .before .before .before .before .before .before .before .before .wrong-state .ensures) ∙ c .before .before .before .before .before .before .before .before .before .before .before .before .before .before .before .if1 .left in
-    let t2 : anyOf (wrongSize (a .m) (a .size)) ≡ false = sym (c .before .before .before .before .before .before .before .before .before .before .before .before .before .before .wrong-size .ensures) ∙ c .before .before .before .before .before .before .before .before .before .before .before .before .before .if2 .left in
-    let t3 : anyOf (brokenRules (a .s) (a .size)) ≡ false = sym (c .before .before .before .before .before .before .before .before .before .before .before .before .breaks-rules .ensures) ∙ c .before .before .before .before .before .before .before .before .before .before .before .if3 .left in
-    let t4 : anyOf (wrongValues (a .w .stream) (a .s)) ≡ false = sym (c .before .before .before .before .before .before .before .before .before .before .wrong-values .ensures) ∙ c .before .before .before .before .before .before .before .before .before .if4 .left in
-    let t5 : anyOf (wrongPackets (a .w .sent) (now (a .lengths)) (length (now (a .bytes)))) ≡ false = sym (c .before .before .before .before .before .before .before .before .wrong-packets .ensures) ∙ c .before .before .before .before .before .before .before .if5 .left in
-    let t6 : anyOf (wrongExtra (a .m) (length (expansionOf (a .s) (now (a .psd)) (now (a .lengths)) (now (a .bytes)) (a .size))) (length (now (a .psd)))) ≡ false = ap (λ (k : ℕ). anyOf (wrongExtra (a .m) k (length (now (a .psd))))) (sym x) ∙ sym (c .before .before .before .before .wrong-extra .ensures .0) ∙ c .before .before .before .if6 .left in
-    let t7 : noRoom (a .m) (extraOf (a .s) (now (a .psd)) (now (a .lengths)) (now (a .bytes)) (a .size)) (a .size) (now (a .lengths)) ≡ false = ap (λ (k : ℕ). noRoom (a .m) (k + length (now (a .psd))) (a .size) (now (a .lengths))) (sym x) ∙ sym (c .before .no-room .ensures) ∙ c .if7 .left in
-    rw (t1, t2, t3, t4, t5, t6, t7)
+    let t : noRoom (a .m) (extraOf (a .s) (now (a .psd)) (now (a .lengths)) (now (a .bytes)) (a .size)) (a .size) (now (a .lengths)) ≡ false = ap (λ (k : ℕ). noRoom (a .m) (k + length (now (a .psd))) (a .size) (now (a .lengths))) (sym (x-length (c .before .before .before .before .before))) ∙ sym (c .before .no-room .ensures) ∙ c .if7 .left in
+    rw (not1 (c .before .before .before .before .before .before .before .before .before .before .before .before .before .before .before), not2 (c .before .before .before .before .before .before .before .before .before .before .before .before .before), not3 (c .before .before .before .before .before .before .before .before .before .before .before), not4 (c .before .before .before .before .before .before .before .before .before), not5 (c .before .before .before .before .before .before .before), not6 (c .before .before .before), t)
 
 pub refusal-spec : {M : Type 1} → statement M
 refusal-spec =
