@@ -9,7 +9,8 @@
  *    can be called from several threads at once on different buffers.
  *  - No pointer may be NULL, not even one that comes with length 0, and each
  *    must point at as many elements as said. Any alignment will do for bytes;
- *    other elements are aligned as C aligns them.
+ *    other elements are aligned as C aligns them. Buffers of one call must not
+ *    overlap where one of them is written.
  *  - A refused call returns a number of the table in document 01, "What is
  *    turned down", and leaves every byte lent to it as it was. If several causes
  *    apply, the lowest number is returned.
@@ -269,7 +270,8 @@ typedef struct {
     barzhilup_writer writer;
 } barzhilup_writer_opened;
 
-/* A PDU's settings. All 0: no expansion bytes. */
+/* A PDU's settings. All 0: no expansion bytes. A bool is true or false: any
+ * other byte in its place is undefined, as in C. */
 typedef struct {
     /* 0 to 2. */
     uint8_t blend;
@@ -320,7 +322,8 @@ barzhilup_writer_opened barzhilup_open_writer(uint8_t mode, uint8_t stream);
  * `lengths` has the lengths, 1 to 4,096, of the `count` packets that are
  * offered, `bytes` their bytes, joined. The first is the unfinished packet,
  * whole, if there is one. As many are placed as fit, and then a part of the
- * next: offer again from the first that did not end.
+ * next: offer again from the first that did not end. `pdu` must not overlap
+ * what is read.
  *
  * If it is refused, no byte of `pdu` has changed.
  */

@@ -2,7 +2,7 @@
 ghost use mathlib.Core.Path.{_≡_};
 ghost use mathlib.Core.List.{List, _++_};
 ghost use Prim.Native.Nat.{_+_, _≤_};
-ghost use lib.ListN.{length, replicate};
+ghost use lib.ListN.{length, drop, replicate};
 ghost use Rattle.buffer.specs.Buffer.{putAt};
 ghost use Rattle.layout.specs.Locators.{locatorSize, locatorBytes};
 ghost use Rattle.pieces.specs.Pieces.{cutBy, total};
@@ -29,7 +29,8 @@ fn put_front(
     buffer::put_bytes(&mut *pdu, at + expansion.len(), psd);
 }
 
-// Writes a PDU from its control word, expansion bytes, PSD, and bytes cut into pieces of these lengths; the rest, parity too, is zero.
+// Writes a PDU from its control word, expansion bytes, PSD, and the bytes from the first unsent one on, cut into pieces of these lengths;
+// the rest, parity too, is zero.
 pub fn put_contents(
     pdu: &mut [u8],
     width: u8,
@@ -38,14 +39,15 @@ pub fn put_contents(
     psd: &[u8],
     lengths: &[u16],
     bytes: &[u8],
+    sent: usize,
 )
     requires { ⌜ 14 + locatorSize width (length (now lengths)) + length (now expansion) + length (now psd) + total (now lengths) + length (now lengths) ≤ length (now pdu) ⌝ }
-    requires { ⌜ (length (now lengths) ≤ 64) × (length (now pdu) ≤ 65535) × (total (now lengths) ≤ length (now bytes)) ⌝ }
-    ensures { λ _. ⌜ now (pdu .exit) ≡ putAt (replicate (length (now (pdu .entry))) 0) 8 (control ++ contents width (now (expansion .entry)) (now (psd .entry)) (cutBy (now (lengths .entry)) (now (bytes .entry)))) ⌝ }
+    requires { ⌜ (length (now lengths) ≤ 64) × (length (now pdu) ≤ 65535) × (sent + total (now lengths) ≤ length (now bytes)) ⌝ }
+    ensures { λ _. ⌜ now (pdu .exit) ≡ putAt (replicate (length (now (pdu .entry))) 0) 8 (control ++ contents width (now (expansion .entry)) (now (psd .entry)) (cutBy (now (lengths .entry)) (drop sent (now (bytes .entry))))) ⌝ }
 {
     let n = lengths.len();
     let first = 14 + layout::locator_size(width, n as u8) + expansion.len() + psd.len();
     let locators = pieces::locators(first as u16, lengths);
     put_front(&mut *pdu, width, control, &locators[..n], expansion, psd);
-    pieces::put_pieces(&mut *pdu, first, lengths, bytes);
+    pieces::put_pieces(&mut *pdu, first, lengths, bytes, sent);
 }

@@ -58,6 +58,10 @@ controlOf b8 b9 b10 b11 b12 b13 = record {
 abbrev pub controlAt : List ℕ → ControlWord
 controlAt p = controlOf (getD p 8 0) (getD p 9 0) (getD p 10 0) (getD p 11 0) (getD p 12 0) (getD p 13 0)
 
+-- piece k (from 0) has the starting number plus k, minus 1 if Pfirst, modulo 64
+abbrev pub pieceNumber : ControlWord → ℕ → ℕ
+pieceNumber c k = (c .start + cond (c .pfirst) 63 0 + k) % 64
+
 -- every field within its width
 pub record InWidth (c : ControlWord) : Type 0 where
   pub mode : c .mode < 16

@@ -6,21 +6,24 @@ use Prim.Native.Nat.{ℕ, zero, suc, _+_, _%_, _<_, _≤_}
 use native.Mathlib.Omega.{arith}
 use native.Mathlib.Nat.{mod-lt}
 use lib.Dec.{eqb, ltb, leb}
-use borrow.Author.Tests.{le-ltb, lt-leb, ltb-false}
+use borrow.Author.Tests.{le-ltb, lt-leb, ltb-false, eq-eqb, eqb-true}
 use lib.ListN.{length}
-use Rattle.refusal.specs.Refusal.{anyOf}
+use Rattle.refusal.specs.Refusal.{anyOf, firstOf}
 use Rattle.modes.specs.Modes.{listing}
 use Rattle.modes.specs.declared.Mode.{Mode}
-use Rattle.modes.specs.declared.Listing.the-variants.{Listed}
+use Rattle.modes.specs.declared.Listing.{Listing}
+use Rattle.modes.specs.declared.Listing.the-variants.{Listed, Refused}
+use Rattle.layout.specs.Control.{bit, pieceNumber}
 use Rattle.modes.proofs.Listable.{listable}
 use Rattle.settings.specs.declared.Settings.{Settings}
 use Rattle.pieces.specs.Pieces.{total}
 use Rattle.packing.specs.Packing.{overhead, pieceLengths}
 use Rattle.packing.proofs.Bounds.{AtMost, Positive, sent-after, some-placed}
-use Rattle.writer.specs.Writing.{wrongLengths, wrongState, noRoom, extraOf, placed, nextOf}
+use Rattle.writer.specs.Writing.{wrongLengths, wrongState, noRoom, extraOf, placed, nextOf, controlFor, writerTests, acceptedAnswer, refusedAnswer, answerIn, writeAnswer}
 use Rattle.writer.specs.declared.Writer.{Writer}
+use Rattle.writer.specs.declared.Written.{Written}
 use Rattle.writer.proofs.Judging.{first-fails, second-fails}
-use Rattle.writer.proofs.Accepted.{Fine}
+use Rattle.writer.proofs.Accepted.{Fine, fine}
 use Rattle.writer.proofs.Sending.{one-piece, positive}
 
 at-most : (ns : List ℕ) → wrongLengths ns ≡ false → AtMost 4096 ns
@@ -57,3 +60,44 @@ module _ (settings : Settings) (psd lengths bytes : List ℕ) (size : ℕ) (m : 
       go : (ps : List ℕ) → 0 < length ps → Positive ps → 0 < total ps
       go [] n p = absurd (omega arith)
       go (k ∷ ps) n p = let q = p .0 in omega arith
+
+-- piece k is of the packet with the writer's number plus k, modulo 64
+pub numbers-run : (settings : Settings) (psd lengths bytes : List ℕ) (size : ℕ) (m : Mode) (w : Writer) (k : ℕ) → w .number ≤ 63
+    → pieceNumber (controlFor settings psd lengths bytes size m w) k ≡ (w .number + k) % 64
+numbers-run settings psd lengths bytes size m w k h = go (ltb 0 (w .sent))
+  where
+    go : (b : Bool) → ((w .number + bit b) % 64 + cond b 63 0 + k) % 64 ≡ (w .number + k) % 64
+    go true = omega (arith, h)
+    go false = omega (arith, h)
+
+-- ---- over calls
+
+module _ (settings : Settings) (psd lengths bytes : List ℕ) (size : ℕ) (w : Writer) where
+  accepted : (m : Mode) → answerIn settings psd lengths bytes size (Listed m) w .refusal ≡ 0 → firstOf (writerTests settings psd lengths bytes size m w) ≡ 0
+  accepted m h = by (eqb (firstOf (writerTests settings psd lengths bytes size m w)) 0) refl h
+    where
+      by : (b : Bool) → eqb (firstOf (writerTests settings psd lengths bytes size m w)) 0 ≡ b
+          → cond b (acceptedAnswer settings psd lengths bytes size m w) (refusedAnswer w (firstOf (writerTests settings psd lengths bytes size m w))) .refusal ≡ 0
+          → firstOf (writerTests settings psd lengths bytes size m w) ≡ 0
+      by true e h = eqb-true (firstOf (writerTests settings psd lengths bytes size m w)) 0 e
+      by false e h = h
+
+  module _ (m : Mode) (l : listing (w .mode) (w .stream) ≡ Listed m) (h : writeAnswer settings psd lengths bytes size w .refusal ≡ 0) where
+    here : writeAnswer settings psd lengths bytes size w ≡ answerIn settings psd lengths bytes size (Listed m) w
+    unfolding writeAnswer
+    here = ap (λ (k : Listing). answerIn settings psd lengths bytes size k w) l
+
+    tests : firstOf (writerTests settings psd lengths bytes size m w) ≡ 0
+    tests = accepted m (ap (λ (r : Written). r .refusal) (sym here) ∙ h)
+
+    -- the writer that an accepted call hands back is not refused with 1
+    pub next-accepted : anyOf (wrongState m (writeAnswer settings psd lengths bytes size w .writer)) ≡ false
+    next-accepted =
+        let t : eqb (firstOf (writerTests settings psd lengths bytes size m w)) 0 ≡ true = eq-eqb (firstOf (writerTests settings psd lengths bytes size m w)) 0 tests in
+        let e : writeAnswer settings psd lengths bytes size w .writer ≡ nextOf settings psd lengths bytes size m w =
+        ap (λ (r : Written). r .writer) here ∙ ap (λ (b : Bool). cond b (acceptedAnswer settings psd lengths bytes size m w) (refusedAnswer w (firstOf (writerTests settings psd lengths bytes size m w))) .writer) t in
+        ap (λ (n : Writer). anyOf (wrongState m n)) e ∙ next-right settings psd lengths bytes size m w (fine settings psd lengths bytes size m w tests) l
+
+    -- an accepted call with packets offered sends at least one byte
+    pub byte-sent : 0 < length lengths → 0 < total (placed settings psd lengths bytes size m w)
+    byte-sent = sends-a-byte settings psd lengths bytes size m w (fine settings psd lengths bytes size m w tests) l

@@ -286,7 +286,8 @@ fn write_listed(
         &expansion[..x.length],
         psd,
         &placed[..p.nop as usize],
-        &bytes[w.sent as usize..],
+        bytes,
+        w.sent as usize,
     );
     header::write_parity(&mut *pdu);
     let next = advance(w, m, p.ended, p.part);

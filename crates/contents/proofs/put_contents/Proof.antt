@@ -6,7 +6,7 @@ use Rattle.layout.proofs.LocatorLaw.{length-locators}
 use Rattle.layout.specs.Locators.{locatorBytes, locatorSize}
 use Rattle.buffer.proofs.Laws.{put-then}
 use Rattle.buffer.specs.Buffer.{putAt}
-use lib.ListN.{replicate, length-replicate, length-append}
+use lib.ListN.{replicate, length-replicate, length-append, length-drop}
 use borrow.Author.Needs.{counted-is}
 use denote.Ref.{now}
 use native.Mathlib.Omega.{arith}
@@ -75,8 +75,10 @@ returns c =
     let lz : length z ≡ n = length-replicate n 0 in
     let s : c .before .before .before .before .before .before .before .before .before .before .locator-size .result ≡ locatorSize (a .width) (length ls) = c .before .before .before .before .before .before .before .before .before .before .locator-size .ensures in
     let room : 14 + locatorSize (a .width) (length ls) + length (now (a .expansion)) + length (now (a .psd)) + total ls + length ls ≤ n = c .before .before .before .before .before .before .before .before .before .before .before .before .before .before .before .before .pre .0 in
-    let el : take (length ls) (c .before .before .before .before .before .before .before .before .before .locators .result) ≡ locatorsFrom (first (a .width) (now (a .expansion)) (now (a .psd)) ls (now (a .bytes)) (c .before .before .before .before .before .before .before .before .before .before .before .before .before .before .before .before .pre .1 .2)) ls = c .before .before .before .before .before .before .before .before .before .locators .ensures .1 ∙ ap (λ (k : ℕ). locatorsFrom (14 + k + length (now (a .expansion)) + length (now (a .psd))) ls) s in
-    two-puts (a .width) (now (a .expansion)) (now (a .psd)) ls (now (a .bytes)) (c .before .before .before .before .before .before .before .before .before .before .before .before .before .before .before .before .pre .1 .2) z (c .before .before .before .before .before .before .put-front .last .0) (c .before .before .put-pieces .last .0) (a .control) (take (length ls) (c .before .before .before .before .before .before .before .before .before .locators .result)) (14 + c .before .before .before .before .before .before .before .before .before .before .locator-size .result + length (now (a .expansion)) + length (now (a .psd))) (omega (arith, c .before .before .before .before .before .before .before .before .before .before .before .before .before .before .before .before .good .1 .1 .0)) (omega (arith, lz, room)) el (omega (arith, s)) (c .before .before .before .before .before .before .put-front .ensures) (c .before .before .put-pieces .ensures)
+    let rest = drop (a .sent) (now (a .bytes)) in
+    let enough : total ls ≤ length (drop (a .sent) (now (a .bytes))) = rw (length-drop (a .sent) (now (a .bytes))) (omega (arith, c .before .before .before .before .before .before .before .before .before .before .before .before .before .before .before .before .pre .1 .2)) in
+    let el : take (length ls) (c .before .before .before .before .before .before .before .before .before .locators .result) ≡ locatorsFrom (first (a .width) (now (a .expansion)) (now (a .psd)) ls rest enough) ls = c .before .before .before .before .before .before .before .before .before .locators .ensures .1 ∙ ap (λ (k : ℕ). locatorsFrom (14 + k + length (now (a .expansion)) + length (now (a .psd))) ls) s in
+    two-puts (a .width) (now (a .expansion)) (now (a .psd)) ls rest enough z (c .before .before .before .before .before .before .put-front .last .0) (c .before .before .put-pieces .last .0) (a .control) (take (length ls) (c .before .before .before .before .before .before .before .before .before .locators .result)) (14 + c .before .before .before .before .before .before .before .before .before .before .locator-size .result + length (now (a .expansion)) + length (now (a .psd))) (omega (arith, c .before .before .before .before .before .before .before .before .before .before .before .before .before .before .before .before .good .1 .1 .0)) (omega (arith, lz, room)) el (omega (arith, s)) (c .before .before .before .before .before .before .put-front .ensures) (c .before .before .put-pieces .ensures)
 
 pub put-contents-spec : {M : Type 1} → statement M
 put-contents-spec =

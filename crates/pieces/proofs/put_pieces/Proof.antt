@@ -1,14 +1,15 @@
 use Rattle.pieces.proofs.Cutting.{total-drop, turn, none-left}
 use Rattle.pieces.specs.Pieces.{cutBy, withCrc, pieceBytes, total}
-use Rattle.buffer.specs.Buffer.{putAt}
 use Rattle.buffer.proofs.Laws.{put-length}
+use Rattle.buffer.specs.Buffer.{putAt}
+use lib.Seq.{length-take-le}
+use lib.ListN.{length-drop, length-append}
+use denote.Ref.{now}
 use borrow.Author.Needs.{needs}
 use native.Mathlib.Omega.{arith}
-use mathlib.Core.Path.{_≡_, refl, ap, ap₂, sym, subst, _∙_}
-use denote.Ref.{now}
+use mathlib.Core.Path.{_≡_, refl, ap, sym, _∙_}
 use Prim.Native.Nat.{ℕ, _+_, _-_, _*_, _≤_, _<_}
-use lib.ListN.{length, take, drop, getD, set, length-set, length-drop, length-append}
-use lib.Seq.{length-take-le}
+use lib.ListN.{length, take, drop, getD, set, length-set}
 use mathlib.Core.List.{List, [], _∷_, _++_}
 use Rattle.pieces.proofs.put_pieces.Statement.{statement}
 use Rattle.pieces.proofs.put_pieces.Tie as tie
@@ -17,10 +18,19 @@ use Rattle.pieces.proofs.put_pieces.Lts as lts
 use Rattle.pieces.proofs.put_piece.Reads as put-piece-reads
 
 abbrev Inv-loop : tie.InvT-loop
-Inv-loop pdu₀ at lengths bytes place₀ from₀ k₀ pdu place from k = (k ≤ length lengths) × (length pdu ≡ length pdu₀) × (place + total (drop k lengths) + (length lengths - k) ≤ length pdu₀) × (from + total (drop k lengths) ≤ length bytes) × (putAt pdu place (pieceBytes (cutBy (drop k lengths) (drop from bytes))) ≡ putAt pdu₀ at (pieceBytes (cutBy lengths bytes)))
+Inv-loop pdu₀ at lengths bytes sent place₀ from₀ k₀ pdu place from k = (k ≤ length lengths) × (length pdu ≡ length pdu₀) × (place + total (drop k lengths) + (length lengths - k) ≤ length pdu₀) × (from + total (drop k lengths) ≤ length bytes) × (putAt pdu place (pieceBytes (cutBy (drop k lengths) (drop from bytes))) ≡ putAt pdu₀ at (pieceBytes (cutBy lengths (drop sent bytes))))
 
 abbrev μ-loop : tie.MeasureT-loop
-μ-loop pdu₀ at lengths bytes place₀ from₀ k₀ pdu place from k = length lengths - k
+μ-loop pdu₀ at lengths bytes sent place₀ from₀ k₀ pdu place from k = length lengths - k
+
+-- what the invariant says of one more piece
+left : (e : tie.In-loop Inv-loop μ-loop) → let p = e .before in let a = p .before .before .before .before .args in
+    (p .loop .place + getD (now (a .lengths)) (p .loop .k) 0 + 1 + (total (drop (p .loop .k + 1) (now (a .lengths))) + (length (now (a .lengths)) - (p .loop .k + 1))) ≤ length (now (a .pdu)))
+    × (p .loop .from + getD (now (a .lengths)) (p .loop .k) 0 + total (drop (p .loop .k + 1) (now (a .lengths))) ≤ length (now (a .bytes)))
+left e =
+    let p = e .before in
+    let t = total-drop (now (p .before .before .before .before .args .lengths)) (p .loop .k) (e .loop-test .taken) in
+    (omega (arith, t, e .loop-test .taken, p .loop .inv .2), omega (arith, t, p .loop .inv .3))
 
 loop-holds : tie.Need-loop-holds Inv-loop μ-loop
 loop-holds c = (omega arith, refl, omega (arith, c .before .before .before .pre .0), omega (arith, c .before .before .before .pre .1), refl)
@@ -32,66 +42,22 @@ shared-slice-read-n : tie.Need-shared-slice-read-n Inv-loop μ-loop
 shared-slice-read-n c = search needs
 
 cast-n : tie.Need-cast-n Inv-loop μ-loop
-cast-n c =
-    let p = c .before .before in
-    let ls = now (p .before .before .before .before .args .lengths) in
-    let t = total-drop ls (p .loop .k) (c .before .loop-test .taken) in
-    omega (arith, t, p .loop .inv .2, p .loop .inv .3)
+cast-n c = let h = left (c .before) in omega (arith, h .0, h .1)
 
 add-put-piece : tie.Need-add-put-piece Inv-loop μ-loop
-add-put-piece c =
-    let p = c .before .before .before in
-    let ls = now (p .before .before .before .before .args .lengths) in
-    let t = total-drop ls (p .loop .k) (c .before .before .loop-test .taken) in
-    omega (arith, t, p .loop .inv .2, p .loop .inv .3)
-
-sub-put-piece : tie.Need-sub-put-piece Inv-loop μ-loop
-sub-put-piece c = search needs
-
-part-put-piece-start : tie.Need-part-put-piece-start Inv-loop μ-loop
-part-put-piece-start c = search needs
-
-part-put-piece-end : tie.Need-part-put-piece-end Inv-loop μ-loop
-part-put-piece-end c =
-    let p = c .before .before .before in
-    let ls = now (p .before .before .before .before .args .lengths) in
-    let t = total-drop ls (p .loop .k) (c .before .before .loop-test .taken) in
-    omega (arith, t, p .loop .inv .3)
+add-put-piece c = let h = left (c .before .before) in omega (arith, h .0, h .1)
 
 put-piece-requires : tie.Need-put-piece-requires Inv-loop μ-loop
-put-piece-requires c κs =
-    let p = c .before .before .before .before in
-    let ls = now (p .before .before .before .before .args .lengths) in
-    let t = total-drop ls (p .loop .k) (c .before .before .before .loop-test .taken) in
-    let from = p .loop .from in
-    let n = getD ls (p .loop .k) 0 in
-    let bytes = now (p .before .before .before .before .args .bytes) in
-    let m : from + n - from ≡ n = omega arith in
-    let q : length (drop from bytes) ≡ length bytes - from = length-drop from bytes in
-    let w : length (take n (drop from bytes)) ≡ n = length-take-le n (drop from bytes) (omega (arith, t, p .loop .inv .3)) in
-    let r : p .loop .place + length (take n (drop from bytes)) + 1 ≤ length (p .loop .pdu) = omega (arith, t, w, p .loop .inv .1, p .loop .inv .2) in
-    rw m r
+put-piece-requires c κs = let h = left (c .before .before) in (omega arith, omega (arith, h .1), omega (arith, h .0, c .before .before .before .loop .inv .1))
 
 add-place : tie.Need-add-place Inv-loop μ-loop
-add-place c =
-    let p = c .before .before .before .before .before .before .before in
-    let ls = now (p .before .before .before .before .args .lengths) in
-    let t = total-drop ls (p .loop .k) (c .before .before .before .before .before .before .loop-test .taken) in
-    omega (arith, t, p .loop .inv .2, p .loop .inv .3)
+add-place c = let h = left (c .before .before .before .before .before) in omega (arith, h .0, h .1)
 
 add-place-2 : tie.Need-add-place-2 Inv-loop μ-loop
-add-place-2 c =
-    let p = c .before .before .before .before .before .before .before in
-    let ls = now (p .before .before .before .before .args .lengths) in
-    let t = total-drop ls (p .loop .k) (c .before .before .before .before .before .before .loop-test .taken) in
-    omega (arith, t, p .loop .inv .2, p .loop .inv .3)
+add-place-2 c = let h = left (c .before .before .before .before .before) in omega (arith, h .0, h .1)
 
 add-from : tie.Need-add-from Inv-loop μ-loop
-add-from c =
-    let p = c .before .before .before .before .before .before .before in
-    let ls = now (p .before .before .before .before .args .lengths) in
-    let t = total-drop ls (p .loop .k) (c .before .before .before .before .before .before .loop-test .taken) in
-    omega (arith, t, p .loop .inv .2, p .loop .inv .3)
+add-from c = let h = left (c .before .before .before .before .before) in omega (arith, h .0, h .1)
 
 add-k : tie.Need-add-k Inv-loop μ-loop
 add-k c = search needs
@@ -101,21 +67,22 @@ loop-less c = search needs
 
 loop-again : tie.Need-loop-again Inv-loop μ-loop
 loop-again c =
-    let p = c .before .before .before .before .before .before .before in
-    let ls = now (p .before .before .before .before .args .lengths) in
-    let t = total-drop ls (p .loop .k) (c .before .before .before .before .before .before .loop-test .taken) in
+    let p = c .before .before .before .before .before .before in
     let a = p .before .before .before .before .args in
+    let h = left (c .before .before .before .before .before) in
+    let ls = now (a .lengths) in
     let n = getD ls (p .loop .k) 0 in
     let from = p .loop .from in
+    let w = take n (drop from (now (a .bytes))) in
     let l2 = c .before .before .put-piece .last .0 in
     let m : from + n - from ≡ n = omega arith in
     let e0 : l2 ≡ putAt (p .loop .pdu) (p .loop .place) (withCrc (take (from + n - from) (drop from (now (a .bytes))))) = c .before .before .put-piece .ensures in
-    let e : l2 ≡ putAt (p .loop .pdu) (p .loop .place) (withCrc (take n (drop from (now (a .bytes))))) = rw m at e0 in
+    let e : l2 ≡ putAt (p .loop .pdu) (p .loop .place) (withCrc w) = rw m at e0 in
     let q : length (drop from (now (a .bytes))) ≡ length (now (a .bytes)) - from = length-drop from (now (a .bytes)) in
-    let w : length (take n (drop from (now (a .bytes)))) ≡ n = length-take-le n (drop from (now (a .bytes))) (omega (arith, t, p .loop .inv .3)) in
-    let z : length (withCrc (take n (drop from (now (a .bytes))))) ≡ n + 1 = simp (length-append, w) in
-    let k : length l2 ≡ length (p .loop .pdu) = ap length e ∙ put-length (p .loop .pdu) (p .loop .place) (withCrc (take n (drop from (now (a .bytes))))) (omega (arith, z, t, p .loop .inv .1, p .loop .inv .2)) in
-    (omega arith, k ∙ p .loop .inv .1, omega (arith, t, p .loop .inv .2), omega (arith, t, p .loop .inv .3), turn (p .loop .pdu) l2 ls (now (a .bytes)) (putAt (now (a .pdu)) (a .at) (pieceBytes (cutBy ls (now (a .bytes))))) (p .loop .place) from (p .loop .k) n (c .before .before .before .before .before .before .loop-test .taken) refl (omega (arith, t, p .loop .inv .3)) (omega (arith, t, p .loop .inv .1, p .loop .inv .2)) e (p .loop .inv .4))
+    let wl : length w ≡ n = length-take-le n (drop from (now (a .bytes))) (omega (arith, q, h .1)) in
+    let z : length (withCrc w) ≡ n + 1 = simp (length-append, wl) in
+    let k : length l2 ≡ length (p .loop .pdu) = ap length e ∙ put-length (p .loop .pdu) (p .loop .place) (withCrc w) (omega (arith, z, h .0, p .loop .inv .1)) in
+    (omega (arith, c .before .before .before .before .before .loop-test .taken), k ∙ p .loop .inv .1, omega (arith, h .0), omega (arith, h .1), turn (p .loop .pdu) l2 ls (now (a .bytes)) (putAt (now (a .pdu)) (a .at) (pieceBytes (cutBy ls (drop (a .sent) (now (a .bytes)))))) (p .loop .place) from (p .loop .k) n (c .before .before .before .before .before .loop-test .taken) refl (omega (arith, h .1)) (omega (arith, h .0, p .loop .inv .1)) e (p .loop .inv .4))
 
 same-length : tie.Need-same-length Inv-loop μ-loop
 same-length c = search needs
@@ -124,7 +91,7 @@ returns : tie.Need-returns Inv-loop μ-loop
 returns c =
     let p = c .before in
     let a = p .before .before .before .before .args in
-    none-left (p .loop .pdu) (now (a .lengths)) (now (a .bytes)) (putAt (now (a .pdu)) (a .at) (pieceBytes (cutBy (now (a .lengths)) (now (a .bytes))))) (p .loop .place) (p .loop .from) (p .loop .k) (c .loop-test .left) (p .loop .inv .4)
+    none-left (p .loop .pdu) (now (a .lengths)) (now (a .bytes)) (putAt (now (a .pdu)) (a .at) (pieceBytes (cutBy (now (a .lengths)) (drop (a .sent) (now (a .bytes)))))) (p .loop .place) (p .loop .from) (p .loop .k) (c .loop-test .left) (p .loop .inv .4)
 
 pub put-pieces-spec : {M : Type 1} → statement M
 put-pieces-spec =
@@ -137,9 +104,6 @@ put-pieces-spec =
     shared-slice-read-n
     cast-n
     add-put-piece
-    sub-put-piece
-    part-put-piece-start
-    part-put-piece-end
     put-piece-requires
     add-place
     add-place-2

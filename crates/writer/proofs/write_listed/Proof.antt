@@ -9,7 +9,6 @@ use Rattle.modes.proofs.Listable.{Listable, listable}
 use Rattle.expansion.specs.declared.Fields.{Fields}
 use Rattle.expansion.specs.Writing.{expansionBytes}
 use lib.ListN.{length-drop}
-use lib.Seq.{take-all}
 use lib.Dec.{ltb}
 use denote.Ref.{now}
 use native.Mathlib.Omega.{arith}
@@ -64,10 +63,6 @@ p-nop e = let a = e .before .before .before .before .before .before .before .bef
 
 p-lengths : (e : tie.After-pack) → let a = e .before .before .before .before .before .before .before .before .args in take (e .pack .result .nop) (e .pack .result .lengths) ≡ placed (a .s) (now (a .psd)) (now (a .lengths)) (now (a .bytes)) (length (now (a .pdu))) (a .m) (a .w)
 p-lengths e = let a = e .before .before .before .before .before .before .before .before .args in e .pack .ensures .1 .1 .1 ∙ packed-with e (λ k. pieceLengths (a .m .width) k (length (now (a .pdu))) (a .w .sent) (now (a .lengths)))
-
--- the bytes from the first unsent one on
-unsent : (s : tie.Start) → take (length (now (s .args .bytes)) - s .args .w .sent) (drop (s .args .w .sent) (now (s .args .bytes))) ≡ drop (s .args .w .sent) (now (s .args .bytes))
-unsent s = let n = length-drop (s .args .w .sent) (now (s .args .bytes)) in take-all (length (now (s .args .bytes)) - s .args .w .sent) (drop (s .args .w .sent) (now (s .args .bytes))) (omega (arith, n))
 
 -- the place of the first piece
 first-at : (e : tie.After-overhead) → let a = e .before .before .before .before .before .before .before .before .before .before .args in e .overhead .result ≡ overhead (a .m .width) (extraOf (a .s) (now (a .psd)) (now (a .lengths)) (now (a .bytes)) (length (now (a .pdu)))) (length (placed (a .s) (now (a .psd)) (now (a .lengths)) (now (a .bytes)) (length (now (a .pdu))) (a .m) (a .w)))
@@ -127,26 +122,17 @@ slice-aggregate-put-contents-2 c = p-nop (c .before .before .before .before .bef
 cast-put-contents : tie.Need-cast-put-contents
 cast-put-contents c = search needs
 
-sub-put-contents : tie.Need-sub-put-contents
-sub-put-contents c = let a = c .before .before .before .before .before .before .before .before .before .before .before .before .before .before .before .before .before .before .before .before .args in sent-within (a .s) (now (a .psd)) (now (a .lengths)) (now (a .bytes)) (length (now (a .pdu))) (a .m) (a .w) (fine-at (c .before .before .before .before .before .before .before .before .before .before .before .before .before .before .before .before .before .before .before .before))
-
-part-put-contents-start : tie.Need-part-put-contents-start
-part-put-contents-start c = let a = c .before .before .before .before .before .before .before .before .before .before .before .before .before .before .before .before .before .before .before .before .args in sent-within (a .s) (now (a .psd)) (now (a .lengths)) (now (a .bytes)) (length (now (a .pdu))) (a .m) (a .w) (fine-at (c .before .before .before .before .before .before .before .before .before .before .before .before .before .before .before .before .before .before .before .before))
-
-part-put-contents-end : tie.Need-part-put-contents-end
-part-put-contents-end c = search needs
-
 put-contents-requires : tie.Need-put-contents-requires
 put-contents-requires c κs =
-    let a = c .before .before .before .before .before .before .before .before .before .before .before .before .before .before .before .before .before .before .before .before .before .args in
-    let f = fine-at (c .before .before .before .before .before .before .before .before .before .before .before .before .before .before .before .before .before .before .before .before .before) in
-    let p = c .before .before .before .before .before .before .before .before .before .before .before .before .before .pack .result in
-    let x = c .before .before .before .before .before .before .before .before .before .before .before .before .before .before .before .expansion-bytes .result in
-    let pl : take (p .nop) (p .lengths) ≡ placed (a .s) (now (a .psd)) (now (a .lengths)) (now (a .bytes)) (length (now (a .pdu))) (a .m) (a .w) = p-lengths (c .before .before .before .before .before .before .before .before .before .before .before .before .before) in
-    let xb : take (x .length) (x .bytes) ≡ expansionOf (a .s) (now (a .psd)) (now (a .lengths)) (now (a .bytes)) (length (now (a .pdu))) = x-bytes (c .before .before .before .before .before .before .before .before .before .before .before .before .before .before .before) in
+    let a = c .before .before .before .before .before .before .before .before .before .before .before .before .before .before .before .before .before .before .before .before .args in
+    let f = fine-at (c .before .before .before .before .before .before .before .before .before .before .before .before .before .before .before .before .before .before .before .before) in
+    let p = c .before .before .before .before .before .before .before .before .before .before .before .before .pack .result in
+    let x = c .before .before .before .before .before .before .before .before .before .before .before .before .before .before .expansion-bytes .result in
+    let pl : take (p .nop) (p .lengths) ≡ placed (a .s) (now (a .psd)) (now (a .lengths)) (now (a .bytes)) (length (now (a .pdu))) (a .m) (a .w) = p-lengths (c .before .before .before .before .before .before .before .before .before .before .before .before) in
+    let xb : take (x .length) (x .bytes) ≡ expansionOf (a .s) (now (a .psd)) (now (a .lengths)) (now (a .bytes)) (length (now (a .pdu))) = x-bytes (c .before .before .before .before .before .before .before .before .before .before .before .before .before .before) in
     let r : 14 + locatorSize (a .m .width) (length (take (p .nop) (p .lengths))) + length (take (x .length) (x .bytes)) + length (now (a .psd)) + total (take (p .nop) (p .lengths)) + length (take (p .nop) (p .lengths)) ≤ length (now (a .pdu)) = rw (pl, xb) (fits (a .s) (now (a .psd)) (now (a .lengths)) (now (a .bytes)) (length (now (a .pdu))) (a .m) (a .w) f) in
     let n : length (take (p .nop) (p .lengths)) ≤ 64 = rw pl (omega (arith, few (a .s) (now (a .psd)) (now (a .lengths)) (now (a .bytes)) (length (now (a .pdu))) (a .m) (a .w) f, most-small (a .m .width))) in
-    let t : total (take (p .nop) (p .lengths)) ≤ length (take (length (now (a .bytes)) - a .w .sent) (drop (a .w .sent) (now (a .bytes)))) = rw (pl, unsent (c .before .before .before .before .before .before .before .before .before .before .before .before .before .before .before .before .before .before .before .before .before)) (enough (a .s) (now (a .psd)) (now (a .lengths)) (now (a .bytes)) (length (now (a .pdu))) (a .m) (a .w) f) in
+    let t : a .w .sent + total (take (p .nop) (p .lengths)) ≤ length (now (a .bytes)) = rw pl (omega (arith, enough (a .s) (now (a .psd)) (now (a .lengths)) (now (a .bytes)) (length (now (a .pdu))) (a .m) (a .w) f, length-drop (a .w .sent) (now (a .bytes)), sent-within (a .s) (now (a .psd)) (now (a .lengths)) (now (a .bytes)) (length (now (a .pdu))) (a .m) (a .w) f)) in
     (r, (n, omega (arith, f .short), t))
 
 write-parity-requires : tie.Need-write-parity-requires
@@ -154,28 +140,28 @@ write-parity-requires c κs = search needs
 
 advance-requires : tie.Need-advance-requires
 advance-requires c κs =
-    let a = c .before .before .before .before .before .before .before .before .before .before .before .before .before .before .before .before .before .before .before .before .before .before .before .before .before .before .before .before .args in
-    let f = fine-at (c .before .before .before .before .before .before .before .before .before .before .before .before .before .before .before .before .before .before .before .before .before .before .before .before .before .before .before .before) in
+    let a = c .before .before .before .before .before .before .before .before .before .before .before .before .before .before .before .before .before .before .before .before .before .before .before .before .before .before .before .args in
+    let f = fine-at (c .before .before .before .before .before .before .before .before .before .before .before .before .before .before .before .before .before .before .before .before .before .before .before .before .before .before .before) in
     let e = ended-few (a .s) (now (a .psd)) (now (a .lengths)) (now (a .bytes)) (length (now (a .pdu))) (a .m) (a .w) f in
     let p = part-small (a .s) (now (a .psd)) (now (a .lengths)) (now (a .bytes)) (length (now (a .pdu))) (a .m) (a .w) f in
-    ((f .sequence, listed-at (c .before .before .before .before .before .before .before .before .before .before .before .before .before .before .before .before .before .before .before .before .before .before .before .before .before .before .before .before) .most, f .number, f .sent), (omega (arith, e, p-ended (c .before .before .before .before .before .before .before .before .before .before .before .before .before .before .before .before .before .before .before .before)), omega (arith, p, p-part (c .before .before .before .before .before .before .before .before .before .before .before .before .before .before .before .before .before .before .before .before))))
+    ((f .sequence, listed-at (c .before .before .before .before .before .before .before .before .before .before .before .before .before .before .before .before .before .before .before .before .before .before .before .before .before .before .before) .most, f .number, f .sent), (omega (arith, e, p-ended (c .before .before .before .before .before .before .before .before .before .before .before .before .before .before .before .before .before .before .before)), omega (arith, p, p-part (c .before .before .before .before .before .before .before .before .before .before .before .before .before .before .before .before .before .before .before))))
 
-cast-t34 : tie.Need-cast-t34
-cast-t34 c = search needs
+cast-t30 : tie.Need-cast-t30
+cast-t30 c = search needs
 
 same-length : tie.Need-same-length
 same-length c = search needs
 
 returns : tie.Need-returns
 returns c =
-    let a = c .before .before .before .before .before .before .before .before .before .before .before .before .before .before .before .before .before .before .before .before .before .before .before .before .before .before .before .before .before .before .args in
-    let f = fine-at (c .before .before .before .before .before .before .before .before .before .before .before .before .before .before .before .before .before .before .before .before .before .before .before .before .before .before .before .before .before .before) in
-    let p = c .before .before .before .before .before .before .before .before .before .before .before .before .before .before .before .before .before .before .before .before .before .before .pack .result in
-    let x = c .before .before .before .before .before .before .before .before .before .before .before .before .before .before .before .before .before .before .before .before .before .before .before .before .expansion-bytes .result in
+    let a = c .before .before .before .before .before .before .before .before .before .before .before .before .before .before .before .before .before .before .before .before .before .before .before .before .before .before .before .before .before .args in
+    let f = fine-at (c .before .before .before .before .before .before .before .before .before .before .before .before .before .before .before .before .before .before .before .before .before .before .before .before .before .before .before .before .before) in
+    let p = c .before .before .before .before .before .before .before .before .before .before .before .before .before .before .before .before .before .before .before .before .before .pack .result in
+    let x = c .before .before .before .before .before .before .before .before .before .before .before .before .before .before .before .before .before .before .before .before .before .before .before .expansion-bytes .result in
     let e : c .before .advance .result ≡ advanced (a .m) (a .w) (p .ended) (p .part) = c .before .advance .ensures in
-    let pe : p .ended ≡ endedOf (a .s) (now (a .psd)) (now (a .lengths)) (now (a .bytes)) (length (now (a .pdu))) (a .m) (a .w) = p-ended (c .before .before .before .before .before .before .before .before .before .before .before .before .before .before .before .before .before .before .before .before .before .before) in
-    let pp : p .part ≡ partOf (a .s) (now (a .psd)) (now (a .lengths)) (now (a .bytes)) (length (now (a .pdu))) (a .m) (a .w) = p-part (c .before .before .before .before .before .before .before .before .before .before .before .before .before .before .before .before .before .before .before .before .before .before) in
-    (rw (e, pe, pp), composed (a .s) (now (a .psd)) (now (a .lengths)) (now (a .bytes)) (length (now (a .pdu))) (a .m) (a .w) f (p .nop) (p .part) (c .before .before .before .before .before .before .before .before .before .before .before .before .before .before .before .before .before .before .before .before .overhead .result) (ltb 0 (x .length)) (c .before .before .before .before .before .before .before .before .before .before .before .before .before .before .before .before .before .before .control-with .result) (c .before .before .before .before .before .before .before .before .before .before .before .before .before .before .before .before .before .control-bytes .result) (take (x .length) (x .bytes)) (take (p .nop) (p .lengths)) (take (length (now (a .bytes)) - a .w .sent) (drop (a .w .sent) (now (a .bytes)))) (c .before .before .before .before .before .before .before .before .put-contents .last .0) (c .before .before .before .before .write-parity .last .0) (x-bytes (c .before .before .before .before .before .before .before .before .before .before .before .before .before .before .before .before .before .before .before .before .before .before .before .before)) (p-lengths (c .before .before .before .before .before .before .before .before .before .before .before .before .before .before .before .before .before .before .before .before .before .before)) (unsent (c .before .before .before .before .before .before .before .before .before .before .before .before .before .before .before .before .before .before .before .before .before .before .before .before .before .before .before .before .before .before)) (p-nop (c .before .before .before .before .before .before .before .before .before .before .before .before .before .before .before .before .before .before .before .before .before .before)) (p-part (c .before .before .before .before .before .before .before .before .before .before .before .before .before .before .before .before .before .before .before .before .before .before)) (first-at (c .before .before .before .before .before .before .before .before .before .before .before .before .before .before .before .before .before .before .before .before)) (ap (ltb 0) (x-length (c .before .before .before .before .before .before .before .before .before .before .before .before .before .before .before .before .before .before .before .before .before .before .before .before))) (c .before .before .before .before .before .before .before .before .before .before .before .before .before .before .before .before .before .before .control-with .ensures) (c .before .before .before .before .before .before .before .before .before .before .before .before .before .before .before .before .before .control-bytes .ensures) (c .before .before .before .before .before .before .before .before .put-contents .ensures) (c .before .before .before .before .write-parity .ensures .1))
+    let pe : p .ended ≡ endedOf (a .s) (now (a .psd)) (now (a .lengths)) (now (a .bytes)) (length (now (a .pdu))) (a .m) (a .w) = p-ended (c .before .before .before .before .before .before .before .before .before .before .before .before .before .before .before .before .before .before .before .before .before) in
+    let pp : p .part ≡ partOf (a .s) (now (a .psd)) (now (a .lengths)) (now (a .bytes)) (length (now (a .pdu))) (a .m) (a .w) = p-part (c .before .before .before .before .before .before .before .before .before .before .before .before .before .before .before .before .before .before .before .before .before) in
+    (rw (e, pe, pp), composed (a .s) (now (a .psd)) (now (a .lengths)) (now (a .bytes)) (length (now (a .pdu))) (a .m) (a .w) f (p .nop) (p .part) (c .before .before .before .before .before .before .before .before .before .before .before .before .before .before .before .before .before .before .before .overhead .result) (ltb 0 (x .length)) (c .before .before .before .before .before .before .before .before .before .before .before .before .before .before .before .before .before .control-with .result) (c .before .before .before .before .before .before .before .before .before .before .before .before .before .before .before .before .control-bytes .result) (take (x .length) (x .bytes)) (take (p .nop) (p .lengths)) (drop (a .w .sent) (now (a .bytes))) (c .before .before .before .before .before .before .before .before .put-contents .last .0) (c .before .before .before .before .write-parity .last .0) (x-bytes (c .before .before .before .before .before .before .before .before .before .before .before .before .before .before .before .before .before .before .before .before .before .before .before)) (p-lengths (c .before .before .before .before .before .before .before .before .before .before .before .before .before .before .before .before .before .before .before .before .before)) refl (p-nop (c .before .before .before .before .before .before .before .before .before .before .before .before .before .before .before .before .before .before .before .before .before)) (p-part (c .before .before .before .before .before .before .before .before .before .before .before .before .before .before .before .before .before .before .before .before .before)) (first-at (c .before .before .before .before .before .before .before .before .before .before .before .before .before .before .before .before .before .before .before)) (ap (ltb 0) (x-length (c .before .before .before .before .before .before .before .before .before .before .before .before .before .before .before .before .before .before .before .before .before .before .before))) (c .before .before .before .before .before .before .before .before .before .before .before .before .before .before .before .before .before .control-with .ensures) (c .before .before .before .before .before .before .before .before .before .before .before .before .before .before .before .before .control-bytes .ensures) (c .before .before .before .before .before .before .before .before .put-contents .ensures) (c .before .before .before .before .write-parity .ensures .1))
 
 pub write-listed-spec : {M : Type 1} → statement M
 write-listed-spec =
@@ -198,12 +184,9 @@ write-listed-spec =
     array-share-prefix-placed
     slice-aggregate-put-contents-2
     cast-put-contents
-    sub-put-contents
-    part-put-contents-start
-    part-put-contents-end
     put-contents-requires
     write-parity-requires
     advance-requires
-    cast-t34
+    cast-t30
     same-length
     returns)

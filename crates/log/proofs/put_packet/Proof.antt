@@ -1,0 +1,83 @@
+use denote.Ref.{now}
+use lib.ListN.{length-append, length, length-set}
+use native.Mathlib.Omega.{arith}
+use mathlib.Core.Path.{_≡_, ap, _∙_}
+use Prim.Native.Nat.{ℕ, _<_}
+use mathlib.Core.List.{List, _∷_, _++_}
+use borrow.Author.Needs.{needs}
+use Rattle.buffer.specs.Buffer.{putAt}
+use Rattle.buffer.proofs.Laws.{put-cons}
+use Rattle.log.specs.Log.{word, dataWords, entryWords}
+use Rattle.log.proofs.put_packet.Statement.{statement}
+use Rattle.log.proofs.put_packet.Tie as tie
+use Rattle.log.proofs.put_packet.Reads as reads
+use Rattle.log.proofs.put_packet.Lts as lts
+use Rattle.log.proofs.put_data.Reads as put-data-reads
+use Rattle.log.proofs.wide.Reads as wide-reads
+use Rattle.log.proofs.word_of.Reads as word-of-reads
+
+add-length : tie.Need-add-length
+add-length c = search needs
+
+wide-requires : tie.Need-wide-requires
+wide-requires c κs = search needs
+
+cast-word-of : tie.Need-cast-word-of
+cast-word-of c = search needs
+
+word-of-requires : tie.Need-word-of-requires
+word-of-requires c κs = search needs
+
+mul-log : tie.Need-mul-log
+mul-log c = search needs
+
+slice-write-log : tie.Need-slice-write-log
+unfolding entryWords
+slice-write-log c = let h = c .before .before .before .before .before .pre .1 in omega (arith, h)
+
+add-put-data : tie.Need-add-put-data
+add-put-data c = search needs
+
+put-data-requires : tie.Need-put-data-requires
+unfolding entryWords
+put-data-requires c κs =
+    let h = c .before .before .before .before .before .before .pre .1 in
+    (omega arith, simp length-set (omega (arith, h)))
+
+add-result : tie.Need-add-result
+unfolding entryWords
+add-result c =
+    let p = c .before .before .before .before .before .before .before .before .before in
+    omega (arith, p .pre .1, c .before .before .put-data .ensures .0)
+
+same-length : tie.Need-same-length
+same-length c = omega (arith, simp length-set at (c .before .before .put-data .kept .0))
+
+returns : tie.Need-returns
+unfolding entryWords
+returns c =
+    let p = c .before .before .before .before .before .before .before .before .before in
+    let a = p .args in
+    let q = c .before .before .put-data in
+    let w = c .before .before .before .before .word-of in
+    let l : List ℕ = now (a .log) in
+    let s : List ℕ = now (a .first) ++ now (a .second) in
+    let e : w .result ≡ word 0 (a .number) (length s) = simp (w .ensures, c .before .before .before .before .before .wide .ensures .0, length-append) in
+    let h : a .at < length l = omega (arith, p .pre .1) in
+    (omega (arith, q .ensures .0), q .ensures .1 ∙ put-cons l (dataWords s) (a .at) (w .result) h ∙ ap (λ (x : ℕ). putAt l (a .at) (x ∷ dataWords s)) e)
+
+pub put-packet-spec : {M : Type 1} → statement M
+put-packet-spec =
+    tie.close
+    (tie.spec
+    add-length
+    wide-requires
+    cast-word-of
+    word-of-requires
+    mul-log
+    slice-write-log
+    add-put-data
+    put-data-requires
+    add-result
+    same-length
+    returns)

@@ -1,0 +1,77 @@
+use denote.Ref.{now}
+use native.Mathlib.Omega.{arith}
+use mathlib.Core.Path.{ap, _∙_}
+use Prim.Native.Nat.{ℕ, _<_}
+use lib.ListN.{length, length-set}
+use mathlib.Core.List.{List, _∷_}
+use borrow.Author.Needs.{needs}
+use Rattle.buffer.specs.Buffer.{putAt}
+use Rattle.buffer.proofs.Laws.{put-cons}
+use Rattle.log.specs.Log.{dataWords, entryWords}
+use Rattle.log.proofs.put_psd.Statement.{statement}
+use Rattle.log.proofs.put_psd.Tie as tie
+use Rattle.log.proofs.put_psd.Reads as reads
+use Rattle.log.proofs.put_psd.Lts as lts
+use Rattle.log.proofs.put_data.Reads as put-data-reads
+use Rattle.log.proofs.word_of.Reads as word-of-reads
+
+cast-word-of : tie.Need-cast-word-of
+cast-word-of c = search needs
+
+word-of-requires : tie.Need-word-of-requires
+word-of-requires c κs = search needs
+
+mul-log : tie.Need-mul-log
+mul-log c = search needs
+
+slice-write-log : tie.Need-slice-write-log
+unfolding entryWords
+slice-write-log c = let h = c .before .before .before .pre .1 in omega (arith, h)
+
+add-put-data : tie.Need-add-put-data
+add-put-data c = search needs
+
+slice-aggregate-put-data : tie.Need-slice-aggregate-put-data
+slice-aggregate-put-data c = search needs
+
+put-data-requires : tie.Need-put-data-requires
+unfolding entryWords
+put-data-requires c κs =
+    let h = c .before .before .before .before .before .pre .1 in
+    (omega arith, simp length-set (omega (arith, h)))
+
+add-result : tie.Need-add-result
+unfolding entryWords
+add-result c =
+    let p = c .before .before .before .before .before .before .before .before in
+    omega (arith, p .pre .1, c .before .before .put-data .ensures .0)
+
+same-length : tie.Need-same-length
+same-length c = omega (arith, simp length-set at (c .before .before .put-data .kept .0))
+
+returns : tie.Need-returns
+unfolding entryWords
+returns c =
+    let p = c .before .before .before .before .before .before .before .before in
+    let a = p .args in
+    let q = c .before .before .put-data in
+    let w = c .before .before .before .before .before .word-of in
+    let l : List ℕ = now (a .log) in
+    let s : List ℕ = now (a .bytes) in
+    let h : a .at < length l = omega (arith, p .pre .1) in
+    (omega (arith, q .ensures .0), q .ensures .1 ∙ put-cons l (dataWords s) (a .at) (w .result) h ∙ ap (λ (x : ℕ). putAt l (a .at) (x ∷ dataWords s)) (w .ensures))
+
+pub put-psd-spec : {M : Type 1} → statement M
+put-psd-spec =
+    tie.close
+    (tie.spec
+    cast-word-of
+    word-of-requires
+    mul-log
+    slice-write-log
+    add-put-data
+    slice-aggregate-put-data
+    put-data-requires
+    add-result
+    same-length
+    returns)

@@ -1,0 +1,40 @@
+-- Document 01, "Receiver": log words have 32 bits; bits 31-30 are the kind.
+use mathlib.Core.List.{List, [], _∷_, _++_}
+use Prim.Native.Nat.{ℕ, _+_, _-_, _*_, min}
+use lib.ListN.{length, getD}
+
+pub data Entry : Type 0 where
+  packet : ℕ → List ℕ → Entry  -- number, bytes
+  psd : List ℕ → Entry  -- bytes
+  note : ℕ → ℕ → Entry  -- cause, piece (0 if none)
+
+-- a word of a kind, from what stands in bits 29-16 and in bits 15-0
+abbrev pub word : ℕ → ℕ → ℕ → ℕ
+word kind high low = kind * 0x40000000 + high * 0x10000 + low
+
+-- kind 1, data: bits 25-24 how many bytes (1 to 3), first in 23-16, unused zero
+abbrev pub dataWord : ℕ → ℕ → ℕ → ℕ → ℕ
+dataWord n a b c = word 1 (n * 0x100 + a) (b * 0x100 + c)
+
+-- bytes by threes; the last word has 1 to 3
+unfoldable pub dataWords : List ℕ → List ℕ
+dataWords [] = []
+dataWords (a ∷ []) = dataWord 1 a 0 0 ∷ []
+dataWords (a ∷ b ∷ []) = dataWord 2 a b 0 ∷ []
+dataWords (a ∷ b ∷ c ∷ rest) = dataWord 3 a b c ∷ dataWords rest
+
+-- the data word of the bytes from a place on, three at most
+abbrev pub dataWordAt : List ℕ → ℕ → ℕ
+dataWordAt bytes i = dataWord (min 3 (length bytes - i)) (getD bytes i 0) (getD bytes (i + 1) 0) (getD bytes (i + 2) 0)
+
+-- kind 0, packet: bits 21-16 number, 15-0 length; kind 2, PSD: 15-0 length; kind 3, note: 29-16 cause, 15-0 piece.
+-- Data words follow kinds 0 and 2.
+unfoldable pub entryWords : Entry → List ℕ
+entryWords (packet number bytes) = word 0 number (length bytes) ∷ dataWords bytes
+entryWords (psd bytes) = word 2 0 (length bytes) ∷ dataWords bytes
+entryWords (note cause piece) = word 3 cause piece ∷ []
+
+-- the words of entries, joined
+unfoldable pub logWords : List Entry → List ℕ
+logWords [] = []
+logWords (e ∷ es) = entryWords e ++ logWords es

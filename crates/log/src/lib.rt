@@ -1,0 +1,111 @@
+// Words of the packet log (document 01, "Receiver").
+ghost use mathlib.Core.Path.{_≡_};
+ghost use mathlib.Core.List.{_++_};
+ghost use Prim.Native.Nat.{_+_, _<_, _≤_, min};
+ghost use lib.ListN.{length, getD};
+ghost use Rattle.buffer.specs.Buffer.{putAt};
+ghost use Rattle.log.specs.Log.{packet, psd, note, word, dataWordAt, dataWords, entryWords};
+
+fn wide(x: u8) -> u32
+    ensures { λ r. ⌜ (r ≡ x) × (r < 256) ⌝ }
+{
+    x as u32
+}
+
+// A word of a kind, from what stands in bits 29-16 and in bits 15-0.
+fn word_of(kind: u32, high: u32, low: u32) -> u32
+    requires { ⌜ (kind ≤ 3) × (high ≤ 16383) × (low ≤ 65535) ⌝ }
+    ensures { λ r. ⌜ r ≡ word kind high low ⌝ }
+{
+    kind * 0x40000000 + high * 0x10000 + low
+}
+
+// Byte i of two slices, one after the other; 0 past them.
+fn byte_of(first: &[u8], second: &[u8], i: usize) -> u32
+    ensures { λ r. ⌜ (r ≡ getD (now (first .entry) ++ now (second .entry)) i 0) × (r < 256) ⌝ }
+{
+    if i < first.len() {
+        return wide(first[i]);
+    }
+    let j = i - first.len();
+    if second.len() <= j {
+        return 0;
+    }
+    wide(second[j])
+}
+
+// How many of the bytes that are left a data word has.
+fn count_of(left: usize) -> u32
+    ensures { λ r. ⌜ (r ≡ min 3 left) × (r ≤ 3) ⌝ }
+{
+    if left < 3 {
+        return left as u32;
+    }
+    3
+}
+
+// The data word of the bytes of two slices from byte i on.
+fn data_word(first: &[u8], second: &[u8], i: usize) -> u32
+    requires { ⌜ i < length (now first) + length (now second) ⌝ }
+    requires { ⌜ length (now first) + length (now second) ≤ 65535 ⌝ }
+    ensures { λ r. ⌜ r ≡ dataWordAt (now (first .entry) ++ now (second .entry)) i ⌝ }
+{
+    let left = first.len() + second.len() - i;
+    let high = count_of(left) * 0x100 + byte_of(first, second, i);
+    let low = byte_of(first, second, i + 1) * 0x100 + byte_of(first, second, i + 2);
+    word_of(1, high, low)
+}
+
+// Writes the data words of the bytes of two slices from a place on. Answers how many.
+fn put_data(log: &mut [u32], at: usize, first: &[u8], second: &[u8]) -> usize
+    requires { ⌜ length (now first) + length (now second) ≤ 65535 ⌝ }
+    requires { ⌜ at + length (dataWords (now first ++ now second)) ≤ length (now log) ⌝ }
+    ensures { λ r. ⌜ r ≡ length (dataWords (now (first .entry) ++ now (second .entry))) ⌝ }
+    ensures { λ _. ⌜ now (log .exit) ≡ putAt (now (log .entry)) at (dataWords (now (first .entry) ++ now (second .entry))) ⌝ }
+{
+    let n = first.len() + second.len();
+    let mut i: usize = 0;
+    let mut j: usize = 0;
+    while i < n {
+        log[at + j] = data_word(first, second, i);
+        i += 3;
+        j += 1;
+    }
+    j
+}
+
+// Writes a packet's entry from a place on; its bytes are those of two slices, one after the other. Answers how many words.
+pub fn put_packet(log: &mut [u32], at: usize, number: u8, first: &[u8], second: &[u8]) -> usize
+    requires { ⌜ length (now first) + length (now second) ≤ 65535 ⌝ }
+    requires { ⌜ at + length (entryWords (packet number (now first ++ now second))) ≤ length (now log) ⌝ }
+    ensures { λ r. ⌜ r ≡ length (entryWords (packet number (now (first .entry) ++ now (second .entry)))) ⌝ }
+    ensures { λ _. ⌜ now (log .exit) ≡ putAt (now (log .entry)) at (entryWords (packet number (now (first .entry) ++ now (second .entry)))) ⌝ }
+{
+    let length = first.len() + second.len();
+    log[at] = word_of(0, wide(number), length as u32);
+    let n = put_data(&mut *log, at + 1, first, second);
+    n + 1
+}
+
+// Writes a PSD entry from a place on. Answers how many words.
+pub fn put_psd(log: &mut [u32], at: usize, bytes: &[u8]) -> usize
+    requires { ⌜ length (now bytes) ≤ 65535 ⌝ }
+    requires { ⌜ at + length (entryWords (psd (now bytes))) ≤ length (now log) ⌝ }
+    ensures { λ r. ⌜ r ≡ length (entryWords (psd (now (bytes .entry)))) ⌝ }
+    ensures { λ _. ⌜ now (log .exit) ≡ putAt (now (log .entry)) at (entryWords (psd (now (bytes .entry)))) ⌝ }
+{
+    log[at] = word_of(2, 0, bytes.len() as u32);
+    let n = put_data(&mut *log, at + 1, &bytes[..0], bytes);
+    n + 1
+}
+
+// Writes a note of a cause at a piece, one word, at a place. Answers how many words.
+pub fn put_note(log: &mut [u32], at: usize, cause: u8, piece: usize) -> usize
+    requires { ⌜ piece ≤ 65535 ⌝ }
+    requires { ⌜ at + length (entryWords (note cause piece)) ≤ length (now log) ⌝ }
+    ensures { λ r. ⌜ r ≡ length (entryWords (note cause piece)) ⌝ }
+    ensures { λ _. ⌜ now (log .exit) ≡ putAt (now (log .entry)) at (entryWords (note cause piece)) ⌝ }
+{
+    log[at] = word_of(3, wide(cause), piece as u32);
+    1
+}
