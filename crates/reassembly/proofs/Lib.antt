@@ -1,0 +1,5 @@
+pub mod Counts
+pub mod Examples
+pub mod Laws
+pub mod Runs
+pub mod Whole

@@ -1,0 +1,99 @@
+use denote.Ref.{now}
+use lib.Seq.{length-take-le}
+use Rattle.reassembly.proofs.Laws.{long-room, long-did, ended-room, ended-did, held-did}
+use native.Mathlib.Omega.{arith}
+use mathlib.Core.Path.{_≡_, sym}
+use lib.ListN.{length, take}
+use borrow.Author.Needs.{needs}
+use Rattle.reassembly.proofs.finish.Statement.{statement}
+use Rattle.reassembly.proofs.finish.Tie as tie
+use Rattle.reassembly.proofs.finish.Reads as reads
+use Rattle.reassembly.proofs.finish.Lts as lts
+use Rattle.buffer.proofs.put_bytes.Reads as put-bytes-reads
+use Rattle.log.proofs.put_packet.Reads as put-packet-reads
+use Rattle.reassembly.proofs.drop_noted.Reads as drop-noted-reads
+
+add-total : tie.Need-add-total
+add-total c = search needs
+
+drop-noted-requires : tie.Need-drop-noted-requires
+drop-noted-requires c κs =
+    let p = c .before .before .before .before .before in
+    let a = p .args in
+    (omega arith, long-room (a .n) (a .k) (a .ends) (a .from) (a .at) (now (a .carry)) (now (a .piece)) (now (a .log)) (p .pre .0) (p .pre .1 .0) (c .before .if1 .taken) (p .pre .1 .1 .1 .1))
+
+same-length : tie.Need-same-length
+same-length c = search needs
+
+returns : tie.Need-returns
+returns c =
+    let p = c .before .before .before .before .before .before .before .before in
+    let a = p .args in
+    let q = c .before .before .drop-noted in
+    long-did (a .n) (a .k) (a .ends) (a .from) (a .at) (now (a .carry)) (now (a .piece)) (now (a .log)) (p .pre .0) (p .pre .1 .0) _ (q .result) (c .before .before .before .before .if1 .taken) (q .ensures (now (a .carry)))
+
+slice-reshare-prefix-put-packet : tie.Need-slice-reshare-prefix-put-packet
+slice-reshare-prefix-put-packet c = search needs
+
+slice-aggregate-put-packet : tie.Need-slice-aggregate-put-packet
+slice-aggregate-put-packet c =
+    let p = c .before .before .before .before .before .before .before in
+    let a = p .args in
+    sym (length-take-le (a .from) (now (a .carry)) (omega arith))
+
+put-packet-requires : tie.Need-put-packet-requires
+put-packet-requires c κs =
+    let p = c .before .before .before .before .before .before .before in
+    let a = p .args in
+    let l : length (take (a .from) (now (a .carry))) ≡ a .from = length-take-le (a .from) (now (a .carry)) (omega arith) in
+    (omega (arith, l, c .before .before .before .if1 .left), ended-room (a .n) (a .k) (a .ends) (a .from) (a .at) (now (a .carry)) (now (a .piece)) (now (a .log)) (p .pre .0) (p .pre .1 .0) (c .before .before .if2 .taken) (c .before .before .before .if1 .left) (p .pre .1 .1 .1 .1))
+
+add-t19 : tie.Need-add-t19
+add-t19 c =
+    let p = c .before .before .before .before .before .before .before .before .before .before in
+    let a = p .args in
+    omega (arith, c .before .before .put-packet .ensures .0, ended-room (a .n) (a .k) (a .ends) (a .from) (a .at) (now (a .carry)) (now (a .piece)) (now (a .log)) (p .pre .0) (p .pre .1 .0) (c .before .before .before .before .before .if2 .taken) (c .before .before .before .before .before .before .if1 .left) (p .pre .1 .1 .1 .1))
+
+same-length-2 : tie.Need-same-length-2
+same-length-2 c = search needs
+
+same-length-3 : tie.Need-same-length-3
+same-length-3 c = search needs
+
+returns-2 : tie.Need-returns-2
+returns-2 c =
+    let p = c .before .before .before .before .before .before .before .before .before .before in
+    let a = p .args in
+    let q = c .before .before .put-packet in
+    ended-did (a .n) (a .k) (a .ends) (a .from) (a .at) (now (a .carry)) (now (a .piece)) (now (a .log)) (p .pre .0) (p .pre .1 .0) (q .result) _ (c .before .before .before .before .before .if2 .taken) (c .before .before .before .before .before .before .if1 .left) (q .ensures .0) (q .ensures .1)
+
+put-bytes-requires : tie.Need-put-bytes-requires
+put-bytes-requires c κs = search needs
+
+same-length-4 : tie.Need-same-length-4
+same-length-4 c = search needs
+
+returns-3 : tie.Need-returns-3
+returns-3 c =
+    let p = c .before .before .before .before .before .before .before .before .before in
+    let a = p .args in
+    held-did (a .n) (a .k) (a .ends) (a .from) (a .at) (now (a .carry)) (now (a .piece)) (now (a .log)) (p .pre .0) (p .pre .1 .0) _ (c .before .before .before .before .if2 .left) (c .before .before .before .before .before .if1 .left) (c .before .before .put-bytes .ensures)
+
+pub finish-spec : {M : Type 1} → statement M
+finish-spec =
+    tie.close
+    (tie.spec
+    add-total
+    drop-noted-requires
+    same-length
+    returns
+    slice-reshare-prefix-put-packet
+    slice-aggregate-put-packet
+    put-packet-requires
+    add-t19
+    same-length-2
+    same-length-3
+    returns-2
+    put-bytes-requires
+    same-length-4
+    returns-3)

@@ -1,0 +1,41 @@
+use Rattle.reassembly.specs.Run.{firstCause}
+use mathlib.Core.Path.{refl, sym, _∙_}
+use borrow.Author.Needs.{needs}
+use Rattle.reassembly.proofs.first_cause.Statement.{statement}
+use Rattle.reassembly.proofs.first_cause.Tie as tie
+use Rattle.reassembly.proofs.first_cause.Reads as reads
+use Rattle.reassembly.proofs.first_cause.Lts as lts
+use Rattle.reassembly.proofs.continued.Reads as continued-reads
+use Rattle.reassembly.proofs.in_sequence.Reads as in-sequence-reads
+
+in-sequence-requires : tie.Need-in-sequence-requires
+in-sequence-requires c κs = search needs
+
+continued-requires : tie.Need-continued-requires
+continued-requires c κs = search needs
+
+returns : tie.Need-returns
+unfolding firstCause
+returns c =
+    let q = c .before .before .before in
+    let e = sym (q .in-sequence .ensures) ∙ c .before .before .if1 .taken in
+    let f = sym (c .before .continued .ensures) ∙ c .if2 .taken in
+    rw (e, f) refl
+
+returns-2 : tie.Need-returns-2
+unfolding firstCause
+returns-2 c =
+    let q = c .before .before .before in
+    let e = sym (q .in-sequence .ensures) ∙ c .before .before .if1 .taken in
+    let f = sym (c .before .continued .ensures) ∙ c .if2 .left in
+    rw (e, f) refl
+
+returns-3 : tie.Need-returns-3
+unfolding firstCause
+returns-3 c =
+    let e = sym (c .before .in-sequence .ensures) ∙ c .if1 .left in
+    rw e refl
+
+pub first-cause-spec : {M : Type 1} → statement M
+first-cause-spec =
+    tie.close (tie.spec in-sequence-requires continued-requires returns returns-2 returns-3)
