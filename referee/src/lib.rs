@@ -1,7 +1,7 @@
 //! The reference for the audio transport layer: the rules of document 01 in
 //! their plainest form, for the tests to compare the product with. It covers
-//! the header code, the CRC-8, reading without a receiver, the writer and the
-//! refusals 1, 3 to 5, 7 to 12 and 14 to 17:
+//! the header code, the CRC-8, reading without a receiver, the writer, the
+//! receiver, the packet log and the refusals 1 to 17:
 //!
 //! - `field`: the bytes as elements of GF(256);
 //! - `linear`: systems of linear equations over them;
@@ -14,6 +14,8 @@
 //! - `settings`: what a PDU to be written is asked to say;
 //! - `placing`: which pieces of the offered packets go into a PDU;
 //! - `writer`: the writer, opened and writing;
+//! - `log`: the words of the packet log;
+//! - `receiver`: the receiver, opened, receiving and marking lost;
 //! - `refusal`: the numbers of the table of refusals, and their causes;
 //! - `encode`: PDUs made of any parts, for the writer and the tests;
 //! - `rng`: repeatable random numbers for the tests.
@@ -28,9 +30,11 @@ pub mod field;
 pub mod header;
 pub mod linear;
 pub mod locators;
+pub mod log;
 pub mod modes;
 pub mod placing;
 pub mod reading;
+pub mod receiver;
 pub mod refusal;
 pub mod rng;
 pub mod search;

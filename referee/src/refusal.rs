@@ -5,6 +5,9 @@
 /// A field of a lent state is outside its range.
 pub const STATE: u32 = 1;
 
+/// The lent carry has fewer than 4,096 bytes.
+pub const CARRY: u32 = 2;
+
 /// The PDU length isn't 96 to 20,480; for the writer also: over 4,096 with
 /// 12-bit locators.
 pub const LENGTH: u32 = 3;
@@ -14,6 +17,9 @@ pub const BEYOND_MENDING: u32 = 4;
 
 /// Mode and stream aren't in the table of modes.
 pub const MODE_AND_STREAM: u32 = 5;
+
+/// Mode and stream of a PDU aren't those the receiver was opened for.
+pub const NOT_THOSE_OPENED: u32 = 6;
 
 /// The PDU sequence is outside the mode's range.
 pub const SEQUENCE: u32 = 7;
@@ -33,6 +39,9 @@ pub const LOCATOR: u32 = 11;
 
 /// The displacement is before the last piece's end, or not below the length.
 pub const DISPLACEMENT: u32 = 12;
+
+/// The log is shorter than the words that the call would write.
+pub const LOG: u32 = 13;
 
 /// The writer may not send a value, or it is past its width.
 pub const VALUE: u32 = 14;
@@ -168,6 +177,40 @@ impl WriterCause {
             | UnfinishedNotLonger => PACKETS,
             PsdPlusExpansionPastColumn | NoPsdHere => PSD,
             NoRoomForAPiece | NoRoomForOverhead => OVERHEAD,
+        }
+    }
+}
+
+/// Each single cause for turning down a receiving call, or marking lost.
+#[derive(Clone, Copy, Debug, PartialEq, Eq, PartialOrd, Ord)]
+pub enum ReceiverCause {
+    /// The state's mode and stream aren't in the table.
+    ModeAndStream,
+    /// The state's fields, outside their ranges.
+    Sequence,
+    Held,
+    Number,
+    /// The sequence is not 0 where none is known.
+    SequenceNotKnown,
+    /// The number is not 0 where nothing is held.
+    NumberNotHeld,
+    CarryUnder4096,
+    /// What reading the PDU without a receiver turns down.
+    Pdu(Cause),
+    NotThoseOpened,
+    LogTooShort,
+}
+
+impl ReceiverCause {
+    /// The number of the table's row which names this cause.
+    pub fn number(self) -> u32 {
+        use ReceiverCause::*;
+        match self {
+            ModeAndStream | Sequence | Held | Number | SequenceNotKnown | NumberNotHeld => STATE,
+            CarryUnder4096 => CARRY,
+            Pdu(cause) => cause.number(),
+            NotThoseOpened => NOT_THOSE_OPENED,
+            LogTooShort => LOG,
         }
     }
 }

@@ -99,3 +99,45 @@ impl LentLengths {
         &mut self.words[self.start..self.start + self.count]
     }
 }
+
+/// A log to be lent to the product, between guards as well.
+#[derive(Clone, PartialEq, Eq)]
+pub struct LentLog {
+    words: Vec<u32>,
+    start: usize,
+    count: usize,
+}
+
+impl LentLog {
+    /// So many random words between random guards.
+    pub fn random(rng: &mut Rng, count: usize) -> LentLog {
+        let start = 4 + rng.below(4);
+        let all = start + count + 4;
+        LentLog {
+            words: (0..all).map(|_| rng.bits() as u32).collect(),
+            start,
+            count,
+        }
+    }
+
+    /// The lent words.
+    pub fn words(&self) -> &[u32] {
+        &self.words[self.start..self.start + self.count]
+    }
+
+    /// The lent words, to be changed.
+    pub fn words_mut(&mut self) -> &mut [u32] {
+        &mut self.words[self.start..self.start + self.count]
+    }
+
+    /// Where two logs differ, counted as for bytes.
+    pub fn differences(&self, other: &LentLog) -> String {
+        assert_eq!(self.words.len(), other.words.len());
+        let places: Vec<isize> = (0..self.words.len())
+            .filter(|&place| self.words[place] != other.words[place])
+            .map(|place| place as isize - self.start as isize)
+            .collect();
+        let told = &places[..places.len().min(10)];
+        format!("{} words differ, at {told:?}", places.len())
+    }
+}

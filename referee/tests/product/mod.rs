@@ -5,6 +5,10 @@
 
 use referee::header::Header;
 
+/// The receiver's calls.
+#[cfg(feature = "product-receives")]
+pub mod receiver;
+
 /// The writer's calls.
 pub mod writer;
 

@@ -1,0 +1,1040 @@
+//! The receiver (document 01, "Receiver"), with the refusals 1 to 13. All
+//! causes for a refusal are gathered first; the lowest of their numbers is the
+//! answer.
+
+use crate::control::{self, ControlWord};
+use crate::crc::crc8;
+use crate::header;
+use crate::log::{self, Entry, Note};
+use crate::modes;
+use crate::reading::{self, Reading};
+use crate::refusal::{self, ReceiverCause};
+use crate::writer::{LONGEST_PACKET, NUMBERS};
+
+/// A carry of so many bytes always suffices, and fewer are refused.
+pub const CARRY_BYTES: usize = 4_096;
+
+/// A log of so many words always suffices.
+pub const LOG_WORDS: usize = 8_400;
+
+/// What a receiver remembers. A field not known or not held is 0.
+#[derive(Clone, Copy, Debug, Default, PartialEq, Eq)]
+pub struct Receiver {
+    pub mode: u8,
+    pub stream: u8,
+    /// Whether the last PDU sequence is known.
+    pub known: bool,
+    pub sequence: u8,
+    /// The held beginning's length; 0 means nothing held.
+    pub held: u16,
+    /// The number of the packet it begins.
+    pub number: u8,
+}
+
+/// Opens a receiver for a mode and stream, or answers the refusal's number.
+pub fn open(mode: u8, stream: u8) -> Result<Receiver, u32> {
+    if modes::line_for(mode, stream).is_none() {
+        return Err(refusal::MODE_AND_STREAM);
+    }
+    Ok(Receiver {
+        mode,
+        stream,
+        known: false,
+        sequence: 0,
+        held: 0,
+        number: 0,
+    })
+}
+
+/// The answer to receiving a PDU or marking one lost.
+#[derive(Clone, Debug, PartialEq, Eq)]
+pub struct Answer {
+    /// 0 if accepted, otherwise the lowest of the causes' numbers.
+    pub refusal: u32,
+    /// All causes for a refusal that can be told.
+    pub causes: Vec<ReceiverCause>,
+    /// How many words of the log are written; 0 if refused.
+    pub words: usize,
+    /// The next receiver; if refused, the receiver as it came.
+    pub receiver: Receiver,
+}
+
+impl Answer {
+    /// The k of each wrong locator.
+    pub fn wrong_locators(&self) -> Vec<usize> {
+        let wrong = |cause: &ReceiverCause| match cause {
+            ReceiverCause::Pdu(cause) => cause.locator(),
+            _ => None,
+        };
+        self.causes.iter().filter_map(wrong).collect()
+    }
+}
+
+/// Receives a lent PDU. When accepted it is left mended; the log has the words
+/// from its first on, and the carry begins with what is held now, if anything
+/// is. What else they hold is left as it was, and all of it when refused.
+pub fn receive(receiver: Receiver, carry: &mut [u8], pdu: &mut [u8], log: &mut [u32]) -> Answer {
+    let mut mended = pdu.to_vec();
+    let reading = reading::read(&mut mended);
+    let mut causes = state_causes(&receiver);
+    causes.extend(carry_causes(carry.len()));
+    causes.extend(pdu_causes(&reading));
+    causes.extend(opened_causes(&receiver, pdu));
+    // What would be logged can be told only if nothing else is wrong.
+    let accepted = match reading {
+        Ok(reading) if causes.is_empty() => {
+            let heard = Heard::new(&receiver, carry, &reading, &mended);
+            let words = log::words(&heard.entries);
+            causes.extend(log_causes(words.len(), log.len()));
+            Some((heard, words))
+        }
+        _ => None,
+    };
+    match accepted {
+        Some((heard, words)) if causes.is_empty() => {
+            pdu.copy_from_slice(&mended);
+            log[..words.len()].copy_from_slice(&words);
+            if let Some(beginning) = &heard.held {
+                carry[..beginning.bytes.len()].copy_from_slice(&beginning.bytes);
+            }
+            Answer {
+                refusal: 0,
+                causes,
+                words: words.len(),
+                receiver: heard.next(&receiver),
+            }
+        }
+        _ => refused(receiver, causes),
+    }
+}
+
+/// Marks a PDU lost: logs note 6, drops the beginning and forgets the
+/// sequence.
+pub fn mark_lost(receiver: Receiver, log: &mut [u32]) -> Answer {
+    let words = Entry::Note(Note::Lost).words();
+    let mut causes = state_causes(&receiver);
+    causes.extend(log_causes(words.len(), log.len()));
+    if !causes.is_empty() {
+        return refused(receiver, causes);
+    }
+    log[..words.len()].copy_from_slice(&words);
+    Answer {
+        refusal: 0,
+        causes,
+        words: words.len(),
+        receiver: Receiver {
+            mode: receiver.mode,
+            stream: receiver.stream,
+            ..Receiver::default()
+        },
+    }
+}
+
+/// The answer to a call that is turned down for these causes.
+fn refused(receiver: Receiver, causes: Vec<ReceiverCause>) -> Answer {
+    let numbers = causes.iter().map(|cause| cause.number());
+    Answer {
+        refusal: numbers.min().expect("a cause"),
+        causes,
+        words: 0,
+        receiver,
+    }
+}
+
+/// Refusal 1: a state field outside its range, or not 0 where not known or not
+/// held.
+fn state_causes(receiver: &Receiver) -> Vec<ReceiverCause> {
+    let mut causes = Vec::new();
+    match modes::line_for(receiver.mode, receiver.stream) {
+        None => causes.push(ReceiverCause::ModeAndStream),
+        Some(line) if receiver.sequence >= line.sequences => causes.push(ReceiverCause::Sequence),
+        Some(_) => {}
+    }
+    if usize::from(receiver.held) > LONGEST_PACKET {
+        causes.push(ReceiverCause::Held);
+    }
+    if receiver.number >= NUMBERS {
+        causes.push(ReceiverCause::Number);
+    }
+    if !receiver.known && receiver.sequence != 0 {
+        causes.push(ReceiverCause::SequenceNotKnown);
+    }
+    if receiver.held == 0 && receiver.number != 0 {
+        causes.push(ReceiverCause::NumberNotHeld);
+    }
+    causes
+}
+
+/// Refusal 2: a carry under 4,096 bytes.
+fn carry_causes(length: usize) -> Vec<ReceiverCause> {
+    if length < CARRY_BYTES {
+        vec![ReceiverCause::CarryUnder4096]
+    } else {
+        Vec::new()
+    }
+}
+
+/// Refusals 3 to 5 and 7 to 12: those of reading without a receiver.
+fn pdu_causes(reading: &Result<Reading, reading::Refusal>) -> Vec<ReceiverCause> {
+    match reading {
+        Ok(_) => Vec::new(),
+        Err(refusal) => refusal
+            .causes
+            .iter()
+            .map(|&cause| ReceiverCause::Pdu(cause))
+            .collect(),
+    }
+}
+
+/// Refusal 6: mode and stream of the mended PDU aren't those opened.
+fn opened_causes(receiver: &Receiver, pdu: &[u8]) -> Vec<ReceiverCause> {
+    match sent_word(pdu) {
+        Some(word) if (word.mode, word.stream) != (receiver.mode, receiver.stream) => {
+            vec![ReceiverCause::NotThoseOpened]
+        }
+        _ => Vec::new(),
+    }
+}
+
+/// The control word of the PDU when mended; none if it hasn't a whole header,
+/// or one that is beyond mending.
+fn sent_word(pdu: &[u8]) -> Option<ControlWord> {
+    if pdu.len() < header::PLACES {
+        return None;
+    }
+    let (mended, _) = header::correct(&header::header_of(pdu))?;
+    let bytes = mended[control::FIRST..control::FIRST + control::BYTES]
+        .try_into()
+        .expect("six bytes");
+    Some(control::decode(bytes))
+}
+
+/// Refusal 13: a log shorter than the words that the call would write.
+fn log_causes(words: usize, length: usize) -> Vec<ReceiverCause> {
+    if length < words {
+        vec![ReceiverCause::LogTooShort]
+    } else {
+        Vec::new()
+    }
+}
+
+/// The beginning of a packet that goes on in another PDU.
+#[derive(Clone, Debug, PartialEq, Eq)]
+struct Beginning {
+    number: u8,
+    bytes: Vec<u8>,
+}
+
+/// What comes of a PDU that nothing is wrong with.
+struct Heard {
+    /// In log order.
+    entries: Vec<Entry>,
+    /// What is held then.
+    held: Option<Beginning>,
+    /// The PDU's sequence.
+    sequence: u8,
+}
+
+impl Heard {
+    /// The four steps, in log order.
+    fn new(receiver: &Receiver, carry: &[u8], reading: &Reading, pdu: &[u8]) -> Heard {
+        let word = &reading.control;
+        let mut heard = Heard {
+            entries: Vec::new(),
+            held: held(receiver, carry),
+            sequence: word.sequence,
+        };
+        heard.step_1(receiver, word);
+        heard.step_2(word);
+        heard.step_3(reading, pdu);
+        heard.step_4(reading, pdu);
+        heard
+    }
+
+    /// Step 1: sequence known and not the next (0 follows the last of its
+    /// range): note 1, beginning dropped.
+    fn step_1(&mut self, receiver: &Receiver, word: &ControlWord) {
+        let line = modes::line_for(word.mode, word.stream).expect("a line of the table");
+        let last = line.sequences - 1;
+        let next = if receiver.sequence == last {
+            0
+        } else {
+            receiver.sequence + 1
+        };
+        if receiver.known && word.sequence != next {
+            self.note(Note::NotTheNext);
+            self.held = None;
+        }
+    }
+
+    /// Step 2: beginning held, and Pfirst clear or its number not starting
+    /// number minus 1, modulo 64: note 4, dropped.
+    fn step_2(&mut self, word: &ControlWord) {
+        let Some(beginning) = &self.held else {
+            return;
+        };
+        let minus_1 = (word.start + NUMBERS - 1) % NUMBERS;
+        if !word.pfirst || beginning.number != minus_1 {
+            self.note(Note::NotContinued);
+            self.held = None;
+        }
+    }
+
+    /// Step 3: PSD, if any.
+    fn step_3(&mut self, reading: &Reading, pdu: &[u8]) {
+        if reading.psd_length > 0 {
+            let end = reading.psd_start + reading.psd_length;
+            let psd = pdu[reading.psd_start..end].to_vec();
+            self.entries.push(Entry::Psd(psd));
+        }
+    }
+
+    /// Step 4: each piece k: wrong CRC, note 2; continuing with nothing held,
+    /// note 3; over 4,096 bytes with what was held, note 5; otherwise delivered
+    /// if it ends here, held if Plast. A noted piece leaves nothing held.
+    fn step_4(&mut self, reading: &Reading, pdu: &[u8]) {
+        let word = &reading.control;
+        for (k, piece) in reading.pieces.iter().enumerate() {
+            let locator = piece.start + piece.length;
+            let bytes = &pdu[piece.start..locator];
+            let continues = k == 0 && word.pfirst;
+            let goes_on = k + 1 == reading.pieces.len() && word.plast;
+            let before = self.held.take();
+            let nothing_held = before.is_none();
+            let mut joined = before.map_or_else(Vec::new, |beginning| beginning.bytes);
+            joined.extend(bytes);
+            let number = piece_number(word, k);
+            if crc8(bytes) != pdu[locator] {
+                self.note(Note::WrongCrc(k));
+            } else if continues && nothing_held {
+                self.note(Note::NothingHeld(k));
+            } else if joined.len() > LONGEST_PACKET {
+                self.note(Note::TooLong(k));
+            } else if goes_on {
+                self.held = Some(Beginning {
+                    number,
+                    bytes: joined,
+                });
+            } else {
+                self.entries.push(Entry::Packet(number, joined));
+            }
+        }
+    }
+
+    fn note(&mut self, note: Note) {
+        self.entries.push(Entry::Note(note));
+    }
+
+    /// The receiver after the PDU.
+    fn next(&self, receiver: &Receiver) -> Receiver {
+        let (held, number) = match &self.held {
+            Some(beginning) => (beginning.bytes.len(), beginning.number),
+            None => (0, 0),
+        };
+        Receiver {
+            mode: receiver.mode,
+            stream: receiver.stream,
+            known: true,
+            sequence: self.sequence,
+            held: u16::try_from(held).expect("no more than a packet"),
+            number,
+        }
+    }
+}
+
+/// The held beginning, whose bytes are the first ones of the carry.
+fn held(receiver: &Receiver, carry: &[u8]) -> Option<Beginning> {
+    if receiver.held == 0 {
+        return None;
+    }
+    Some(Beginning {
+        number: receiver.number,
+        bytes: carry[..usize::from(receiver.held)].to_vec(),
+    })
+}
+
+/// The number of piece k: starting number plus k, minus 1 if Pfirst, modulo
+/// 64.
+fn piece_number(word: &ControlWord, k: usize) -> u8 {
+    let number = usize::from(word.start) + k + 64 - usize::from(word.pfirst);
+    (number % 64) as u8
+}
+
+#[cfg(test)]
+mod tests {
+    use super::*;
+    use crate::encode::{Parts, Piece};
+    use crate::locators;
+    use crate::modes::TABLE;
+    use crate::refusal::Cause;
+    use crate::rng::Rng;
+    use crate::settings::Settings;
+    use crate::writer::{self, Offer, Writer};
+
+    /// What a word of an untouched log holds.
+    const UNTOUCHED: u32 = 0x5EA1_ED00;
+
+    /// So many bytes that tell where they stand.
+    fn bytes(count: usize) -> Vec<u8> {
+        (0..count).map(|place| (place * 7 + 1) as u8).collect()
+    }
+
+    /// A carry that begins with these bytes.
+    fn carry_with(held: &[u8]) -> Vec<u8> {
+        let mut carry = vec![0xCA; CARRY_BYTES + 3];
+        carry[..held.len()].copy_from_slice(held);
+        carry
+    }
+
+    /// A PDU with PSD and pieces, of 96 bytes or as many as they need. To the
+    /// CRC of a piece the given byte is added.
+    fn pdu(control: ControlWord, psd: &[u8], pieces: &[(&[u8], u8)]) -> Vec<u8> {
+        let line = modes::line_for(control.mode, control.stream).unwrap();
+        let la = locators::last_byte(line.locator_bits, pieces.len()) + psd.len();
+        let mut placed = Vec::new();
+        let mut locators = Vec::new();
+        let mut end = la;
+        for &(bytes, crc_error) in pieces {
+            placed.push(Piece {
+                start: end + 1,
+                bytes: bytes.to_vec(),
+                crc_error,
+            });
+            end += 1 + bytes.len();
+            locators.push(end);
+        }
+        let parts = Parts {
+            control: ControlWord {
+                nop: pieces.len() as u8,
+                la: la as u8,
+                ..control
+            },
+            locator_bits: line.locator_bits,
+            locators,
+            psd: psd.to_vec(),
+            pieces: placed,
+            ..Parts::default()
+        };
+        let mut pdu = vec![0; (end + 1).max(header::PLACES)];
+        parts.encode(&mut pdu);
+        pdu
+    }
+
+    /// A PDU of 96 bytes that begins with these, in hexadecimal.
+    fn from_hex(hex: &str) -> Vec<u8> {
+        let digits: Vec<u32> = hex.chars().filter_map(|c| c.to_digit(16)).collect();
+        let mut bytes = vec![0; header::PLACES];
+        for (byte, pair) in bytes.iter_mut().zip(digits.chunks(2)) {
+            *byte = (pair[0] * 16 + pair[1]) as u8;
+        }
+        assert!(header::is_code_word(&header::header_of(&bytes)), "{hex}");
+        bytes
+    }
+
+    /// What came of a call.
+    struct Got {
+        answer: Answer,
+        /// The words that are written.
+        words: Vec<u32>,
+        carry: Vec<u8>,
+    }
+
+    impl Got {
+        fn entries(&self) -> Vec<Entry> {
+            log::entries(&self.words).expect("entries")
+        }
+
+        /// The state's last four fields.
+        fn state(&self) -> (bool, u8, u16, u8) {
+            let next = &self.answer.receiver;
+            (next.known, next.sequence, next.held, next.number)
+        }
+    }
+
+    /// Receives the PDU as it is and with up to four bytes altered, with a log
+    /// that suffices, one that just does, and one that is a word short.
+    fn receive_from(receiver: Receiver, carry: &[u8], pdu: &[u8]) -> Got {
+        let mut rng = Rng::new(0x3EC);
+        let got = once(receiver, carry, pdu, LOG_WORDS);
+        for altered in 1..=4 {
+            let mut damaged = pdu.to_vec();
+            for place in rng.places(altered, 0, 95) {
+                damaged[place] ^= rng.nonzero_byte();
+            }
+            let mut lent = damaged.clone();
+            let mut lent_carry = carry.to_vec();
+            let mut log = vec![UNTOUCHED; got.words.len()];
+            let answer = receive(receiver, &mut lent_carry, &mut lent, &mut log);
+            assert_eq!(answer, got.answer);
+            assert_eq!((&log, &lent_carry), (&got.words, &got.carry));
+            let accepted = answer.refusal == 0;
+            assert_eq!(lent, if accepted { pdu } else { &damaged });
+        }
+        if let Some(short) = got.words.len().checked_sub(1) {
+            let refused = once(receiver, carry, pdu, short);
+            assert_eq!(refused.answer.causes, [ReceiverCause::LogTooShort]);
+        }
+        got
+    }
+
+    /// Receives the PDU once and looks at what must not change.
+    fn once(receiver: Receiver, carry: &[u8], pdu: &[u8], log_words: usize) -> Got {
+        let mut lent = pdu.to_vec();
+        let mut lent_carry = carry.to_vec();
+        let mut log = vec![UNTOUCHED; log_words];
+        let answer = receive(receiver, &mut lent_carry, &mut lent, &mut log);
+        assert_eq!(lent, pdu);
+        assert!(log[answer.words..].iter().all(|&word| word == UNTOUCHED));
+        if answer.refusal == 0 {
+            assert_eq!(answer.causes, []);
+            assert_eq!(state_causes(&answer.receiver), []);
+            let held = usize::from(answer.receiver.held);
+            assert_eq!(lent_carry[held..], carry[held..]);
+        } else {
+            assert_eq!((answer.words, answer.receiver), (0, receiver));
+            assert_eq!(lent_carry, carry);
+        }
+        Got {
+            words: log[..answer.words].to_vec(),
+            answer,
+            carry: lent_carry,
+        }
+    }
+
+    /// A receiver of mode 0 with this sequence known and this held.
+    fn with(sequence: u8, held: usize, number: u8) -> Receiver {
+        Receiver {
+            known: true,
+            sequence,
+            held: held as u16,
+            number,
+            ..open(0, 0).unwrap()
+        }
+    }
+
+    /// The control word of a PDU of mode 0.
+    fn word(sequence: u8, pfirst: bool, plast: bool, start: u8) -> ControlWord {
+        ControlWord {
+            sequence,
+            pfirst,
+            plast,
+            start,
+            ..ControlWord::default()
+        }
+    }
+
+    fn note(note: Note) -> Entry {
+        Entry::Note(note)
+    }
+
+    #[test]
+    fn opening() {
+        for mode in 0..=255 {
+            for stream in 0..=255 {
+                let there = TABLE.iter().any(|l| (l.mode, l.stream) == (mode, stream));
+                let receiver = Receiver {
+                    mode,
+                    stream,
+                    ..Receiver::default()
+                };
+                let wanted = if there { Ok(receiver) } else { Err(5) };
+                assert_eq!(open(mode, stream), wanted);
+            }
+        }
+    }
+
+    /// Example (n): whole, and joined across the seam after each byte.
+    #[test]
+    fn example_n() {
+        let packet = [0x11, 0x22, 0x33, 0x44];
+        let wanted = [0x0005_0004, 0x4311_2233, 0x4144_0000];
+        let whole = pdu(word(0, false, false, 5), &[], &[(&packet, 0)]);
+        let got = receive_from(open(0, 0).unwrap(), &carry_with(&[]), &whole);
+        assert_eq!(got.words, wanted);
+        assert_eq!(got.state(), (true, 0, 0, 0));
+        for held in 1..4 {
+            let rest = pdu(word(1, true, false, 6), &[], &[(&packet[held..], 0)]);
+            let carry = carry_with(&packet[..held]);
+            let got = receive_from(with(0, held, 5), &carry, &rest);
+            assert_eq!(got.words, wanted);
+            assert_eq!(got.state(), (true, 1, 0, 0));
+            assert_eq!(got.carry, carry);
+        }
+    }
+
+    /// Note 1 drops the beginning, and so note 4 never stands beside it.
+    #[test]
+    fn note_1_alone() {
+        let pdu = from_hex("c2c7dacd63c6d064 00000000000d");
+        let got = receive_from(with(0, 2, 0), &carry_with(&[1, 2]), &pdu);
+        assert_eq!(got.words, [0xC001_0000]);
+        assert_eq!(got.state(), (true, 0, 0, 0));
+    }
+
+    /// Every last sequence with every sequence, in each mode and stream; one
+    /// not known fits before any.
+    #[test]
+    fn sequences() {
+        for line in TABLE {
+            for sent in 0..line.sequences {
+                let control = ControlWord {
+                    mode: line.mode,
+                    stream: line.stream,
+                    ..word(sent, false, false, 0)
+                };
+                let pdu = pdu(control, &[], &[]);
+                let fresh = open(line.mode, line.stream).unwrap();
+                let got = receive_from(fresh, &carry_with(&[]), &pdu);
+                assert_eq!(got.words, []);
+                for sequence in 0..line.sequences {
+                    let receiver = Receiver {
+                        known: true,
+                        sequence,
+                        ..fresh
+                    };
+                    let got = receive_from(receiver, &carry_with(&[]), &pdu);
+                    let fits = sent == (sequence + 1) % line.sequences;
+                    assert_eq!(got.words.is_empty(), fits);
+                    assert_eq!(got.state(), (true, sent, 0, 0));
+                }
+            }
+        }
+    }
+
+    /// The same sequence twice is note 1; then the PDU is taken as any other.
+    #[test]
+    fn no_filter_of_duplicates() {
+        let pdu = pdu(word(1, false, true, 7), &[9], &[(&[1, 2], 0), (&[3], 0)]);
+        let first = receive_from(with(0, 0, 0), &carry_with(&[]), &pdu);
+        let taken = [Entry::Psd(vec![9]), Entry::Packet(7, vec![1, 2])];
+        assert_eq!(first.entries(), taken);
+        assert_eq!(first.state(), (true, 1, 1, 8));
+        let again = receive_from(first.answer.receiver, &first.carry, &pdu);
+        let noted = [&[note(Note::NotTheNext)], &taken[..]].concat();
+        assert_eq!(again.entries(), noted);
+        assert_eq!(again.state(), (true, 1, 1, 8));
+    }
+
+    #[test]
+    fn wrong_crcs() {
+        let pieces: [(&[u8], u8); 3] = [(&[1], 1), (&[2], 0), (&[3], 0x80)];
+        let pdu = pdu(word(0, true, true, 0), &[], &pieces);
+        let carry = carry_with(&[5]);
+        let got = receive_from(with(1, 1, 63), &carry, &pdu);
+        let wanted = [
+            note(Note::WrongCrc(0)),
+            Entry::Packet(0, vec![2]),
+            note(Note::WrongCrc(2)),
+        ];
+        assert_eq!(got.entries(), wanted);
+        // A noted piece leaves nothing held.
+        assert_eq!(got.state(), (true, 0, 0, 0));
+        assert_eq!(got.carry, carry);
+    }
+
+    #[test]
+    fn continuing_with_nothing_held() {
+        let pieces: [(&[u8], u8); 2] = [(&[1], 0), (&[2], 0)];
+        let pdu_ends = pdu(word(0, true, false, 0), &[], &pieces);
+        let got = receive_from(open(0, 0).unwrap(), &carry_with(&[]), &pdu_ends);
+        let wanted = [note(Note::NothingHeld(0)), Entry::Packet(0, vec![2])];
+        assert_eq!(got.entries(), wanted);
+        // With both flags it isn't held either; a wrong CRC comes first.
+        for (crc_error, noted) in [(0, Note::NothingHeld(0)), (4, Note::WrongCrc(0))] {
+            let both = pdu(word(0, true, true, 0), &[], &[(&[1], crc_error)]);
+            let got = receive_from(open(0, 0).unwrap(), &carry_with(&[]), &both);
+            assert_eq!(got.entries(), [note(noted)]);
+            assert_eq!(got.state(), (true, 0, 0, 0));
+        }
+    }
+
+    /// Held 63 with start 0 and Pfirst matches; another number, or Pfirst
+    /// clear, does not.
+    #[test]
+    fn numbers_of_the_beginning() {
+        for held in 0..64 {
+            for start in 0..64 {
+                let pdu = pdu(word(1, true, false, start), &[], &[(&[2], 0)]);
+                let got = receive_from(with(0, 1, held), &carry_with(&[1]), &pdu);
+                if start == (held + 1) % 64 {
+                    assert_eq!(got.entries(), [Entry::Packet(held, vec![1, 2])]);
+                } else {
+                    let wanted = [note(Note::NotContinued), note(Note::NothingHeld(0))];
+                    assert_eq!(got.entries(), wanted);
+                }
+            }
+        }
+        let clear = pdu(word(1, false, false, 0), &[], &[(&[2], 0)]);
+        let got = receive_from(with(0, 1, 63), &carry_with(&[1]), &clear);
+        let wanted = [note(Note::NotContinued), Entry::Packet(0, vec![2])];
+        assert_eq!(got.entries(), wanted);
+        // No piece at all doesn't continue it.
+        let none = pdu(word(1, false, false, 0), &[7], &[]);
+        let got = receive_from(with(0, 1, 63), &carry_with(&[1]), &none);
+        let wanted = [note(Note::NotContinued), Entry::Psd(vec![7])];
+        assert_eq!(got.entries(), wanted);
+    }
+
+    /// A piece with both flags is appended and stays held under the starting
+    /// number minus 1.
+    #[test]
+    fn both_flags() {
+        let both = pdu(word(1, true, true, 0), &[], &[(&[3, 4], 0)]);
+        let carry = carry_with(&[1, 2]);
+        let got = receive_from(with(0, 2, 63), &carry, &both);
+        assert_eq!(got.words, []);
+        assert_eq!(got.state(), (true, 1, 4, 63));
+        assert_eq!(got.carry, carry_with(&[1, 2, 3, 4]));
+    }
+
+    /// 4,096 bytes are fine, delivered or held, and 4,097 are note 5, whether
+    /// anything was held or not.
+    #[test]
+    fn over_4096() {
+        for held in [0, 1, 2, 4_000, 4_094, 4_095, 4_096] {
+            let pfirst = held > 0;
+            let number = if pfirst { 9 } else { 0 };
+            let start = if pfirst { 10 } else { 9 };
+            let beginning = bytes(held);
+            for (total, plast) in [(4_096, false), (4_096, true), (4_097, false), (4_097, true)] {
+                if total <= held {
+                    continue;
+                }
+                let piece = bytes(total - held);
+                let pdu = pdu(word(1, pfirst, plast, start), &[], &[(&piece, 0)]);
+                let carry = carry_with(&beginning);
+                let got = receive_from(with(0, held, number), &carry, &pdu);
+                let joined = [&beginning[..], &piece].concat();
+                match (total, plast) {
+                    (4_096, false) => assert_eq!(got.entries(), [Entry::Packet(9, joined)]),
+                    (4_096, true) => {
+                        assert_eq!(got.words, []);
+                        assert_eq!(got.state(), (true, 1, 4_096, 9));
+                        assert_eq!(got.carry, carry_with(&joined));
+                    }
+                    _ => {
+                        assert_eq!(got.entries(), [note(Note::TooLong(0))]);
+                        assert_eq!(got.state(), (true, 1, 0, 0));
+                        assert_eq!(got.carry, carry);
+                    }
+                }
+            }
+        }
+        // A later piece.
+        let (long, short) = (bytes(4_097), bytes(3));
+        let pieces: [(&[u8], u8); 3] = [(&short, 0), (&long, 0), (&short, 0)];
+        let pdu = pdu(word(1, false, false, 63), &[], &pieces);
+        let got = receive_from(with(0, 0, 0), &carry_with(&[]), &pdu);
+        let wanted = [
+            Entry::Packet(63, short.clone()),
+            note(Note::TooLong(1)),
+            Entry::Packet(1, short),
+        ];
+        assert_eq!(got.entries(), wanted);
+    }
+
+    /// A new beginning replaces the first bytes of the carry only.
+    #[test]
+    fn new_beginnings() {
+        let pieces: [(&[u8], u8); 2] = [(&[1, 2], 0), (&[3], 0)];
+        let pdu = pdu(word(1, true, true, 6), &[], &pieces);
+        let got = receive_from(with(0, 4, 5), &carry_with(&[6, 7, 8, 9]), &pdu);
+        let wanted = [Entry::Packet(5, vec![6, 7, 8, 9, 1, 2])];
+        assert_eq!(got.entries(), wanted);
+        assert_eq!(got.state(), (true, 1, 1, 6));
+        assert_eq!(got.carry, carry_with(&[3, 7, 8, 9]));
+    }
+
+    #[test]
+    fn marking_lost() {
+        for receiver in [open(0, 0).unwrap(), with(1, 0, 0), with(0, 4_096, 63)] {
+            let mut log = [UNTOUCHED; 2];
+            let answer = mark_lost(receiver, &mut log);
+            assert_eq!((answer.refusal, answer.words), (0, 1));
+            assert_eq!(answer.receiver, open(0, 0).unwrap());
+            assert_eq!(log, [0xC006_0000, UNTOUCHED]);
+            let answer = mark_lost(receiver, &mut []);
+            assert_eq!((answer.refusal, answer.words), (13, 0));
+            assert_eq!(answer.receiver, receiver);
+        }
+        let wrong = with(2, 0, 0);
+        let mut log = [UNTOUCHED; 2];
+        let answer = mark_lost(wrong, &mut log);
+        assert_eq!((answer.refusal, answer.receiver), (1, wrong));
+        assert_eq!(log, [UNTOUCHED; 2]);
+        let both = [ReceiverCause::Sequence, ReceiverCause::LogTooShort];
+        assert_eq!(mark_lost(wrong, &mut []).causes, both);
+    }
+
+    /// The most words that a call can write, 8,216.
+    #[test]
+    fn worst_case() {
+        let long = bytes(529);
+        let others = bytes(508);
+        let mut pieces: Vec<(&[u8], u8)> = vec![(&[0xAB], 0)];
+        pieces.extend([(&others[..], 0); 39]);
+        pieces.push((&long, 0));
+        let pdu = pdu(word(1, true, false, 10), &[0x50], &pieces);
+        assert_eq!((pdu.len(), pdu[13]), (20_480, 96));
+        let got = receive_from(with(0, 4_095, 9), &carry_with(&bytes(4_095)), &pdu);
+        assert_eq!(got.words.len(), 8_216);
+        assert_eq!(got.entries().len(), 42);
+    }
+
+    /// No PDU makes more: n bytes need (n + 2) / 3 data words at most, a
+    /// packet joined with a beginning 1,366, and a note a single word.
+    #[test]
+    fn no_more_than_the_worst_case() {
+        let mut most = 0;
+        for bits in [12, 16] {
+            // The place behind the last CRC that locators can tell.
+            let end = (1usize << bits).min(header::LONGEST);
+            for nop in 0..=modes::nop_limit(bits) {
+                let before_psd = locators::last_byte(bits, nop) + 1;
+                let psd_most = 256 - before_psd;
+                for psd in 0..=psd_most {
+                    let with_psd = if psd > 0 { 1 + psd.div_ceil(3) } else { 0 };
+                    let left = end - before_psd - psd - nop;
+                    let data = (left + 2 * nop) / 3;
+                    let mut words = 1 + with_psd + nop + data;
+                    if nop > 0 {
+                        // One byte of the rest continues the beginning.
+                        let data = 1_366 + (left - 1 + 2 * (nop - 1)) / 3;
+                        words = words.max(with_psd + nop + data);
+                    }
+                    most = most.max(words);
+                }
+            }
+        }
+        assert_eq!(most, 8_216);
+        assert!(most <= LOG_WORDS);
+    }
+
+    /// Writes PDUs of mode 0 that send packets of these lengths: of each PDU
+    /// its length and how many packets are offered, from the unfinished one.
+    fn sent(lengths: &[u16], pdus: &[(usize, usize)]) -> Vec<Vec<u8>> {
+        let mut writer: Writer = writer::open(0, 0).unwrap();
+        let mut first = 0;
+        let mut sent = Vec::new();
+        for &(length, offered) in pdus {
+            let lengths = &lengths[first..first + offered];
+            let total = lengths.iter().map(|&l| usize::from(l)).sum();
+            let mut pdu = vec![0; length];
+            let offer = Offer {
+                settings: Settings::default(),
+                psd: &[],
+                lengths,
+                bytes: &bytes(total),
+            };
+            let answer = writer::write(writer, &offer, &mut pdu);
+            assert_eq!(answer.refusal, 0);
+            writer = answer.writer;
+            first += answer.ended;
+            sent.push(pdu);
+        }
+        sent
+    }
+
+    /// Receives some of the PDUs and marks the others lost; what all the logs
+    /// hold.
+    fn heard(pdus: &[Vec<u8>], lost: &[usize]) -> Vec<Entry> {
+        let mut receiver = open(0, 0).unwrap();
+        let mut carry = carry_with(&[]);
+        let mut words = Vec::new();
+        for (index, pdu) in pdus.iter().enumerate() {
+            let mut log = vec![UNTOUCHED; LOG_WORDS];
+            let mut pdu = pdu.clone();
+            let answer = if lost.contains(&index) {
+                mark_lost(receiver, &mut log)
+            } else {
+                receive(receiver, &mut carry, &mut pdu, &mut log)
+            };
+            assert_eq!(answer.refusal, 0);
+            receiver = answer.receiver;
+            words.extend(&log[..answer.words]);
+        }
+        log::entries(&words).expect("entries")
+    }
+
+    /// Two PDUs in a row marked lost: the one-bit sequence fits again, and
+    /// nothing is joined.
+    #[test]
+    fn two_lost_in_a_row() {
+        let lost = note(Note::Lost);
+        let nothing_held = note(Note::NothingHeld(0));
+        // One packet in four PDUs: its number fits as well.
+        let pdus = sent(&[300], &[(96, 1); 4]);
+        assert_eq!(
+            heard(&pdus, &[1, 2]),
+            [lost.clone(), lost.clone(), nothing_held.clone()]
+        );
+        assert_eq!(heard(&pdus, &[]), [Entry::Packet(0, bytes(300))]);
+        // Packet 0 begins before the lost ones, packet 64 ends behind them,
+        // with the same number and the next sequence.
+        let mut lengths = vec![1; 65];
+        lengths[0] = 100;
+        lengths[64] = 1_000;
+        let pdus = sent(&lengths, &[(96, 1), (400, 33), (400, 32), (900, 1)]);
+        let words: Vec<ControlWord> = pdus.iter().map(|pdu| sent_word(pdu).unwrap()).collect();
+        assert!(words[0].plast && words[3].pfirst);
+        assert_eq!((words[0].sequence, words[3].sequence), (0, 1));
+        assert_eq!((words[0].start, words[3].start), (0, 1));
+        assert_eq!(heard(&pdus, &[1, 2]), [lost.clone(), lost, nothing_held]);
+        assert_eq!(heard(&pdus, &[]).len(), 65);
+        // Not marked, they would be joined: only marking tells.
+        let gone = [pdus[0].clone(), pdus[3].clone()];
+        assert!(matches!(heard(&gone, &[])[..], [Entry::Packet(0, _)]));
+    }
+
+    #[test]
+    fn refusals_of_the_state() {
+        use ReceiverCause::{
+            Held, ModeAndStream, Number, NumberNotHeld, Sequence, SequenceNotKnown,
+        };
+        let right = with(1, 4_096, 63);
+        let fresh = open(0, 0).unwrap();
+        let pdu = pdu(word(0, false, false, 0), &[], &[]);
+        for (receiver, wanted) in [
+            (right, None),
+            (fresh, None),
+            (Receiver { mode: 4, ..fresh }, Some(ModeAndStream)),
+            (Receiver { stream: 1, ..fresh }, Some(ModeAndStream)),
+            (Receiver { stream: 2, ..right }, Some(ModeAndStream)),
+            (
+                Receiver {
+                    sequence: 2,
+                    ..right
+                },
+                Some(Sequence),
+            ),
+            (
+                Receiver {
+                    held: 4_097,
+                    ..right
+                },
+                Some(Held),
+            ),
+            (
+                Receiver {
+                    number: 64,
+                    ..right
+                },
+                Some(Number),
+            ),
+            (
+                Receiver {
+                    known: false,
+                    ..right
+                },
+                Some(SequenceNotKnown),
+            ),
+            (Receiver { held: 0, ..right }, Some(NumberNotHeld)),
+        ] {
+            let got = once(receiver, &carry_with(&[]), &pdu, LOG_WORDS);
+            let mut log = [UNTOUCHED];
+            let lost = mark_lost(receiver, &mut log);
+            assert_eq!(lost.causes, Vec::from_iter(wanted));
+            match wanted {
+                None => assert_eq!((got.answer.refusal, lost.refusal), (0, 0)),
+                Some(cause) => {
+                    assert_eq!(got.answer.causes[0], cause);
+                    assert_eq!((got.answer.refusal, lost.refusal), (1, 1));
+                    assert_eq!(lost.receiver, receiver);
+                    assert_eq!(log, [UNTOUCHED]);
+                }
+            }
+        }
+    }
+
+    #[test]
+    fn refusals_of_the_carry() {
+        let pdu = pdu(word(0, false, true, 0), &[], &[(&[1], 0)]);
+        let fresh = open(0, 0).unwrap();
+        for (length, number) in [(0, 2), (1, 2), (4_095, 2), (4_096, 0), (5_000, 0)] {
+            let got = once(fresh, &vec![7; length], &pdu, 0);
+            assert_eq!(got.answer.refusal, number, "{length}");
+        }
+    }
+
+    /// Each mode and stream opened, each sent.
+    #[test]
+    fn refusals_of_others_than_opened() {
+        for opened in TABLE {
+            for sent in TABLE {
+                let control = ControlWord {
+                    mode: sent.mode,
+                    stream: sent.stream,
+                    ..ControlWord::default()
+                };
+                let receiver = open(opened.mode, opened.stream).unwrap();
+                let got = receive_from(receiver, &carry_with(&[]), &pdu(control, &[], &[]));
+                let wanted = if opened == sent {
+                    vec![]
+                } else {
+                    vec![ReceiverCause::NotThoseOpened]
+                };
+                assert_eq!(got.answer.causes, wanted);
+            }
+        }
+    }
+
+    /// Locators 100, 30, 40 in 96 bytes: wrong are 0 and 1.
+    #[test]
+    fn wrong_locators() {
+        let mut pdu = vec![0; 96];
+        let parts = Parts {
+            control: ControlWord {
+                nop: 3,
+                la: 19,
+                ..ControlWord::default()
+            },
+            locator_bits: 16,
+            locators: vec![100, 30, 40],
+            ..Parts::default()
+        };
+        parts.encode(&mut pdu);
+        let got = receive_from(open(0, 0).unwrap(), &carry_with(&[]), &pdu);
+        assert_eq!(got.answer.refusal, 11);
+        assert_eq!(got.answer.wrong_locators(), [0, 1]);
+    }
+
+    /// The lowest of several is answered; example: length 95 is 3.
+    #[test]
+    fn several_refusals() {
+        use ReceiverCause::{CarryUnder4096, NotThoseOpened, Number, NumberNotHeld, Pdu};
+        let control = ControlWord {
+            mode: 5,
+            sequence: 3,
+            la: 12,
+            ..ControlWord::default()
+        };
+        let mut pdu = vec![0; 96];
+        let parts = Parts {
+            control,
+            locator_bits: 16,
+            ..Parts::default()
+        };
+        parts.encode(&mut pdu);
+        let fresh = open(0, 0).unwrap();
+        let wrong = Receiver {
+            number: 64,
+            ..fresh
+        };
+        let got = once(wrong, &[], &pdu, 0);
+        let wanted = [
+            Number,
+            NumberNotHeld,
+            CarryUnder4096,
+            Pdu(Cause::ModeAndStream),
+            NotThoseOpened,
+        ];
+        assert_eq!(got.answer.causes, wanted);
+        assert_eq!(got.answer.refusal, 1);
+        assert_eq!(once(fresh, &[], &pdu, 0).answer.refusal, 2);
+        let carry = carry_with(&[]);
+        assert_eq!(once(fresh, &carry, &pdu, 0).answer.refusal, 5);
+        assert_eq!(once(fresh, &carry, &pdu[..95], 0).answer.refusal, 3);
+        pdu[20..40].fill(0xFF);
+        assert_eq!(once(fresh, &carry, &pdu, 0).answer.refusal, 4);
+    }
+}

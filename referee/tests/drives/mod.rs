@@ -1,0 +1,715 @@
+//! Whole drives (demand 3): a fresh writer sends one list of packets, with
+//! refused calls in between; of the PDUs any run is received in order by a
+//! fresh receiver, some marked lost, the others with up to four bytes of the
+//! header altered, with refused calls in between as well. What the logs have
+//! to hold is told from the writing calls alone.
+
+use crate::attempt::{Class, Known, Loan};
+use crate::calls::{self, some_bytes, some_packet, Call};
+use crate::lent::{Lent, LentLog};
+use crate::receptions::{self, spoil_state, spoilable};
+use crate::spoiling;
+use crate::told::{self, Kinds};
+use referee::header::{self, LONGEST, PLACES};
+use referee::modes::{self, Line, TABLE};
+use referee::receiver::{self, Receiver, LOG_WORDS};
+use referee::refusal;
+use referee::rng::Rng;
+use referee::writer::{self, Offer, Writer};
+use std::collections::BTreeMap;
+use std::ops::Range;
+
+/// What the packets of a list and the PDUs are like.
+#[derive(Clone, Copy)]
+pub struct Style {
+    packets: usize,
+    longest_packet: usize,
+    shortest_pdu: usize,
+    longest_pdu: usize,
+}
+
+const fn style(packets: (usize, usize), pdus: (usize, usize)) -> Style {
+    Style {
+        packets: packets.0,
+        longest_packet: packets.1,
+        shortest_pdu: pdus.0,
+        longest_pdu: pdus.1,
+    }
+}
+
+/// Long packets in short PDUs, short ones in long PDUs, and others.
+pub const STYLES: [Style; 10] = [
+    style((3, 4_096), (96, 300)),
+    style((12, 4_096), (200, 1_500)),
+    style((40, 4_096), (2_000, 20_480)),
+    style((150, 3), (96, 140)),
+    style((600, 2), (120, 400)),
+    style((500, 5), (96, 2_000)),
+    style((60, 60), (96, 200)),
+    style((15, 300), (96, 96)),
+    style((20, 700), (96, 500)),
+    style((40, 1_500), (96, 4_096)),
+];
+
+/// A PDU, and the bytes of the joined list that it holds.
+pub struct Sent {
+    pdu: Vec<u8>,
+    first: usize,
+    end: usize,
+    psd: Vec<u8>,
+}
+
+/// A list of packets, sent by one writer.
+pub struct List {
+    line: Line,
+    packets: Vec<Vec<u8>>,
+    /// G, how many bytes of the packets joined are sent, counted from the
+    /// calls' arguments without the writer.
+    sent: usize,
+    writer: Writer,
+    pub pdus: Vec<Sent>,
+}
+
+impl List {
+    /// A list of which nothing is sent yet.
+    pub fn new(line: Line, packets: Vec<Vec<u8>>) -> List {
+        List {
+            line,
+            packets,
+            sent: 0,
+            writer: writer::open(line.mode, line.stream).expect("a line of the table"),
+            pdus: Vec::new(),
+        }
+    }
+
+    /// A random list, sent to its end or until there are many PDUs.
+    pub fn random(rng: &mut Rng, line: Line, style: Style) -> List {
+        let count = match rng.below(16) {
+            0 => rng.below(3),
+            _ => rng.within(style.packets / 3, style.packets),
+        };
+        let packets = (0..count)
+            .map(|_| {
+                let length = some_packet(rng, style.longest_packet);
+                some_bytes(rng, usize::from(length))
+            })
+            .collect();
+        let mut list = List::new(line, packets);
+        let longest = style.longest_pdu.min(calls::longest(&line));
+        let most_pdus = rng.within(5, 45);
+        while list.pdus.len() < most_pdus {
+            let (index, begun) = list.unfinished();
+            let left = list.packets.len() - index;
+            if left == 0 && rng.below(3) > 0 {
+                break;
+            }
+            if rng.below(8) == 0 {
+                list.refused_call(rng);
+            }
+            let none = left == 0 || begun == 0 && rng.below(10) == 0;
+            let length = rng.within(style.shortest_pdu, longest);
+            let offered = match rng.below(4) {
+                _ if none => 0,
+                0 => rng.within(1, left),
+                1 => rng.within(1, left.min(4)),
+                _ => left,
+            };
+            let call = list.call(rng, list.enough(offered, length), length);
+            list.send(&call);
+        }
+        list
+    }
+
+    /// The unfinished packet, and how many of its bytes are sent, told from G.
+    fn unfinished(&self) -> (usize, usize) {
+        let mut left = self.sent;
+        for (index, packet) in self.packets.iter().enumerate() {
+            if left < packet.len() {
+                return (index, left);
+            }
+            left -= packet.len();
+        }
+        (self.packets.len(), left)
+    }
+
+    /// No more packets than what is a little too much for the PDU.
+    fn enough(&self, offered: usize, length: usize) -> usize {
+        let (index, _) = self.unfinished();
+        let mut bytes = 0;
+        let mut enough = 0;
+        for packet in &self.packets[index..index + offered] {
+            enough += 1;
+            bytes += packet.len();
+            if bytes > 2 * length + 4_096 {
+                break;
+            }
+        }
+        enough
+    }
+
+    /// A right call that offers so many packets from the unfinished one on.
+    fn call(&self, rng: &mut Rng, offered: usize, length: usize) -> Call {
+        let (index, _) = self.unfinished();
+        let packets = &self.packets[index..index + offered];
+        let settings = calls::some_settings(rng, &self.line, length);
+        let most = calls::most_psd(&self.line, &settings, length);
+        let psd = match rng.below(4) {
+            0 | 1 => 0,
+            2 => rng.below(most + 1),
+            _ => most.min(rng.below(12)),
+        };
+        Call {
+            writer: self.writer,
+            settings,
+            psd: some_bytes(rng, psd),
+            lengths: packets.iter().map(|packet| packet.len() as u16).collect(),
+            bytes: packets.concat(),
+            length,
+        }
+    }
+
+    /// Makes a call that is accepted.
+    pub fn send(&mut self, call: &Call) {
+        let (answer, pdu) = write(call);
+        assert_eq!(answer.causes, []);
+        let first = self.sent;
+        self.sent += self.bytes_sent(call);
+        self.writer = answer.writer;
+        let (index, begun) = self.unfinished();
+        assert_eq!(usize::from(self.writer.number), index % 64);
+        assert_eq!(usize::from(self.writer.sent), begun);
+        self.pdus.push(Sent {
+            pdu,
+            first,
+            end: self.sent,
+            psd: call.psd.clone(),
+        });
+    }
+
+    /// The n bytes that the placing rule gives: whole remainders while they
+    /// fit, then a part of the next, if one byte of it does.
+    fn bytes_sent(&self, call: &Call) -> usize {
+        let (index, begun) = self.unfinished();
+        let limit = if self.line.locator_bits == 16 { 41 } else { 54 };
+        let expansion = calls::expansion_size(&call.settings);
+        let mut bytes = 0;
+        for place in 0..call.lengths.len() {
+            let pieces = place + 1;
+            if pieces > limit {
+                break;
+            }
+            let locator_bytes = match self.line.locator_bits {
+                16 => 2 * pieces,
+                _ => 3 * (pieces / 2) + 2 * (pieces % 2),
+            };
+            // With the CRCs, this piece's among them.
+            let overhead = 14 + locator_bytes + expansion + call.psd.len() + pieces;
+            let remainder = match place {
+                0 => self.packets[index].len() - begun,
+                _ => self.packets[index + place].len(),
+            };
+            let room = call.length.saturating_sub(overhead + bytes);
+            bytes += remainder.min(room);
+            if remainder > room {
+                break;
+            }
+        }
+        bytes
+    }
+
+    /// A call that is refused; it sends nothing.
+    fn refused_call(&self, rng: &mut Rng) {
+        let left = self.packets.len() - self.unfinished().0;
+        let length = rng.within(96, 400);
+        let offered = rng.below(left.min(3) + 1);
+        let mut call = self.call(rng, offered, length);
+        let number = [
+            refusal::LENGTH,
+            refusal::EXPANSION,
+            refusal::VALUE,
+            refusal::PACKETS,
+            refusal::PSD,
+        ][rng.below(5)];
+        if number == refusal::PACKETS {
+            call.lengths.push([0, 4_097][rng.below(2)]);
+        } else if offered == 0 && self.writer.sent > 0 {
+            // None offered, and a packet unfinished: 15 stands as well.
+            spoiling::spoil(rng, &mut call, number.min(refusal::VALUE));
+        } else {
+            spoiling::spoil(rng, &mut call, number);
+        }
+        let (answer, _) = write(&call);
+        assert_ne!(answer.refusal, 0);
+        assert_eq!(answer.writer, self.writer);
+    }
+
+    /// Of each byte of the joined list, whether it lies in a received PDU of
+    /// the run.
+    fn received(&self, run: &Range<usize>, lost: &[bool]) -> Vec<bool> {
+        let total = self.packets.iter().map(Vec::len).sum();
+        let mut received = vec![false; total];
+        for index in run.clone() {
+            if !lost[index - run.start] {
+                let sent = &self.pdus[index];
+                received[sent.first..sent.end].fill(true);
+            }
+        }
+        received
+    }
+
+    /// The words for the packets with every byte in a received PDU of the run,
+    /// in list order: how many packets, and their words.
+    fn wanted(&self, run: &Range<usize>, lost: &[bool]) -> (usize, Vec<u32>) {
+        let received = self.received(run, lost);
+        let mut words = Vec::new();
+        let mut count = 0;
+        let mut begin = 0;
+        for (number, packet) in self.packets.iter().enumerate() {
+            let end = begin + packet.len();
+            if received[begin..end].iter().all(|&byte| byte) {
+                words.extend(told::packet(number, packet));
+                count += 1;
+            }
+            begin = end;
+        }
+        (count, words)
+    }
+
+    /// The bytes before a place in the joined list that are of the packet
+    /// around it; none if a packet begins there.
+    fn begun(&self, place: usize) -> Range<usize> {
+        let mut begin = 0;
+        for packet in &self.packets {
+            let end = begin + packet.len();
+            if end > place {
+                return begin..place;
+            }
+            begin = end;
+        }
+        place..place
+    }
+
+    /// Whether a place in the joined list lies inside a packet.
+    fn inside(&self, place: usize) -> bool {
+        !self.begun(place).is_empty()
+    }
+}
+
+/// Makes a writing call.
+fn write(call: &Call) -> (writer::Answer, Vec<u8>) {
+    let mut pdu = vec![0xEE; call.length];
+    let offer = Offer {
+        settings: call.settings,
+        psd: &call.psd,
+        lengths: &call.lengths,
+        bytes: &call.bytes,
+    };
+    let answer = writer::write(call.writer, &offer, &mut pdu);
+    (answer, pdu)
+}
+
+/// How often drives had this and that.
+#[derive(Default)]
+pub struct Seen {
+    pub drives: u64,
+    pub empty_runs: u64,
+    pub begun_inside: u64,
+    pub received: u64,
+    pub lost: u64,
+    /// Received, by how many bytes of the header were altered.
+    pub altered: BTreeMap<usize, u64>,
+    /// Lost PDUs in a row, by how many, those over 12 as 13.
+    pub in_a_row: BTreeMap<usize, u64>,
+    /// Two lost in a row where there are two sequences.
+    pub two_of_one_bit: u64,
+    /// A beginning was held before lost PDUs, and behind them the sequence is
+    /// the next and a packet goes on.
+    pub sequence_fits: u64,
+    /// And its number is the beginning's.
+    pub number_fits: u64,
+    /// The same, and it is another packet.
+    pub another_packet: u64,
+    pub packets: u64,
+    /// Packets that a log holds.
+    pub logged: u64,
+    /// Refused calls, by number.
+    pub refused: BTreeMap<u32, u64>,
+    pub lines: BTreeMap<(u8, u8), u64>,
+}
+
+/// A receiver on its drive.
+struct Drive<'a> {
+    class: &'a mut Class,
+    seen: &'a mut Seen,
+    receiver: Receiver,
+    carry: Lent,
+    log: LentLog,
+    /// The accepted calls' logs, joined.
+    joined: Vec<u32>,
+}
+
+/// Goes through a run of the list's PDUs, of which some are lost.
+pub fn drive(class: &mut Class, seen: &mut Seen, list: &List, run: Range<usize>, lost: &[bool]) {
+    assert_eq!(lost.len(), run.len());
+    let line = list.line;
+    let carry = receptions::some_carry(&mut class.rng);
+    let log = LOG_WORDS + class.rng.below(3);
+    let mut drive = Drive {
+        receiver: receiver::open(line.mode, line.stream).expect("a line of the table"),
+        carry: Lent::of(&mut class.rng, &carry),
+        log: LentLog::random(&mut class.rng, log),
+        joined: Vec::new(),
+        class,
+        seen,
+    };
+    for (index, &lost) in run.clone().zip(lost) {
+        let pdu = &list.pdus[index].pdu;
+        while drive.class.rng.below(8) == 0 {
+            drive.refused_call(pdu);
+        }
+        if lost {
+            drive.lose();
+        } else {
+            drive.receive(pdu);
+        }
+    }
+    if drive.class.rng.below(8) == 0 {
+        drive.refused_call(&[0; 96]);
+    }
+    let joined = drive.joined;
+    check(seen.drives, list, &run, lost, &joined);
+    count(seen, list, &run, lost);
+}
+
+/// The joined logs of a drive against what they have to hold.
+fn check(drive: u64, list: &List, run: &Range<usize>, lost: &[bool], joined: &[u32]) {
+    let told = || {
+        format!(
+            "drive {drive}: mode {}, stream {}, run {run:?}, lost {lost:?}",
+            list.line.mode, list.line.stream
+        )
+    };
+    let kinds = Kinds::of(joined);
+    let (_, packets) = list.wanted(run, lost);
+    assert!(kinds.packets == packets, "packets; {}", told());
+    // Besides: the PSD of each received PDU, note 6 for each lost one, and
+    // note 3 where a received one begins inside a packet of which not all
+    // before it is received.
+    let received = list.received(run, lost);
+    let mut psd = Vec::new();
+    let mut notes = Vec::new();
+    for (place, index) in run.clone().enumerate() {
+        let sent = &list.pdus[index];
+        if lost[place] {
+            notes.push(told::note(6, 0));
+            continue;
+        }
+        if !sent.psd.is_empty() {
+            psd.extend(told::psd(&sent.psd));
+        }
+        if received[list.begun(sent.first)].contains(&false) {
+            notes.push(told::note(3, 0));
+        }
+    }
+    assert!(kinds.psd == psd, "PSD; {}", told());
+    assert!(kinds.notes == notes, "notes; {}", told());
+}
+
+impl Drive<'_> {
+    /// Receives the PDU, with up to four bytes of its header altered.
+    fn receive(&mut self, pdu: &[u8]) {
+        let altered = [0, 0, 4, self.class.rng.within(1, 4)][self.class.rng.below(4)];
+        let loan = self.loan(pdu, altered);
+        let tried = self.class.receive(self.receiver, loan, &Known::Accepted);
+        assert_eq!(tried.loan.pdu.bytes(), pdu);
+        self.receiver = tried.answer.receiver;
+        self.carry = tried.loan.carry;
+        self.log = tried.loan.log;
+        self.joined.extend(&self.log.words()[..tried.answer.words]);
+        *self.seen.altered.entry(altered).or_default() += 1;
+    }
+
+    /// Marks a PDU lost.
+    fn lose(&mut self) {
+        let log = self.log.clone();
+        let known = &Known::Accepted;
+        let (answer, log) = self.class.mark_lost(self.receiver, log, known);
+        self.receiver = answer.receiver;
+        self.joined.extend(&log.words()[..answer.words]);
+        self.log = log;
+    }
+
+    /// The PDU, so many bytes of its header altered, with carry and log.
+    fn loan(&mut self, pdu: &[u8], altered: usize) -> Loan {
+        let mut pdu = Lent::of(&mut self.class.rng, pdu);
+        for place in self.class.rng.places(altered, 0, PLACES - 1) {
+            pdu.bytes_mut()[place] ^= self.class.rng.nonzero_byte();
+        }
+        Loan {
+            carry: self.carry.clone(),
+            pdu,
+            log: self.log.clone(),
+        }
+    }
+
+    /// A call that is refused, with any other arguments than the receiver and
+    /// the carry, or with those wrong. The PDU is the next of the run.
+    fn refused_call(&mut self, next: &[u8]) {
+        let line = self.line();
+        let number = match self.class.rng.within(1, 13) as u32 {
+            // All sequences that three bits can say are in a range of eight.
+            refusal::SEQUENCE if line.sequences == 8 => refusal::PIECES,
+            number => number,
+        };
+        let refused = match number {
+            refusal::STATE | refusal::LOG if self.class.rng.below(2) == 0 => {
+                self.refused_marking(number);
+                None
+            }
+            refusal::STATE => {
+                let mut receiver = self.receiver;
+                spoil_state(&mut self.class.rng, &mut receiver);
+                let loan = self.loan(next, 0);
+                Some((receiver, loan))
+            }
+            refusal::CARRY => {
+                let mut loan = self.loan(next, 0);
+                let short = [0, 1, 4_095][self.class.rng.below(3)];
+                let carry = &self.carry.bytes()[..short];
+                loan.carry = Lent::of(&mut self.class.rng, carry);
+                Some((self.receiver, loan))
+            }
+            refusal::LENGTH => {
+                let mut pdu = next.to_vec();
+                pdu.resize([0, 95, LONGEST + 1][self.class.rng.below(3)], 0);
+                Some((self.receiver, self.loan(&pdu, 0)))
+            }
+            refusal::BEYOND_MENDING => {
+                let altered = self.class.rng.within(5, 60);
+                let loan = self.loan(next, altered);
+                let beyond = header::correct(&header::header_of(loan.pdu.bytes())).is_none();
+                beyond.then_some((self.receiver, loan))
+            }
+            refusal::LOG => self.too_short_a_log(next),
+            _ => {
+                let pdu = self.spoiled_pdu(number);
+                Some((self.receiver, self.loan(&pdu, 0)))
+            }
+        };
+        let Some((receiver, loan)) = refused else {
+            return;
+        };
+        let tried = self.class.receive(receiver, loan, &Known::Number(number));
+        assert_eq!(tried.answer.receiver, receiver);
+        *self.seen.refused.entry(number).or_default() += 1;
+    }
+
+    /// Marking lost with a wrong state, or with no log.
+    fn refused_marking(&mut self, number: u32) {
+        let mut receiver = self.receiver;
+        let mut log = self.log.clone();
+        if number == refusal::STATE {
+            spoil_state(&mut self.class.rng, &mut receiver);
+        } else {
+            log = LentLog::random(&mut self.class.rng, 0);
+        }
+        let known = &Known::Number(number);
+        self.class.mark_lost(receiver, log, known);
+        *self.seen.refused.entry(number).or_default() += 1;
+    }
+
+    /// The next PDU with a log of fewer words than it writes, if it writes
+    /// any.
+    fn too_short_a_log(&mut self, next: &[u8]) -> Option<(Receiver, Loan)> {
+        let mut loan = self.loan(next, 0);
+        let mut tried = loan.clone();
+        let answer = receiver::receive(
+            self.receiver,
+            tried.carry.bytes_mut(),
+            tried.pdu.bytes_mut(),
+            tried.log.words_mut(),
+        );
+        let short = answer.words.checked_sub(1)?;
+        let count = [short, self.class.rng.within(0, short)][self.class.rng.below(2)];
+        loan.log = LentLog::random(&mut self.class.rng, count);
+        Some((self.receiver, loan))
+    }
+
+    /// A PDU that is refused with this number, 5 to 12.
+    fn spoiled_pdu(&mut self, number: u32) -> Vec<u8> {
+        let opened = self.line();
+        let rng = &mut self.class.rng;
+        if number != refusal::NOT_THOSE_OPENED {
+            let mut reception = spoilable(rng, opened);
+            receptions::spoil(rng, &mut reception, number);
+            return reception.pdu();
+        }
+        loop {
+            let line = TABLE[rng.below(TABLE.len())];
+            if line != opened {
+                return spoilable(rng, line).pdu();
+            }
+        }
+    }
+
+    /// What the receiver was opened for.
+    fn line(&self) -> Line {
+        modes::line_for(self.receiver.mode, self.receiver.stream).expect("a line of the table")
+    }
+}
+
+/// Counts what a drive had.
+fn count(seen: &mut Seen, list: &List, run: &Range<usize>, lost: &[bool]) {
+    seen.drives += 1;
+    seen.empty_runs += u64::from(run.is_empty());
+    let first = list.pdus.get(run.start).map(|sent| sent.first);
+    let begun_inside = !run.is_empty() && first.is_some_and(|first| list.inside(first));
+    seen.begun_inside += u64::from(begun_inside);
+    let gone = lost.iter().filter(|&&lost| lost).count();
+    seen.lost += gone as u64;
+    seen.received += (lost.len() - gone) as u64;
+    seen.packets += list.packets.len() as u64;
+    seen.logged += list.wanted(run, lost).0 as u64;
+    let line = (list.line.mode, list.line.stream);
+    *seen.lines.entry(line).or_default() += 1;
+    for (from, to) in lost_runs(lost) {
+        count_lost(seen, list, run.start, (from, to), lost.len());
+    }
+}
+
+/// Where lost PDUs in a row begin, and where they end.
+fn lost_runs(lost: &[bool]) -> Vec<(usize, usize)> {
+    let is_lost = |place: usize| lost.get(place) == Some(&true);
+    let begins = |&place: &usize| is_lost(place) && (place == 0 || !is_lost(place - 1));
+    (0..lost.len())
+        .filter(begins)
+        .map(|from| {
+            let length = lost[from..].iter().take_while(|&&lost| lost).count();
+            (from, from + length)
+        })
+        .collect()
+}
+
+/// Counts lost PDUs in a row, and whether what stands before and behind them
+/// looks as if it belonged together.
+fn count_lost(seen: &mut Seen, list: &List, start: usize, lost: (usize, usize), all: usize) {
+    let (from, to) = lost;
+    let in_a_row = to - from;
+    *seen.in_a_row.entry(in_a_row.min(13)).or_default() += 1;
+    let range = usize::from(list.line.sequences);
+    seen.two_of_one_bit += u64::from(in_a_row == 2 && range == 2);
+    if from == 0 || to == all {
+        return;
+    }
+    let before = list.pdus[start + from - 1].end;
+    let behind = list.pdus[start + to].first;
+    // The next sequence comes again after a whole range.
+    if !list.inside(before) || !list.inside(behind) || in_a_row % range != 0 {
+        return;
+    }
+    seen.sequence_fits += 1;
+    let packet = |place: usize| {
+        let mut end = 0;
+        let ends = |packet: &Vec<u8>| {
+            end += packet.len();
+            end
+        };
+        let ends: Vec<usize> = list.packets.iter().map(ends).collect();
+        ends.iter().filter(|&&end| end <= place).count()
+    };
+    let (one, other) = (packet(before), packet(behind));
+    seen.number_fits += u64::from(one % 64 == other % 64);
+    seen.another_packet += u64::from(one % 64 == other % 64 && one != other);
+}
+
+/// Which PDUs of a run are lost.
+pub fn some_lost(rng: &mut Rng, count: usize, range: usize) -> Vec<bool> {
+    let mut lost = vec![false; count];
+    match rng.below(10) {
+        0 => {}
+        1 => lost.fill(true),
+        2..=4 => {
+            let of = [2, 3, 6][rng.below(3)];
+            lost.fill_with(|| rng.below(of) == 0);
+        }
+        5 | 6 => {
+            // Received and lost ones in turn, some in a row.
+            let mut place = rng.below(5);
+            while place < count {
+                let end = (place + rng.within(1, 6)).min(count);
+                lost[place..end].fill(true);
+                place = end + rng.within(1, 4);
+            }
+        }
+        7 if count > 0 => {
+            let from = rng.below(count);
+            let to = rng.within(from + 1, count);
+            lost[from..to].fill(true);
+        }
+        _ => {
+            // Two, or as many as there are sequences.
+            let in_a_row = [2, range][rng.below(2)];
+            if count > in_a_row {
+                let from = rng.below(count - in_a_row);
+                lost[from..from + in_a_row].fill(true);
+            }
+        }
+    }
+    lost
+}
+
+/// Any run of the PDUs.
+pub fn some_run(rng: &mut Rng, count: usize) -> Range<usize> {
+    let from = match rng.below(4) {
+        0 | 1 => 0,
+        2 => rng.below(count.min(6) + 1),
+        _ => rng.below(count + 1),
+    };
+    let to = match rng.below(4) {
+        0 => rng.within(from, count),
+        _ => count,
+    };
+    from..to
+}
+
+/// A list for a trap: its first PDU ends inside packet 0, and so many PDUs
+/// later, a multiple of the sequences, one begins inside packet 64 or inside
+/// packet 0 still.
+pub fn trap(rng: &mut Rng, line: Line, another: bool) -> (List, usize) {
+    let range = usize::from(line.sequences);
+    let in_a_row = range * rng.within(1, if range == 2 { 4 } else { 2 });
+    let mut lengths = vec![rng.within(2_500, 4_096)];
+    if another {
+        lengths.extend((0..63).map(|_| rng.within(1, 3)));
+        lengths.push(rng.within(2_500, 4_096));
+    }
+    lengths.extend((0..6).map(|_| rng.within(1, 300)));
+    let packets = lengths
+        .into_iter()
+        .map(|length| some_bytes(rng, length))
+        .collect();
+    let mut list = List::new(line, packets);
+    let mut send = |list: &mut List, offered: usize, length: usize| {
+        let call = list.call(rng, offered, length);
+        list.send(&call);
+    };
+    if another {
+        send(&mut list, 1, 1_200);
+        // What is left of packet 0, and 39 others; then the rest of them, and
+        // the beginning of packet 64.
+        send(&mut list, 40, 4_096);
+        send(&mut list, 25, 700);
+    } else {
+        send(&mut list, 1, 120);
+        send(&mut list, 1, 120);
+        send(&mut list, 1, 120);
+    }
+    for _ in 2..in_a_row {
+        send(&mut list, 1, 120);
+    }
+    while list.unfinished().0 < list.packets.len() {
+        let left = list.packets.len() - list.unfinished().0;
+        send(&mut list, left, 1_500);
+    }
+    (list, in_a_row)
+}
