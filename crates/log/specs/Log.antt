@@ -1,6 +1,7 @@
 -- Document 01, "Receiver": log words have 32 bits; bits 31-30 are the kind.
+use mathlib.Core.Bool.{Bool, true, false, cond}
 use mathlib.Core.List.{List, [], _∷_, _++_}
-use Prim.Native.Nat.{ℕ, _+_, _-_, _*_, min}
+use Prim.Native.Nat.{ℕ, zero, suc, _+_, _-_, _*_, _/_, min}
 use lib.ListN.{length, getD}
 
 pub data Entry : Type 0 where
@@ -38,3 +39,30 @@ entryWords (note cause piece) = word 3 cause piece ∷ []
 unfoldable pub logWords : List Entry → List ℕ
 logWords [] = []
 logWords (e ∷ es) = entryWords e ++ logWords es
+
+-- ---- the packets of a log
+
+abbrev pub kindOf : ℕ → ℕ
+kindOf w = w / 0x40000000
+
+-- whether a word of this kind is a packet's, when the word before it was one or not: a packet's own words are the kind 0 word and the data
+-- words that follow it
+abbrev pub ofPacket : ℕ → Bool → Bool
+ofPacket zero before = true
+ofPacket (suc zero) before = before
+ofPacket (suc (suc k)) before = false
+
+-- the kind 0 words of a log, each with its data words
+unfoldable pub packetWordsAfter : Bool → List ℕ → List ℕ
+packetWordsAfter before [] = []
+packetWordsAfter before (w ∷ ws) = let now = ofPacket (kindOf w) before in cond now (w ∷ packetWordsAfter now ws) (packetWordsAfter now ws)
+
+abbrev pub packetWords : List ℕ → List ℕ
+packetWords ws = packetWordsAfter false ws
+
+-- the packet entries
+unfoldable pub packetsOf : List Entry → List Entry
+packetsOf [] = []
+packetsOf (packet number bytes ∷ es) = packet number bytes ∷ packetsOf es
+packetsOf (psd bytes ∷ es) = packetsOf es
+packetsOf (note cause piece ∷ es) = packetsOf es

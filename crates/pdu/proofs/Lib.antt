@@ -7,3 +7,4 @@ pub mod Restoring
 pub mod ContentsLaw
 pub mod Ignored
 pub mod ReadBack
+pub mod Sizes
