@@ -56,6 +56,15 @@ extern "C" {
 /* The longest packet, in bytes. (Document 01, "Writer".) */
 #define BARZHILUP_PACKET_MAX 4096
 
+/* The fewest bytes of a carry buffer, in which a receiver keeps the beginning of
+ * a packet between calls. A shorter one is refused with
+ * BARZHILUP_REFUSED_CARRY_LENGTH. (Document 01, "Receiver".) */
+#define BARZHILUP_CARRY_BYTES 4096
+
+/* A log of so many words is long enough for every call. (Document 01,
+ * "Receiver".) */
+#define BARZHILUP_LOG_WORDS 8400
+
 /* ---- Refusal numbers (document 01, "What is turned down") --------------- */
 
 /* Not refused. */
@@ -63,6 +72,9 @@ extern "C" {
 
 /* A field of a writer's or receiver's state is outside its range. */
 #define BARZHILUP_REFUSED_STATE 1
+
+/* The carry buffer has under 4,096 bytes. */
+#define BARZHILUP_REFUSED_CARRY_LENGTH 2
 
 /* The PDU's length is not 96 to 20,480; for a writer with locators of 12 bits,
  * it is over 4,096. */
@@ -74,6 +86,10 @@ extern "C" {
 
 /* Mode and stream are not in the table of document 01, "Modes". */
 #define BARZHILUP_REFUSED_MODE 5
+
+/* The PDU's mode and stream are in the table, but are not those that the
+ * receiver was opened for. */
+#define BARZHILUP_REFUSED_OTHER_MODE 6
 
 /* The PDU sequence is outside its mode's range. */
 #define BARZHILUP_REFUSED_SEQUENCE 7
@@ -93,6 +109,9 @@ extern "C" {
 
 /* The displacement is before the last piece's end, or not below the length. */
 #define BARZHILUP_REFUSED_DISPLACEMENT 12
+
+/* The log is shorter than the words that the call would write. */
+#define BARZHILUP_REFUSED_LOG_LENGTH 13
 
 /* A value that is not sent: blend 3, or nonzero with a nonzero program; core
  * gain 7 to 23; one past its width. */
@@ -333,6 +352,133 @@ barzhilup_written barzhilup_write(barzhilup_writer writer,
                                   const uint16_t *lengths, size_t count,
                                   const uint8_t *bytes, size_t bytes_length,
                                   uint8_t *pdu, size_t pdu_length);
+
+/* ---- Packet log (document 01, "Receiver") -------------------------------- */
+
+/*
+ * A log is a row of words of 32 bits. Bits 31-30 are a word's kind, one of the
+ * four below. A packet's word and a PSD's word are followed by data words with
+ * their bytes, three to a word; the last has 1 to 3.
+ *
+ * Packet 5 with the bytes 11 22 33 44 is 0x00050004 0x43112233 0x41440000.
+ */
+
+/* A packet: bits 21-16 are its number, 0 to 63, bits 15-0 its length in bytes,
+ * 1 to 4,096. Data words follow. */
+#define BARZHILUP_LOG_PACKET 0
+
+/* Data: bits 25-24 say how many bytes, 1 to 3. The first stands in bits 23-16,
+ * the second in 15-8, the third in 7-0; unused ones are zero. */
+#define BARZHILUP_LOG_DATA 1
+
+/* PSD: bits 15-0 are its length in bytes, at least 1. Data words follow. */
+#define BARZHILUP_LOG_PSD 2
+
+/* A note: bits 29-16 are its cause, one of those below, bits 15-0 the number of
+ * the piece that it is about, from 0; 0 too where it is about none. No data
+ * words follow. */
+#define BARZHILUP_LOG_NOTE 3
+
+/* Causes of notes. Each leaves nothing held. */
+
+/* The PDU sequence is not the one after the last: PDUs are missing. What was
+ * held is dropped. About no piece. */
+#define BARZHILUP_NOTE_SEQUENCE 1
+
+/* The piece's CRC is wrong; its bytes are dropped. */
+#define BARZHILUP_NOTE_CRC 2
+
+/* The piece continues a packet of which nothing is held; its bytes are
+ * dropped. */
+#define BARZHILUP_NOTE_NOTHING_HELD 3
+
+/* The beginning that was held is not continued by this PDU: Pfirst is clear, or
+ * its number is not the starting number minus 1, modulo 64. It is dropped. About
+ * no piece. */
+#define BARZHILUP_NOTE_NOT_CONTINUED 4
+
+/* With the piece, the packet is over 4,096 bytes; its bytes are dropped. */
+#define BARZHILUP_NOTE_TOO_LONG 5
+
+/* The PDU was marked lost. What was held is dropped. About no piece. */
+#define BARZHILUP_NOTE_LOST 6
+
+/* ---- Receiver (document 01, "Receiver") ---------------------------------- */
+
+/* What a receiver remembers. A caller keeps it between calls, together with the
+ * carry buffer, and need not look inside. A bool is true or false: any other
+ * byte in its place is undefined, as in C. */
+typedef struct {
+    uint8_t mode;
+    /* 0 core, 1 enhanced. */
+    uint8_t stream;
+    /* Whether the last PDU's sequence is known. */
+    bool known;
+    /* The last PDU's sequence; 0 if not known. */
+    uint8_t sequence;
+    /* How many bytes of an unfinished packet are held (document 01: "the held
+     * beginning"), 0 to 4,096. They are the first ones of the carry buffer. 0:
+     * nothing is held. */
+    uint16_t held;
+    /* That packet's number, 0 to 63; 0 if nothing is held. */
+    uint8_t number;
+} barzhilup_receiver;
+
+/* What came of opening a receiver. */
+typedef struct {
+    /* BARZHILUP_ACCEPTED or BARZHILUP_REFUSED_MODE. */
+    uint32_t refusal;
+    /* No sequence known, nothing held. All 0 if refused. */
+    barzhilup_receiver receiver;
+} barzhilup_receiver_opened;
+
+/* What came of receiving a PDU or marking one lost. */
+typedef struct {
+    /* BARZHILUP_ACCEPTED, or a BARZHILUP_REFUSED_ number: 1 to 13 for receiving,
+     * 1 or 13 for marking lost. */
+    uint32_t refusal;
+    /* With BARZHILUP_REFUSED_LOCATOR, the number k of a wrong locator, from 0;
+     * otherwise 0. */
+    uint32_t wrong_locator;
+    /* How many words of the log were written, from its first on. 0 if
+     * refused. */
+    uint32_t words;
+    /* The receiver for the next call; as it came if refused. */
+    barzhilup_receiver receiver;
+} barzhilup_received;
+
+/* Opens a receiver for a mode and stream of document 01's table. */
+barzhilup_receiver_opened barzhilup_open_receiver(uint8_t mode, uint8_t stream);
+
+/*
+ * Receives one PDU: corrects its header in place, joins its pieces to packets,
+ * and logs packets, PSD and notes.
+ *
+ * `carry` is the carry buffer, of at least 4,096 bytes. For a receiver that was
+ * just opened it may hold anything; after that it has to be as the receiver's
+ * last call left it. `pdu` is the whole PDU. `log` may hold anything. The three
+ * buffers must not overlap.
+ *
+ * In log order: note 1 or note 4, if due; the PSD, if any; and for each piece a
+ * packet if one ends with it, a note if it is dropped, or nothing if it is held.
+ *
+ * If the PDU is accepted, `pdu` is left corrected, the first `words` words of
+ * `log` are written, and the first `held` bytes of `carry` are the bytes held
+ * now; no other byte or word has changed. If it is refused, none has.
+ */
+barzhilup_received barzhilup_receive(barzhilup_receiver receiver,
+                                     uint8_t *carry, size_t carry_length,
+                                     uint8_t *pdu, size_t pdu_length,
+                                     uint32_t *log, size_t log_length);
+
+/*
+ * Marks a PDU lost, in its place in the row of PDUs: logs note 6, one word,
+ * drops what is held and forgets the sequence. The carry buffer is not needed
+ * and stays as it is. `log` may hold anything; no other word of it has changed,
+ * and none if the call is refused.
+ */
+barzhilup_received barzhilup_mark_lost(barzhilup_receiver receiver,
+                                       uint32_t *log, size_t log_length);
 
 #ifdef __cplusplus
 }

@@ -2,14 +2,13 @@
 //! of all modes and streams, made for each note and each cause of the refusals
 //! 1 to 13, marking lost, and whole drives (demand 3). What a call has to
 //! answer is told from how it was made, what a drive has to log from the
-//! writing calls. The product is called with the feature `product-receives`.
+//! writing calls.
 
 mod attempt;
 #[allow(dead_code)]
 mod calls;
 mod drives;
 mod lent;
-#[cfg(feature = "product-receives")]
 mod product;
 mod receptions;
 #[allow(dead_code)]

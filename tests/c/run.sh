@@ -14,7 +14,7 @@ build=$(mktemp -d)
 trap 'rm -rf "$build"' EXIT
 warnings=(-Wall -Wextra -Wpedantic -Werror -I "$root/include")
 
-for test in header_test writer_test; do
+for test in header_test writer_test receiver_test; do
     echo "C99, gcc, $test:"
     gcc -std=c99 "${warnings[@]}" -O2 -o "$build/$test" "$root/tests/c/$test.c" "$library"
     "$build/$test"

@@ -1,6 +1,8 @@
 // The C library: each public operation with C's types, and the core's contract. include/barzhilup.h declares them.
 use correction::Correction;
 use pdu::Reading;
+use receiver::Received;
+use receiver::Receiver;
 use settings::Settings;
 use writer::Opened;
 use writer::Writer;
@@ -12,6 +14,7 @@ ghost use Rattle.crc.specs.Crc.{crcFrom};
 ghost use Rattle.header.specs.Header.{syndromes, parityOf, lengthRefusal, withParity};
 ghost use Rattle.pdu.specs.Reading.{readingWith, WrongOne, readPdu};
 ghost use Rattle.writer.specs.Writing.{opened, writeAnswer, writtenPdu};
+ghost use Rattle.receiver.specs.Receiving.{opened as receiverOpened, receiveAnswer, carryAfter, pduAfter, logAfter, lostAnswer, logAfterLost};
 ghost use Rattle.correction.specs.Correction.{correctionOf, correctedPdu, numberOf, countOf};
 
 // S1 to S8.
@@ -129,4 +132,39 @@ pub extern "C" fn barzhilup_write(
     ensures { λ _. ⌜ now (pdu .exit) ≡ writtenPdu settings (now (psd .entry)) (now (lengths .entry)) (now (bytes .entry)) (length (now (pdu .entry))) writer (now (pdu .entry)) ⌝ }
 {
     writer.write(settings, psd, lengths, bytes, pdu)
+}
+
+// Opens a receiver for a mode and stream, or refuses with 5.
+#[no_mangle]
+pub extern "C" fn barzhilup_open_receiver(mode: u8, stream: u8) -> receiver::Opened
+    ensures { λ r. ⌜ r ≡ receiverOpened mode stream ⌝ }
+{
+    receiver::open(mode, stream)
+}
+
+// Receives a PDU: its header is corrected in place, what is held stands first in the carry, and the log is written from its first word on; or
+// it is refused with 1 to 13, and nothing is changed.
+#[no_mangle]
+pub extern "C" fn barzhilup_receive(
+    receiver: Receiver,
+    carry: &mut [u8],
+    pdu: &mut [u8],
+    log: &mut [u32],
+) -> Received
+    ensures { λ r. ⌜ r ≡ receiveAnswer (now (carry .entry)) (now (pdu .entry)) (now (log .entry)) receiver (r .wrong) ⌝ }
+    ensures { λ r. ⌜ WrongOne (now (pdu .entry)) (r .refusal) (r .wrong) ⌝ }
+    ensures { λ _. ⌜ now (carry .exit) ≡ carryAfter (now (carry .entry)) (now (pdu .entry)) (now (log .entry)) receiver ⌝ }
+    ensures { λ _. ⌜ now (pdu .exit) ≡ pduAfter (now (carry .entry)) (now (pdu .entry)) (now (log .entry)) receiver ⌝ }
+    ensures { λ _. ⌜ now (log .exit) ≡ logAfter (now (carry .entry)) (now (pdu .entry)) (now (log .entry)) receiver ⌝ }
+{
+    receiver.receive(carry, pdu, log)
+}
+
+// Marks a PDU lost: note 6, and the receiver forgets; or it is refused with 1 or 13, and nothing is changed.
+#[no_mangle]
+pub extern "C" fn barzhilup_mark_lost(receiver: Receiver, log: &mut [u32]) -> Received
+    ensures { λ r. ⌜ r ≡ lostAnswer (now (log .entry)) receiver ⌝ }
+    ensures { λ _. ⌜ now (log .exit) ≡ logAfterLost (now (log .entry)) receiver ⌝ }
+{
+    receiver.mark_lost(log)
 }

@@ -24,7 +24,8 @@ use Rattle.pieces.specs.Pieces.{cutBy, locatorsFrom, total}
 use Rattle.packing.specs.Packing.{fit, wholesFrom, partAfter, partFrom}
 use Rattle.writer.specs.Writing.{opened, writeAnswer}
 use Rattle.crc.proofs.Examples as crc
-use Rattle.header.specs.Header.{sumUp, term, syndrome, isCodeWord, distance, exponents}
+use Rattle.log.proofs.Examples as log
+use Rattle.header.specs.Header.{sumUp, term, syndrome, isCodeWord, distance, exponents, lengthRefusal}
 use Rattle.header.proofs.CodeWords.{Bytes, zero-code-word}
 use Rattle.header.proofs.Distances.{count, count-le, distance-self}
 use Rattle.header.proofs.Division.{value, syndrome-value}
@@ -164,7 +165,7 @@ module _ (choice : List Bool) (l : length choice ≡ 9) where
       })
 
 pub examples : Examples
-unfolding controlBytes bytes16 bytes12 listing opened writeAnswer fieldsFor expansionBytes chained total fit wholesFrom partAfter partFrom cutBy locatorsFrom
+unfolding controlBytes bytes16 bytes12 listing opened writeAnswer fieldsFor expansionBytes chained total fit wholesFrom partAfter partFrom cutBy locatorsFrom lengthRefusal
 examples = record {
   a = refl;
   b = refl;
@@ -185,4 +186,6 @@ examples = record {
   l = refl;
   m-fits = refl;
   m-not = refl;
+  n = log.of-packet-5;
+  n-length = refl;
 }

@@ -19,8 +19,9 @@ use Rattle.writer.specs.declared.Writer.{Writer}
 use Rattle.writer.specs.declared.Written.{Written}
 use Rattle.field.specs.Field.{pow}
 use Rattle.crc.specs.Crc.{crcFrom}
-use Rattle.header.specs.Header.{exponents, isCodeWord}
+use Rattle.header.specs.Header.{exponents, isCodeWord, lengthRefusal}
 use Rattle.correction.specs.Correction.{corrected}
+use Rattle.log.specs.Log.{packet, entryWords}
 
 -- the generator's coefficients in bytes 0 to 8, the rest zero
 unfoldable pub generatorWord : List ℕ
@@ -96,3 +97,6 @@ pub record Examples : Type 0 where
   -- mode 0, 96 bytes, packets offered: PSD 78 fits, 79 is 17
   pub m-fits : answered 78 (100 ∷ []) (opened 0 0 .writer) .refusal ≡ 0
   pub m-not : answered 79 (100 ∷ []) (opened 0 0 .writer) .refusal ≡ 17
+  -- packet 5, bytes 11 22 33 44: 0x00050004 0x43112233 0x41440000; length 95: 3
+  pub n : entryWords (packet 5 (0x11 ∷ 0x22 ∷ 0x33 ∷ 0x44 ∷ [])) ≡ 0x00050004 ∷ 0x43112233 ∷ 0x41440000 ∷ []
+  pub n-length : lengthRefusal 95 ≡ 3

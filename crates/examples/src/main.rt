@@ -37,6 +37,7 @@ fn main() {
         511,
     );
     writing_lines();
+    log_line();
     length_line();
 }
 
@@ -51,6 +52,11 @@ fn end_line() {
 fn hex_byte(b: u8) {
     say(b" ");
     io::print_hex(STDOUT_FILENO, b as u64, 2);
+}
+
+fn hex_word(w: u32) {
+    say(b" ");
+    io::print_hex(STDOUT_FILENO, w as u64, 8);
 }
 
 // (a)
@@ -297,7 +303,20 @@ fn writing_lines() {
     writing_line(b"(m) PSD 79:", opened.writer, 79, &one, 100);
 }
 
-// Length 95
+// (n)
+fn log_line() {
+    let mut words = [0u32; 3];
+    log::put_packet(&mut words, 0, 5, b"\x11\x22\x33\x44", b"");
+    say(b"(n) packet 5, bytes 11 22 33 44:");
+    let mut i: usize = 0;
+    while i < 3 {
+        hex_word(words[i]);
+        i += 1;
+    }
+    end_line();
+}
+
+// (n): length 95
 fn length_line() {
     let mut pdu = [0u8; 95];
     let answer = correction::correct(&mut pdu);
@@ -305,7 +324,7 @@ fn length_line() {
         Correction::Corrected(_) => 0,
         Correction::Refused(n) => n,
     };
-    say(b"Length 95: ");
+    say(b"(n) length 95: ");
     io::print_decimal(STDOUT_FILENO, number as u64);
     end_line();
 }

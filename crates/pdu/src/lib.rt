@@ -70,8 +70,16 @@ fn expansion_of(y: &[u8], width: u8, c: ControlWord) -> Expansion
     }
 }
 
+// The place where PSD begins: after the locators and the expansion bytes.
+pub fn psd_start(y: &[u8], width: u8, c: ControlWord) -> usize
+    ensures { λ r. ⌜ r ≡ afterLocators width c + expansionBytes width c (now (y .entry)) ⌝ }
+{
+    let x = expansion_of(y, width, c);
+    after_locators(width, c.nop) as usize + x.length
+}
+
 // The place before piece k: La, or the previous locator.
-fn mark(y: &[u8], width: u8, c: ControlWord, k: u8) -> u16
+pub fn mark(y: &[u8], width: u8, c: ControlWord, k: u8) -> u16
     ensures { λ r. ⌜ r ≡ markAt width c (now (y .entry)) k ⌝ }
 {
     if k == 0 {
@@ -149,9 +157,9 @@ fn first_wrong(y: &[u8], width: u8, c: ControlWord) -> u8
 }
 
 // A refusal number from 7 to 12 or 0, and with 11 the k of a wrong locator.
-struct Verdict {
-    number: u32,
-    wrong: u8,
+pub struct Verdict {
+    pub number: u32,
+    pub wrong: u8,
 }
 
 fn plain(number: u32) -> Verdict
@@ -164,7 +172,7 @@ fn plain(number: u32) -> Verdict
 }
 
 // The lowest number from 7 to 12 that applies.
-fn judge(y: &[u8], c: ControlWord, m: Mode) -> Verdict
+pub fn judge(y: &[u8], c: ControlWord, m: Mode) -> Verdict
     ensures { λ r. ⌜ r .number ≡ firstOf (readerTests m c (now (y .entry))) ⌝ }
     ensures { λ r. ⌜ WrongIn (m .width) c (now (y .entry)) (r .number) (r .wrong) ⌝ }
 {

@@ -1,3 +1,4 @@
 pub mod Model
 pub mod Pieces
 pub mod Theorem
+pub mod Wrong

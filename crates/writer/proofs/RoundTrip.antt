@@ -122,7 +122,7 @@ module _ (settings : Settings) (psd lengths bytes : List ℕ) (size : ℕ) (m : 
       let k = parity-length base in
       ap length e ∙ omega (arith, n, d, k, base-length, f .long)
 
-  pdu-bytes : All Byte p
+  pub pdu-bytes : All Byte p
   unfolding parityOf pduOf base
   pdu-bytes =
       let e = parity-written base (length-allowed (length base) (omega (arith, base-length, f .long)) (omega (arith, base-length, f .short))) in

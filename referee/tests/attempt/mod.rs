@@ -367,7 +367,6 @@ fn check_wanted(wanted: &Wanted, tried: &Tried) {
 }
 
 /// Compares the product's calls with the reference's.
-#[cfg(feature = "product-receives")]
 pub mod against_product {
     use super::{Answer, LentLog, Loan, Receiver, Tried};
     use crate::product::receiver as product;
@@ -456,16 +455,4 @@ pub mod against_product {
             number: receiver.number,
         }
     }
-}
-
-/// There is nothing to compare with.
-#[cfg(not(feature = "product-receives"))]
-pub mod against_product {
-    use super::{Answer, LentLog, Loan, Receiver, Tried};
-
-    pub fn open(_: u8, _: u8, _: Result<Receiver, u32>) {}
-
-    pub fn receive(_: Receiver, _: &Loan, _: &Tried) {}
-
-    pub fn mark_lost(_: Receiver, _: &LentLog, _: &Answer, _: &LentLog) {}
 }

@@ -6,7 +6,6 @@
 use referee::header::Header;
 
 /// The receiver's calls.
-#[cfg(feature = "product-receives")]
 pub mod receiver;
 
 /// The writer's calls.

@@ -1,0 +1,12 @@
+pub mod Calling
+pub mod Counting
+pub mod Course
+pub mod Drives
+pub mod Made
+pub mod Marks
+pub mod Packed
+pub mod Possible
+pub mod ReadBack
+pub mod Serving
+pub mod Theorem
+pub mod Through

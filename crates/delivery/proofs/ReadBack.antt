@@ -1,0 +1,128 @@
+-- A PDU that an accepted call wrote, with at most four of its first 96 bytes altered, says to a receiver what was sent.
+use mathlib.Core.Path.{_≡_, refl, sym, ap, ap₂, subst, _∙_}
+use mathlib.Core.Bool.{Bool, true, false, cond}
+use mathlib.Core.List.{List, [], _∷_, _++_, map}
+use Prim.Native.Nat.{ℕ, zero, suc, _+_, _-_, _%_, _<_, _≤_}
+use native.Mathlib.Omega.{arith}
+use lib.Dec.{eqb, ltb, leb}
+use borrow.Author.Tests.{eq-eqb}
+use lib.ListN.{length, getD, take, drop}
+use Rattle.algebra.specs.Places.{All}
+use Rattle.refusal.specs.Refusal.{firstOf}
+use Rattle.modes.specs.Modes.{listing}
+use Rattle.modes.specs.declared.Mode.{Mode}
+use Rattle.modes.specs.declared.Listing.the-variants.{Listed}
+use Rattle.header.proofs.Unique.{all-bytes}
+use Rattle.crc.specs.Crc.{crcFrom}
+use Rattle.layout.specs.Control.{bit, controlAt}
+use Rattle.layout.specs.Locators.{locatorAt}
+use Rattle.layout.specs.declared.ControlWord.{ControlWord}
+use Rattle.settings.specs.declared.Settings.{Settings}
+use Rattle.correction.specs.Correction.{correctedPdu}
+use Rattle.contents.proofs.Putting.{cut-count}
+use Rattle.pdu.specs.Reading.{startAt, lengthAt, psdOf, accepted, widthOf, readNumber, readingWith, readPdu, refused}
+use Rattle.pdu.specs.declared.Part.{Part}
+use Rattle.pdu.specs.declared.Reading.{Reading}
+use Rattle.pdu.proofs.ReadBack.{PieceRead}
+use Rattle.reassembly.specs.Reassembly.{Piece, Said}
+use Rattle.receiver.specs.Receiving.{pieceIn, piecesIn, saidBy}
+use Rattle.writer.specs.Writing.{writerTests, piecesOf, partOf, placed, controlFor, pduOf}
+use Rattle.writer.specs.declared.Writer.{Writer}
+use Rattle.writer.proofs.Bytes.{Byte}
+use Rattle.writer.proofs.RoundTrip.{ReadBack, read-back}
+use Rattle.writer.proofs.RoundTrip as trip
+use Rattle.delivery.specs.Delivery.{Altered}
+
+-- pieces that are taken
+abbrev pub taken : List (List ℕ) → List Piece
+taken [] = []
+taken (b ∷ bs) = record { cause = 0; bytes = b } ∷ taken bs
+
+-- a piece that is read as it was written is taken
+piece-back : (width : ℕ) (c : ControlWord) (y : List ℕ) (k : ℕ) (b : List ℕ) → PieceRead width c y k b → pieceIn width c y k ≡ record { cause = 0; bytes = b }
+piece-back width c y k b r =
+    let e : eqb (crcFrom 0 b) (getD y (locatorAt width y k) 0) ≡ true = eq-eqb (crcFrom 0 b) (getD y (locatorAt width y k) 0) (sym (r .crc)) in
+    ap {B = Piece} (λ (bs : List ℕ). record { cause = cond (eqb (crcFrom 0 bs) (getD y (locatorAt width y k) 0)) 0 2; bytes = bs }) (r .bytes)
+    ∙ ap {B = Piece} (λ (v : Bool). record { cause = cond v 0 2; bytes = b }) e
+
+pieces-back : (width : ℕ) (c : ControlWord) (y : List ℕ) (ps : List (List ℕ)) (k : ℕ) → ((j : ℕ) → j < length ps → PieceRead width c y (k + j) (getD ps j []))
+    → piecesIn width c y k (length ps) ≡ taken ps
+unfolding piecesIn
+pieces-back width c y [] k h = refl
+pieces-back width c y (b ∷ ps) k h =
+    let e : k + 0 ≡ k = omega arith in
+    let r : PieceRead width c y k b = subst (λ (n : ℕ). PieceRead width c y n b) e (h 0 (omega arith)) in
+    ap₂ (λ (p : Piece) (l : List Piece). p ∷ l) (piece-back width c y k b r)
+    (pieces-back width c y ps (suc k) (λ j l. let e : suc k + j ≡ k + suc j = omega arith in subst (λ (n : ℕ). PieceRead width c y n (getD ps j [])) (sym e) (h (suc j) (omega arith))))
+
+-- the answers of reading
+control-of : (width : ℕ) (c : ControlWord) (y : List ℕ) → accepted width c y .control ≡ c
+unfolding accepted
+control-of width c y = refl
+
+psd-of : (width : ℕ) (c : ControlWord) (y : List ℕ) → accepted width c y .psd ≡ psdOf width c y
+unfolding accepted
+psd-of width c y = refl
+
+corrected-is : (q p : List ℕ) → readNumber q ≡ 0 → readPdu q ≡ p → correctedPdu q ≡ p
+unfolding readPdu
+corrected-is q p z e = let t : eqb (readNumber q) 0 ≡ true = eq-eqb (readNumber q) 0 z in sym (ap (λ (b : Bool). cond b (correctedPdu q) q) t) ∙ e
+
+answer-is : (q : List ℕ) (k : ℕ) → readNumber q ≡ 0 → readingWith k q ≡ accepted (widthOf (correctedPdu q)) (controlAt (correctedPdu q)) (correctedPdu q)
+unfolding readingWith
+answer-is q k z =
+    let t : eqb (readNumber q) 0 ≡ true = eq-eqb (readNumber q) 0 z in
+    ap (λ (b : Bool). cond b (accepted (widthOf (correctedPdu q)) (controlAt (correctedPdu q)) (correctedPdu q)) (refused (readNumber q) k)) t
+
+module _ (settings : Settings) (psd lengths bytes : List ℕ) (size : ℕ) (m : Mode) (w : Writer) (l : listing (w .mode) (w .stream) ≡ Listed m)
+    (t : firstOf (writerTests settings psd lengths bytes size m w) ≡ 0) (hp : All Byte psd) (hb : All Byte bytes) where
+  abbrev p : List ℕ
+  p = pduOf settings psd lengths bytes size m w
+
+  abbrev ps : List (List ℕ)
+  ps = piecesOf settings psd lengths bytes size m w
+
+  abbrev c : ControlWord
+  c = controlFor settings psd lengths bytes size m w
+
+  -- what was sent
+  abbrev pub sent : Said
+  sent = record {
+    sequence = w .sequence;
+    pfirst = ltb 0 (w .sent);
+    plast = ltb 0 (partOf settings psd lengths bytes size m w);
+    start = (w .number + bit (ltb 0 (w .sent))) % 64;
+    psdBytes = psd;
+    pieces = taken ps;
+  }
+
+  module _ (q : List ℕ) (a : Altered p q) where
+    back : ReadBack settings psd lengths bytes size m w p q
+    back = read-back settings psd lengths bytes size m w l t hp hb q (record { long = a .long; rest = a .rest; few = a .few; bytes = all-bytes q (a .bytes) })
+
+    pub read-number : readNumber q ≡ 0
+    read-number = back .number
+
+    pub corrected-back : correctedPdu q ≡ p
+    corrected-back = corrected-is q p (back .number) (back .pdu)
+
+    pub control-back : controlAt (correctedPdu q) ≡ c
+    control-back =
+        sym (control-of (widthOf (correctedPdu q)) (controlAt (correctedPdu q)) (correctedPdu q))
+        ∙ ap (λ (r : Reading). r .control) (sym (answer-is q 0 (back .number)) ∙ back .answer 0)
+        ∙ control-of (m .width) c p
+
+    psd-back : take (psdOf (m .width) c p .length) (drop (psdOf (m .width) c p .start) p) ≡ psd
+    psd-back =
+        ap (λ (r : Part). take (r .length) (drop (r .start) p)) (sym (psd-of (m .width) c p) ∙ back .place) ∙ back .psd-read
+
+    nop-is : c .nop ≡ length ps
+    nop-is = sym (cut-count (placed settings psd lengths bytes size m w) (drop (w .sent) bytes))
+
+    pub said-back : saidBy (m .width) c p ≡ sent
+    unfolding saidBy
+    said-back = ap₂ (λ (s : List ℕ) (l : List Piece). record { sequence = c .sequence; pfirst = c .pfirst; plast = c .plast; start = c .start; psdBytes = s; pieces = l }) psd-back
+        (ap (piecesIn (m .width) c p 0) nop-is ∙ pieces-back (m .width) c p ps 0 (λ j h. subst (λ (n : ℕ). PieceRead (m .width) c p n (getD ps j [])) (zero-plus j) (back .pieces j h)))
+      where
+        zero-plus : (j : ℕ) → j ≡ 0 + j
+        zero-plus j = omega arith

@@ -1,0 +1,245 @@
+-- Document 00, demand 3, by document 01, "Demand 3 is a single claim about whole lists of calls". The claim is of opening, writing, receiving
+-- and marking lost as writer/specs/Writing.antt and receiver/specs/Receiving.antt define them; the contracts say that the code does these.
+use mathlib.Core.Path.{_≡_}
+use mathlib.Core.Bool.{Bool, true, false, not, _&&_, _||_, cond}
+use mathlib.Core.List.{List, [], _∷_, _++_, map}
+use Prim.Native.Nat.{ℕ, zero, suc, _+_, _-_, _%_, _<_, _≤_}
+use lib.Dec.{eqb, ltb, leb}
+use lib.ListN.{length, take, drop}
+use Rattle.algebra.specs.Places.{All}
+use Rattle.header.specs.Header.{distance}
+use Rattle.modes.specs.Modes.{listing}
+use Rattle.pdu.specs.Reading.{modeIn}
+use Rattle.pieces.specs.Pieces.{total}
+use Rattle.settings.specs.declared.Settings.{Settings}
+use Rattle.log.specs.Log.{Entry, packet, logWords, packetWords}
+use Rattle.writer.specs.Writing.{opened as writerOpened, placed, writeAnswer, writtenPdu}
+use Rattle.writer.specs.declared.Writer.{Writer}
+use Rattle.writer.specs.declared.Written.{Written}
+use Rattle.receiver.specs.Receiving.{opened as receiverOpened, receiveAnswer, carryAfter, logAfter, lostAnswer, logAfterLost}
+use Rattle.receiver.specs.declared.Receiver.{Receiver}
+use Rattle.receiver.specs.declared.Received.{Received}
+
+-- ---- one list of packets
+
+abbrev pub Bytes : List ℕ → Type 0
+Bytes = All (λ x. x < 256)
+
+-- 1 to 4,096 bytes each
+abbrev pub Packets : List (List ℕ) → Type 0
+Packets [] = Unit {0}
+Packets (p ∷ ps) = (1 ≤ length p) × (length p ≤ 4096) × Bytes p × Packets ps
+
+abbrev pub joined : List (List ℕ) → List ℕ
+joined [] = []
+joined (p ∷ ps) = p ++ joined ps
+
+-- ---- writing calls
+
+-- a writing call's arguments without the writer: settings, PSD, lengths and joined bytes of the packets offered, and the lent PDU buffer, as
+-- it was before the call; its length is R
+pub record Writing : Type 0 where
+  pub settings : Settings
+  pub psd : List ℕ
+  pub lengths : List ℕ
+  pub bytes : List ℕ
+  pub buffer : List ℕ
+  pub psd-bytes : Bytes psd
+
+abbrev pub answerTo : Writer → Writing → Written
+answerTo w a = writeAnswer (a .settings) (a .psd) (a .lengths) (a .bytes) (length (a .buffer)) w
+
+abbrev pub bufferAfter : Writer → Writing → List ℕ
+bufferAfter w a = writtenPdu (a .settings) (a .psd) (a .lengths) (a .bytes) (length (a .buffer)) w (a .buffer)
+
+-- the PDUs that a list of calls makes: each call gets the writer as the last one left it, and a refused one makes none
+unfoldable pub pdusFrom : Writer → List Writing → List (List ℕ)
+pdusFrom w [] = []
+pdusFrom w (a ∷ al) = cond (eqb (answerTo w a .refusal) 0) (bufferAfter w a ∷ []) [] ++ pdusFrom (answerTo w a .writer) al
+
+-- ---- G: how many bytes of the packets, joined, are sent
+
+-- when g bytes are sent, the unfinished packet, and how many of its bytes are sent already
+abbrev pub unfinished : List (List ℕ) → ℕ → ℕ
+unfinished [] g = 0
+unfinished (p ∷ ps) g = cond (leb (length p) g) (suc (unfinished ps (g - length p))) 0
+
+abbrev pub alreadySent : List (List ℕ) → ℕ → ℕ
+alreadySent [] g = 0
+alreadySent (p ∷ ps) g = cond (leb (length p) g) (alreadySent ps (g - length p)) g
+
+-- each call offers the packets from the unfinished one on, as many as the caller likes
+abbrev pub Offers : List (List ℕ) → Writing → Type 0
+Offers ps a = (k : ℕ) × (a .lengths ≡ map length (take k ps)) × (a .bytes ≡ joined (take k ps))
+
+-- the bytes of the joined packets in a PDU: so many from a place on
+pub record Span : Type 0 where
+  pub from : ℕ
+  pub count : ℕ
+
+abbrev pub either : Bool → Type 0 → Type 0 → Type 0
+either true A B = A
+either false A B = B
+
+-- G is fed the mode, the stream and the writing calls' arguments alone
+module _ (mode stream : ℕ) (packets : List (List ℕ)) where
+  -- the state that G tells. The table asks of a sequence only that it is in its range
+  abbrev pub told : ℕ → Writer
+  told g = record { mode = mode; stream = stream; sequence = 0; number = unfinished packets g % 64; sent = alreadySent packets g }
+
+  -- whether the table refuses a call
+  abbrev pub refusedAt : ℕ → Writing → Bool
+  refusedAt g a = not (eqb (answerTo (told g) a .refusal) 0)
+
+  -- how many bytes the placing rule gives
+  abbrev pub placedAt : ℕ → Writing → ℕ
+  placedAt g a = total (placed (a .settings) (a .psd) (a .lengths) (a .bytes) (length (a .buffer)) (modeIn (listing mode stream)) (told g))
+
+  -- the bytes in each PDU that a list of calls makes: an accepted call sends, from G on, those that the placing rule gives, and G grows by
+  -- them; a refused one sends none
+  unfoldable pub spansFrom : ℕ → List Writing → List Span
+  spansFrom g [] = []
+  spansFrom g (a ∷ al) = cond (refusedAt g a) (spansFrom g al) (record { from = g; count = placedAt g a } ∷ spansFrom (g + placedAt g a) al)
+
+  -- the accepted calls offer the one list in order
+  abbrev pub InOrder : ℕ → List Writing → Type 0
+  InOrder g [] = Unit {0}
+  InOrder g (a ∷ al) = either (refusedAt g a) (InOrder g al) (Offers (drop (unfinished packets g) packets) a × InOrder (g + placedAt g a) al)
+
+-- ---- receive calls and calls marking a PDU lost
+
+-- a receiver and its carry
+pub record Station : Type 0 where
+  pub receiver : Receiver
+  pub carry : List ℕ
+
+-- a call's arguments besides: the lent PDU and log, as they were before the call. k is whichever comes with an answer of 11
+pub data Call : Type 0 where
+  receive : (k : ℕ) (pdu log : List ℕ) → Call
+  markLost : (log : List ℕ) → Call
+
+abbrev pub answerOf : Station → Call → Received
+answerOf x (receive k pdu log) = receiveAnswer (x .carry) pdu log (x .receiver) k
+answerOf x (markLost log) = lostAnswer log (x .receiver)
+
+abbrev pub carryOf : Station → Call → List ℕ
+carryOf x (receive k pdu log) = carryAfter (x .carry) pdu log (x .receiver)
+carryOf x (markLost log) = x .carry
+
+abbrev pub logOf : Station → Call → List ℕ
+logOf x (receive k pdu log) = logAfter (x .carry) pdu log (x .receiver)
+logOf x (markLost log) = logAfterLost log (x .receiver)
+
+-- the next call gets receiver and carry as this one left them
+abbrev pub stationAfter : Station → Call → Station
+stationAfter x c = record { receiver = answerOf x c .receiver; carry = carryOf x c }
+
+-- an accepted call's log, as far as its answer counts
+abbrev pub loggedBy : Station → Call → List ℕ
+loggedBy x c = cond (eqb (answerOf x c .refusal) 0) (take (answerOf x c .words) (logOf x c)) []
+
+-- ---- going through a run
+
+-- q is p with at most four of the first 96 bytes altered, to anything
+pub record Altered (p q : List ℕ) : Type 0 where
+  pub bytes : Bytes q
+  pub long : length q ≡ length p
+  pub few : distance (take 96 q) (take 96 p) ≤ 4
+  pub rest : drop 96 q ≡ drop 96 p
+
+-- a call of the list: for the next PDU of the run, received or marked lost; or another, a refused one
+pub data Step : Type 0 where
+  receives : (k : ℕ) (pdu log : List ℕ) → Step
+  loses : (log : List ℕ) → Step
+  refuses : Call → Step
+
+abbrev pub callOf : Step → Call
+callOf (receives k pdu log) = receive k pdu log
+callOf (loses log) = markLost log
+callOf (refuses c) = c
+
+-- the calls go through these PDUs in order: each PDU has one call, with a log that suffices
+abbrev pub Through : Station → List (List ℕ) → List Step → Type 0
+Through x [] [] = Unit {0}
+Through x (p ∷ ps) [] = ⊥
+Through x [] (receives k q log ∷ ss) = ⊥
+Through x (p ∷ ps) (receives k q log ∷ ss) = Altered p q × (8400 ≤ length log) × Through (stationAfter x (receive k q log)) ps ss
+Through x [] (loses log ∷ ss) = ⊥
+Through x (p ∷ ps) (loses log ∷ ss) = (8400 ≤ length log) × Through (stationAfter x (markLost log)) ps ss
+Through x [] (refuses c ∷ ss) = (¬ (answerOf x c .refusal ≡ 0)) × Through (stationAfter x c) [] ss
+Through x (p ∷ ps) (refuses c ∷ ss) = (¬ (answerOf x c .refusal ≡ 0)) × Through (stationAfter x c) (p ∷ ps) ss
+
+-- which PDUs of the run are received
+abbrev pub receptions : List Step → List Bool
+receptions [] = []
+receptions (receives k pdu log ∷ ss) = true ∷ receptions ss
+receptions (loses log ∷ ss) = false ∷ receptions ss
+receptions (refuses c ∷ ss) = receptions ss
+
+-- ---- what the log must hold
+
+-- byte j of the joined packets lies in a received PDU
+abbrev pub inReceived : List Span → List Bool → ℕ → Bool
+inReceived [] bs j = false
+inReceived (s ∷ ss) [] j = false
+inReceived (s ∷ ss) (b ∷ bs) j = (b && (leb (s .from) j && ltb j (s .from + s .count))) || inReceived ss bs j
+
+-- n bytes from place o on
+abbrev pub every : (ℕ → Bool) → ℕ → ℕ → Bool
+every f o zero = true
+every f o (suc n) = f o && every f (suc o) n
+
+-- the packets with every byte where f says so, in list order: the first of these is packet i, and its bytes begin at place o. Packet i, from
+-- 0, has number i modulo 64
+unfoldable pub wholePackets : (ℕ → Bool) → ℕ → ℕ → List (List ℕ) → List Entry
+wholePackets f o i [] = []
+wholePackets f o i (p ∷ ps) = cond (every f o (length p)) (packet (i % 64) p ∷ []) [] ++ wholePackets f (o + length p) (suc i) ps
+
+-- the accepted calls' logs, joined
+abbrev pub logsFrom : Station → List Step → List ℕ
+logsFrom x [] = []
+logsFrom x (s ∷ ss) = loggedBy x (callOf s) ++ logsFrom (stationAfter x (callOf s)) ss
+
+-- no call for a PDU of the run is refused
+abbrev pub NoneRefused : Station → List Step → Type 0
+NoneRefused x [] = Unit {0}
+NoneRefused x (receives k q log ∷ ss) = (answerOf x (receive k q log) .refusal ≡ 0) × NoneRefused (stationAfter x (receive k q log)) ss
+NoneRefused x (loses log ∷ ss) = (answerOf x (markLost log) .refusal ≡ 0) × NoneRefused (stationAfter x (markLost log)) ss
+NoneRefused x (refuses c ∷ ss) = NoneRefused (stationAfter x c) ss
+
+-- ---- the claim
+
+-- a run: so many consecutive PDUs from one on, none included
+abbrev pub runOf : {A : Type 0} → ℕ → ℕ → List A → List A
+runOf first count l = take count (drop first l)
+
+module _ (mode stream : ℕ) (packets : List (List ℕ)) (writings : List Writing) (first count : ℕ) (carry : List ℕ) (steps : List Step) where
+  abbrev pub freshStation : Station
+  freshStation = record { receiver = receiverOpened mode stream .receiver; carry = carry }
+
+  abbrev pub theRun : List (List ℕ)
+  theRun = runOf first count (pdusFrom (writerOpened mode stream .writer) writings)
+
+  -- the packets all of whose bytes lie in PDUs of the run that were received
+  abbrev pub arrived : List Entry
+  arrived = wholePackets (inReceived (runOf first count (spansFrom mode stream packets 0 writings)) (receptions steps)) 0 0 packets
+
+  -- what is asked of the calls
+  pub record Drive : Type 0 where
+    pub opens : writerOpened mode stream .refusal ≡ 0
+    pub sized : Packets packets
+    pub offered : InOrder mode stream packets 0 writings
+    pub room : 4096 ≤ length carry
+    pub through : Through freshStation theRun steps
+
+  -- what is promised of them
+  pub record Delivered : Type 0 where
+    pub accepted : NoneRefused freshStation steps
+    pub log : packetWords (logsFrom freshStation steps) ≡ logWords arrived
+
+-- demand 3
+abbrev pub Demand3 : Type 0
+Demand3 =
+    (mode stream : ℕ) (packets : List (List ℕ)) (writings : List Writing) (first count : ℕ) (carry : List ℕ) (steps : List Step)
+    → Drive mode stream packets writings first count carry steps
+    → Delivered mode stream packets writings first count carry steps

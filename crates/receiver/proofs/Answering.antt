@@ -1,0 +1,37 @@
+-- The answer and the buffers after a step, accepted or refused.
+use mathlib.Core.Path.{_≡_, refl, sym, ap, _∙_}
+use mathlib.Core.Bool.{Bool, true, false, cond}
+use mathlib.Core.List.{List}
+use Prim.Native.Nat.{ℕ}
+use lib.Dec.{eqb}
+use borrow.Author.Tests.{eq-eqb, ne-eqb, eqb-true}
+use Rattle.buffer.specs.Buffer.{putAt}
+use Rattle.log.specs.Log.{logWords}
+use Rattle.reassembly.specs.Reassembly.{Said}
+use Rattle.reassembly.specs.Run.{bytesOf}
+use Rattle.receiver.specs.Receiving.{refusedAnswer}
+use Rattle.receiver.specs.Steps.{outcomeOf, acceptedAnswer, Answered}
+use Rattle.receiver.specs.declared.Receiver.{Receiver}
+use Rattle.receiver.specs.declared.Received.{Received}
+
+module _ (range : ℕ) (said : Said) (r : Receiver) (carry log : List ℕ) (n : ℕ) (a : Received) where
+  pub answered-refused : (k : ℕ) → (n ≡ 0 → ⊥) → a ≡ refusedAnswer r n k → Answered range said r carry log n a carry log
+  answered-refused k z e =
+      let t : eqb n 0 ≡ false = ne-eqb n 0 z in
+      let w : a .wrong ≡ k = ap (λ (x : Received). x .wrong) e in
+      record { answer = rw t (e ∙ ap (refusedAnswer r n) (sym w)); held = rw t; logged = rw t }
+
+  pub answered-accepted : (carryAfter logAfter : List ℕ) → n ≡ 0 → a ≡ acceptedAnswer range said r carry log
+      → carryAfter ≡ putAt carry 0 (bytesOf (outcomeOf range said r carry log .partial)) → logAfter ≡ putAt log 0 (logWords (outcomeOf range said r carry log .entries))
+      → Answered range said r carry log n a carryAfter logAfter
+  answered-accepted carryAfter logAfter z e ec el =
+      let t : eqb n 0 ≡ true = eq-eqb n 0 z in
+      record { answer = rw t e; held = rw t ec; logged = rw t el }
+
+  -- the number that is answered
+  pub answered-number : (carryAfter logAfter : List ℕ) → Answered range said r carry log n a carryAfter logAfter → a .refusal ≡ n
+  answered-number carryAfter logAfter h = ap (λ (x : Received). x .refusal) (h .answer) ∙ go (eqb n 0) refl
+    where
+      go : (b : Bool) → eqb n 0 ≡ b → cond b (acceptedAnswer range said r carry log) (refusedAnswer r n (a .wrong)) .refusal ≡ n
+      go true e = sym (eqb-true n 0 e)
+      go false e = refl

@@ -1,0 +1,155 @@
+-- A receiving call, part by part.
+use mathlib.Core.Path.{_≡_, refl, sym, ap, _∙_, subst}
+use mathlib.Core.Bool.{Bool, true, false, cond}
+use mathlib.Core.List.{List, [], _∷_}
+use mathlib.Core.Logic.{⊎-elim}
+use Prim.Native.Nat.{ℕ, _<_, _≤_}
+use native.Mathlib.Omega.{arith}
+use lib.Dec.{eqb}
+use lib.ListN.{length, getD}
+use borrow.Author.Tests.{eq-eqb, ne-eqb}
+use Rattle.refusal.specs.Refusal.{firstOf, anyOf}
+use Rattle.refusal.proofs.Rows.{never}
+use Rattle.modes.specs.Modes.{listing}
+use Rattle.modes.specs.declared.Mode.{Mode}
+use Rattle.modes.specs.declared.Listing.{Listing}
+use Rattle.modes.specs.declared.Listing.the-variants.{Listed, Refused}
+use Rattle.header.specs.Header.{headerOf, frontReplaced}
+use Rattle.correction.specs.Correction.{correctionOf, correctedPdu}
+use Rattle.correction.specs.declared.Correction.the-variants.{Corrected, Refused as CorrectionRefused}
+use Rattle.correction.proofs.Answers.{refused-unchanged, corrected-allowed, header-put-back}
+use Rattle.layout.specs.Control.{controlAt}
+use Rattle.layout.specs.declared.ControlWord.{ControlWord}
+use Rattle.pdu.specs.Reading.{readerTests, modeIn, widthOf, WrongIn, WrongOne}
+use Rattle.receiver.specs.Receiving.{saidBy, modeOf, wrongFields, wrongState, refusedAnswer, receiveNumber, receiveAnswer, carryAfter, pduAfter, logAfter}
+use Rattle.receiver.specs.Steps.{noRoom, streamTests, correctedNumber, Answered}
+use Rattle.receiver.specs.declared.Receiver.{Receiver}
+use Rattle.receiver.specs.declared.Received.{Received}
+use Rattle.receiver.proofs.Answering.{answered-refused, answered-number}
+use Rattle.receiver.proofs.Rows.{at-stream, same-width, at-reader, at-log, state-listed, state-unlisted, at-state, at-carry, at-correction, at-corrected}
+
+without-k : (width : ℕ) (c : ControlWord) (y : List ℕ) (n k : ℕ) → (n ≡ 11 → ⊥) → k ≡ 0 → WrongIn width c y n k
+without-k width c y n k d e = record { inside = λ q. absurd (d q); wrong = λ q. absurd (d q); none = λ q. e }
+
+-- ---- a corrected PDU y with the control word c
+
+module _ (m : Mode) (r : Receiver) (carry y log : List ℕ) where
+  -- what is promised of the answer a, and of the carry buffer and the log after the call
+  abbrev pub Corrects : Received → List ℕ → List ℕ → Type 0
+  Corrects a carryEnd logEnd =
+      Answered (m .sequences) (saidBy (m .width) (controlAt y) y) r carry log (correctedNumber m r carry y log) a carryEnd logEnd
+      × WrongIn (widthOf y) (controlAt y) y (a .refusal) (a .wrong)
+
+  refused-with : (n k : ℕ) (a : Received) → correctedNumber m r carry y log ≡ n → (n ≡ 0 → ⊥) → a ≡ refusedAnswer r n k
+      → Answered (m .sequences) (saidBy (m .width) (controlAt y) y) r carry log (correctedNumber m r carry y log) a carry log
+  refused-with n k a e z q = rw e (answered-refused (m .sequences) (saidBy (m .width) (controlAt y) y) r carry log n a k z q)
+
+  module _ (c : ControlWord) (ec : c ≡ controlAt y) where
+    -- 5 and 6
+    pub stream-call : (n : ℕ) (a : Received) → n ≡ firstOf (streamTests r c) → (n ≡ 0 → ⊥) → a ≡ refusedAnswer r n 0 → Corrects a carry log
+    stream-call n a e z q =
+        let d : (a .refusal ≡ 11) → ⊥ = λ (h : a .refusal ≡ 11). never 11 (streamTests r c) refl refl (sym e ∙ sym (ap (λ (x : Received). x .refusal) q) ∙ h) in
+        (refused-with n 0 a (at-stream m r carry y log c ec n e z) z q, without-k (widthOf y) (controlAt y) y (a .refusal) (a .wrong) d (ap (λ (x : Received). x .wrong) q))
+
+    module _ (l : listing (r .mode) (r .stream) ≡ Listed m) (n : ℕ) (en : n ≡ firstOf (streamTests r c)) (zn : n ≡ 0) where
+      none : firstOf (streamTests r c) ≡ 0
+      none = sym en ∙ zn
+
+      -- 7 to 12
+      pub reader-call : (v k : ℕ) (a : Received) → v ≡ firstOf (readerTests m c y) → WrongIn (m .width) c y v k → (v ≡ 0 → ⊥) → a ≡ refusedAnswer r v k → Corrects a carry log
+      reader-call v k a e w z q =
+          let a₁ : a .refusal ≡ v = ap (λ (x : Received). x .refusal) q in
+          let a₂ : a .wrong ≡ k = ap (λ (x : Received). x .wrong) q in
+          let w₁ : WrongIn (widthOf y) c y (a .refusal) (a .wrong) = rw (same-width m r carry y log c ec l none, a₁, a₂) w in
+          (refused-with v k a (at-reader m r carry y log c ec l none v e z) z q, subst (λ (d : ControlWord). WrongIn (widthOf y) d y (a .refusal) (a .wrong)) ec w₁)
+
+      -- 13, or accepted
+      pub log-call : (v : ℕ) (a : Received) (carryEnd logEnd : List ℕ) → v ≡ firstOf (readerTests m c y) → v ≡ 0
+          → Answered (m .sequences) (saidBy (m .width) c y) r carry log (cond (noRoom (m .sequences) (saidBy (m .width) c y) r carry log) 13 0) a carryEnd logEnd × (a .wrong ≡ 0)
+          → Corrects a carryEnd logEnd
+      log-call v a carryEnd logEnd e z q =
+          let number : correctedNumber m r carry y log ≡ cond (noRoom (m .sequences) (saidBy (m .width) c y) r carry log) 13 0 = at-log m r carry y log c ec l none (sym e ∙ z) in
+          let first : Answered (m .sequences) (saidBy (m .width) c y) r carry log (correctedNumber m r carry y log) a carryEnd logEnd = rw number (q .0) in
+          let refusal : a .refusal ≡ cond (noRoom (m .sequences) (saidBy (m .width) c y) r carry log) 13 0 = answered-number (m .sequences) (saidBy (m .width) c y) r carry log _ a carryEnd logEnd (q .0) in (
+            subst (λ (d : ControlWord). Answered (m .sequences) (saidBy (m .width) d y) r carry log (correctedNumber m r carry y log) a carryEnd logEnd) ec first,
+            without-k (widthOf y) (controlAt y) y (a .refusal) (a .wrong) (λ h. never 11 ((noRoom (m .sequences) (saidBy (m .width) c y) r carry log, 13) ∷ []) refl refl (sym refusal ∙ h)) (q .1),
+          )
+
+  -- ---- the header put back
+
+  module _ (a : Received) (carryEnd logEnd : List ℕ) (h : Corrects a carryEnd logEnd) (v : List ℕ) where
+    number : a .refusal ≡ correctedNumber m r carry y log
+    number = answered-number (m .sequences) (saidBy (m .width) (controlAt y) y) r carry log (correctedNumber m r carry y log) a carryEnd logEnd (h .0)
+
+    pub kept : a .refusal ≡ 0 → y ≡ cond (eqb (correctedNumber m r carry y log) 0) y v
+    kept z = let t : eqb (correctedNumber m r carry y log) 0 ≡ true = eq-eqb (correctedNumber m r carry y log) 0 (sym number ∙ z) in rw t
+
+    pub put-back : (a .refusal ≡ 0 → ⊥) → v ≡ cond (eqb (correctedNumber m r carry y log) 0) y v
+    put-back z = let t : eqb (correctedNumber m r carry y log) 0 ≡ false = ne-eqb (correctedNumber m r carry y log) 0 (λ q. z (number ∙ q)) in rw t
+
+-- ---- the whole call
+
+module _ (carry pdu log : List ℕ) (r : Receiver) where
+  -- what is promised of the answer a, and of the carry buffer, the PDU and the log after the call
+  abbrev pub Promised : Received → List ℕ → List ℕ → List ℕ → Type 0
+  Promised a carryEnd pduEnd logEnd =
+      (a ≡ receiveAnswer carry pdu log r (a .wrong))
+      × (WrongOne pdu (a .refusal) (a .wrong)
+      × ((carryEnd ≡ carryAfter carry pdu log r) × ((pduEnd ≡ pduAfter carry pdu log r) × (logEnd ≡ logAfter carry pdu log r))))
+
+  turned-down : (n : ℕ) (a : Received) → receiveNumber carry pdu log r ≡ n → (n ≡ 0 → ⊥) → (n ≡ 11 → ⊥) → a ≡ refusedAnswer r n 0 → Promised a carry pdu log
+  unfolding receiveAnswer carryAfter pduAfter logAfter
+  turned-down n a e z d q =
+      let t : eqb (receiveNumber carry pdu log r) 0 ≡ false = ne-eqb (receiveNumber carry pdu log r) 0 (λ h. z (sym e ∙ h)) in
+      let w : a .wrong ≡ 0 = ap (λ (x : Received). x .wrong) q in
+      let f : a .refusal ≡ n = ap (λ (x : Received). x .refusal) q in (
+        rw t (q ∙ ap (refusedAnswer r n) (sym w) ∙ ap (λ (x : ℕ). refusedAnswer r x (a .wrong)) (sym e)),
+        (without-k (widthOf (correctedPdu pdu)) (controlAt (correctedPdu pdu)) (correctedPdu pdu) (a .refusal) (a .wrong) (λ h. d (sym f ∙ h)) w, (rw t, (rw t, rw t))),
+      )
+
+  -- 1, for a mode and stream that the table has not
+  pub unlisted-call : (l : Listing) (n : ℕ) (a : Received) → l ≡ listing (r .mode) (r .stream) → l ≡ Refused n → a ≡ refusedAnswer r 1 0 → Promised a carry pdu log
+  unlisted-call l n a e f q = turned-down 1 a (at-state carry pdu log r (state-unlisted r n (sym e ∙ f))) (λ z. omega arith) (λ z. omega arith) q
+
+  module _ (m : Mode) (l : listing (r .mode) (r .stream) ≡ Listed m) (b : Bool) (eb : b ≡ anyOf (wrongFields m r)) where
+    -- 1
+    pub state-call : (a : Received) → b ≡ true → a ≡ refusedAnswer r 1 0 → Promised a carry pdu log
+    state-call a t q = turned-down 1 a (at-state carry pdu log r (state-listed r m l ∙ sym eb ∙ t)) (λ z. omega arith) (λ z. omega arith) q
+
+    module _ (f : b ≡ false) where
+      right : anyOf (wrongState r) ≡ false
+      right = state-listed r m l ∙ sym eb ∙ f
+
+      -- 2
+      pub carry-call : (a : Received) → length carry < 4096 → a ≡ refusedAnswer r 2 0 → Promised a carry pdu log
+      carry-call a h q = turned-down 2 a (at-carry carry pdu log r right h) (λ z. omega arith) (λ z. omega arith) q
+
+      module _ (room : 4096 ≤ length carry) where
+        -- 3 and 4
+        pub correction-call : (n : ℕ) (a : Received) (pduEnd : List ℕ) → correctionOf pdu ≡ CorrectionRefused n → pduEnd ≡ correctedPdu pdu → a ≡ refusedAnswer r n 0 → Promised a carry pduEnd log
+        correction-call n a pduEnd e ep q =
+            let k = at-correction carry pdu log r right room n e in
+            let z : (n ≡ 0) → ⊥ = λ (h : n ≡ 0). ⊎-elim (λ (u : n ≡ 3). absurd (omega arith)) (λ (u : n ≡ 4). absurd (omega arith)) (k .1) in
+            let d : (n ≡ 11) → ⊥ = λ (h : n ≡ 11). ⊎-elim (λ (u : n ≡ 3). absurd (omega arith)) (λ (u : n ≡ 4). absurd (omega arith)) (k .1) in
+            subst (λ (x : List ℕ). Promised a carry x log) (sym (ep ∙ refused-unchanged pdu n e)) (turned-down n a (k .0) z d q)
+
+        -- a corrected PDU y, whose header was w
+        pub corrected-call : (n : ℕ) (a : Received) (y w carryEnd pduEnd logEnd : List ℕ) → ((i : ℕ) → getD pdu i 0 < 256) → correctionOf pdu ≡ Corrected n → w ≡ headerOf pdu → y ≡ correctedPdu pdu
+            → Answered (m .sequences) (saidBy (m .width) (controlAt y) y) r carry log (correctedNumber m r carry y log) a carryEnd logEnd
+            → WrongIn (widthOf y) (controlAt y) y (a .refusal) (a .wrong)
+            → pduEnd ≡ cond (eqb (correctedNumber m r carry y log) 0) y (frontReplaced y w)
+            → Promised a carryEnd pduEnd logEnd
+        unfolding receiveAnswer carryAfter pduAfter logAfter
+        corrected-call n a y w carryEnd pduEnd logEnd bytes e ew ey h k ep =
+            let size : (96 ≤ length pdu) × (length pdu ≤ 20480) = corrected-allowed pdu n e in
+            let mode : modeOf r ≡ m = ap modeIn l in
+            let number : receiveNumber carry pdu log r ≡ correctedNumber m r carry (correctedPdu pdu) log = at-corrected carry pdu log r right room n e ∙ ap (λ (x : Mode). correctedNumber x r carry (correctedPdu pdu) log) mode in
+            let u : frontReplaced y w ≡ pdu = rw (ew, ey) (header-put-back pdu (size .0) (size .1) bytes) in
+            let h₁ : Answered (m .sequences) (saidBy (m .width) (controlAt (correctedPdu pdu)) (correctedPdu pdu)) r carry log (correctedNumber m r carry (correctedPdu pdu) log) a carryEnd logEnd =
+            subst (λ (x : List ℕ). Answered (m .sequences) (saidBy (m .width) (controlAt x) x) r carry log (correctedNumber m r carry x log) a carryEnd logEnd) ey h in
+            let h₂ : Answered (m .sequences) (saidBy (m .width) (controlAt (correctedPdu pdu)) (correctedPdu pdu)) r carry log (receiveNumber carry pdu log r) a carryEnd logEnd = rw number h₁ in
+            let h₃ : Answered (modeOf r .sequences) (saidBy (modeOf r .width) (controlAt (correctedPdu pdu)) (correctedPdu pdu)) r carry log (receiveNumber carry pdu log r) a carryEnd logEnd =
+            subst (λ (x : Mode). Answered (x .sequences) (saidBy (x .width) (controlAt (correctedPdu pdu)) (correctedPdu pdu)) r carry log (receiveNumber carry pdu log r) a carryEnd logEnd) (sym mode) h₂ in
+            let ending : pduEnd ≡ cond (eqb (receiveNumber carry pdu log r) 0) (correctedPdu pdu) pdu =
+            ep ∙ ap (λ (x : List ℕ). cond (eqb (correctedNumber m r carry y log) 0) y x) u ∙ ap (λ (x : List ℕ). cond (eqb (correctedNumber m r carry x log) 0) x pdu) ey ∙ ap (λ (x : ℕ). cond (eqb x 0) (correctedPdu pdu) pdu) (sym number) in
+            (h₃ .answer, (subst (λ (x : List ℕ). WrongIn (widthOf x) (controlAt x) x (a .refusal) (a .wrong)) ey k, (h₃ .held, (ending, h₃ .logged))))

@@ -1,0 +1,123 @@
+-- Document 01, "Receiver": a log of 8,400 words and a carry of 4,096 bytes always suffice.
+use mathlib.Core.Path.{_≡_, refl, sym, ap, _∙_}
+use mathlib.Core.Bool.{Bool, false, not, _&&_, cond}
+use mathlib.Core.List.{List, [], _∷_, _++_}
+use Prim.Native.Nat.{ℕ, zero, suc, _+_, _<_, _≤_}
+use native.Mathlib.Omega.{arith}
+use lib.Dec.{eqb, ltb, leb}
+use borrow.Author.Tests.{ltb-true, ltb-false, leb-true, le-ltb}
+use lib.ListN.{length, getD, take, drop, length-append, length-take, length-drop}
+use lib.Seq.{length-take-le}
+use Rattle.refusal.specs.Refusal.{firstOf, anyOf}
+use Rattle.refusal.proofs.Rows.{passed, row-off, rest-off, never, last-on, none-at}
+use Rattle.modes.specs.Modes.{numberOf}
+use Rattle.modes.specs.declared.Mode.{Mode}
+use Rattle.header.specs.Header.{lengthRefusal}
+use Rattle.header.proofs.Unique.{all-take}
+use Rattle.header.proofs.Lengths.{length-allowed}
+use Rattle.layout.specs.Control.{controlAt}
+use Rattle.layout.specs.declared.ControlWord.{ControlWord}
+use Rattle.log.specs.Log.{logWords, entryWords}
+use Rattle.correction.specs.Correction.{corrected, correctedPdu, headerAfter}
+use Rattle.correction.proofs.Answers.{header-after-length}
+use Rattle.pdu.specs.Reading.{startAt, lengthAt, psdOf, readerTests, listingOf, modeIn, uncorrectable}
+use Rattle.pdu.proofs.Sizes.{lengthsFrom, sized}
+use Rattle.reassembly.specs.Reassembly.{received}
+use Rattle.reassembly.specs.Run.{bytesOf, partialOf}
+use Rattle.reassembly.proofs.Bound.{pieceBytes, bound}
+use Rattle.receiver.specs.Receiving.{piecesIn, saidBy, memoryOf, modeOf, wrongState, receivedWords, receiveTests, receiveNumber, lostNumber}
+use Rattle.receiver.specs.declared.Receiver.{Receiver}
+use Rattle.receiver.proofs.Rows.{both-on, same-listing}
+
+-- ---- what a PDU says comes from its bytes
+
+taken-few : (n k : ℕ) (y : List ℕ) → length (take n (drop k y)) ≤ n
+taken-few n k y = let e = length-take n (drop k y) in omega (arith, e)
+
+pieces-few : (width : ℕ) (c : ControlWord) (y : List ℕ) (k n : ℕ) → (length (piecesIn width c y k n) ≡ n) × (pieceBytes (piecesIn width c y k n) ≤ lengthsFrom width c y k n)
+unfolding piecesIn lengthsFrom
+pieces-few width c y k zero = (refl, omega arith)
+pieces-few width c y k (suc n) =
+    let h = pieces-few width c y (suc k) n in
+    let t = taken-few (lengthAt width c y k) (startAt width c y k) y in
+    (ap suc (h .0), omega (arith, h .1, t))
+
+held-few : (held number : ℕ) (c : List ℕ) → held ≤ 4096 → length (bytesOf (partialOf held number c)) ≤ 4096
+held-few zero number c h = omega arith
+held-few (suc x) number c h = let e = length-take (suc x) c in omega (arith, e, h)
+
+-- the words that a PDU of at most 20,480 bytes takes, where none of the rows 7 to 12 applies
+pub words-most : (range : ℕ) (m : Mode) (r : Receiver) (carry : List ℕ) (c : ControlWord) (y : List ℕ) → r .held ≤ 4096 → length y ≤ 20480 → firstOf (readerTests m c y) ≡ 0
+    → length (logWords (received range (memoryOf r carry) (saidBy (m .width) c y) .entries)) ≤ 8400
+unfolding saidBy memoryOf
+words-most range m r carry c y held size e =
+    let z = sized m c y e in
+    let p = pieces-few (m .width) c y 0 (c .nop) in
+    let q = taken-few (psdOf (m .width) c y .length) (psdOf (m .width) c y .start) y in
+    let l = z .lengths 0 (c .nop) (omega arith) in
+    bound range _ _ (held-few (r .held) (r .number) carry held) (omega (arith, p .0, z .most)) (omega (arith, q, p .1, l, size))
+
+-- ---- the rows before 13
+
+pub corrected-length : (p : List ℕ) → 96 ≤ length p → length p ≤ 20480 → ((i : ℕ) → getD p i 0 < 256) → length (correctedPdu p) ≡ length p
+unfolding correctedPdu
+corrected-length p lo hi b =
+    let w : List ℕ = take 96 p in
+    let h : List ℕ = headerAfter w (corrected w) in
+    let lh : length h ≡ 96 = header-after-length w (length-take-le 96 p lo) (all-take 96 p b) in
+    let e : lengthRefusal (length p) ≡ 0 = length-allowed (length p) lo hi in
+    let n : length (h ++ drop 96 p) ≡ length h + length (drop 96 p) = length-append h (drop 96 p) in
+    let d = length-drop 96 p in
+    rw e (omega (arith, n, lh, d, lo))
+
+module _ (carry pdu log : List ℕ) (r : Receiver) where
+  abbrev y : List ℕ
+  y = correctedPdu pdu
+
+  abbrev c : ControlWord
+  c = controlAt y
+
+  -- rows 1 to 12
+  abbrev pub firstTwelve : List (Bool × ℕ)
+  firstTwelve =
+      (anyOf (wrongState r), 1)
+      ∷ (ltb (length carry) 4096, 2)
+      ∷ (not (leb 96 (length pdu) && leb (length pdu) 20480), 3)
+      ∷ (uncorrectable (corrected (take 96 pdu)), 4)
+      ∷ (not (eqb (numberOf (listingOf c)) 0), 5)
+      ∷ (not (eqb (c .mode) (r .mode) && eqb (c .stream) (r .stream)), 6)
+      ∷ readerTests (modeIn (listingOf c)) c y
+
+  -- where none of these rows applies, the words are at most 8,400
+  pub most : ((i : ℕ) → getD pdu i 0 < 256) → firstOf firstTwelve ≡ 0 → length (receivedWords carry pdu log r) ≤ 8400
+  most b e =
+      let off : (k : ℕ) → getD firstTwelve k (false, 0) .0 ≡ false = λ k. row-off firstTwelve k refl e in
+      let size = both-on (leb 96 (length pdu)) (leb (length pdu) 20480) (off 2) in
+      let lo = leb-true 96 (length pdu) (size .0) in
+      let hi = leb-true (length pdu) 20480 (size .1) in
+      let m : modeIn (listingOf c) ≡ modeOf r = ap modeIn (same-listing r c (off 5)) in
+      let held = ltb-false 4096 (r .held) (none-at (wrongState r) 3 (off 0)) in
+      words-most (modeOf r .sequences) (modeOf r) r carry c y held (omega (arith, corrected-length pdu lo hi b, hi)) (ap (λ (k : Mode). firstOf (readerTests k c y)) (sym m) ∙ rest-off firstTwelve 6 refl e)
+
+  -- a carry of 4,096 bytes and a log of 8,400 words: never refused with 2 or 13
+  pub enough-carry : 4096 ≤ length carry → ¬ (receiveNumber carry pdu log r ≡ 2)
+  unfolding receiveNumber
+  enough-carry big e =
+      let t = passed 2 ((anyOf (wrongState r), 1) ∷ []) (drop 1 (receiveTests carry pdu log r)) refl e in
+      let z : ltb (length carry) 4096 ≡ false = le-ltb (length carry) 4096 big in
+      never 2 (drop 2 (receiveTests carry pdu log r)) refl refl (sym (ap (λ (b : Bool). cond b 2 (firstOf (drop 2 (receiveTests carry pdu log r)))) z) ∙ t .1)
+
+  pub enough-log : ((i : ℕ) → getD pdu i 0 < 256) → 8400 ≤ length log → ¬ (receiveNumber carry pdu log r ≡ 13)
+  unfolding receiveNumber
+  enough-log b big e =
+      let t = passed 13 firstTwelve ((ltb (length log) (length (receivedWords carry pdu log r)), 13) ∷ []) refl e in
+      let on = ltb-true (length log) (length (receivedWords carry pdu log r)) (last-on (ltb (length log) (length (receivedWords carry pdu log r))) 13 refl (t .1)) in
+      let h = most b (t .0) in
+      absurd (omega (arith, on, h, big))
+
+pub lost-enough : (log : List ℕ) (r : Receiver) → 1 ≤ length log → ¬ (lostNumber log r ≡ 13)
+unfolding lostNumber logWords entryWords
+lost-enough log r big e =
+    let t = passed 13 ((anyOf (wrongState r), 1) ∷ []) ((ltb (length log) 1, 13) ∷ []) refl e in
+    let on = ltb-true (length log) 1 (last-on (ltb (length log) 1) 13 refl (t .1)) in
+    absurd (omega (arith, on, big))

@@ -1,0 +1,11 @@
+pub mod Answering
+pub mod Bounds
+pub mod Calling
+pub mod Enough
+pub mod Losing
+pub mod Marks
+pub mod Opening
+pub mod Parsing
+pub mod Rows
+pub mod Saying
+pub mod Taking

@@ -1,0 +1,86 @@
+use Rattle.receiver.proofs.Calling.{stream-call, reader-call, log-call}
+use denote.Ref.{now}
+use mathlib.Core.Path.{sym, _∙_}
+use borrow.Author.Needs.{needs}
+use Rattle.receiver.proofs.receive_corrected.Statement.{statement}
+use Rattle.receiver.proofs.receive_corrected.Tie as tie
+use Rattle.receiver.proofs.receive_corrected.Reads as reads
+use Rattle.receiver.proofs.receive_corrected.Lts as lts
+use Rattle.layout.proofs.control_word.Reads as control-word-reads
+use Rattle.pdu.proofs.judge.Reads as judge-reads
+use Rattle.receiver.proofs.receive_read.Reads as receive-read-reads
+use Rattle.receiver.proofs.refused.Reads as refused-reads
+use Rattle.receiver.proofs.wrong_stream.Reads as wrong-stream-reads
+
+control-word-requires : tie.Need-control-word-requires
+control-word-requires c κs = search needs
+
+wrong-stream-requires : tie.Need-wrong-stream-requires
+wrong-stream-requires c κs = search needs
+
+refused-requires : tie.Need-refused-requires
+refused-requires c κs = search needs
+
+returns : tie.Need-returns
+returns c =
+    let w = c .before .before in
+    let s = w .before .before .before .before .before in
+    let a = s .args in
+    stream-call (a .m) (a .r) (now (a .carry)) (now (a .y)) (now (a .log)) (w .before .control-word .result) (w .before .control-word .ensures) (w .wrong-stream .result) (c .refused .result) (w .wrong-stream .ensures) (c .before .if1 .taken) (c .refused .ensures)
+
+judge-requires : tie.Need-judge-requires
+judge-requires c κs = search needs
+
+cast-refused : tie.Need-cast-refused
+cast-refused c = search needs
+
+refused-requires-2 : tie.Need-refused-requires-2
+refused-requires-2 c κs = search needs
+
+returns-2 : tie.Need-returns-2
+returns-2 c =
+    let j = c .before .before .before .before in
+    let w = j .before .before in
+    let s = w .before .before .before .before .before in
+    let a = s .args in
+    reader-call (a .m) (a .r) (now (a .carry)) (now (a .y)) (now (a .log)) (w .before .control-word .result) (w .before .control-word .ensures) (s .pre .0) (w .wrong-stream .result) (w .wrong-stream .ensures) (j .before .if1 .left) (j .judge .result .number) (j .judge .result .wrong) (c .refused2 .result) (j .judge .ensures .0) (j .judge .ensures .1) (c .before .before .if2 .taken) (c .refused2 .ensures)
+
+receive-read-requires : tie.Need-receive-read-requires
+receive-read-requires c κs =
+    let j = c .before .before .before .before in
+    let w = j .before .before in
+    let s = w .before .before .before .before .before in
+    (s .pre .1 .0, (s .pre .1 .1, sym (j .judge .ensures .0) ∙ c .before .before .if2 .left))
+
+same-length : tie.Need-same-length
+same-length c = search needs
+
+same-length-2 : tie.Need-same-length-2
+same-length-2 c = search needs
+
+returns-3 : tie.Need-returns-3
+returns-3 c =
+    let f = c .before .before .before .before in
+    let e = f .before .before .before in
+    let j = e .before .before in
+    let w = j .before .before in
+    let s = w .before .before .before .before .before in
+    let a = s .args in
+    log-call (a .m) (a .r) (now (a .carry)) (now (a .y)) (now (a .log)) (w .before .control-word .result) (w .before .control-word .ensures) (s .pre .0) (w .wrong-stream .result) (w .wrong-stream .ensures) (j .before .if1 .left) (j .judge .result .number) (f .receive-read .result) (f .receive-read .last .1 .1 .1 .0) (f .receive-read .last .1 .1 .1 .1 .1 .0) (j .judge .ensures .0) (e .if2 .left) (f .receive-read .ensures)
+
+pub receive-corrected-spec : {M : Type 1} → statement M
+receive-corrected-spec =
+    tie.close
+    (tie.spec
+    control-word-requires
+    wrong-stream-requires
+    refused-requires
+    returns
+    judge-requires
+    cast-refused
+    refused-requires-2
+    returns-2
+    receive-read-requires
+    same-length
+    same-length-2
+    returns-3)

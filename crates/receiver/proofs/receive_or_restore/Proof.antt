@@ -1,0 +1,78 @@
+use Rattle.receiver.proofs.Calling.{kept, put-back}
+use Rattle.header.specs.Header.{frontReplaced}
+use denote.Ref.{now}
+use native.Mathlib.Omega.{arith}
+use mathlib.Core.Path.{_≡_, sym, _∙_}
+use lib.ListN.{length}
+use borrow.Author.Needs.{needs}
+use Rattle.receiver.proofs.receive_or_restore.Statement.{statement}
+use Rattle.receiver.proofs.receive_or_restore.Tie as tie
+use Rattle.receiver.proofs.receive_or_restore.Reads as reads
+use Rattle.receiver.proofs.receive_or_restore.Lts as lts
+use Rattle.header.proofs.put_front.Reads as put-front-reads
+use Rattle.receiver.proofs.receive_corrected.Reads as receive-corrected-reads
+
+receive-corrected-requires : tie.Need-receive-corrected-requires
+receive-corrected-requires c κs = search needs
+
+same-length : tie.Need-same-length
+same-length c = search needs
+
+same-length-2 : tie.Need-same-length-2
+same-length-2 c = search needs
+
+same-length-3 : tie.Need-same-length-3
+same-length-3 c = search needs
+
+returns : tie.Need-returns
+returns c =
+    let f = c .before .before .before .before .before .before in
+    let s = f .before .before .before .before .before .before .before in
+    let a = s .args in
+    let h = f .receive-corrected in
+    (h .ensures .0, (h .ensures .1, kept (a .m) (a .r) (now (a .carry)) (now (a .pdu)) (now (a .log)) (h .result) (h .last .1 .1 .0) (h .last .1 .1 .1 .1 .0) (h .ensures) (frontReplaced (now (a .pdu)) (a .t6)) (c .if1 .taken)))
+
+slice-aggregate-put-front : tie.Need-slice-aggregate-put-front
+slice-aggregate-put-front c =
+    let f = c .before .before .before .before .before .before .before .before in
+    let s = f .before .before .before .before .before .before .before in
+    let long : length (s .args .t6) ≡ 96 = omega (arith, s .good .1 .1 .1 .1 .1 .0) in
+    sym long
+
+put-front-requires : tie.Need-put-front-requires
+put-front-requires c κs = search needs
+
+same-length-4 : tie.Need-same-length-4
+same-length-4 c = search needs
+
+same-length-5 : tie.Need-same-length-5
+same-length-5 c = search needs
+
+same-length-6 : tie.Need-same-length-6
+same-length-6 c = search needs
+
+returns-2 : tie.Need-returns-2
+returns-2 c =
+    let p = c .before .before in
+    let e = p .before .before .before in
+    let f = e .before .before .before .before .before .before in
+    let s = f .before .before .before .before .before .before .before in
+    let a = s .args in
+    let h = f .receive-corrected in
+    (h .ensures .0, (h .ensures .1, p .put-front .ensures ∙ put-back (a .m) (a .r) (now (a .carry)) (now (a .pdu)) (now (a .log)) (h .result) (h .last .1 .1 .0) (h .last .1 .1 .1 .1 .0) (h .ensures) (frontReplaced (now (a .pdu)) (a .t6)) (e .if1 .left)))
+
+pub receive-or-restore-spec : {M : Type 1} → statement M
+receive-or-restore-spec =
+    tie.close
+    (tie.spec
+    receive-corrected-requires
+    same-length
+    same-length-2
+    same-length-3
+    returns
+    slice-aggregate-put-front
+    put-front-requires
+    same-length-4
+    same-length-5
+    same-length-6
+    returns-2)

@@ -1,0 +1,48 @@
+use Rattle.receiver.proofs.Rows.{stream-listed, stream-refused}
+use mathlib.Core.Path.{sym, _∙_}
+use borrow.Author.Needs.{needs}
+use Rattle.receiver.proofs.wrong_stream.Statement.{statement}
+use Rattle.receiver.proofs.wrong_stream.Tie as tie
+use Rattle.receiver.proofs.wrong_stream.Reads as reads
+use Rattle.receiver.proofs.wrong_stream.Lts as lts
+use Rattle.modes.proofs.look_up.Reads as look-up-reads
+use Rattle.receiver.proofs.other_stream.Reads as other-stream-reads
+
+look-up-requires : tie.Need-look-up-requires
+look-up-requires c κs = search needs
+
+enum-told : tie.Need-enum-told
+enum-told c = search needs
+
+other-stream-requires : tie.Need-other-stream-requires
+other-stream-requires c κs = search needs
+
+returns : tie.Need-returns
+returns c =
+    let s = c .before .before .before .before .before in
+    sym (stream-listed (s .args .r) (s .args .c) _ _ (c .before .before .before .before .look-up .ensures) (c .before .before .enum-told .given .1) ∙ rw (sym (c .before .other-stream .ensures) ∙ c .if1 .taken))
+
+enum-known-listing : tie.Need-enum-known-listing
+enum-known-listing c = search needs
+
+returns-2 : tie.Need-returns-2
+returns-2 c =
+    let s = c .before .before .before .before .before in
+    sym (stream-listed (s .args .r) (s .args .c) _ _ (c .before .before .before .before .look-up .ensures) (c .before .before .enum-told .given .1) ∙ rw (sym (c .before .other-stream .ensures) ∙ c .if1 .left))
+
+returns-3 : tie.Need-returns-3
+returns-3 c =
+    let s = c .before .before .before .before in
+    stream-refused (s .args .r) (s .args .c) _ _ (c .before .before .before .look-up .ensures) (c .before .listing .given .1)
+
+pub wrong-stream-spec : {M : Type 1} → statement M
+wrong-stream-spec =
+    tie.close
+    (tie.spec
+    look-up-requires
+    enum-told
+    other-stream-requires
+    returns
+    enum-known-listing
+    returns-2
+    returns-3)

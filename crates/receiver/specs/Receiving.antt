@@ -1,0 +1,175 @@
+-- Document 01, "Receiver": opening, receiving a PDU, and marking one lost.
+use mathlib.Core.Bool.{Bool, true, false, not, _&&_, cond}
+use mathlib.Core.List.{List, [], _∷_, _++_}
+use mathlib.Core.Option.{Option, none, some}
+use Prim.Native.Nat.{ℕ, zero, suc}
+use lib.Dec.{eqb, ltb, leb}
+use lib.ListN.{length, getD, take, drop}
+use Rattle.refusal.specs.Refusal.{firstOf, anyOf}
+use Rattle.modes.specs.Modes.{listing, numberOf}
+use Rattle.modes.specs.declared.Mode.{Mode}
+use Rattle.modes.specs.declared.Listing.{Listing}
+use Rattle.modes.specs.declared.Listing.the-variants.{Listed, Refused}
+use Rattle.buffer.specs.Buffer.{putAt}
+use Rattle.crc.specs.Crc.{crcFrom}
+use Rattle.layout.specs.Control.{controlAt}
+use Rattle.layout.specs.declared.ControlWord.{ControlWord}
+use Rattle.layout.specs.Locators.{locatorAt}
+use Rattle.log.specs.Log.{logWords}
+use Rattle.correction.specs.Correction.{corrected, correctedPdu}
+use Rattle.pdu.specs.Reading.{startAt, lengthAt, psdOf, readerTests, listingOf, modeIn, uncorrectable}
+use Rattle.reassembly.specs.Reassembly.{Piece, Said, Memory, Outcome, received, remembered, lostEntries, forgotten}
+use Rattle.reassembly.specs.Run.{bytesOf, numberOf as partialNumber, partialOf, lastOf}
+use Rattle.receiver.specs.declared.Receiver.{Receiver}
+use Rattle.receiver.specs.declared.Opened.{Opened}
+use Rattle.receiver.specs.declared.Received.{Received}
+
+-- ---- opening
+
+abbrev pub noReceiver : Receiver
+noReceiver = record { mode = 0; stream = 0; known = false; sequence = 0; held = 0; number = 0 }
+
+abbrev pub openedAs : Listing → ℕ → ℕ → Opened
+openedAs (Refused n) mode stream = record { refusal = n; receiver = noReceiver }
+openedAs (Listed m) mode stream = record { refusal = 0; receiver = record { mode = mode; stream = stream; known = false; sequence = 0; held = 0; number = 0 } }
+
+-- refusal 5, or a receiver that knows no sequence and holds nothing
+unfoldable pub opened : ℕ → ℕ → Opened
+opened mode stream = openedAs (listing mode stream) mode stream
+
+-- ---- what a corrected PDU y says, by its control word c and locators of a width
+
+-- piece k: taken where the byte at its locator is its CRC; a wrong CRC is note 2
+abbrev pub pieceIn : ℕ → ControlWord → List ℕ → ℕ → Piece
+pieceIn width c y k =
+    let bytes = take (lengthAt width c y k) (drop (startAt width c y k) y) in
+    record { cause = cond (eqb (crcFrom 0 bytes) (getD y (locatorAt width y k) 0)) 0 2; bytes = bytes }
+
+-- n pieces from piece k on
+unfoldable pub piecesIn : ℕ → ControlWord → List ℕ → ℕ → ℕ → List Piece
+piecesIn width c y k zero = []
+piecesIn width c y k (suc n) = pieceIn width c y k ∷ piecesIn width c y (suc k) n
+
+unfoldable pub saidBy : ℕ → ControlWord → List ℕ → Said
+saidBy width c y = record {
+  sequence = c .sequence;
+  pfirst = c .pfirst;
+  plast = c .plast;
+  start = c .start;
+  psdBytes = take (psdOf width c y .length) (drop (psdOf width c y .start) y);
+  pieces = piecesIn width c y 0 (c .nop);
+}
+
+-- ---- what a receiver remembers; the held bytes are the first ones of the carry
+
+unfoldable pub memoryOf : Receiver → List ℕ → Memory
+memoryOf r carry = record { last = lastOf (r .known) (r .sequence); partial = partialOf (r .held) (r .number) carry }
+
+abbrev pub isKnown : Option ℕ → Bool
+isKnown none = false
+isKnown (some q) = true
+
+abbrev pub sequenceOf : Option ℕ → ℕ
+sequenceOf none = 0
+sequenceOf (some q) = q
+
+-- a field not known or not held is set to 0; held length 0 means nothing held
+unfoldable pub remembering : Receiver → Memory → Receiver
+remembering r x = record {
+  mode = r .mode;
+  stream = r .stream;
+  known = isKnown (x .last);
+  sequence = sequenceOf (x .last);
+  held = length (bytesOf (x .partial));
+  number = partialNumber (x .partial);
+}
+
+-- ---- what is turned down
+
+-- the table's line for a receiver's mode and stream. Where it has none, 1 applies, so any mode does for the other rows
+abbrev pub modeOf : Receiver → Mode
+modeOf r = modeIn (listing (r .mode) (r .stream))
+
+-- sequence, held and number outside their ranges for a mode; not 0 where not known or not held
+abbrev pub wrongFields : Mode → Receiver → List Bool
+wrongFields m r =
+    leb (m .sequences) (r .sequence)
+    ∷ (not (r .known) && not (eqb (r .sequence) 0))
+    ∷ ltb 4096 (r .held)
+    ∷ ltb 63 (r .number)
+    ∷ (eqb (r .held) 0 && not (eqb (r .number) 0))
+    ∷ []
+
+-- 1: mode and stream not in the table, or a field outside its range
+abbrev pub wrongState : Receiver → List Bool
+wrongState r = not (eqb (numberOf (listing (r .mode) (r .stream))) 0) ∷ wrongFields (modeOf r) r
+
+-- a refusal leaves the receiver as it was; k comes with 11
+abbrev pub refusedAnswer : Receiver → ℕ → ℕ → Received
+refusedAnswer r number k = record { refusal = number; wrong = k; words = 0; receiver = r }
+
+-- ---- receiving a PDU
+
+-- the lent carry, PDU and log before the call, and the receiver
+module _ (carry pdu log : List ℕ) (r : Receiver) where
+  -- what the corrected PDU says, what is logged and held, and what is remembered
+  abbrev pub said : Said
+  said = saidBy (modeOf r .width) (controlAt (correctedPdu pdu)) (correctedPdu pdu)
+
+  abbrev pub outcome : Outcome
+  outcome = received (modeOf r .sequences) (memoryOf r carry) said
+
+  abbrev pub receivedWords : List ℕ
+  receivedWords = logWords (outcome .entries)
+
+  abbrev pub memoryAfter : Memory
+  memoryAfter = remembered (modeOf r .sequences) (memoryOf r carry) said
+
+  -- rows 1 to 13, in the table's order
+  abbrev pub receiveTests : List (Bool × ℕ)
+  receiveTests =
+      let y = correctedPdu pdu in
+      let c = controlAt y in
+      (anyOf (wrongState r), 1)
+      ∷ (ltb (length carry) 4096, 2)  -- carry under 4,096 bytes
+      ∷ (not (leb 96 (length pdu) && leb (length pdu) 20480), 3)  -- length not 96 to 20,480
+      ∷ (uncorrectable (corrected (take 96 pdu)), 4)  -- the paper's beyond mending
+      ∷ (not (eqb (numberOf (listingOf c)) 0), 5)  -- mode and stream not in the table
+      ∷ (not (eqb (c .mode) (r .mode) && eqb (c .stream) (r .stream)), 6)  -- not those opened
+      ∷ (readerTests (modeIn (listingOf c)) c y ++ (ltb (length log) (length receivedWords), 13) ∷ [])  -- 7 to 12; log shorter than the words
+
+  -- the lowest number that applies, 0 where the PDU is accepted
+  unfoldable pub receiveNumber : ℕ
+  receiveNumber = firstOf receiveTests
+
+  -- the answer, with whatever k comes with 11
+  unfoldable pub receiveAnswer : ℕ → Received
+  receiveAnswer k =
+      cond (eqb receiveNumber 0) (record { refusal = 0; wrong = 0; words = length receivedWords; receiver = remembering r memoryAfter }) (refusedAnswer r receiveNumber k)
+
+  -- the buffers after the call: what is held stands first in the carry, the PDU is corrected, the words stand in the log from its first
+  -- word on; all other bytes and words are as they were
+  unfoldable pub carryAfter : List ℕ
+  carryAfter = cond (eqb receiveNumber 0) (putAt carry 0 (bytesOf (outcome .partial))) carry
+
+  unfoldable pub pduAfter : List ℕ
+  pduAfter = cond (eqb receiveNumber 0) (correctedPdu pdu) pdu
+
+  unfoldable pub logAfter : List ℕ
+  logAfter = cond (eqb receiveNumber 0) (putAt log 0 receivedWords) log
+
+-- ---- marking a PDU lost, which takes no PDU and no carry
+
+module _ (log : List ℕ) (r : Receiver) where
+  abbrev pub lostTests : List (Bool × ℕ)
+  lostTests = (anyOf (wrongState r), 1) ∷ (ltb (length log) (length (logWords lostEntries)), 13) ∷ []
+
+  unfoldable pub lostNumber : ℕ
+  lostNumber = firstOf lostTests
+
+  unfoldable pub lostAnswer : Received
+  lostAnswer =
+      cond (eqb lostNumber 0) (record { refusal = 0; wrong = 0; words = length (logWords lostEntries); receiver = remembering r forgotten }) (refusedAnswer r lostNumber 0)
+
+  unfoldable pub logAfterLost : List ℕ
+  logAfterLost = cond (eqb lostNumber 0) (putAt log 0 (logWords lostEntries)) log

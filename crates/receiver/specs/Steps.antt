@@ -1,0 +1,89 @@
+-- What the parts of a receiving call promise.
+use mathlib.Core.Bool.{Bool, true, false, not, _&&_, cond}
+use mathlib.Core.List.{List, [], _∷_, _++_}
+use mathlib.Core.Path.{_≡_}
+use Prim.Native.Nat.{ℕ, _+_, _≤_, _<_}
+use lib.Dec.{eqb, ltb}
+use lib.ListN.{length, getD}
+use Rattle.buffer.specs.Buffer.{putAt}
+use Rattle.crc.specs.Crc.{crcFrom}
+use Rattle.refusal.specs.Refusal.{firstOf}
+use Rattle.modes.specs.Modes.{numberOf}
+use Rattle.modes.specs.declared.Mode.{Mode}
+use Rattle.layout.specs.Control.{controlAt}
+use Rattle.layout.specs.declared.ControlWord.{ControlWord}
+use Rattle.log.specs.Log.{logWords}
+use Rattle.pdu.specs.Reading.{afterLocators, expansionBytes, markAt, modeIn, listingOf, readerTests}
+use Rattle.reassembly.specs.Reassembly.{Said, Outcome, received, remembered}
+use Rattle.reassembly.specs.Run.{bytesOf, pieceAt}
+use Rattle.reassembly.specs.declared.Head.{Head}
+use Rattle.reassembly.specs.declared.Run.{Run}
+use Rattle.reassembly.specs.declared.State.{State}
+use Rattle.receiver.specs.Receiving.{saidBy, memoryOf, remembering, refusedAnswer}
+use Rattle.receiver.specs.declared.Receiver.{Receiver}
+use Rattle.receiver.specs.declared.Received.{Received}
+
+-- ---- what reassembly takes
+
+-- La and then each locator
+abbrev pub MarksOf : ℕ → ControlWord → List ℕ → List ℕ → Type 0
+MarksOf width c y marks = (k : ℕ) → k ≤ c .nop → getD marks k 0 ≡ markAt width c y k
+
+-- 0 where the byte at its locator is the CRC of piece k, 2 where it is not
+unfoldable pub causeAt : List ℕ → List ℕ → ℕ → ℕ
+causeAt y marks k = cond (eqb (crcFrom 0 (pieceAt y marks k)) (getD y (getD marks (k + 1) 0) 0)) 0 2
+
+abbrev pub CausesOf : List ℕ → List ℕ → ℕ → List ℕ → Type 0
+CausesOf y marks nop causes = (k : ℕ) → k < nop → getD causes k 0 ≡ causeAt y marks k
+
+abbrev pub headOf : ℕ → ControlWord → List ℕ → Head
+headOf width c y = record { sequence = c .sequence; pfirst = c .pfirst; plast = c .plast; start = c .start; psd = afterLocators width c + expansionBytes width c y; nop = c .nop }
+
+abbrev pub stateOf : Receiver → State
+stateOf r = record { known = r .known; last = r .sequence; held = r .held; number = r .number }
+
+-- a receiver's fields in their ranges, and a carry buffer that is long enough
+pub record Usable (r : Receiver) (carry : List ℕ) : Type 0 where
+  pub sequence : r .sequence < 255
+  pub held : r .held ≤ 4096
+  pub number : r .held ≡ 0 → r .number ≡ 0
+  pub room : 4096 ≤ length carry
+
+-- the answer after a run
+abbrev pub acceptedAfter : Receiver → ℕ → Run → Received
+acceptedAfter r sequence run =
+    record { refusal = 0; wrong = 0; words = run .at; receiver = record { mode = r .mode; stream = r .stream; known = true; sequence = sequence; held = run .held; number = run .number } }
+
+-- the answer after marking a PDU lost
+abbrev pub forgetful : Receiver → ℕ → Received
+forgetful r words =
+    record { refusal = 0; wrong = 0; words = words; receiver = record { mode = r .mode; stream = r .stream; known = false; sequence = 0; held = 0; number = 0 } }
+
+-- ---- the answer and the buffers after a step, by the lowest number that applies, 0 where there is none
+
+module _ (range : ℕ) (said : Said) (r : Receiver) (carry log : List ℕ) where
+  abbrev pub outcomeOf : Outcome
+  outcomeOf = received range (memoryOf r carry) said
+
+  abbrev pub noRoom : Bool
+  noRoom = ltb (length log) (length (logWords (outcomeOf .entries)))
+
+  abbrev pub acceptedAnswer : Received
+  acceptedAnswer = record { refusal = 0; wrong = 0; words = length (logWords (outcomeOf .entries)); receiver = remembering r (remembered range (memoryOf r carry) said) }
+
+  pub record Answered (n : ℕ) (a : Received) (carryAfter logAfter : List ℕ) : Type 0 where
+    pub answer : a ≡ cond (eqb n 0) acceptedAnswer (refusedAnswer r n (a .wrong))
+    pub held : carryAfter ≡ cond (eqb n 0) (putAt carry 0 (bytesOf (outcomeOf .partial))) carry
+    pub logged : logAfter ≡ cond (eqb n 0) (putAt log 0 (logWords (outcomeOf .entries))) log
+
+-- ---- rows 5 to 13, of a corrected PDU
+
+-- mode and stream not in the table, or not those opened
+abbrev pub streamTests : Receiver → ControlWord → List (Bool × ℕ)
+streamTests r c = (not (eqb (numberOf (listingOf c)) 0), 5) ∷ (not (eqb (c .mode) (r .mode) && eqb (c .stream) (r .stream)), 6) ∷ []
+
+-- the lowest number that applies, for a receiver of a mode
+unfoldable pub correctedNumber : Mode → Receiver → List ℕ → List ℕ → List ℕ → ℕ
+correctedNumber m r carry y log =
+    let c = controlAt y in
+    firstOf (streamTests r c ++ (readerTests (modeIn (listingOf c)) c y ++ (noRoom (m .sequences) (saidBy (m .width) c y) r carry log, 13) ∷ []))

@@ -1,0 +1,396 @@
+// Opening a receiver, receiving PDUs, and marking them lost (document 01, "Receiver").
+use correction::Correction;
+use layout::ControlWord;
+use modes::Listing;
+use modes::Mode;
+use reassembly::Head;
+use reassembly::Run;
+use reassembly::State;
+ghost use mathlib.Core.Path.{_≡_};
+ghost use mathlib.Core.Bool.{not, _&&_, cond};
+ghost use Prim.Native.Nat.{_+_, _≤_, _<_};
+ghost use lib.Dec.{eqb};
+ghost use lib.ListN.{length, getD};
+ghost use Rattle.refusal.specs.Refusal.{firstOf, anyOf};
+ghost use Rattle.modes.specs.Modes.{listing};
+ghost use Rattle.modes.specs.declared.Listing.the-variants.{Listed};
+ghost use Rattle.header.specs.Header.{frontReplaced};
+ghost use Rattle.layout.specs.Control.{controlAt};
+ghost use Rattle.pdu.specs.Reading.{readerTests, widthOf, WrongIn, WrongOne};
+ghost use Rattle.reassembly.specs.Run.{placeAt, Marked};
+ghost use Rattle.receiver.specs.Receiving.{saidBy, opened, wrongFields, refusedAnswer, receiveAnswer, carryAfter, pduAfter, logAfter, lostAnswer, logAfterLost};
+ghost use Rattle.receiver.specs.Steps.{MarksOf, causeAt, CausesOf, headOf, stateOf, Usable, acceptedAfter, noRoom, Answered, streamTests, correctedNumber, forgetful};
+
+// What a receiver remembers. A field not known or not held is 0; held length 0 means nothing held.
+#[repr(C)]
+pub struct Receiver {
+    pub mode: u8,
+    pub stream: u8,
+    // The last PDU sequence, if known.
+    pub known: bool,
+    pub sequence: u8,
+    // The length and number of the held beginning.
+    pub held: u16,
+    pub number: u8,
+}
+
+// The refusal number, 0 where there is none, and the receiver, all 0 if refused.
+#[repr(C)]
+pub struct Opened {
+    pub refusal: u32,
+    pub receiver: Receiver,
+}
+
+// The refusal number, 0 where there is none, with the k of a wrong locator where it is 11; the count of log words written; and the
+// next state, the same if refused.
+#[repr(C)]
+pub struct Received {
+    pub refusal: u32,
+    pub wrong: u32,
+    pub words: u32,
+    pub receiver: Receiver,
+}
+
+// Opens a receiver for a mode and stream, or refuses with 5.
+pub fn open(mode: u8, stream: u8) -> Opened
+    ensures { λ r. ⌜ r ≡ opened mode stream ⌝ }
+{
+    match modes::look_up(mode, stream) {
+        Listing::Listed(_) => Opened {
+            refusal: 0,
+            receiver: Receiver {
+                mode: mode,
+                stream: stream,
+                known: false,
+                sequence: 0,
+                held: 0,
+                number: 0,
+            },
+        },
+        Listing::Refused(n) => Opened {
+            refusal: n,
+            receiver: Receiver {
+                mode: 0,
+                stream: 0,
+                known: false,
+                sequence: 0,
+                held: 0,
+                number: 0,
+            },
+        },
+    }
+}
+
+// Refusal 1, for a mode and stream that the table has.
+fn wrong_state(r: Receiver, m: Mode) -> bool
+    ensures { λ b. ⌜ b ≡ anyOf (wrongFields m r) ⌝ }
+{
+    (m.sequences <= r.sequence)
+        | ((!r.known & (r.sequence != 0))
+            | ((4096 < r.held) | ((63 < r.number) | ((r.held == 0) & (r.number != 0)))))
+}
+
+fn place(x: u16) -> usize
+    ensures { λ r. ⌜ (r ≡ x) × (r < 65536) ⌝ }
+{
+    x as usize
+}
+
+// La and then each locator.
+fn marks_of(y: &[u8], width: u8, c: ControlWord) -> [u16; 64]
+    requires { ⌜ c .nop < 64 ⌝ }
+    ensures { λ r. ⌜ MarksOf width c (now (y .entry)) r ⌝ }
+{
+    let nop = c.nop;
+    let mut marks = [0u16; 64];
+    let mut k: u8 = 0;
+    while k <= nop {
+        let m = pdu::mark(y, width, c, k);
+        let i = k as usize;
+        marks[i] = m;
+        k += 1;
+    }
+    marks
+}
+
+// Piece k's cause: 0 where the byte at its locator is its CRC, 2 where it is not.
+fn cause_at(y: &[u8], marks: [u16; 64], k: usize) -> u8
+    requires { ⌜ (k < 63) × (placeAt marks k < getD marks (k + 1) 0) × (getD marks (k + 1) 0 < length (now y)) ⌝ }
+    ensures { λ r. ⌜ r ≡ causeAt (now (y .entry)) marks k ⌝ }
+{
+    let a = place(marks[k]) + 1;
+    let e = place(marks[k + 1]);
+    let crc = crc::crc8(&y[a..e]);
+    if crc == y[e] {
+        return 0;
+    }
+    2
+}
+
+// Each piece's cause.
+fn causes_of(y: &[u8], marks: [u16; 64], nop: usize) -> [u8; 64]
+    requires { ⌜ Marked (now y) marks nop ⌝ }
+    ensures { λ r. ⌜ CausesOf (now (y .entry)) marks nop r ⌝ }
+{
+    let mut causes = [0u8; 64];
+    let mut k: usize = 0;
+    while k < nop {
+        causes[k] = cause_at(y, marks, k);
+        k += 1;
+    }
+    causes
+}
+
+// What the header says, for reassembly.
+fn head_of(y: &[u8], width: u8, c: ControlWord) -> Head
+    ensures { λ r. ⌜ r ≡ headOf width c (now (y .entry)) ⌝ }
+{
+    let psd = pdu::psd_start(y, width, c);
+    Head {
+        sequence: c.sequence,
+        pfirst: c.pfirst,
+        plast: c.plast,
+        start: c.start,
+        psd: psd,
+        nop: c.nop as usize,
+    }
+}
+
+// What the receiver remembers, for reassembly.
+fn state_of(r: Receiver) -> State
+    ensures { λ s. ⌜ s ≡ stateOf r ⌝ }
+{
+    State {
+        known: r.known,
+        last: r.sequence,
+        held: r.held as usize,
+        number: r.number,
+    }
+}
+
+// A refusal: nothing is changed. k comes with 11.
+fn refused(r: Receiver, number: u32, k: u32) -> Received
+    ensures { λ a. ⌜ a ≡ refusedAnswer r number k ⌝ }
+{
+    Received {
+        refusal: number,
+        wrong: k,
+        words: 0,
+        receiver: r,
+    }
+}
+
+// The answer for an accepted PDU of a sequence, after its run.
+fn accepted(r: Receiver, sequence: u8, run: Run) -> Received
+    requires { ⌜ (run .held ≤ 65535) × (run .at ≤ 4294967295) ⌝ }
+    ensures { λ a. ⌜ a ≡ acceptedAfter r sequence run ⌝ }
+{
+    Received {
+        refusal: 0,
+        wrong: 0,
+        words: run.at as u32,
+        receiver: Receiver {
+            mode: r.mode,
+            stream: r.stream,
+            known: true,
+            sequence: sequence,
+            held: run.held as u16,
+            number: run.number,
+        },
+    }
+}
+
+// Receives a corrected PDU that no row from 1 to 12 turns down, or refuses with 13.
+fn receive_read(
+    r: Receiver,
+    m: Mode,
+    c: ControlWord,
+    carry: &mut [u8],
+    y: &[u8],
+    log: &mut [u32],
+) -> Received
+    requires { ⌜ Usable r (now carry) ⌝ }
+    requires { ⌜ length (now y) ≤ 20480 ⌝ }
+    requires { ⌜ firstOf (readerTests m c (now y)) ≡ 0 ⌝ }
+    ensures { λ a. ⌜ Answered (m .sequences) (saidBy (m .width) c (now (y .entry))) r (now (carry .entry)) (now (log .entry)) (cond (noRoom (m .sequences) (saidBy (m .width) c (now (y .entry))) r (now (carry .entry)) (now (log .entry))) 13 0) a (now (carry .exit)) (now (log .exit)) ⌝ }
+    ensures { λ a. ⌜ a .wrong ≡ 0 ⌝ }
+{
+    let marks = marks_of(y, m.width, c);
+    let causes = causes_of(y, marks, c.nop as usize);
+    let head = head_of(y, m.width, c);
+    let state = state_of(r);
+    let words = reassembly::words_needed(state, m.sequences, head, marks, causes);
+    if log.len() < words {
+        return refused(r, 13, 0);
+    }
+    let run = reassembly::accept(
+        state,
+        m.sequences,
+        head,
+        marks,
+        causes,
+        y,
+        &mut *carry,
+        &mut *log,
+    );
+    accepted(r, c.sequence, run)
+}
+
+// Refusal 6: a PDU's mode and stream are not those opened.
+fn other_stream(r: Receiver, c: ControlWord) -> bool
+    ensures { λ b. ⌜ b ≡ not (eqb (c .mode) (r .mode) && eqb (c .stream) (r .stream)) ⌝ }
+{
+    !((c.mode == r.mode) & (c.stream == r.stream))
+}
+
+// Refusal 5 or 6, for a PDU's mode and stream, or 0.
+fn wrong_stream(r: Receiver, c: ControlWord) -> u32
+    ensures { λ n. ⌜ n ≡ firstOf (streamTests r c) ⌝ }
+{
+    let listing = modes::look_up(c.mode, c.stream);
+    match listing {
+        Listing::Listed(_) => {
+            if other_stream(r, c) {
+                return 6;
+            }
+            0
+        }
+        Listing::Refused(n) => n,
+    }
+}
+
+// Receives a corrected PDU, or refuses with 5 to 13.
+fn receive_corrected(r: Receiver, m: Mode, carry: &mut [u8], y: &[u8], log: &mut [u32]) -> Received
+    requires { ⌜ listing (r .mode) (r .stream) ≡ Listed m ⌝ }
+    requires { ⌜ Usable r (now carry) ⌝ }
+    requires { ⌜ length (now y) ≤ 20480 ⌝ }
+    ensures { λ a. ⌜ Answered (m .sequences) (saidBy (m .width) (controlAt (now (y .entry))) (now (y .entry))) r (now (carry .entry)) (now (log .entry)) (correctedNumber m r (now (carry .entry)) (now (y .entry)) (now (log .entry))) a (now (carry .exit)) (now (log .exit)) ⌝ }
+    ensures { λ a. ⌜ WrongIn (widthOf (now (y .entry))) (controlAt (now (y .entry))) (now (y .entry)) (a .refusal) (a .wrong) ⌝ }
+{
+    let c = layout::control_word(y);
+    let n = wrong_stream(r, c);
+    if n != 0 {
+        return refused(r, n, 0);
+    }
+    let v = pdu::judge(y, c, m);
+    if v.number != 0 {
+        return refused(r, v.number, v.wrong as u32);
+    }
+    receive_read(r, m, c, &mut *carry, y, &mut *log)
+}
+
+// Receives a corrected PDU; where it is refused, the header that it had before is put back.
+fn receive_or_restore(
+    r: Receiver,
+    m: Mode,
+    carry: &mut [u8],
+    pdu: &mut [u8],
+    log: &mut [u32],
+    before: [u8; 96],
+) -> Received
+    requires { ⌜ listing (r .mode) (r .stream) ≡ Listed m ⌝ }
+    requires { ⌜ Usable r (now carry) ⌝ }
+    requires { ⌜ length (now pdu) ≤ 20480 ⌝ }
+    ensures { λ a. ⌜ Answered (m .sequences) (saidBy (m .width) (controlAt (now (pdu .entry))) (now (pdu .entry))) r (now (carry .entry)) (now (log .entry)) (correctedNumber m r (now (carry .entry)) (now (pdu .entry)) (now (log .entry))) a (now (carry .exit)) (now (log .exit)) ⌝ }
+    ensures { λ a. ⌜ WrongIn (widthOf (now (pdu .entry))) (controlAt (now (pdu .entry))) (now (pdu .entry)) (a .refusal) (a .wrong) ⌝ }
+    ensures { λ _. ⌜ now (pdu .exit) ≡ cond (eqb (correctedNumber m r (now (carry .entry)) (now (pdu .entry)) (now (log .entry))) 0) (now (pdu .entry)) (frontReplaced (now (pdu .entry)) before) ⌝ }
+{
+    let a = receive_corrected(r, m, &mut *carry, pdu, &mut *log);
+    if a.refusal == 0 {
+        return a;
+    }
+    header::put_front(pdu, &before);
+    a
+}
+
+// Receives a PDU by a receiver of a listed mode and stream, or refuses.
+fn receive_listed(
+    r: Receiver,
+    m: Mode,
+    carry: &mut [u8],
+    pdu: &mut [u8],
+    log: &mut [u32],
+) -> Received
+    requires { ⌜ listing (r .mode) (r .stream) ≡ Listed m ⌝ }
+    ensures { λ a. ⌜ a ≡ receiveAnswer (now (carry .entry)) (now (pdu .entry)) (now (log .entry)) r (a .wrong) ⌝ }
+    ensures { λ a. ⌜ WrongOne (now (pdu .entry)) (a .refusal) (a .wrong) ⌝ }
+    ensures { λ _. ⌜ now (carry .exit) ≡ carryAfter (now (carry .entry)) (now (pdu .entry)) (now (log .entry)) r ⌝ }
+    ensures { λ _. ⌜ now (pdu .exit) ≡ pduAfter (now (carry .entry)) (now (pdu .entry)) (now (log .entry)) r ⌝ }
+    ensures { λ _. ⌜ now (log .exit) ≡ logAfter (now (carry .entry)) (now (pdu .entry)) (now (log .entry)) r ⌝ }
+{
+    if wrong_state(r, m) {
+        return refused(r, 1, 0);
+    }
+    if carry.len() < 4096 {
+        return refused(r, 2, 0);
+    }
+    let before = header::header_of(pdu);
+    let answer = correction::correct(pdu);
+    match answer {
+        Correction::Corrected(_) => receive_or_restore(r, m, carry, pdu, log, before),
+        Correction::Refused(n) => refused(r, n, 0),
+    }
+}
+
+// The answer after so many words that mark a PDU lost.
+fn forgotten(r: Receiver, words: usize) -> Received
+    requires { ⌜ words ≤ 4294967295 ⌝ }
+    ensures { λ a. ⌜ a ≡ forgetful r words ⌝ }
+{
+    let mut next = r;
+    next.known = false;
+    next.sequence = 0;
+    next.held = 0;
+    next.number = 0;
+    Received {
+        refusal: 0,
+        wrong: 0,
+        words: words as u32,
+        receiver: next,
+    }
+}
+
+// Marks a PDU lost by a receiver of a listed mode and stream, or refuses.
+fn lose_listed(r: Receiver, m: Mode, log: &mut [u32]) -> Received
+    requires { ⌜ listing (r .mode) (r .stream) ≡ Listed m ⌝ }
+    ensures { λ a. ⌜ a ≡ lostAnswer (now (log .entry)) r ⌝ }
+    ensures { λ _. ⌜ now (log .exit) ≡ logAfterLost (now (log .entry)) r ⌝ }
+{
+    if wrong_state(r, m) {
+        return refused(r, 1, 0);
+    }
+    if log.len() < 1 {
+        return refused(r, 13, 0);
+    }
+    let words = log::put_note(&mut *log, 0, 6, 0);
+    forgotten(r, words)
+}
+
+impl Receiver {
+    // Receives a PDU (document 01, "Receiver"): its header is corrected in place, log words are written from the log's first word on, and
+    // what is held stands first in the carry buffer; or it is refused with 1 to 13, and nothing is changed.
+    pub fn receive(self, carry: &mut [u8], pdu: &mut [u8], log: &mut [u32]) -> Received
+        ensures { λ a. ⌜ a ≡ receiveAnswer (now (carry .entry)) (now (pdu .entry)) (now (log .entry)) self (a .wrong) ⌝ }
+        ensures { λ a. ⌜ WrongOne (now (pdu .entry)) (a .refusal) (a .wrong) ⌝ }
+        ensures { λ _. ⌜ now (carry .exit) ≡ carryAfter (now (carry .entry)) (now (pdu .entry)) (now (log .entry)) self ⌝ }
+        ensures { λ _. ⌜ now (pdu .exit) ≡ pduAfter (now (carry .entry)) (now (pdu .entry)) (now (log .entry)) self ⌝ }
+        ensures { λ _. ⌜ now (log .exit) ≡ logAfter (now (carry .entry)) (now (pdu .entry)) (now (log .entry)) self ⌝ }
+    {
+        match modes::look_up(self.mode, self.stream) {
+            Listing::Listed(m) => receive_listed(self, m, carry, pdu, log),
+            Listing::Refused(_) => refused(self, 1, 0),
+        }
+    }
+
+    // Marks a PDU lost: note 6 is logged, and the held beginning and the last sequence are dropped; or it is refused with 1 or 13, and
+    // nothing is changed.
+    pub fn mark_lost(self, log: &mut [u32]) -> Received
+        ensures { λ a. ⌜ a ≡ lostAnswer (now (log .entry)) self ⌝ }
+        ensures { λ _. ⌜ now (log .exit) ≡ logAfterLost (now (log .entry)) self ⌝ }
+    {
+        match modes::look_up(self.mode, self.stream) {
+            Listing::Listed(m) => lose_listed(self, m, log),
+            Listing::Refused(_) => refused(self, 1, 0),
+        }
+    }
+}

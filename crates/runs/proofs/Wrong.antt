@@ -1,0 +1,115 @@
+-- Small runs, computed; and wrong receivers, each with a run on which it does not log the packets that arrived whole.
+use mathlib.Core.Path.{_≡_, refl, ap}
+use mathlib.Core.Bool.{Bool, true, false}
+use mathlib.Core.List.{List, [], _∷_, _++_}
+use mathlib.Core.Option.{Option, none, some}
+use Prim.Native.Nat.{ℕ, zero, suc}
+use native.Mathlib.Omega.{arith}
+use lib.ListN.{length}
+use Rattle.log.specs.Log.{Entry, packet, psd, note, packetsOf}
+use Rattle.reassembly.specs.Reassembly.{Memory, sequenceStep, beginningStep, psdEntries, finished, joined, pieceStep, piecesStep, received, remembered}
+use Rattle.runs.proofs.Model.{Event, lost, came, entriesFor, memoryFor, logged, fresh, cut, Fate, lose, read, Plan, readPieces, events, marks, arrived, wanted}
+
+abbrev taken : Fate
+taken = read (λ k. 0)
+
+-- packets of 5, 2 and 3 bytes in four PDUs: 3 bytes; 2 and 1; 1 and 2; 1
+abbrev three : List (List ℕ)
+three = (1 ∷ 2 ∷ 3 ∷ 4 ∷ 5 ∷ []) ∷ (6 ∷ 7 ∷ []) ∷ (8 ∷ 9 ∷ 10 ∷ []) ∷ []
+
+abbrev four : Fate → Fate → Fate → Fate → List Plan
+four a b c d =
+    record { whole = 0; over = 3; psdBytes = []; fate = a }
+    ∷ record { whole = 1; over = 1; psdBytes = []; fate = b }
+    ∷ record { whole = 1; over = 2; psdBytes = []; fate = c }
+    ∷ record { whole = 1; over = 0; psdBytes = []; fate = d }
+    ∷ []
+
+-- a packet of 8 bytes in four PDUs
+abbrev one : List (List ℕ)
+one = (1 ∷ 2 ∷ 3 ∷ 4 ∷ 5 ∷ 6 ∷ 7 ∷ 8 ∷ []) ∷ []
+
+abbrev long : Fate → Fate → List Plan
+long b c =
+    record { whole = 0; over = 2; psdBytes = []; fate = taken }
+    ∷ record { whole = 0; over = 2; psdBytes = []; fate = b }
+    ∷ record { whole = 0; over = 2; psdBytes = []; fate = c }
+    ∷ record { whole = 1; over = 0; psdBytes = []; fate = taken }
+    ∷ []
+
+-- ---- the receiver, with a sequence of one bit
+
+all-arrive : logged 2 fresh (events 2 0 0 0 three (four taken taken taken taken)) ≡ packet 0 (1 ∷ 2 ∷ 3 ∷ 4 ∷ 5 ∷ []) ∷ packet 1 (6 ∷ 7 ∷ []) ∷ packet 2 (8 ∷ 9 ∷ 10 ∷ []) ∷ []
+unfolding logged events readPieces cut received remembered sequenceStep beginningStep psdEntries piecesStep pieceStep joined finished
+all-arrive = refl
+
+-- the second lost: its packets are gone, and the third's first piece continues nothing
+second-lost : logged 2 fresh (events 2 0 0 0 three (four taken lose taken taken)) ≡ note 6 0 ∷ note 3 0 ∷ packet 2 (8 ∷ 9 ∷ 10 ∷ []) ∷ []
+unfolding logged events readPieces cut received remembered sequenceStep beginningStep psdEntries piecesStep pieceStep joined finished
+second-lost = refl
+
+-- a piece with a wrong CRC
+second-bad : logged 2 fresh (events 2 0 0 0 three (four taken (read (λ k. 2)) taken taken)) ≡ note 2 0 ∷ note 2 1 ∷ note 3 0 ∷ packet 2 (8 ∷ 9 ∷ 10 ∷ []) ∷ []
+unfolding logged events readPieces cut received remembered sequenceStep beginningStep psdEntries piecesStep pieceStep joined finished
+second-bad = refl
+
+-- two lost: the fourth PDU's sequence follows the first's, and nothing is joined
+two-lost : logged 2 fresh (events 2 0 0 0 one (long lose lose)) ≡ note 6 0 ∷ note 6 0 ∷ note 3 0 ∷ []
+unfolding logged events readPieces cut received remembered sequenceStep beginningStep psdEntries piecesStep pieceStep joined finished
+two-lost = refl
+
+-- ---- wrong receivers
+
+-- what a receiver logs of an event, and what it remembers
+record Rule : Type 0 where
+  entries : Memory → Event → List Entry
+  memory : Memory → Event → Memory
+
+loggedBy : Rule → Memory → List Event → List Entry
+loggedBy r x [] = []
+loggedBy r x (v ∷ vs) = r .entries x v ++ loggedBy r (r .memory x v) vs
+
+-- an empty log for everything
+abbrev silent : Rule
+silent = record { entries = λ x v. []; memory = λ x v. memoryFor 2 x v }
+
+-- one fixed packet
+abbrev fixed : Rule
+fixed = record { entries = λ x v. packet 0 (1 ∷ []) ∷ []; memory = λ x v. memoryFor 2 x v }
+
+-- joins in the first PDU, and then only advances
+abbrev onlyFirst : Option ℕ → List Entry → List Entry
+onlyFirst none es = es
+onlyFirst (some q) es = []
+
+abbrev idle : Rule
+idle = record { entries = λ x v. onlyFirst (x .last) (entriesFor 2 x v); memory = λ x v. memoryFor 2 x v }
+
+-- marking lost forgets nothing
+abbrev keeping : Memory → Event → Memory
+keeping x lost = x
+keeping x (came d) = remembered 2 x d
+
+abbrev joining : Rule
+joining = record { entries = λ x v. entriesFor 2 x v; memory = keeping }
+
+silent-wrong : ¬ (packetsOf (loggedBy silent fresh (events 2 0 0 0 three (four taken taken taken taken))) ≡ wanted 0 three (arrived 0 three (four taken taken taken taken)))
+unfolding loggedBy events packetsOf wanted arrived marks cut
+silent-wrong e = let h : _≡_ {A = ℕ} 0 3 = ap length e in absurd (omega (arith, h))
+
+fixed-wrong : ¬ (packetsOf (loggedBy fixed fresh (events 2 0 0 0 three (four taken taken taken taken))) ≡ wanted 0 three (arrived 0 three (four taken taken taken taken)))
+unfolding loggedBy events packetsOf wanted arrived marks cut
+fixed-wrong e = let h : _≡_ {A = ℕ} 4 3 = ap length e in absurd (omega (arith, h))
+
+idle-wrong : ¬ (packetsOf (loggedBy idle fresh (events 2 0 0 0 three (four taken taken taken taken))) ≡ wanted 0 three (arrived 0 three (four taken taken taken taken)))
+unfolding loggedBy events readPieces cut received remembered sequenceStep beginningStep psdEntries piecesStep pieceStep joined finished packetsOf wanted arrived marks
+idle-wrong e = let h : _≡_ {A = ℕ} 0 3 = ap length e in absurd (omega (arith, h))
+
+-- a packet glued from the ends of one that did not arrive
+glued : packetsOf (loggedBy joining fresh (events 2 0 0 0 one (long lose lose))) ≡ packet 0 (1 ∷ 2 ∷ 7 ∷ 8 ∷ []) ∷ []
+unfolding loggedBy events readPieces cut received remembered sequenceStep beginningStep psdEntries piecesStep pieceStep joined finished packetsOf
+glued = refl
+
+joining-wrong : ¬ (packetsOf (loggedBy joining fresh (events 2 0 0 0 one (long lose lose))) ≡ wanted 0 one (arrived 0 one (long lose lose)))
+unfolding loggedBy events readPieces cut received remembered sequenceStep beginningStep psdEntries piecesStep pieceStep joined finished packetsOf wanted arrived marks
+joining-wrong e = let h : _≡_ {A = ℕ} 1 0 = ap length e in absurd (omega (arith, h))
