@@ -285,7 +285,8 @@ typedef struct {
 typedef struct {
     /* BARZHILUP_ACCEPTED or BARZHILUP_REFUSED_MODE. */
     uint32_t refusal;
-    /* All 0 if refused. */
+    /* All 0 if refused, which is also what a writer of mode 0, core, looks like:
+     * ask for `refusal` first. */
     barzhilup_writer writer;
 } barzhilup_writer_opened;
 
@@ -379,10 +380,11 @@ barzhilup_written barzhilup_write(barzhilup_writer writer,
  * words follow. */
 #define BARZHILUP_LOG_NOTE 3
 
-/* Causes of notes. Each leaves nothing held. */
+/* Causes of notes. What was held, and the piece that a note is about, are
+ * dropped; a later piece of the same PDU may be held. */
 
-/* The PDU sequence is not the one after the last: PDUs are missing. What was
- * held is dropped. About no piece. */
+/* The PDU sequence is not the one after the last: PDUs are missing, or one came
+ * twice. What was held is dropped. About no piece. */
 #define BARZHILUP_NOTE_SEQUENCE 1
 
 /* The piece's CRC is wrong; its bytes are dropped. */
@@ -428,7 +430,8 @@ typedef struct {
 typedef struct {
     /* BARZHILUP_ACCEPTED or BARZHILUP_REFUSED_MODE. */
     uint32_t refusal;
-    /* No sequence known, nothing held. All 0 if refused. */
+    /* No sequence known, nothing held. All 0 if refused, which is also what a
+     * receiver of mode 0, core, looks like: ask for `refusal` first. */
     barzhilup_receiver receiver;
 } barzhilup_receiver_opened;
 

@@ -17,7 +17,7 @@ use Rattle.pieces.specs.Pieces.{total}
 use Rattle.reassembly.specs.Reassembly.{following}
 use Rattle.writer.specs.Writing.{writerTests, placed, endedOf, partOf, pduOf, nextOf}
 use Rattle.writer.specs.declared.Writer.{Writer}
-use Rattle.runs.proofs.Model.{cut, Fits, sentAfter, Plan, saidOf, Sized}
+use Rattle.runs.specs.Model.{cut, Fits, sentAfter, Plan, saidOf, Sized}
 use Rattle.delivery.specs.Delivery.{Packets, joined, Writing, answerTo, bufferAfter, pdusFrom, unfinished, alreadySent, Offers, Span, either, told, refusedAt, placedAt, spansFrom, InOrder}
 use Rattle.delivery.proofs.Marks.{bytesIn}
 use Rattle.delivery.proofs.Counting.{Stands, stands-index, stands-sent, stands-next}

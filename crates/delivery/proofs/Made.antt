@@ -32,7 +32,7 @@ use Rattle.writer.specs.declared.Writer.{Writer}
 use Rattle.writer.proofs.Accepted.{Fine, fine, few}
 use Rattle.writer.proofs.Sending.{one-piece}
 use Rattle.writer.proofs.RoundTrip.{pdu-bytes}
-use Rattle.runs.proofs.Model.{cut, Fits, sentAfter, Plan, lose, later, readPieces, saidOf, Sized}
+use Rattle.runs.specs.Model.{cut, Fits, sentAfter, Plan, lose, later, readPieces, saidOf, Sized}
 use Rattle.runs.proofs.Theorem.{Unfinished, unfinished-zero}
 use Rattle.delivery.specs.Delivery.{Bytes, Packets, joined, Altered}
 use Rattle.delivery.proofs.Marks.{bytesIn}

@@ -11,7 +11,7 @@ use lib.Dec.{eqb, ltb, leb}
 use lib.ListN.{length, drop, replicate, getD, length-replicate, getD-replicate, List·getD-append, replicate-append-replicate}
 use lib.Seq.{drop-drop, getD-append-add}
 use Rattle.log.specs.Log.{Entry, packet}
-use Rattle.runs.proofs.Model.{lose, marks, verdicts, allOf, wanted}
+use Rattle.runs.specs.Model.{lose, marks, verdicts, allOf, wanted}
 use Rattle.delivery.specs.Delivery.{every, wholePackets}
 
 -- how many bytes there are

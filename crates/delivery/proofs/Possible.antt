@@ -12,7 +12,7 @@ use Rattle.header.specs.Header.{distance}
 use Rattle.modes.specs.declared.Mode.{Mode}
 use Rattle.writer.specs.Writing.{opened as writerOpened}
 use Rattle.writer.specs.declared.Writer.{Writer}
-use Rattle.runs.proofs.Model.{Plan}
+use Rattle.runs.specs.Model.{Plan}
 use Rattle.delivery.specs.Delivery.{Bytes, Packets, Writing, pdusFrom, Span, spansFrom, InOrder, Station, receive, markLost, stationAfter, Altered, Step, receives, loses, Through, receptions, runOf, freshStation, theRun, Drive}
 use Rattle.delivery.proofs.Counting.{stands-first}
 use Rattle.delivery.proofs.Calling.{stateAt}

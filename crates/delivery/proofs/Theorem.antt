@@ -24,7 +24,7 @@ use Rattle.writer.specs.Writing.{opened as writerOpened, openedAs as writerOpen
 use Rattle.writer.specs.declared.Writer.{Writer}
 use Rattle.receiver.specs.Receiving.{opened as receiverOpened, openedAs as receiverOpenedAs, memoryOf, wrongState}
 use Rattle.receiver.specs.declared.Receiver.{Receiver}
-use Rattle.runs.proofs.Model.{Event, lost, came, logged, fresh, cut, Fits, sentAfter, Fate, lose, read, Plan, saidOf, eventOf, events, marks, verdicts, arrived as arrivedMarks, AllFit, Sized}
+use Rattle.runs.specs.Model.{Event, lost, came, logged, fresh, cut, Fits, sentAfter, Fate, lose, read, Plan, saidOf, eventOf, events, marks, verdicts, arrived as arrivedMarks, AllFit, Sized}
 use Rattle.runs.proofs.Theorem.{run-delivers}
 use Rattle.delivery.specs.Delivery.{Packets, Writing, pdusFrom, Span, spansFrom, Station, Step, Through, receptions, inReceived, wholePackets, logsFrom, NoneRefused, runOf, freshStation, theRun, arrived, Drive, Delivered, Demand3}
 use Rattle.delivery.proofs.Marks.{bytesIn, marks-bytes, marks-span, marks-lost}

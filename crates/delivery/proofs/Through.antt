@@ -19,7 +19,7 @@ use Rattle.reassembly.proofs.Fitting.{fit-received}
 use Rattle.receiver.specs.Receiving.{refusedAnswer, receiveNumber, receiveAnswer, carryAfter, lostNumber, lostAnswer}
 use Rattle.receiver.specs.declared.Receiver.{Receiver}
 use Rattle.receiver.specs.declared.Received.{Received}
-use Rattle.runs.proofs.Model.{Event, lost, came, logged}
+use Rattle.runs.specs.Model.{Event, lost, came, logged}
 use Rattle.delivery.specs.Delivery.{Station, Call, receive, markLost, answerOf, carryOf, stationAfter, loggedBy, Altered, Step, receives, loses, refuses, callOf, Through, receptions, logsFrom, NoneRefused}
 use Rattle.delivery.proofs.Made.{Says}
 use Rattle.delivery.proofs.Serving.{Shows, receive-accepted, receive-logged, receive-shows, lost-accepted, lost-logged, lost-shows}

@@ -81,7 +81,7 @@ abbrev pub either : Bool → Type 0 → Type 0 → Type 0
 either true A B = A
 either false A B = B
 
--- G is fed the mode, the stream and the writing calls' arguments alone
+-- besides the list itself, G is fed the mode, the stream and the writing calls' arguments alone
 module _ (mode stream : ℕ) (packets : List (List ℕ)) where
   -- the state that G tells. The table asks of a sequence only that it is in its range
   abbrev pub told : ℕ → Writer

@@ -1,4 +1,3 @@
-pub mod Model
 pub mod Pieces
 pub mod Theorem
 pub mod Wrong

@@ -12,7 +12,7 @@ use lib.Seq.{take-add, drop-at}
 use Rattle.log.specs.Log.{Entry, packet, packetsOf}
 use Rattle.reassembly.specs.Reassembly.{Partial, nothing, beginning, Outcome, dropped, kept, finished, joined, pieceStep}
 use Rattle.reassembly.proofs.Laws.{delivered}
-use Rattle.runs.proofs.Model.{allOf, wanted, Sized}
+use Rattle.runs.specs.Model.{allOf, wanted, Sized}
 
 -- ---- marks
 

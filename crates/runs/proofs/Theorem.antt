@@ -13,7 +13,7 @@ use Rattle.log.specs.Log.{Entry, packet, psd, note, packetsOf}
 use Rattle.reassembly.specs.Reassembly.{Partial, nothing, beginning, Memory, Outcome, kept, following, sequenceStep, beginningStep, psdEntries, pieceStep, numberAt, endsHere, piecesStep, received, remembered}
 use Rattle.reassembly.proofs.Laws.{delivered}
 use Rattle.reassembly.proofs.Runs.{andThen, ends-drops}
-use Rattle.runs.proofs.Model.{entriesFor, memoryFor, logged, fresh, cut, Fits, sentAfter, Fate, lose, read, Plan, later, readPieces, saidOf, eventOf, events, marks, verdicts, arrived, wanted, AllFit, Sized}
+use Rattle.runs.specs.Model.{entriesFor, memoryFor, logged, fresh, cut, Fits, sentAfter, Fate, lose, read, Plan, later, readPieces, saidOf, eventOf, events, marks, verdicts, arrived, wanted, AllFit, Sized}
 use Rattle.runs.proofs.Pieces.{intact, of-few, intact-more, wanted-whole, wanted-none, positive, positive-is, heldOf, held-some, held-broken, judged, onto-ends, onto-part, judged-packet, judged-quiet, judged-held}
 
 -- ---- the packets of a log

@@ -8,7 +8,7 @@ use native.Mathlib.Omega.{arith}
 use lib.ListN.{length}
 use Rattle.log.specs.Log.{Entry, packet, psd, note, packetsOf}
 use Rattle.reassembly.specs.Reassembly.{Memory, sequenceStep, beginningStep, psdEntries, finished, joined, pieceStep, piecesStep, received, remembered}
-use Rattle.runs.proofs.Model.{Event, lost, came, entriesFor, memoryFor, logged, fresh, cut, Fate, lose, read, Plan, readPieces, events, marks, arrived, wanted}
+use Rattle.runs.specs.Model.{Event, lost, came, entriesFor, memoryFor, logged, fresh, cut, Fate, lose, read, Plan, readPieces, events, marks, arrived, wanted}
 
 abbrev taken : Fate
 taken = read (λ k. 0)
