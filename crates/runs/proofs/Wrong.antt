@@ -53,6 +53,11 @@ second-bad : logged 2 fresh (events 2 0 0 0 three (four taken (read (λ k. 2)) t
 unfolding logged events readPieces cut received remembered sequenceStep beginningStep psdEntries piecesStep pieceStep joined finished
 second-bad = refl
 
+-- a wrong CRC comes before nothing held
+bad-and-nothing-held : logged 2 fresh (events 2 0 0 0 three (four lose (read (λ k. 2)) taken taken)) ≡ note 6 0 ∷ note 2 0 ∷ note 2 1 ∷ note 3 0 ∷ packet 2 (8 ∷ 9 ∷ 10 ∷ []) ∷ []
+unfolding logged events readPieces cut received remembered sequenceStep beginningStep psdEntries piecesStep pieceStep joined finished
+bad-and-nothing-held = refl
+
 -- two lost: the fourth PDU's sequence follows the first's, and nothing is joined
 two-lost : logged 2 fresh (events 2 0 0 0 one (long lose lose)) ≡ note 6 0 ∷ note 6 0 ∷ note 3 0 ∷ []
 unfolding logged events readPieces cut received remembered sequenceStep beginningStep psdEntries piecesStep pieceStep joined finished
