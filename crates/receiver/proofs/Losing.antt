@@ -29,9 +29,12 @@ lost-words = one-entry (note 6 0)
 lost-length : length (logWords lostEntries) ≡ 1
 lost-length = ap length lost-words ∙ note-length 6 0
 
--- the note fits where the log has a word
-pub note-fits : (log : List ℕ) → 1 ≤ length log → (0 ≤ 65535) × (0 + length (entryWords (note 6 0)) ≤ length log)
-note-fits log h = (omega arith, omega (arith, note-length 6 0))
+-- a note fits where the log has a word, and it is one word
+pub note-fits : (log : List ℕ) (cause : ℕ) → 1 ≤ length log → (0 ≤ 65535) × (0 + length (entryWords (note cause 0)) ≤ length log)
+note-fits log cause h = (omega arith, omega (arith, note-length cause 0))
+
+pub one-word : (words cause : ℕ) → words ≡ length (entryWords (note cause 0)) → words ≡ 1
+one-word words cause e = e ∙ note-length cause 0
 
 module _ (log : List ℕ) (r : Receiver) where
   -- what is promised of the answer a, and of the log after the call
@@ -65,9 +68,9 @@ module _ (log : List ℕ) (r : Receiver) where
           let t : ltb (length log) (length (logWords lostEntries)) ≡ true = lt-ltb (length log) (length (logWords lostEntries)) (omega (arith, lost-length)) in
           turned-down 13 a (rw (right, t)) (λ z. omega arith) q
 
-      pub noted-lost : (words : ℕ) (a : Received) (logEnd : List ℕ) → 1 ≤ length log → words ≡ length (entryWords (note 6 0)) → a ≡ forgetful r words → logEnd ≡ putAt log 0 (entryWords (note 6 0)) → Loses a logEnd
+      pub noted-lost : (words : ℕ) (a : Received) (logEnd : List ℕ) → 1 ≤ length log → words ≡ 1 → a ≡ forgetful r words → logEnd ≡ putAt log 0 (entryWords (note 6 0)) → Loses a logEnd
       unfolding lostNumber lostAnswer logAfterLost remembering
       noted-lost words a logEnd h e q el =
           let t : ltb (length log) (length (logWords lostEntries)) ≡ false = le-ltb (length log) (length (logWords lostEntries)) (omega (arith, lost-length)) in
           let z : eqb (lostNumber log r) 0 ≡ true = rw (right, t) in
-          (rw z (q ∙ ap (forgetful r) (e ∙ ap length (sym lost-words))), rw z (el ∙ ap (putAt log 0) (sym lost-words)))
+          (rw z (q ∙ ap (forgetful r) (e ∙ sym lost-length)), rw z (el ∙ ap (putAt log 0) (sym lost-words)))

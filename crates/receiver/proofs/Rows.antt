@@ -61,12 +61,14 @@ module _ (r : Receiver) (c : ControlWord) where
       let h = both-on (eqb (c .mode) (r .mode)) (eqb (c .stream) (r .stream)) e in
       ap₂ listing (eqb-true (c .mode) (r .mode) (h .0)) (eqb-true (c .stream) (r .stream) (h .1))
 
--- ---- rows 7 to 13
+-- ---- rows 5 to 13, of a corrected PDU
 
 module _ (m : Mode) (r : Receiver) (carry y log : List ℕ) (c : ControlWord) (ec : c ≡ controlAt y) where
+  -- row 13
   abbrev room : List (Bool × ℕ)
   room = (noRoom (m .sequences) (saidBy (m .width) c y) r carry log, 13) ∷ []
 
+  -- rows 7 to 13, for a line of the table
   abbrev later : Listing → List (Bool × ℕ)
   later l = readerTests (modeIn l) c y ++ room
 

@@ -1,5 +1,4 @@
-use Rattle.receiver.proofs.Losing.{note-fits, state-lost, short-lost, noted-lost}
-use Rattle.log.proofs.Words.{note-length}
+use Rattle.receiver.proofs.Losing.{note-fits, one-word, state-lost, short-lost, noted-lost}
 use denote.Ref.{now}
 use native.Mathlib.Omega.{arith}
 use borrow.Author.Needs.{needs}
@@ -38,10 +37,10 @@ returns-2 c =
 put-note-requires : tie.Need-put-note-requires
 put-note-requires c κs =
     let s = c .before .before .before .before .before in
-    note-fits (now (s .args .log)) (c .before .if2 .left)
+    note-fits (now (s .args .log)) _ (c .before .if2 .left)
 
 forgotten-requires : tie.Need-forgotten-requires
-forgotten-requires c κs = omega (arith, c .before .before .put-note .ensures .0, note-length 6 0)
+forgotten-requires c κs = let h = one-word _ _ (c .before .before .put-note .ensures .0) in omega (arith, h)
 
 same-length : tie.Need-same-length
 same-length c = search needs
@@ -53,7 +52,7 @@ returns-3 c =
     let w = e .before .before in
     let s = w .before .before in
     let a = s .args in
-    noted-lost (now (a .log)) (a .r) (a .m) (s .pre) (w .wrong-state .result) (w .wrong-state .ensures) (e .before .if1 .left) (p .put-note .result) (c .forgotten .result) (p .put-note .last .0) (e .if2 .left) (p .put-note .ensures .0) (c .forgotten .ensures) (p .put-note .ensures .1)
+    noted-lost (now (a .log)) (a .r) (a .m) (s .pre) (w .wrong-state .result) (w .wrong-state .ensures) (e .before .if1 .left) (p .put-note .result) (c .forgotten .result) (p .put-note .last .0) (e .if2 .left) (one-word _ _ (p .put-note .ensures .0)) (c .forgotten .ensures) (p .put-note .ensures .1)
 
 pub lose-listed-spec : {M : Type 1} → statement M
 lose-listed-spec =

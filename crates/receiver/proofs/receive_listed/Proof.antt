@@ -38,7 +38,7 @@ returns-2 c =
     let w = c .before .before .before in
     let s = w .before .before .before .before in
     let a = s .args in
-    carry-call (now (a .carry)) (now (a .pdu)) (now (a .log)) (a .r) (a .m) (s .pre) (w .wrong-state .result) (w .wrong-state .ensures) (c .before .before .if1 .left) (c .refused2 .result) (c .before .if2 .taken) (c .refused2 .ensures)
+    carry-call (now (a .carry)) (now (a .pdu)) (now (a .log)) (a .r) (a .m) (s .pre) (w .wrong-state .result) (w .wrong-state .ensures) (c .before .before .if1 .left) (c .refused2 .result) (omega (arith, c .before .if2 .taken)) (c .refused2 .ensures)
 
 header-of-requires : tie.Need-header-of-requires
 header-of-requires c κs = search needs
