@@ -1,5 +1,6 @@
 /*
- * Barzhilup: the audio transport layer of HD Radio, as a C library (libcapi.a).
+ * Barzhilup: the audio transport layer of HD Radio, as a C library (libcapi.a,
+ * and libpanel.a for the panel's functions).
  *
  * "Document 01" below is the paper with the rules; "001" is 1017s Rev. H, the
  * standard it is taken from.
@@ -110,7 +111,8 @@ extern "C" {
 /* The displacement is before the last piece's end, or not below the length. */
 #define BARZHILUP_REFUSED_DISPLACEMENT 12
 
-/* The log is shorter than the words that the call would write. */
+/* The log is shorter than the words that the call would write; the list of
+ * pieces has fewer than NOP entries. */
 #define BARZHILUP_REFUSED_LOG_LENGTH 13
 
 /* A value that is not sent: blend 3, or nonzero with a nonzero program; core
@@ -482,6 +484,50 @@ barzhilup_received barzhilup_receive(barzhilup_receiver receiver,
  */
 barzhilup_received barzhilup_mark_lost(barzhilup_receiver receiver,
                                        uint32_t *log, size_t log_length);
+
+/* ---- Panel (document 01, "After that, for the panel") -------------------- */
+
+/* These three functions are in libpanel.a; link it beside libcapi.a. */
+
+/* A piece of a PDU. */
+typedef struct {
+    /* Its place in the PDU, and its length without its CRC byte. */
+    uint16_t start;
+    uint16_t length;
+    /* Whether its CRC is right. */
+    bool right;
+} barzhilup_piece;
+
+/* What came of stepping a receiver in place: a barzhilup_received without the
+ * receiver. */
+typedef struct {
+    uint32_t refusal;
+    uint32_t wrong_locator;
+    uint32_t words;
+} barzhilup_stepped;
+
+/*
+ * Reads a PDU without a receiver, as barzhilup_read does, and fills a list with
+ * its pieces: entry k is piece k, for k below NOP. Entries from NOP on keep what
+ * they held. A wrong CRC is a verdict and no refusal.
+ *
+ * It is refused as barzhilup_read is, and with BARZHILUP_REFUSED_LOG_LENGTH for
+ * a list of fewer than NOP entries. If it is refused, no byte and no entry has
+ * changed.
+ */
+barzhilup_reading barzhilup_list_pieces(uint8_t *pdu, size_t pdu_length,
+                                        barzhilup_piece *list, size_t count);
+
+/* As barzhilup_receive, with the next receiver stored in `receiver`. If it is
+ * refused, `receiver` is as it was too. */
+barzhilup_stepped barzhilup_receive_in_place(barzhilup_receiver *receiver,
+                                             uint8_t *carry, size_t carry_length,
+                                             uint8_t *pdu, size_t pdu_length,
+                                             uint32_t *log, size_t log_length);
+
+/* As barzhilup_mark_lost, with the next receiver stored in `receiver`. */
+barzhilup_stepped barzhilup_mark_lost_in_place(barzhilup_receiver *receiver,
+                                               uint32_t *log, size_t log_length);
 
 #ifdef __cplusplus
 }

@@ -1,6 +1,7 @@
-//! Tells the tests where the product's static library `libcapi.a` lies: in
-//! the directory named by `BARZHILUP_LIB`, otherwise in `../target/staticlib`
-//! seen from this package. A relative name is taken from this package.
+//! Tells the tests where the product's static libraries `libcapi.a` and
+//! `libpanel.a` lie: in the directory named by `BARZHILUP_LIB`, otherwise in
+//! `../target/staticlib` seen from this package. A relative name is taken from
+//! this package.
 
 use std::env;
 use std::path::{absolute, Path, PathBuf};
@@ -14,10 +15,12 @@ fn main() {
     };
     let directory = tidy(&absolute(directory).expect("an absolute directory"));
     println!("cargo:rustc-link-search=native={}", directory.display());
-    println!(
-        "cargo:rerun-if-changed={}",
-        directory.join("libcapi.a").display()
-    );
+    for library in ["libcapi.a", "libpanel.a"] {
+        println!(
+            "cargo:rerun-if-changed={}",
+            directory.join(library).display()
+        );
+    }
     println!("cargo:rerun-if-env-changed=BARZHILUP_LIB");
     println!("cargo:rerun-if-changed=build.rs");
 }

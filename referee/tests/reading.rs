@@ -1,9 +1,11 @@
 //! Compares the product's reading of PDUs without a receiver with the
 //! reference, on PDUs of all modes and streams: right ones, damaged ones, and
-//! ones made for each cause of the refusals 3 to 5 and 7 to 12.
+//! ones made for each cause of the refusals 3 to 5 and 7 to 12. Each PDU's
+//! pieces are listed too.
 
 mod comparison;
 mod lent;
+mod lists;
 mod product;
 mod samples;
 
@@ -925,6 +927,16 @@ fn reading() {
     assert!(total.alone.values().all(|&cases| cases >= 500));
     assert!(total.taken >= 100_000);
     assert!(total.cases >= 300_000);
+    let lists = &total.lists;
+    lists.report();
+    assert_eq!(lists.calls, total.cases);
+    for number in NUMBERS.into_iter().chain([refusal::LOG]) {
+        let calls = lists.refused_with(number);
+        println!("lists refused with {number}: {calls}");
+        assert!(calls >= 1_000, "{number}");
+    }
+    assert!(lists.taken >= 50_000);
+    assert!(lists.looks.values().all(|&calls| calls >= 300));
 }
 
 /// A PDU of 96 bytes beginning with these, in hexadecimal.

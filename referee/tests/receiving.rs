@@ -2,7 +2,7 @@
 //! of all modes and streams, made for each note and each cause of the refusals
 //! 1 to 13, marking lost, and whole drives (demand 3). What a call has to
 //! answer is told from how it was made, what a drive has to log from the
-//! writing calls.
+//! writing calls. Each of the product's calls is made by value and in place.
 
 mod attempt;
 #[allow(dead_code)]
@@ -20,6 +20,7 @@ mod told;
 use attempt::{against_product, Class, Known, Outcomes};
 use drives::{Seen, STYLES};
 use lent::{Lent, LentLog};
+use product::receiver::calls_in_place;
 use receptions::{right_crcs, some_line, spoil, spoilable, with_lengths, Held, Reception, NUMBERS};
 use referee::control;
 use referee::header::{self, LONGEST};
@@ -760,11 +761,15 @@ const ORDERS: [(u32, u32); 18] = [
 /// and each order of two notes at least 1,000 times.
 #[test]
 fn receiving() {
+    let before = calls_in_place();
     let mut total = Outcomes::default();
     for class in CLASSES {
         class(&mut total);
     }
     println!("in all {} calls, {} accepted", total.calls, total.taken);
+    let in_place = calls_in_place() - before;
+    println!("made in place too: {in_place}");
+    assert_eq!(in_place, total.calls);
     for number in NUMBERS {
         let calls = total.refused_with(number);
         println!("refused with {number}: {calls}");
@@ -793,6 +798,7 @@ fn receiving() {
 /// Whole drives over all modes and streams, with losses of every length.
 #[test]
 fn driving() {
+    let before = calls_in_place();
     let mut class = Class::new("drives", 0x4EC0_0013);
     let mut seen = Seen::default();
     for case in 0..22_000 {
@@ -816,6 +822,13 @@ fn driving() {
     }
     class.report(&mut Outcomes::default());
     report_drives(&seen);
+    let in_place = calls_in_place() - before;
+    println!(
+        "made in place: {in_place} calls, {} of them on receivers stepped in place all the way",
+        seen.stepped
+    );
+    assert_eq!(in_place, class.outcomes.calls + seen.stepped);
+    assert!(seen.stepped >= 100_000);
     assert!(seen.drives >= 20_000);
     assert_eq!(seen.lines.len(), TABLE.len());
     assert!((1..=13).all(|in_a_row| seen.in_a_row[&in_a_row] >= 50));

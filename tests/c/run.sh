@@ -1,29 +1,42 @@
 #!/usr/bin/env bash
-# Builds the C tests against the static library and runs them, plainly and with gcc's sanitizers, and tries the header in C++.
-# Needs gcc and g++ and a built libcapi.a: in target/staticlib under the project's root, or in the directory that BARZHILUP_LIB names.
+# Builds the C tests against the static libraries and runs them, plainly and with gcc's sanitizers, and tries the header in C++.
+# Needs gcc and g++ and built libcapi.a and libpanel.a: in target/staticlib under the project's root, or in the directory that BARZHILUP_LIB
+# names.
 set -euo pipefail
 
 root=$(cd "$(dirname "$0")/../.." && pwd)
-library=${BARZHILUP_LIB:-$root/target/staticlib}/libcapi.a
-if [ ! -f "$library" ]; then
-    echo "C: no $library; build the library first, or name its directory in BARZHILUP_LIB" >&2
-    exit 1
-fi
+libraries=${BARZHILUP_LIB:-$root/target/staticlib}
+library=$libraries/libcapi.a
+panel=$libraries/libpanel.a
+for built in "$library" "$panel"; do
+    if [ ! -f "$built" ]; then
+        echo "C: no $built; build the libraries first, or name their directory in BARZHILUP_LIB" >&2
+        exit 1
+    fi
+done
 
 build=$(mktemp -d)
 trap 'rm -rf "$build"' EXIT
 warnings=(-Wall -Wextra -Wpedantic -Werror -I "$root/include")
 
-for test in header_test writer_test receiver_test; do
+# A test, and the libraries that it is linked with.
+run() {
+    local test=$1
+    shift
     echo "C99, gcc, $test:"
-    gcc -std=c99 "${warnings[@]}" -O2 -o "$build/$test" "$root/tests/c/$test.c" "$library"
+    gcc -std=c99 "${warnings[@]}" -O2 -o "$build/$test" "$root/tests/c/$test.c" "$@"
     "$build/$test"
 
     echo "C99, gcc, $test, address and undefined behaviour sanitizers:"
     gcc -std=c99 "${warnings[@]}" -O2 -g -fsanitize=address,undefined -fno-sanitize-recover=all \
-        -o "$build/sanitized" "$root/tests/c/$test.c" "$library"
+        -o "$build/sanitized" "$root/tests/c/$test.c" "$@"
     "$build/sanitized"
+}
+
+for test in header_test writer_test receiver_test; do
+    run "$test" "$library"
 done
+run panel_test "$panel" "$library"
 
 cat > "$build/header.cpp" <<'CPP'
 #include "barzhilup.h"
@@ -31,9 +44,25 @@ cat > "$build/header.cpp" <<'CPP'
 int main()
 {
     const uint8_t piece[1] = {0x01};
-    return barzhilup_crc8(piece, sizeof piece) == 0x31 ? 0 : 1;
+    barzhilup_receiver receiver = barzhilup_open_receiver(0, 0).receiver;
+    uint32_t log[1] = {0};
+    uint8_t pdu[96] = {0};
+    barzhilup_piece list[2] = {{7, 7, false}, {7, 7, false}};
+    receiver.known = true;
+    const barzhilup_stepped stepped = barzhilup_mark_lost_in_place(&receiver, log, 1);
+    const bool lost = stepped.refusal == 0 && stepped.words == 1 && log[0] == 0xc0060000 && !receiver.known;
+    pdu[12] = 2; // one piece, from 16 to its locator
+    pdu[13] = 15;
+    pdu[14] = 17;
+    pdu[16] = 0x01;
+    pdu[17] = 0x31;
+    barzhilup_write_parity(pdu, sizeof pdu);
+    const barzhilup_reading reading = barzhilup_list_pieces(pdu, sizeof pdu, list, 2);
+    const bool listed = reading.refusal == 0 && list[0].start == 16 && list[0].length == 1 && list[0].right
+                        && list[1].start == 7 && !list[1].right;
+    return barzhilup_crc8(piece, sizeof piece) == 0x31 && lost && listed ? 0 : 1;
 }
 CPP
-g++ -std=c++11 "${warnings[@]}" -o "$build/header_cpp" "$build/header.cpp" "$library"
+g++ -std=c++11 "${warnings[@]}" -o "$build/header_cpp" "$build/header.cpp" "$panel" "$library"
 "$build/header_cpp"
-echo "C++11, g++: the header compiles, and a call through it answers right"
+echo "C++11, g++: the header compiles, and calls through it answer right"

@@ -312,7 +312,7 @@ fn no_control() -> ControlWord
 }
 
 // A refusal with its number, and k where it is 11.
-fn refused_reading(number: u32, k: u32) -> Reading
+pub fn refused_reading(number: u32, k: u32) -> Reading
     ensures { λ r. ⌜ r ≡ refused number k ⌝ }
 {
     let none = expansion::nothing(true);

@@ -1,6 +1,7 @@
 //! Tries receiving calls and marking lost: the reference's answer and lent
 //! buffers against what is known about the call, and the product's against the
 //! reference's, with every lent byte and word after the call and the guards.
+//! The product's calls are made twice, by value and in place.
 
 use crate::lent::{Lent, LentLog};
 use referee::header::{self, PLACES};
@@ -369,7 +370,7 @@ fn check_wanted(wanted: &Wanted, tried: &Tried) {
 /// Compares the product's calls with the reference's.
 pub mod against_product {
     use super::{Answer, LentLog, Loan, Receiver, Tried};
-    use crate::product::receiver as product;
+    use crate::product::receiver::{self as product, Place};
     use referee::refusal;
 
     /// Opens a receiver.
@@ -382,8 +383,8 @@ pub mod against_product {
         assert_eq!(answer, right, "mode {mode}, stream {stream}");
     }
 
-    /// Makes the receiving call and compares answer, carry, PDU and log, with
-    /// all guards.
+    /// Makes the receiving call, by value and in place, and compares answer,
+    /// carry, PDU and log, with all guards.
     pub fn receive(receiver: Receiver, before: &Loan, wanted: &Tried) {
         let mut loan = before.clone();
         let answer = product::receive(
@@ -392,60 +393,89 @@ pub mod against_product {
             &mut loan.pdu,
             &mut loan.log,
         );
-        compare_answers(answer, &wanted.answer);
-        let right = &wanted.loan;
-        assert!(
-            loan.carry == right.carry,
-            "carry, answer {answer:?}: {}",
-            loan.carry.differences(&right.carry)
-        );
-        assert!(
-            loan.pdu == right.pdu,
-            "PDU, answer {answer:?}: {}",
-            loan.pdu.differences(&right.pdu)
-        );
-        compare_logs(&loan.log, &right.log, answer);
+        compare_answers("by value", answer, &wanted.answer);
+        compare_loans("by value", &loan, &wanted.loan, answer);
+        let mut loan = before.clone();
+        let mut place = Place::of(receiver_for(&receiver));
+        let stepped =
+            product::receive_in_place(&mut place, &mut loan.carry, &mut loan.pdu, &mut loan.log);
+        let answer = answer_in_place(stepped, &place);
+        compare_answers("in place", answer, &wanted.answer);
+        compare_loans("in place", &loan, &wanted.loan, answer);
     }
 
-    /// Marks a PDU lost and compares answer and log.
+    /// Marks a PDU lost, by value and in place, and compares answer and log.
     pub fn mark_lost(receiver: Receiver, before: &LentLog, wanted: &Answer, right: &LentLog) {
         let mut log = before.clone();
         let answer = product::mark_lost(receiver_for(&receiver), &mut log);
-        compare_answers(answer, wanted);
-        compare_logs(&log, right, answer);
+        compare_answers("by value", answer, wanted);
+        compare_logs("by value", &log, right, answer);
+        let mut log = before.clone();
+        let mut place = Place::of(receiver_for(&receiver));
+        let stepped = product::mark_lost_in_place(&mut place, &mut log);
+        let answer = answer_in_place(stepped, &place);
+        compare_answers("in place", answer, wanted);
+        compare_logs("in place", &log, right, answer);
+    }
+
+    /// The answer to a call in place as a call by value gives it, with the
+    /// receiver taken from its place. What stands around it is as it was.
+    fn answer_in_place(stepped: product::Stepped, place: &Place) -> product::Received {
+        let receiver = place.receiver;
+        assert_eq!(*place, Place::of(receiver), "around the receiver");
+        product::Received {
+            refusal: stepped.refusal,
+            wrong_locator: stepped.wrong_locator,
+            words: stepped.words,
+            receiver,
+        }
     }
 
     /// The k of an answer is a wrong locator's with 11, otherwise 0.
-    fn compare_answers(answer: product::Received, wanted: &Answer) {
+    fn compare_answers(how: &str, answer: product::Received, wanted: &Answer) {
         let right = product::Received {
             refusal: wanted.refusal,
             wrong_locator: answer.wrong_locator,
             words: wanted.words as u32,
             receiver: receiver_for(&wanted.receiver),
         };
-        assert_eq!(answer, right, "answer; the reference has {wanted:?}");
+        assert_eq!(answer, right, "answer {how}; the reference has {wanted:?}");
         let wrong = match wanted.refusal {
             refusal::LOCATOR => wanted.wrong_locators(),
             _ => vec![0],
         };
         assert!(
             wrong.contains(&(answer.wrong_locator as usize)),
-            "k is {}, with {} it has to be of {wrong:?}",
+            "k is {} {how}, with {} it has to be of {wrong:?}",
             answer.wrong_locator,
             answer.refusal
         );
     }
 
-    fn compare_logs(log: &LentLog, right: &LentLog, answer: product::Received) {
+    fn compare_loans(how: &str, loan: &Loan, right: &Loan, answer: product::Received) {
+        assert!(
+            loan.carry == right.carry,
+            "carry {how}, answer {answer:?}: {}",
+            loan.carry.differences(&right.carry)
+        );
+        assert!(
+            loan.pdu == right.pdu,
+            "PDU {how}, answer {answer:?}: {}",
+            loan.pdu.differences(&right.pdu)
+        );
+        compare_logs(how, &loan.log, &right.log, answer);
+    }
+
+    fn compare_logs(how: &str, log: &LentLog, right: &LentLog, answer: product::Received) {
         assert!(
             log == right,
-            "log, answer {answer:?}: {}",
+            "log {how}, answer {answer:?}: {}",
             log.differences(right)
         );
     }
 
     /// The product's receiver that says what the reference's says.
-    fn receiver_for(receiver: &Receiver) -> product::Receiver {
+    pub fn receiver_for(receiver: &Receiver) -> product::Receiver {
         product::Receiver {
             mode: receiver.mode,
             stream: receiver.stream,

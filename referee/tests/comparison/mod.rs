@@ -1,8 +1,10 @@
 //! Compares the product's answer to reading a PDU with the reference's: every
 //! field, the refusal and its k, each byte of the lent PDU after the call, and
-//! the guards around it.
+//! the guards around it. The same for listing its pieces, with every entry of
+//! the lent list.
 
 use crate::lent::Lent;
+use crate::lists::{self, Counts, LentList};
 use crate::product;
 use crate::samples::{Sample, Wish};
 use referee::control::ControlWord;
@@ -34,6 +36,8 @@ pub struct Outcomes {
     refused: BTreeMap<u32, u64>,
     /// Refused for one cause alone, by cause; k is left out.
     pub alone: BTreeMap<Cause, u64>,
+    /// What came of listing the pieces.
+    pub lists: Counts,
 }
 
 impl Outcomes {
@@ -59,6 +63,7 @@ impl Outcomes {
         for (&cause, &cases) in &other.alone {
             *self.alone.entry(cause).or_default() += cases;
         }
+        self.lists.add(&other.lists);
     }
 
     pub fn refused_with(&self, number: u32) -> u64 {
@@ -80,6 +85,8 @@ pub struct Class {
     name: &'static str,
     seed: u64,
     pub rng: Rng,
+    /// For the lent lists, so that the PDUs don't depend on them.
+    list_rng: Rng,
     pub outcomes: Outcomes,
 }
 
@@ -89,6 +96,7 @@ impl Class {
             name,
             seed,
             rng: Rng::new(seed),
+            list_rng: Rng::new(!seed),
             outcomes: Outcomes::default(),
         }
     }
@@ -132,41 +140,108 @@ impl Class {
         }
     }
 
-    /// Compares on this PDU and hands the product's answer back.
+    /// Compares on this PDU, with a list of any of the lengths, and hands the
+    /// product's answer to reading back.
     pub fn compare(&mut self, before: &Lent, known: Known) -> product::Reading {
         let mut wanted = before.clone();
         let outcome = reading::read(wanted.bytes_mut());
         self.check_reference(&outcome, before, &wanted, known);
         let mut lent = before.clone();
         let answer = product::read(lent.bytes_mut());
-        let case = || self.case(before);
+        let number = lists::number(&outcome, usize::MAX);
+        self.check_answer(&answer, number, &outcome, before);
+        self.check_pdu(&lent, &wanted, number, before);
+        self.outcomes.count(&outcome);
+        let count = lists::lengths(&outcome, before)[self.list_rng.below(5)];
+        self.compare_list(before, &wanted, &outcome, count);
+        answer
+    }
+
+    /// Lists the pieces of this PDU in lists of all the lengths and compares;
+    /// whether each CRC is right, as a list that is filled says it.
+    #[allow(dead_code)]
+    pub fn compare_lists(&mut self, before: &Lent) -> Vec<bool> {
+        let mut wanted = before.clone();
+        let outcome = reading::read(wanted.bytes_mut());
+        let mut verdicts = Vec::new();
+        for count in lists::lengths(&outcome, before) {
+            let list = self.compare_list(before, &wanted, &outcome, count);
+            if lists::number(&outcome, count) == 0 {
+                let nop = outcome.as_ref().map_or(0, |reading| reading.pieces.len());
+                let filled = &list.entries()[..nop];
+                verdicts = filled.iter().map(|entry| entry.right == 1).collect();
+            }
+        }
+        self.outcomes.count(&outcome);
+        verdicts
+    }
+
+    /// Lists the pieces of this PDU in a list of so many entries, compares, and
+    /// hands the list back. The reference read the PDU with this outcome, and
+    /// left it as wanted.
+    fn compare_list(
+        &mut self,
+        before: &Lent,
+        wanted: &Lent,
+        outcome: &Result<Reading, Refusal>,
+        count: usize,
+    ) -> LentList {
+        let number = lists::number(outcome, count);
+        let list_before = LentList::random(&mut self.list_rng, count);
+        let (right, pieces) = match (number, outcome) {
+            (0, Ok(reading)) => (wanted, lists::pieces(wanted.bytes(), reading)),
+            _ => (before, Vec::new()),
+        };
+        let mut lent = before.clone();
+        let mut list = list_before.clone();
+        let answer = product::list_pieces(lent.bytes_mut(), list.entries_mut());
+        self.check_answer(&answer, number, outcome, before);
+        self.check_pdu(&lent, right, number, before);
+        let filled = list_before.filled(&pieces);
+        assert!(
+            list == filled,
+            "list of {count}, answer {number}: {}; {}",
+            list.differences(&filled),
+            self.case(before)
+        );
+        self.outcomes.lists.count(number, &pieces, count);
+        list
+    }
+
+    /// The product's answer, refused with this number or accepted.
+    fn check_answer(
+        &self,
+        answer: &product::Reading,
+        number: u32,
+        outcome: &Result<Reading, Refusal>,
+        before: &Lent,
+    ) {
         assert_eq!(
             answer.refusal,
-            outcome
-                .as_ref()
-                .map_or_else(|refusal| refusal.number, |_| 0),
+            number,
             "refusal, the reference has {outcome:?}; {}",
-            case()
+            self.case(before)
         );
-        self.check_wrong_locator(&answer, &outcome, before);
-        let right = match &outcome {
-            Ok(reading) => answer_for(reading),
-            Err(_) => product::Reading {
-                refusal: answer.refusal,
+        self.check_wrong_locator(answer, outcome, before);
+        let right = match (number, outcome) {
+            (0, Ok(reading)) => answer_for(reading),
+            _ => product::Reading {
+                refusal: number,
                 wrong_locator: answer.wrong_locator,
                 ..product::Reading::zero()
             },
         };
-        assert_eq!(answer, right, "answer; {}", case());
+        assert_eq!(*answer, right, "answer; {}", self.case(before));
+    }
+
+    /// The PDU after a call that was answered with this number.
+    fn check_pdu(&self, lent: &Lent, right: &Lent, number: u32, before: &Lent) {
         assert!(
-            lent == wanted,
-            "PDU after reading, answer {}: {}; {}",
-            answer.refusal,
-            lent.differences(&wanted),
-            case()
+            lent == right,
+            "PDU after the call, answer {number}: {}; {}",
+            lent.differences(right),
+            self.case(before)
         );
-        self.outcomes.count(&outcome);
-        answer
     }
 
     /// The k of an answer: a wrong locator's with 11, otherwise 0.

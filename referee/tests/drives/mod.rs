@@ -2,11 +2,13 @@
 //! refused calls in between; of the PDUs any run is received in order by a
 //! fresh receiver, some marked lost, the others with up to four bytes of the
 //! header altered, with refused calls in between as well. What the logs have
-//! to hold is told from the writing calls alone.
+//! to hold is told from the writing calls alone. Along with each drive goes a
+//! receiver of the product that is stepped in place all the way.
 
-use crate::attempt::{Class, Known, Loan};
+use crate::attempt::{against_product, Class, Known, Loan};
 use crate::calls::{self, some_bytes, some_packet, Call};
 use crate::lent::{Lent, LentLog};
+use crate::product::receiver::{self as product, Place};
 use crate::receptions::{self, spoil_state, spoilable};
 use crate::spoiling;
 use crate::told::{self, Kinds};
@@ -312,6 +314,8 @@ fn write(call: &Call) -> (writer::Answer, Vec<u8>) {
 #[derive(Default)]
 pub struct Seen {
     pub drives: u64,
+    /// Calls on receivers that are stepped in place all the way.
+    pub stepped: u64,
     pub empty_runs: u64,
     pub begun_inside: u64,
     pub received: u64,
@@ -346,6 +350,55 @@ struct Drive<'a> {
     log: LentLog,
     /// The accepted calls' logs, joined.
     joined: Vec<u32>,
+    along: Stepped,
+}
+
+/// The product's receiver, stepped in place from a drive's first call to its
+/// last, with a carry and a log of its own.
+struct Stepped {
+    place: Place,
+    carry: Lent,
+    log: LentLog,
+    /// The accepted calls' logs, joined.
+    joined: Vec<u32>,
+    calls: u64,
+}
+
+impl Stepped {
+    /// Receives a PDU of the run.
+    fn receive(&mut self, mut pdu: Lent) {
+        let Stepped { carry, log, .. } = self;
+        let answer = product::receive_in_place(&mut self.place, carry, &mut pdu, log);
+        self.accepted(answer);
+    }
+
+    /// Marks a PDU lost.
+    fn lose(&mut self) {
+        let answer = product::mark_lost_in_place(&mut self.place, &mut self.log);
+        self.accepted(answer);
+    }
+
+    fn accepted(&mut self, answer: product::Stepped) {
+        assert_eq!(answer.refusal, 0, "in place");
+        let words = &self.log.words()[..answer.words as usize];
+        self.joined.extend(words);
+        self.calls += 1;
+    }
+
+    /// Makes a receiving call with another loan that is refused.
+    fn refused(&mut self, mut loan: Loan, number: u32) {
+        let Loan { carry, pdu, log } = &mut loan;
+        let answer = product::receive_in_place(&mut self.place, carry, pdu, log);
+        assert_eq!(answer.refusal, number, "in place");
+        self.calls += 1;
+    }
+
+    /// Marks a PDU lost with another log, which is refused.
+    fn refused_marking(&mut self, mut log: LentLog, number: u32) {
+        let answer = product::mark_lost_in_place(&mut self.place, &mut log);
+        assert_eq!(answer.refusal, number, "in place");
+        self.calls += 1;
+    }
 }
 
 /// Goes through a run of the list's PDUs, of which some are lost.
@@ -354,10 +407,20 @@ pub fn drive(class: &mut Class, seen: &mut Seen, list: &List, run: Range<usize>,
     let line = list.line;
     let carry = receptions::some_carry(&mut class.rng);
     let log = LOG_WORDS + class.rng.below(3);
+    let receiver = receiver::open(line.mode, line.stream).expect("a line of the table");
+    let carry = Lent::of(&mut class.rng, &carry);
+    let log = LentLog::random(&mut class.rng, log);
     let mut drive = Drive {
-        receiver: receiver::open(line.mode, line.stream).expect("a line of the table"),
-        carry: Lent::of(&mut class.rng, &carry),
-        log: LentLog::random(&mut class.rng, log),
+        receiver,
+        along: Stepped {
+            place: Place::of(product::open(line.mode, line.stream).receiver),
+            carry: carry.clone(),
+            log: log.clone(),
+            joined: Vec::new(),
+            calls: 0,
+        },
+        carry,
+        log,
         joined: Vec::new(),
         class,
         seen,
@@ -376,6 +439,7 @@ pub fn drive(class: &mut Class, seen: &mut Seen, list: &List, run: Range<usize>,
     if drive.class.rng.below(8) == 0 {
         drive.refused_call(&[0; 96]);
     }
+    drive.check_along();
     let joined = drive.joined;
     check(seen.drives, list, &run, lost, &joined);
     count(seen, list, &run, lost);
@@ -420,6 +484,7 @@ impl Drive<'_> {
     fn receive(&mut self, pdu: &[u8]) {
         let altered = [0, 0, 4, self.class.rng.within(1, 4)][self.class.rng.below(4)];
         let loan = self.loan(pdu, altered);
+        self.along.receive(loan.pdu.clone());
         let tried = self.class.receive(self.receiver, loan, &Known::Accepted);
         assert_eq!(tried.loan.pdu.bytes(), pdu);
         self.receiver = tried.answer.receiver;
@@ -433,10 +498,23 @@ impl Drive<'_> {
     fn lose(&mut self) {
         let log = self.log.clone();
         let known = &Known::Accepted;
+        self.along.lose();
         let (answer, log) = self.class.mark_lost(self.receiver, log, known);
         self.receiver = answer.receiver;
         self.joined.extend(&log.words()[..answer.words]);
         self.log = log;
+    }
+
+    /// The receiver that was stepped in place all the way logged the same and
+    /// is left the same, with its carry and its log.
+    fn check_along(&mut self) {
+        let along = &self.along;
+        assert!(along.joined == self.joined, "logs in place");
+        let right = Place::of(against_product::receiver_for(&self.receiver));
+        assert_eq!(along.place, right, "receiver in place");
+        assert!(along.carry == self.carry, "carry in place");
+        assert!(along.log == self.log, "log in place");
+        self.seen.stepped += along.calls;
     }
 
     /// The PDU, so many bytes of its header altered, with carry and log.
@@ -499,6 +577,9 @@ impl Drive<'_> {
         let Some((receiver, loan)) = refused else {
             return;
         };
+        if receiver == self.receiver {
+            self.along.refused(loan.clone(), number);
+        }
         let tried = self.class.receive(receiver, loan, &Known::Number(number));
         assert_eq!(tried.answer.receiver, receiver);
         *self.seen.refused.entry(number).or_default() += 1;
@@ -512,6 +593,7 @@ impl Drive<'_> {
             spoil_state(&mut self.class.rng, &mut receiver);
         } else {
             log = LentLog::random(&mut self.class.rng, 0);
+            self.along.refused_marking(log.clone(), number);
         }
         let known = &Known::Number(number);
         self.class.mark_lost(receiver, log, known);

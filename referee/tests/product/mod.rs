@@ -1,4 +1,4 @@
-//! The product's calls as the tests make them: its static library behind
+//! The product's calls as the tests make them: its static libraries behind
 //! plain functions.
 
 #![allow(dead_code)]
@@ -27,6 +27,16 @@ mod c {
     pub struct Correction {
         pub refusal: u32,
         pub corrected: u32,
+    }
+
+    #[link(name = "panel", kind = "static")]
+    extern "C" {
+        pub fn barzhilup_list_pieces(
+            pdu: *mut u8,
+            length: usize,
+            list: *mut super::Piece,
+            count: usize,
+        ) -> super::Reading;
     }
 
     #[link(name = "capi", kind = "static")]
@@ -126,6 +136,17 @@ impl Reading {
     }
 }
 
+/// A piece in a list. The verdict is a byte here, so that one that is neither 1
+/// nor 0 shows, and so is the byte behind it, which C leaves unused.
+#[repr(C)]
+#[derive(Clone, Copy, Debug, PartialEq, Eq)]
+pub struct Piece {
+    pub start: u16,
+    pub length: u16,
+    pub right: u8,
+    pub unused: u8,
+}
+
 /// The product of two bytes.
 pub fn product(x: u8, y: u8) -> u8 {
     unsafe { c::barzhilup_product(x, y) }
@@ -160,4 +181,9 @@ pub fn crc8(bytes: &[u8]) -> u8 {
 /// Reads a PDU without a receiver.
 pub fn read(pdu: &mut [u8]) -> Reading {
     unsafe { c::barzhilup_read(pdu.as_mut_ptr(), pdu.len()) }
+}
+
+/// Fills a list with the pieces of a PDU.
+pub fn list_pieces(pdu: &mut [u8], list: &mut [Piece]) -> Reading {
+    unsafe { c::barzhilup_list_pieces(pdu.as_mut_ptr(), pdu.len(), list.as_mut_ptr(), list.len()) }
 }

@@ -1,6 +1,7 @@
 //! The product's receiver, as the tests call it.
 
 use crate::lent::{Lent, LentLog};
+use std::cell::Cell;
 
 /// A receiver. Whether the sequence is known is a byte here, so that one that
 /// is neither 1 nor 0 shows.
@@ -34,6 +35,42 @@ pub struct Received {
     pub receiver: Receiver,
 }
 
+/// The answer to the same calls in place: the receiver stands where it stood.
+#[repr(C)]
+#[derive(Clone, Copy, Debug, PartialEq, Eq)]
+pub struct Stepped {
+    pub refusal: u32,
+    pub wrong_locator: u32,
+    pub words: u32,
+}
+
+/// A receiver that is stepped in place. Bytes before and after it belong to
+/// nobody and must never change.
+#[repr(C)]
+#[derive(Clone, Copy, Debug, PartialEq, Eq)]
+pub struct Place {
+    before: [u8; 24],
+    pub receiver: Receiver,
+    after: [u8; 24],
+}
+
+impl Place {
+    /// A place for this receiver.
+    pub fn of(receiver: Receiver) -> Place {
+        Place {
+            before: [0xA5; 24],
+            receiver,
+            after: [0x5A; 24],
+        }
+    }
+
+    /// Where the receiver stands, as it is handed over.
+    fn pointer(&mut self) -> *mut Receiver {
+        let place: *mut Place = self;
+        unsafe { &raw mut (*place).receiver }
+    }
+}
+
 extern "C" {
     fn barzhilup_open_receiver(mode: u8, stream: u8) -> Opened;
     fn barzhilup_receive(
@@ -46,6 +83,20 @@ extern "C" {
         log_length: usize,
     ) -> Received;
     fn barzhilup_mark_lost(receiver: Receiver, log: *mut u32, log_length: usize) -> Received;
+    fn barzhilup_receive_in_place(
+        receiver: *mut Receiver,
+        carry: *mut u8,
+        carry_length: usize,
+        pdu: *mut u8,
+        pdu_length: usize,
+        log: *mut u32,
+        log_length: usize,
+    ) -> Stepped;
+    fn barzhilup_mark_lost_in_place(
+        receiver: *mut Receiver,
+        log: *mut u32,
+        log_length: usize,
+    ) -> Stepped;
 }
 
 /// Opens a receiver.
@@ -80,4 +131,45 @@ pub fn receive(
 pub fn mark_lost(receiver: Receiver, log: &mut LentLog) -> Received {
     let log = log.words_mut();
     unsafe { barzhilup_mark_lost(receiver, log.as_mut_ptr(), log.len()) }
+}
+
+thread_local! {
+    /// How many calls were made in place.
+    static IN_PLACE: Cell<u64> = const { Cell::new(0) };
+}
+
+/// How many calls this thread has made in place.
+pub fn calls_in_place() -> u64 {
+    IN_PLACE.get()
+}
+
+/// Receives a PDU in place.
+pub fn receive_in_place(
+    place: &mut Place,
+    carry: &mut Lent,
+    pdu: &mut Lent,
+    log: &mut LentLog,
+) -> Stepped {
+    let carry = carry.bytes_mut();
+    let pdu = pdu.bytes_mut();
+    let log = log.words_mut();
+    IN_PLACE.set(IN_PLACE.get() + 1);
+    unsafe {
+        barzhilup_receive_in_place(
+            place.pointer(),
+            carry.as_mut_ptr(),
+            carry.len(),
+            pdu.as_mut_ptr(),
+            pdu.len(),
+            log.as_mut_ptr(),
+            log.len(),
+        )
+    }
+}
+
+/// Marks a PDU lost in place.
+pub fn mark_lost_in_place(place: &mut Place, log: &mut LentLog) -> Stepped {
+    let log = log.words_mut();
+    IN_PLACE.set(IN_PLACE.get() + 1);
+    unsafe { barzhilup_mark_lost_in_place(place.pointer(), log.as_mut_ptr(), log.len()) }
 }

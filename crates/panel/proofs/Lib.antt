@@ -1,0 +1,3 @@
+pub mod Apart
+pub mod Facts
+pub mod Listing

@@ -1,0 +1,31 @@
+use borrow.Author.Needs.{needs}
+use native.Mathlib.Omega.{arith}
+use Rattle.panel.proofs.Listing.{ready, nop-fits, nop-few, list-end}
+use Rattle.panel.proofs.read_pieces.Statement.{statement}
+use Rattle.panel.proofs.read_pieces.Tie as tie
+
+read-for-requires : tie.Need-read-for-requires
+read-for-requires c κs = search needs
+
+cast-nop : tie.Need-cast-nop
+cast-nop c = search needs
+
+pieces-of-requires : tie.Need-pieces-of-requires
+pieces-of-requires c κs =
+    let f = c .before .before .before .before .before in
+    ready _ _ (f .read-for .result) (f .read-for .last .0) (f .read-for .ensures .0) (f .read-for .ensures .1 .1)
+
+same-length : tie.Need-same-length
+same-length c = search needs
+
+returns : tie.Need-returns
+returns c =
+    let f = c .before .before .before .before .before .before in
+    let e = f .read-for .ensures in
+    let w = nop-few _ _ (f .read-for .result) (f .read-for .last .0) (e .0) (e .1 .1) in
+    let h = nop-fits _ _ (f .read-for .result) (f .read-for .last .0) (e .0) (e .1 .1) in
+    (e .0, e .1 .0, e .1 .1, omega (arith, h), omega (arith, w, c .pieces-of .ok), λ l h. list-end _ _ (f .read-for .result) (f .read-for .last .0) (e .0) (e .1 .1) (c .pieces-of .result) l (c .pieces-of .ensures) h)
+
+pub read-pieces-spec : {M : Type 1} → statement M
+read-pieces-spec =
+    tie.close (tie.spec read-for-requires cast-nop pieces-of-requires same-length returns)
