@@ -244,7 +244,8 @@ typedef struct {
 /* What a PDU holds. If it is refused, every field but `refusal` is 0, and
  * `wrong_locator` too unless the number is 11. */
 typedef struct {
-    /* BARZHILUP_ACCEPTED, or a BARZHILUP_REFUSED_ number: 3 to 5 or 7 to 12. */
+    /* BARZHILUP_ACCEPTED, or a BARZHILUP_REFUSED_ number: 3 to 5 or 7 to 12;
+     * from barzhilup_list_pieces also 13. */
     uint32_t refusal;
     /* With BARZHILUP_REFUSED_LOCATOR, the number k of a wrong locator, from 0. */
     uint32_t wrong_locator;
@@ -509,7 +510,8 @@ typedef struct {
 /*
  * Reads a PDU without a receiver, as barzhilup_read does, and fills a list with
  * its pieces: entry k is piece k, for k below NOP. Entries from NOP on keep what
- * they held. A wrong CRC is a verdict and no refusal.
+ * they held. A wrong CRC is a verdict and no refusal. Initialise the list: the
+ * bool of an entry is true or false.
  *
  * It is refused as barzhilup_read is, and with BARZHILUP_REFUSED_LOG_LENGTH for
  * a list of fewer than NOP entries. If it is refused, no byte and no entry has

@@ -50,7 +50,8 @@ int main()
     barzhilup_piece list[2] = {{7, 7, false}, {7, 7, false}};
     receiver.known = true;
     const barzhilup_stepped stepped = barzhilup_mark_lost_in_place(&receiver, log, 1);
-    const bool lost = stepped.refusal == 0 && stepped.words == 1 && log[0] == 0xc0060000 && !receiver.known;
+    const bool lost = stepped.refusal == 0 && stepped.words == 1 && log[0] == 0xc0060000
+                      && !receiver.known;
     pdu[12] = 2; // one piece, from 16 to its locator
     pdu[13] = 15;
     pdu[14] = 17;
@@ -58,8 +59,8 @@ int main()
     pdu[17] = 0x31;
     barzhilup_write_parity(pdu, sizeof pdu);
     const barzhilup_reading reading = barzhilup_list_pieces(pdu, sizeof pdu, list, 2);
-    const bool listed = reading.refusal == 0 && list[0].start == 16 && list[0].length == 1 && list[0].right
-                        && list[1].start == 7 && !list[1].right;
+    const bool listed = reading.refusal == 0 && list[0].start == 16 && list[0].length == 1
+                        && list[0].right && list[1].start == 7 && !list[1].right;
     return barzhilup_crc8(piece, sizeof piece) == 0x31 && lost && listed ? 0 : 1;
 }
 CPP
