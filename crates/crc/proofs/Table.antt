@@ -72,8 +72,8 @@ none-left : (b : ℕ) → left 8 b ≡ 0
 unfolding left
 none-left b = omega arith
 
-pub byte-rule : (r b : ℕ) → r < 256 → b < 256 → getD table (bitXor r b) 0 ≡ crcByte r b
+pub byte-rule : (r b : ℕ) → bitXor r b < 256 → getD table (bitXor r b) 0 ≡ crcByte r b
 unfolding crcByte
-byte-rule r b hr hb =
+byte-rule r b h =
     let z : bitXor (crcBits 8 r b) 0 ≡ crcBits 8 r b = xor-zero-r (crcBits 8 r b) in
-    table-rule (bitXor r b) (xor-lt 8 r b hr hb) ∙ sym (bits 8 r b) ∙ ap (λ (n : ℕ). bitXor (crcBits 8 r b) n) (none-left b) ∙ z
+    table-rule (bitXor r b) h ∙ sym (bits 8 r b) ∙ ap (λ (n : ℕ). bitXor (crcBits 8 r b) n) (none-left b) ∙ z

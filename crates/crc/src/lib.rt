@@ -1,6 +1,8 @@
 // CRC-8 with the divisor x^8 + x^5 + x^4 + 1, top bit of each byte first (document 01, "Expansion, PSD, pieces").
 ghost use mathlib.Core.Path.{_≡_};
-ghost use Rattle.crc.specs.Crc.{crcByte, crcFrom};
+ghost use Prim.Native.Nat.{_<_};
+ghost use lib.Bits.{bitXor};
+ghost use Rattle.crc.specs.Crc.{crcFrom};
 
 // Entry k: the register k after eight bits of zero.
 const TABLE: [u8; 256] = [
@@ -262,21 +264,22 @@ const TABLE: [u8; 256] = [
     172,
 ];
 
-// The register after one byte.
-fn next(register: u8, byte: u8) -> u8
-    ensures { λ r. ⌜ r ≡ crcByte register byte ⌝ }
+// The table's entry that the next register is: the register with a byte added.
+fn entry(register: u8, byte: u8) -> usize
+    ensures { λ r. ⌜ (r < 256) × (r ≡ bitXor register byte) ⌝ }
 {
-    TABLE[(register ^ byte) as usize]
+    (register ^ byte) as usize
 }
 
 // The register after all bytes, from any start.
 fn crc8_from(start: u8, bytes: &[u8]) -> u8
     ensures { λ r. ⌜ r ≡ crcFrom start (now (bytes .entry)) ⌝ }
 {
+    let table = TABLE;
     let mut register = start;
     let mut i: usize = 0;
     while i < bytes.len() {
-        register = next(register, bytes[i]);
+        register = table[entry(register, bytes[i])];
         i += 1;
     }
     register
