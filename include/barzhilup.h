@@ -66,6 +66,11 @@ extern "C" {
  * "Receiver".) */
 #define BARZHILUP_LOG_WORDS 8400
 
+/* A PDU has at most so many pieces, so a list of so many entries is long enough
+ * for every PDU: 54 with locators of 12 bits, 41 with 16. (Document 01, "Control
+ * word".) */
+#define BARZHILUP_PIECES_MAX 54
+
 /* ---- Refusal numbers (document 01, "What is turned down") --------------- */
 
 /* Not refused. */
@@ -111,9 +116,10 @@ extern "C" {
 /* The displacement is before the last piece's end, or not below the length. */
 #define BARZHILUP_REFUSED_DISPLACEMENT 12
 
-/* The log is shorter than the words that the call would write; the list of
- * pieces has fewer than NOP entries. */
+/* The log is shorter than the words that the call would write; or, the same
+ * number, the list of pieces has fewer than NOP entries. */
 #define BARZHILUP_REFUSED_LOG_LENGTH 13
+#define BARZHILUP_REFUSED_LIST_LENGTH 13
 
 /* A value that is not sent: blend 3, or nonzero with a nonzero program; core
  * gain 7 to 23; one past its width. */
@@ -296,7 +302,7 @@ typedef struct {
 /* A PDU's settings. All 0: no expansion bytes. A bool is true or false: any
  * other byte in its place is undefined, as in C. */
 typedef struct {
-    /* 0 to 2. */
+    /* 0 to 2; with a nonzero program 0. */
     uint8_t blend;
     /* Gain (core: 0 to 6, 24 to 31) or stream delay (enhanced: 0 to 31). */
     uint8_t gain;
@@ -307,7 +313,7 @@ typedef struct {
     /* Expansion fields, each behind a flag that says whether it is asked for;
      * without it, its values make no difference. The program field (ID 1) is
      * sent whenever any is, with program 0 if it is not asked for.
-     * Class: only 1, with a nonzero program and access 1. */
+     * Class: only 1, and then with a nonzero program and access 1. */
     bool classed;
     uint8_t class_code;
     /* Program number, 0 to 7. */
@@ -315,7 +321,7 @@ typedef struct {
     uint8_t program;
     /* The displacement, which is the PDU's length minus 1; lengths to 16,384. */
     bool displaced;
-    /* Access, 0 or (with class 1) 1, and type. */
+    /* Access, 1 with class 1 and 0 without, and type, 0 to 255. */
     bool typed;
     uint8_t access;
     uint8_t type_code;
@@ -344,7 +350,8 @@ barzhilup_writer_opened barzhilup_open_writer(uint8_t mode, uint8_t stream);
  *
  * `lengths` has the lengths, 1 to 4,096, of the `count` packets that are
  * offered, `bytes` their bytes, joined. The first is the unfinished packet,
- * whole, if there is one. As many are placed as fit, and then a part of the
+ * whole, if there is one; if there is none, `count` may be 0, and the PDU has
+ * no pieces. As many are placed as fit, and then a part of the
  * next: offer again from the first that did not end. `pdu` must not overlap
  * what is read.
  *
@@ -488,7 +495,8 @@ barzhilup_received barzhilup_mark_lost(barzhilup_receiver receiver,
 
 /* ---- Panel (document 01, "After that, for the panel") -------------------- */
 
-/* These three functions are in libpanel.a; link it beside libcapi.a. */
+/* These three functions are in libpanel.a. It needs nothing of libcapi.a; a
+ * program may link both. */
 
 /* A piece of a PDU. */
 typedef struct {
@@ -510,10 +518,11 @@ typedef struct {
 /*
  * Reads a PDU without a receiver, as barzhilup_read does, and fills a list with
  * its pieces: entry k is piece k, for k below NOP. Entries from NOP on keep what
- * they held. A wrong CRC is a verdict and no refusal. Initialise the list: the
- * bool of an entry is true or false.
+ * they held. A wrong CRC is a verdict and no refusal; it is given on the
+ * corrected PDU, so damage among the first 96 bytes that is corrected leaves no
+ * CRC wrong. Initialise the list: the bool of an entry is true or false.
  *
- * It is refused as barzhilup_read is, and with BARZHILUP_REFUSED_LOG_LENGTH for
+ * It is refused as barzhilup_read is, and with BARZHILUP_REFUSED_LIST_LENGTH for
  * a list of fewer than NOP entries. If it is refused, no byte and no entry has
  * changed.
  */

@@ -321,7 +321,7 @@ static uint32_t list_made(size_t count, unsigned altered, const char *what, unsi
         check(same_reading(&a, &r), what, which);
         check_filled(&r, count, what, which);
     } else {
-        refused.refusal = r.refusal != 0 ? r.refusal : BARZHILUP_REFUSED_LOG_LENGTH;
+        refused.refusal = r.refusal != 0 ? r.refusal : BARZHILUP_REFUSED_LIST_LENGTH;
         refused.wrong_locator = r.wrong_locator;
         check(same_reading(&a, &refused), what, which);
         check(entries_kept(0, count), "refused, entries unchanged", refused.refusal);
@@ -339,7 +339,7 @@ static void list_lengths(const char *what, unsigned long which)
         const size_t counts[6] = {nop, nop + 1, nop + MORE, 64, 0, nop > 0 ? nop - 1 : 0};
         for (n = 0; n < 6; n++)
             check(list_made(counts[n], altered, what, which)
-                      == (counts[n] < nop ? BARZHILUP_REFUSED_LOG_LENGTH : 0),
+                      == (counts[n] < nop ? BARZHILUP_REFUSED_LIST_LENGTH : 0),
                   what, which);
     }
 }

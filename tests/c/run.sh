@@ -38,6 +38,14 @@ for test in header_test writer_test receiver_test; do
 done
 run panel_test "$panel" "$library"
 
+# The example of docs/USING.md: it has to print what that page says.
+gcc -std=c99 "${warnings[@]}" -o "$build/example" "$root/tests/c/example.c" "$library"
+if [ "$("$build/example")" != $'PSD, 3 bytes\npacket 0, 5 bytes' ]; then
+    echo "C: the example does not print what it should" >&2
+    exit 1
+fi
+echo "C99, gcc: the example of docs/USING.md prints what it should"
+
 cat > "$build/header.cpp" <<'CPP'
 #include "barzhilup.h"
 
