@@ -1,0 +1,53 @@
+// What the command line asks for.
+use crate::road::Road;
+use text::Number;
+ghost use Prim.Native.Nat.{_≤_};
+ghost use Rattle.io.specs.Counts.{Counts};
+
+// The options that are known.
+pub const KNOWN: [u8; 48] = *b"in=\0out=\0seed=\0loss=\0burst=\0damage=\0bytes=\0help\0";
+
+// What is asked for; ok where every option has a value in its range.
+pub struct Job {
+    pub ok: bool,
+    pub seed: u32,
+    pub road: Road,
+}
+
+pub fn check() -> bool {
+    options::check(b"channel", &KNOWN)
+}
+
+pub fn given(name: &[u8]) -> bool {
+    options::given(&KNOWN, name)
+}
+
+pub fn value(name: &[u8], buf: &mut [u8]) -> usize
+    ensures { λ r. ⌜ Counts r (now (buf .exit)) ⌝ }
+{
+    options::value(&KNOWN, name, buf)
+}
+
+fn number(name: &[u8], default: u32, low: u32, high: u32) -> Number
+    ensures { λ r. ⌜ r .value ≤ high ⌝ }
+{
+    options::number(b"channel", &KNOWN, name, default, low, high)
+}
+
+pub fn asked() -> Job {
+    let seed = number(b"seed", 1, 0, 4294967295);
+    let loss = number(b"loss", 50, 0, 1000);
+    let burst = number(b"burst", 4, 1, 64);
+    let damage = number(b"damage", 500, 0, 1000);
+    let bytes = number(b"bytes", 4, 0, 96);
+    Job {
+        ok: seed.ok & loss.ok & burst.ok & damage.ok & bytes.ok,
+        seed: seed.value,
+        road: Road {
+            loss: loss.value as u64,
+            burst: burst.value as u64,
+            damage: damage.value as u64,
+            bytes: bytes.value as u64,
+        },
+    }
+}

@@ -1,0 +1,65 @@
+// What the program says on standard error, a line in one write.
+use libc::STDERR_FILENO;
+ghost use Rattle.io.specs.Counts.{Counts};
+
+fn say(line: &[u8]) {
+    io::write_all(STDERR_FILENO, line);
+}
+
+// Why no more PDUs are read, after so many; nothing where the file ends after one. PDUs are counted from 0.
+pub fn input_ends(label: &[u8], status: u8, read: u64) {
+    match status {
+        records::END => {}
+        records::CUT => files::say_number(label, b": ends inside the record of PDU ", read, b"\n"),
+        _ => os::fail(label),
+    }
+}
+
+// What the road did, and whether that is all. PDUs that were marked lost before are counted apart.
+pub fn summary(ok: bool, pdus: u64, missing: u64, lost: u64, damaged: u64, altered: u64) {
+    let mut line = [0u8; 256];
+    let mut n = files::put_beginning(&mut line, b"channel", ok);
+    n = text::put(&mut line, n, b"PDUs ");
+    n = text::put_decimal(&mut line, n, pdus);
+    n = text::put(&mut line, n, b" (lost before ");
+    n = text::put_decimal(&mut line, n, missing);
+    n = text::put(&mut line, n, b"), lost ");
+    n = text::put_decimal(&mut line, n, lost);
+    n = text::put(&mut line, n, b", damaged ");
+    n = text::put_decimal(&mut line, n, damaged);
+    n = text::put(&mut line, n, b", bytes altered ");
+    n = text::put_decimal(&mut line, n, altered);
+    n = text::put(&mut line, n, b"\n");
+    say(&line[..n]);
+}
+
+// How far the work is, where somebody looks on.
+pub fn progress(pdus: u64) {
+    files::progress(b"channel", b": PDUs ", pdus);
+}
+
+// How the program is used, on standard output.
+pub fn usage() {
+    io::write_all(
+        libc::STDOUT_FILENO,
+        b"usage: channel [--in FILE] [--out FILE] [OPTION]...
+
+Damages a file of PDUs as a road would: PDUs are lost in bursts, and of those
+that come through some have bytes of the header changed. A record of either
+file is its length in two bytes, low byte first, and then its bytes; a record
+of length 0 is a PDU marked lost, and stays so. The same seed gives the same
+damage.
+
+  --in FILE   PDUs (standard input)
+  --out FILE  the PDUs that come through (standard output)
+  --seed N    0 to 4294967295 (1)
+  --loss N    how many PDUs in a thousand begin a burst of lost ones,
+              0 to 1000 (50)
+  --burst N   the longest burst, 1 to 64: each has 1 to N PDUs (4)
+  --damage N  how many PDUs in a thousand have a damaged header, 0 to 1000
+              (500)
+  --bytes N   the most bytes changed in a damaged header, 0 to 96: each has
+              1 to N among the PDU's first 96 bytes (4)
+",
+    );
+}

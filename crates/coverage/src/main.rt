@@ -1,0 +1,114 @@
+// Draws a drive: from the logger's CSV to a strip of its PDUs, as SVG.
+//
+// The file is read twice. The first time counts: the picture's height stands in its first tag. The second time draws.
+mod arguments;
+mod cells;
+mod drive;
+mod elements;
+mod entry;
+mod frame;
+mod legend;
+mod lines;
+mod page;
+mod reading;
+mod report;
+mod title;
+
+use page::Shape;
+use reading::Run;
+use reading::Task;
+
+fn main() {
+    if arguments::given(b"help") {
+        report::usage();
+        return;
+    }
+    if !arguments::check() {
+        return;
+    }
+    let columns = arguments::columns();
+    if !columns.ok {
+        return;
+    }
+    let mut text = io::buffer();
+    let n = arguments::title(&mut text);
+    if !title::is_fit(&text[..n]) {
+        report::wrong_title();
+        return;
+    }
+    with_title(columns.value, &text[..n]);
+}
+
+// Opens the CSV.
+fn with_title(columns: u32, title: &[u8]) {
+    let mut from = files::label_buffer();
+    let n = files::put_label(
+        &mut from,
+        b"coverage",
+        &arguments::KNOWN,
+        b"in",
+        b"standard input",
+    );
+    let input = files::open_input(&arguments::KNOWN, b"in", &from[..n]);
+    if input < 0 {
+        return;
+    }
+    let start = files::place(input);
+    if start < 0 {
+        report::words(
+            &from[..n],
+            b": not a file, and is to be read twice; name one with --in\n",
+        );
+        return;
+    }
+    with_input(columns, title, &from[..n], input, start);
+}
+
+// Counts, and goes back to the file's start.
+fn with_input(columns: u32, title: &[u8], from: &[u8], input: i32, start: i64) {
+    let mut buf = io::large_buffer();
+    let first = reading::count(input, columns, from, &mut buf);
+    if !first.ok {
+        return;
+    }
+    if !files::go_back(input, start) {
+        os::fail(from);
+        return;
+    }
+    let mut onto = files::label_buffer();
+    let n = files::put_label(
+        &mut onto,
+        b"coverage",
+        &arguments::KNOWN,
+        b"out",
+        b"standard output",
+    );
+    let output = files::open_output(&arguments::KNOWN, b"out", &onto[..n]);
+    if output < 0 {
+        return;
+    }
+    let drive = first.drive;
+    let totals = drive.totals;
+    let task = Task {
+        input: input,
+        drawing: true,
+        shape: Shape {
+            columns: columns,
+            pdus: drive.count,
+            most: totals.most,
+        },
+    };
+    let run = reading::draw(task, output, title, from, &onto[..n], &mut buf);
+    finish(run, drive.count, from, output, &onto[..n]);
+}
+
+// Closes the picture, and says what it shows.
+fn finish(run: Run, counted: u32, from: &[u8], output: i32, onto: &[u8]) {
+    let closed = files::close(output, onto);
+    let drive = run.drive;
+    let same = drive.count == counted;
+    if run.ok & !same {
+        report::words(from, b": changed while it was read\n");
+    }
+    report::summary(run.ok & same & closed, drive);
+}

@@ -1,0 +1,126 @@
+// The picture's title: any text in UTF-8 that is not too long.
+ghost use Prim.Native.Nat.{_≤_};
+ghost use lib.ListN.{length};
+
+// The longest title, in bytes.
+const MOST: usize = 200;
+
+// What a byte may be: how many bytes of a character are still to come, and between which values the next of them lies.
+struct Expected {
+    left: u8,
+    low: u8,
+    high: u8,
+}
+
+// What `left` is after a byte that cannot stand there.
+const NOTHING: u8 = 4;
+
+fn follows(left: u8, low: u8, high: u8) -> Expected {
+    Expected {
+        left: left,
+        low: low,
+        high: high,
+    }
+}
+
+// What follows a character's first byte.
+fn after_first(byte: u8) -> Expected {
+    match byte {
+        0..=127 => follows(0, 0, 0),
+        194..=223 => follows(1, 128, 191),
+        224 => follows(2, 160, 191),
+        237 => follows(2, 128, 159),
+        225..=239 => follows(2, 128, 191),
+        240 => follows(3, 144, 191),
+        241..=243 => follows(3, 128, 191),
+        244 => follows(3, 128, 143),
+        _ => follows(NOTHING, 0, 0),
+    }
+}
+
+// What follows a byte.
+fn after(e: Expected, byte: u8) -> Expected {
+    if e.left == 0 {
+        return after_first(byte);
+    }
+    if (byte < e.low) | (e.high < byte) {
+        return follows(NOTHING, 0, 0);
+    }
+    follows(e.left - 1, 128, 191)
+}
+
+// Whether a text may be a title.
+pub fn is_fit(text: &[u8]) -> bool {
+    if MOST < text.len() {
+        return false;
+    }
+    let mut e = follows(0, 0, 0);
+    let mut i: usize = 0;
+    while i < text.len() {
+        let next = after(e, text[i]);
+        e = next;
+        if e.left == NOTHING {
+            return false;
+        }
+        i += 1;
+    }
+    e.left == 0
+}
+
+// 1 for a byte that begins a character, else 0.
+fn begins(byte: u8) -> u64
+    ensures { λ r. ⌜ r ≤ 1 ⌝ }
+{
+    if (127 < byte) & (byte < 192) {
+        return 0;
+    }
+    1
+}
+
+// How many characters a text has.
+fn characters(text: &[u8]) -> u64
+    ensures { λ r. ⌜ r ≤ length (now (text .entry)) ⌝ }
+{
+    let mut count: u64 = 0;
+    let mut i: usize = 0;
+    while i < text.len() {
+        count += begins(text[i]);
+        i += 1;
+    }
+    count
+}
+
+// The size of a title's letters: smaller where there are many of them for the width.
+pub fn size(text: &[u8], width: u64) -> u64 {
+    let count = characters(text);
+    if count < 30 {
+        return 20;
+    }
+    let fitting = width / (count / 10 * 7);
+    if 200 < fitting {
+        return 20;
+    }
+    fitting / 10
+}
+
+// One byte, as it stands in SVG: what would begin a tag or an entity is written as an entity, and a control character as a space.
+fn put_byte(out: &mut [u8], at: usize, byte: u8) -> usize {
+    match byte {
+        0..=31 => text::put(out, at, b" "),
+        b'&' => text::put(out, at, b"&amp;"),
+        b'<' => text::put(out, at, b"&lt;"),
+        b'>' => text::put(out, at, b"&gt;"),
+        _ => text::put(out, at, &[byte]),
+    }
+}
+
+// A text, as it stands in SVG.
+pub fn put(out: &mut [u8], at: usize, text: &[u8]) -> usize {
+    let mut n = at;
+    let mut i: usize = 0;
+    while i < text.len() {
+        n = put_byte(out, n, text[i]);
+        i += 1;
+    }
+    n
+}

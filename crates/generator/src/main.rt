@@ -1,0 +1,90 @@
+// Makes a file of PDUs from a file of packets (document 01, "Writer").
+mod adts;
+mod arguments;
+mod psd;
+mod report;
+mod sending;
+mod window;
+
+use arguments::Job;
+use sending::Run;
+use sending::Task;
+use window::Source;
+use writer::Writer;
+
+fn main() {
+    if arguments::given(b"help") {
+        report::usage();
+        return;
+    }
+    if !arguments::check() {
+        return;
+    }
+    let job = arguments::asked();
+    if !job.ok {
+        return;
+    }
+    let opened = writer::open(job.mode, job.stream);
+    if opened.refusal != 0 {
+        report::refused(opened.refusal);
+        return;
+    }
+    let writer = opened.writer;
+    with_writer(job, writer);
+}
+
+// Reads the PSD, and opens the file of packets.
+fn with_writer(job: Job, writer: Writer) {
+    let mut psd = [0u8; 256];
+    let read = psd::read(&mut psd);
+    if read.status == records::FAILED {
+        return;
+    }
+    let mut from = files::label_buffer();
+    let n = files::put_label(
+        &mut from,
+        b"generator",
+        &arguments::KNOWN,
+        b"in",
+        b"standard input",
+    );
+    let input = files::open_input(&arguments::KNOWN, b"in", &from[..n]);
+    if input < 0 {
+        return;
+    }
+    with_input(job, writer, &psd[..read.length], &from[..n], input);
+}
+
+// Opens the file of PDUs, and sends.
+fn with_input(job: Job, writer: Writer, psd: &[u8], from: &[u8], input: i32) {
+    let mut onto = files::label_buffer();
+    let n = files::put_label(
+        &mut onto,
+        b"generator",
+        &arguments::KNOWN,
+        b"out",
+        b"standard output",
+    );
+    let output = files::open_output(&arguments::KNOWN, b"out", &onto[..n]);
+    if output < 0 {
+        return;
+    }
+    let settings = job.settings;
+    let task = Task {
+        source: Source {
+            fd: input,
+            adts: arguments::given(b"adts"),
+        },
+        output: output,
+        settings: settings,
+    };
+    let run = sending::send(task, from, &onto[..n], psd, job.length, writer);
+    finish(run, output, &onto[..n]);
+}
+
+// Closes the file of PDUs, and says what is sent.
+fn finish(run: Run, output: i32, onto: &[u8]) {
+    let closed = files::close(output, onto);
+    let ok = run.ok & closed;
+    report::summary(ok, run.packets, run.octets, run.pdus, run.size);
+}

@@ -1,0 +1,90 @@
+// Turns a file of PDUs into the packet log (document 01, "Receiver").
+mod arguments;
+mod causes;
+mod columns;
+mod counts;
+mod formats;
+mod logging;
+mod outcome;
+mod output;
+mod people;
+mod phrases;
+mod report;
+mod words;
+
+use arguments::Job;
+use logging::Run;
+use logging::Task;
+use output::Sink;
+use receiver::Receiver;
+
+fn main() {
+    if arguments::given(b"help") {
+        report::usage();
+        return;
+    }
+    if !arguments::check() {
+        return;
+    }
+    let job = arguments::asked();
+    if !job.ok {
+        return;
+    }
+    let opened = receiver::open(job.mode, job.stream);
+    if opened.refusal != 0 {
+        report::not_opened(opened.refusal);
+        return;
+    }
+    let receiver = opened.receiver;
+    with_receiver(job, receiver);
+}
+
+// Opens the file of PDUs.
+fn with_receiver(job: Job, receiver: Receiver) {
+    let mut from = files::label_buffer();
+    let n = files::put_label(
+        &mut from,
+        b"logger",
+        &arguments::KNOWN,
+        b"in",
+        b"standard input",
+    );
+    let input = files::open_input(&arguments::KNOWN, b"in", &from[..n]);
+    if input < 0 {
+        return;
+    }
+    with_input(job, receiver, &from[..n], input);
+}
+
+// Opens the file of the log, and logs.
+fn with_input(job: Job, receiver: Receiver, from: &[u8], input: i32) {
+    let mut onto = files::label_buffer();
+    let n = files::put_label(
+        &mut onto,
+        b"logger",
+        &arguments::KNOWN,
+        b"out",
+        b"standard output",
+    );
+    let output = files::open_output(&arguments::KNOWN, b"out", &onto[..n]);
+    if output < 0 {
+        return;
+    }
+    let task = Task {
+        input: input,
+        sink: Sink {
+            fd: output,
+            format: job.format,
+        },
+    };
+    let mut counts = counts::none();
+    let run = logging::log_all(task, from, &onto[..n], receiver, &mut counts);
+    finish(run, output, &onto[..n], &counts);
+}
+
+// Closes the file of the log, and says what was received.
+fn finish(run: Run, output: i32, onto: &[u8], counts: &[u64]) {
+    let closed = files::close(output, onto);
+    let ok = run.ok & closed;
+    report::summary(ok, run.pdus, counts);
+}

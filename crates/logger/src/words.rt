@@ -1,0 +1,44 @@
+// Words of the packet log, taken apart (document 01, "Receiver").
+ghost use mathlib.Core.Path.{_≡_};
+ghost use Prim.Native.Nat.{_+_, _*_, _<_, _≤_};
+ghost use lib.ListN.{getD};
+ghost use Rattle.log.specs.Log.{word as wordOf};
+
+// The kinds of words.
+pub const PACKET: u32 = 0;
+
+pub const DATA: u32 = 1;
+
+pub const PSD: u32 = 2;
+
+pub const NOTE: u32 = 3;
+
+// A word's kind, and what stands in bits 29-16, the number of a packet or the cause of a note, and in bits 15-0, the length of a packet or of
+// PSD or the piece of a note.
+pub struct Word {
+    pub kind: u32,
+    pub high: u32,
+    pub low: u32,
+}
+
+pub fn split(word: u32) -> Word
+    ensures { λ r. ⌜ (word ≡ wordOf (r .kind) (r .high) (r .low)) × (r .kind ≤ 3) × (r .high < 0x4000) × (r .low < 0x10000) ⌝ }
+{
+    Word {
+        kind: word / 0x40000000,
+        high: word / 0x10000 % 0x4000,
+        low: word % 0x10000,
+    }
+}
+
+// Its four bytes, low byte first.
+pub fn bytes_of(word: u32) -> [u8; 4]
+    ensures { λ r. ⌜ word ≡ getD r 0 0 + 0x100 * (getD r 1 0 + 0x100 * (getD r 2 0 + 0x100 * getD r 3 0)) ⌝ }
+{
+    [
+        (word % 0x100) as u8,
+        (word / 0x100 % 0x100) as u8,
+        (word / 0x10000 % 0x100) as u8,
+        (word / 0x1000000) as u8,
+    ]
+}
