@@ -1,0 +1,63 @@
+//! The header code and the CRC-8 (document 01, "Header code" and "Expansion,
+//! PSD, pieces"; 001, 5.2.3.1 and 5.2.3.2).
+
+use crate::{ffi, Refusal, HEADER_BYTES, PARITY_BYTES};
+
+/// The syndromes S1 to S8 of a header: Sj is the sum of byte i times a^(i times
+/// j) in GF(256). All zero: the header is a code word. (Document 01, "Header
+/// code", where they are the eight sums.)
+pub fn syndromes(header: &[u8; HEADER_BYTES]) -> [u8; PARITY_BYTES] {
+    ffi::syndromes(header)
+}
+
+/// The parity that makes bytes 8 to 95 of a header a code word: what its bytes 0
+/// to 7 have to be. What they are makes no difference. (Document 01, "Header
+/// code".)
+pub fn parity(header: &[u8; HEADER_BYTES]) -> [u8; PARITY_BYTES] {
+    ffi::parity(header)
+}
+
+/// Writes the parity of a PDU's header into its bytes 0 to 7; the other bytes
+/// stay as they are. (Document 01, "Header code".)
+///
+/// # Errors
+///
+/// [`Refusal::PduLength`]: the PDU has not 96 to 20,480 bytes.
+pub fn write_parity(pdu: &mut [u8]) -> Result<(), Refusal> {
+    Refusal::check(ffi::write_parity(pdu), 0)
+}
+
+/// Corrects the header of a PDU in place: its first 96 bytes become the one code
+/// word that differs from them in at most four bytes. Answers in how many they
+/// differed, 0 to 4. (Document 01, "Header code", which calls it mending.)
+///
+/// # Errors
+///
+/// [`Refusal::PduLength`]: the PDU has not 96 to 20,480 bytes.
+/// [`Refusal::Uncorrectable`]: there is no such code word.
+///
+/// # Example
+///
+/// ```
+/// let mut pdu = [0; 96]; // zeros are a code word
+/// pdu[17] = 0x80;
+/// pdu[95] = 0x01;
+/// assert_eq!(barzhilup::correct_header(&mut pdu), Ok(2));
+/// assert_eq!(pdu, [0; 96]);
+/// ```
+pub fn correct_header(pdu: &mut [u8]) -> Result<usize, Refusal> {
+    let answer = ffi::correct_header(pdu);
+    Refusal::check(answer.refusal, 0)?;
+    Ok(answer.corrected as usize)
+}
+
+/// The CRC-8 of a piece: its bytes times x^8, divided by x^8 + x^5 + x^4 + 1, top
+/// bit of each byte first, register starting at 0. The CRC of no bytes is 0.
+/// (Document 01, "Expansion, PSD, pieces".)
+///
+/// ```
+/// assert_eq!(barzhilup::crc8(&[0x01]), 0x31);
+/// ```
+pub fn crc8(bytes: &[u8]) -> u8 {
+    ffi::crc8(bytes)
+}

@@ -1,0 +1,104 @@
+//! The audio transport layer of HD Radio for testers of reception: a writer
+//! that packs encoded audio packets and program service data (PSD) into
+//! protocol data units (PDUs), and a receiver that turns PDUs into a packet
+//! log. No audio is decoded.
+//!
+//! This crate is a thin layer over the C library `libcapi.a` and `libpanel.a`,
+//! which does the work. "Document 01" in these pages is the paper with the
+//! rules; "001" is 1017s Rev. H, the standard that it is taken from.
+//!
+//! # Example
+//!
+//! ```
+//! use barzhilup::{Entry, Mode, Receiver, Settings, Stream, Writer};
+//!
+//! fn main() -> Result<(), barzhilup::Refusal> {
+//!     let mut writer = Writer::open(Mode::M0, Stream::Core)?;
+//!     let mut pdu = [0; 96];
+//!     let ended = writer.write(&Settings::default(), b"", &[b"audio"], &mut pdu)?;
+//!     assert_eq!(ended, 1);
+//!
+//!     pdu[3] ^= 0x40; // noise in the header, which the receiver corrects
+//!
+//!     let mut receiver = Receiver::open(Mode::M0, Stream::Core)?;
+//!     for entry in receiver.receive(&mut pdu)? {
+//!         match entry {
+//!             Entry::Packet { number, data } => {
+//!                 assert_eq!((number, data.to_vec()), (0, b"audio".to_vec()));
+//!             }
+//!             Entry::Psd(_) | Entry::Note { .. } => unreachable!("nothing else was sent"),
+//!         }
+//!     }
+//!     Ok(())
+//! }
+//! ```
+//!
+//! # Refusals
+//!
+//! A call that can't be done is refused: it answers with a [`Refusal`], which
+//! has the number of document 01's table "What is turned down". A refused call
+//! changes nothing: the PDU, the list of pieces, the [`Writer`] and the
+//! [`Receiver`] are as they were. If several causes apply, the refusal has the
+//! lowest number.
+//!
+//! Every call ends, on every input, and none panics.
+//!
+//! # Linking
+//!
+//! The two libraries are looked for in `target/staticlib` under the project's
+//! root, or in the directory that the environment variable `BARZHILUP_LIB` names
+//! when the crate is built.
+
+#![deny(missing_docs)]
+#![deny(unsafe_code)]
+#![warn(clippy::all)]
+
+#[allow(unsafe_code)]
+mod ffi;
+mod header;
+mod log;
+mod mode;
+mod reading;
+mod receiver;
+mod refusal;
+mod writer;
+
+pub use header::{correct_header, crc8, parity, syndromes, write_parity};
+pub use log::{Bytes, Cause, Data, Entries, Entry, Log, MalformedLog};
+pub use mode::{Mode, Stream};
+pub use reading::{list_pieces, read, ControlWord, Expansion, Piece, Reading};
+pub use receiver::{Receiver, ReceiverState};
+pub use refusal::Refusal;
+pub use writer::{ProgramType, Services, Settings, Writer, WriterState};
+
+/// Bytes of a header: the first 96 bytes of a PDU are one word of the header
+/// code. (Document 01, "Header code"; 001, 5.2.3.1.)
+pub const HEADER_BYTES: usize = 96;
+
+/// Parity bytes of a header, its bytes 0 to 7; also how many syndromes there
+/// are. (Document 01, "Header code".)
+pub const PARITY_BYTES: usize = 8;
+
+/// The most bytes of a header that are corrected. (Document 01, "Header code".)
+pub const CORRECTED_MAX: usize = 4;
+
+/// The shortest PDU, in bytes. (Document 01, "What is turned down".)
+pub const PDU_MIN: usize = 96;
+
+/// The longest PDU, in bytes. (Document 01, "What is turned down".)
+pub const PDU_MAX: usize = 20_480;
+
+/// The longest PDU that a writer writes with locators of 12 bits, in bytes.
+/// (Document 01, "Writer".)
+pub const PDU_MAX_12_BITS: usize = 4_096;
+
+/// The longest packet, in bytes. (Document 01, "Writer".)
+pub const PACKET_MAX: usize = 4_096;
+
+/// Bytes of a carry buffer, in which a receiver keeps the beginning of a packet
+/// between calls. (Document 01, "Receiver".)
+pub const CARRY_BYTES: usize = 4_096;
+
+/// A log of so many words is long enough for every call. (Document 01,
+/// "Receiver".)
+pub const LOG_WORDS: usize = 8_400;

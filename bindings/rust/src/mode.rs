@@ -1,0 +1,102 @@
+//! Modes and streams (document 01, "Modes"; 001, tables 5-1, 5-2 and 5-9).
+
+use crate::Refusal;
+use std::fmt;
+
+/// An audio codec mode that document 01's table has.
+///
+/// Together with the [`Stream`] it decides the width of the locators, the range
+/// of the PDU sequence and how much PSD a PDU may have. (Document 01, "Modes".)
+#[derive(Clone, Copy, Debug, PartialEq, Eq, PartialOrd, Ord, Hash)]
+pub enum Mode {
+    /// Mode 0: core only.
+    M0,
+    /// Mode 1: core and enhanced.
+    M1,
+    /// Mode 2: core and enhanced.
+    M2,
+    /// Mode 3: core and enhanced.
+    M3,
+    /// Mode 10: core and enhanced.
+    M10,
+    /// Mode 13: core only.
+    M13,
+}
+
+impl Mode {
+    /// The mode's number, as the control word has it.
+    pub const fn number(self) -> u8 {
+        match self {
+            Mode::M0 => 0,
+            Mode::M1 => 1,
+            Mode::M2 => 2,
+            Mode::M3 => 3,
+            Mode::M10 => 10,
+            Mode::M13 => 13,
+        }
+    }
+}
+
+impl TryFrom<u8> for Mode {
+    type Error = Refusal;
+
+    /// The mode with this number; refused with 5 if the table has none.
+    fn try_from(number: u8) -> Result<Mode, Refusal> {
+        match number {
+            0 => Ok(Mode::M0),
+            1 => Ok(Mode::M1),
+            2 => Ok(Mode::M2),
+            3 => Ok(Mode::M3),
+            10 => Ok(Mode::M10),
+            13 => Ok(Mode::M13),
+            _ => Err(Refusal::Mode),
+        }
+    }
+}
+
+impl fmt::Display for Mode {
+    fn fmt(&self, f: &mut fmt::Formatter<'_>) -> fmt::Result {
+        write!(f, "mode {}", self.number())
+    }
+}
+
+/// One of the two streams of a mode. (Document 01, "Modes"; 001, table 5-1.)
+#[derive(Clone, Copy, Debug, PartialEq, Eq, PartialOrd, Ord, Hash)]
+pub enum Stream {
+    /// Stream 0, core.
+    Core,
+    /// Stream 1, enhanced. Modes 0 and 13 have none.
+    Enhanced,
+}
+
+impl Stream {
+    /// The stream's number, as the control word has it.
+    pub const fn number(self) -> u8 {
+        match self {
+            Stream::Core => 0,
+            Stream::Enhanced => 1,
+        }
+    }
+}
+
+impl TryFrom<u8> for Stream {
+    type Error = Refusal;
+
+    /// The stream with this number; refused with 5 if there is none.
+    fn try_from(number: u8) -> Result<Stream, Refusal> {
+        match number {
+            0 => Ok(Stream::Core),
+            1 => Ok(Stream::Enhanced),
+            _ => Err(Refusal::Mode),
+        }
+    }
+}
+
+impl fmt::Display for Stream {
+    fn fmt(&self, f: &mut fmt::Formatter<'_>) -> fmt::Result {
+        f.write_str(match self {
+            Stream::Core => "core",
+            Stream::Enhanced => "enhanced",
+        })
+    }
+}

@@ -1,0 +1,170 @@
+//! The PDU receiver (document 01, "Receiver").
+
+use crate::{ffi, Log, Mode, Refusal, Stream, CARRY_BYTES, LOG_WORDS};
+use std::fmt;
+
+/// What a receiver remembers between calls, beside its carry buffer: to be kept
+/// and to go on from with [`Receiver::resume`]. (Document 01, "Receiver".)
+#[derive(Clone, Copy, Debug, PartialEq, Eq)]
+pub struct ReceiverState {
+    /// The mode.
+    pub mode: Mode,
+    /// The stream.
+    pub stream: Stream,
+    /// The last PDU's sequence, if it is known.
+    pub sequence: Option<u8>,
+    /// How many bytes of an unfinished packet are held, 0 to 4,096. 0: nothing is
+    /// held.
+    pub held: u16,
+    /// That packet's number, 0 to 63; 0 if nothing is held.
+    pub number: u8,
+}
+
+impl ReceiverState {
+    /// The state as C has it.
+    fn to_c(self) -> ffi::Receiver {
+        ffi::Receiver {
+            mode: self.mode.number(),
+            stream: self.stream.number(),
+            known: self.sequence.is_some(),
+            sequence: self.sequence.unwrap_or(0),
+            held: self.held,
+            number: self.number,
+        }
+    }
+
+    /// The state that a call for this mode and stream hands back.
+    fn after(mode: Mode, stream: Stream, receiver: ffi::Receiver) -> ReceiverState {
+        ReceiverState {
+            mode,
+            stream,
+            sequence: receiver.known.then_some(receiver.sequence),
+            held: receiver.held,
+            number: receiver.number,
+        }
+    }
+}
+
+/// Joins the pieces of PDUs to packets and logs packets, PSD and notes. (Document
+/// 01, "Receiver".)
+///
+/// It owns its carry buffer, of 4,096 bytes, and a log that is long enough for
+/// every call; each accepted call hands out the log of that call. A refused call
+/// leaves the receiver as it was.
+///
+/// Two receivers are equal if they remember the same and hold the same bytes.
+#[derive(Clone)]
+pub struct Receiver {
+    state: ReceiverState,
+    carry: Box<[u8]>,
+    log: Box<[u32]>,
+}
+
+impl Receiver {
+    /// Opens a receiver for a mode and stream: no sequence is known, nothing is
+    /// held.
+    ///
+    /// # Errors
+    ///
+    /// [`Refusal::Mode`]: the mode has no such stream.
+    pub fn open(mode: Mode, stream: Stream) -> Result<Receiver, Refusal> {
+        let answer = ffi::open_receiver(mode.number(), stream.number());
+        Refusal::check(answer.refusal, 0)?;
+        let state = ReceiverState::after(mode, stream, answer.receiver);
+        Ok(Receiver::new(state, vec![0; CARRY_BYTES]))
+    }
+
+    /// A receiver that goes on from a state and a carry buffer that were kept.
+    /// The first bytes of `carry`, as many as are held, are the beginning of the
+    /// unfinished packet.
+    ///
+    /// # Errors
+    ///
+    /// [`Refusal::State`]: a field is outside its range.
+    /// [`Refusal::CarryLength`]: the carry buffer has under 4,096 bytes.
+    pub fn resume(state: ReceiverState, carry: &[u8]) -> Result<Receiver, Refusal> {
+        let mut carry = carry.to_vec();
+        // A PDU of no bytes is refused with 3 where state and carry are right.
+        let answer = ffi::receive(state.to_c(), &mut carry, &mut [], &mut []);
+        match Refusal::check(answer.refusal, 0) {
+            Err(refusal @ (Refusal::State | Refusal::CarryLength)) => Err(refusal),
+            _ => Ok(Receiver::new(state, carry)),
+        }
+    }
+
+    /// A receiver with this state and carry buffer.
+    fn new(state: ReceiverState, carry: Vec<u8>) -> Receiver {
+        Receiver {
+            state,
+            carry: carry.into(),
+            log: vec![0; LOG_WORDS].into(),
+        }
+    }
+
+    /// What the receiver remembers.
+    pub fn state(&self) -> ReceiverState {
+        self.state
+    }
+
+    /// The carry buffer, of at least 4,096 bytes.
+    pub fn carry(&self) -> &[u8] {
+        &self.carry
+    }
+
+    /// The bytes that are held: the beginning of an unfinished packet. They are
+    /// the first ones of the carry buffer.
+    pub fn held(&self) -> &[u8] {
+        &self.carry[..usize::from(self.state.held)]
+    }
+
+    /// Receives one PDU: corrects its header in place, joins its pieces to
+    /// packets, and hands out the log of this call. In log order: a note on the
+    /// sequence or on a beginning that is not continued, if due; the PSD, if any;
+    /// and for each piece a packet if one ends with it, a note if it is dropped,
+    /// or nothing if it is held.
+    ///
+    /// # Errors
+    ///
+    /// Refused with 3 to 12; then the receiver and the PDU are as they were.
+    pub fn receive(&mut self, pdu: &mut [u8]) -> Result<Log<'_>, Refusal> {
+        let answer = ffi::receive(self.state.to_c(), &mut self.carry, pdu, &mut self.log);
+        self.step(answer)
+    }
+
+    /// Marks a PDU lost, in its place in the row of PDUs: logs
+    /// [`Cause::Lost`](crate::Cause::Lost), drops what is held and forgets the
+    /// sequence.
+    ///
+    /// # Errors
+    ///
+    /// None that a receiver can have: its state is in range, and its log long
+    /// enough. The answer has the form of all operations.
+    pub fn mark_lost(&mut self) -> Result<Log<'_>, Refusal> {
+        let answer = ffi::mark_lost(self.state.to_c(), &mut self.log);
+        self.step(answer)
+    }
+
+    /// Takes over the state of an accepted answer, and hands out its log.
+    fn step(&mut self, answer: ffi::Received) -> Result<Log<'_>, Refusal> {
+        Refusal::check(answer.refusal, answer.wrong_locator)?;
+        self.state = ReceiverState::after(self.state.mode, self.state.stream, answer.receiver);
+        Ok(Log::written(&self.log[..answer.words as usize]))
+    }
+}
+
+impl PartialEq for Receiver {
+    fn eq(&self, other: &Receiver) -> bool {
+        self.state == other.state && self.held() == other.held()
+    }
+}
+
+impl Eq for Receiver {}
+
+impl fmt::Debug for Receiver {
+    fn fmt(&self, f: &mut fmt::Formatter<'_>) -> fmt::Result {
+        f.debug_struct("Receiver")
+            .field("state", &self.state)
+            .field("held", &self.held())
+            .finish_non_exhaustive()
+    }
+}

@@ -1,0 +1,150 @@
+//! Why a call is refused (document 01, "What is turned down").
+
+use std::error::Error;
+use std::fmt;
+
+/// Why a call was refused: a row of document 01's table "What is turned down".
+///
+/// A refused call has changed nothing. If several causes applied, this is the
+/// one with the lowest number.
+#[derive(Clone, Copy, Debug, PartialEq, Eq, Hash)]
+pub enum Refusal {
+    /// 1: a field of a writer's or receiver's state is outside its range.
+    State,
+    /// 2: the carry buffer has under 4,096 bytes.
+    CarryLength,
+    /// 3: the PDU's length is not 96 to 20,480; for a writer with locators of 12
+    /// bits, it is over 4,096.
+    PduLength,
+    /// 4: no code word differs from the header in at most four bytes.
+    Uncorrectable,
+    /// 5: the mode and stream are not in the table of document 01, "Modes".
+    Mode,
+    /// 6: the PDU's mode and stream are in the table, but are not those that the
+    /// receiver was opened for.
+    OtherMode,
+    /// 7: the PDU sequence is outside its mode's range.
+    Sequence,
+    /// 8: NOP is over its limit, or Pfirst or Plast is set with NOP 0.
+    Pieces,
+    /// 9: La is before the last locator byte, or not below the length.
+    La,
+    /// 10: the expansion is over 16 bytes, past La, out of order, with class 0 or
+    /// with a field cut; or a writer may not send it (document 01, "Expansion,
+    /// PSD, pieces").
+    Expansion,
+    /// 11: a locator is under its piece's start plus 1, or not below the length.
+    Locator {
+        /// The number of a wrong locator, from 0. Which one it is, if there are
+        /// several, is not said.
+        k: u32,
+    },
+    /// 12: the displacement is before the last piece's end, or not below the
+    /// length.
+    Displacement,
+    /// 13: the log is shorter than the words that the call would write, or the
+    /// list of pieces has fewer than NOP entries.
+    LogLength,
+    /// 14: a setting that is not sent: blend 3, or nonzero with a nonzero
+    /// program; core gain 7 to 23; a value past its width.
+    Value,
+    /// 15: a packet's length is 0 or over 4,096, or the unfinished packet is not
+    /// offered first and whole.
+    Packets,
+    /// 16: PSD plus expansion is past the mode's limit, or there is PSD on a
+    /// stream without.
+    Psd,
+    /// 17: there is no room for a piece of one byte; with no packet offered, none
+    /// for the overhead.
+    Room,
+}
+
+impl Refusal {
+    /// The number in document 01's table, 1 to 17.
+    pub const fn number(self) -> u32 {
+        match self {
+            Refusal::State => 1,
+            Refusal::CarryLength => 2,
+            Refusal::PduLength => 3,
+            Refusal::Uncorrectable => 4,
+            Refusal::Mode => 5,
+            Refusal::OtherMode => 6,
+            Refusal::Sequence => 7,
+            Refusal::Pieces => 8,
+            Refusal::La => 9,
+            Refusal::Expansion => 10,
+            Refusal::Locator { .. } => 11,
+            Refusal::Displacement => 12,
+            Refusal::LogLength => 13,
+            Refusal::Value => 14,
+            Refusal::Packets => 15,
+            Refusal::Psd => 16,
+            Refusal::Room => 17,
+        }
+    }
+
+    /// What an answer of the library says: `number` is 0 if the call was
+    /// accepted, and `k` counts with 11 only.
+    pub(crate) fn check(number: u32, k: u32) -> Result<(), Refusal> {
+        Err(match number {
+            0 => return Ok(()),
+            1 => Refusal::State,
+            2 => Refusal::CarryLength,
+            3 => Refusal::PduLength,
+            4 => Refusal::Uncorrectable,
+            5 => Refusal::Mode,
+            6 => Refusal::OtherMode,
+            7 => Refusal::Sequence,
+            8 => Refusal::Pieces,
+            9 => Refusal::La,
+            10 => Refusal::Expansion,
+            11 => Refusal::Locator { k },
+            12 => Refusal::Displacement,
+            13 => Refusal::LogLength,
+            14 => Refusal::Value,
+            15 => Refusal::Packets,
+            16 => Refusal::Psd,
+            17 => Refusal::Room,
+            _ => unreachable!("the library has no refusal {number}"),
+        })
+    }
+
+    /// The cause in plain words; 11's without its k.
+    const fn words(self) -> &'static str {
+        match self {
+            Refusal::State => "a field of the state is outside its range",
+            Refusal::CarryLength => "the carry buffer has under 4,096 bytes",
+            Refusal::PduLength => "a PDU can't have this length",
+            Refusal::Uncorrectable => "more than four bytes of the header are wrong",
+            Refusal::Mode => "no such mode and stream",
+            Refusal::OtherMode => "the PDU is of another mode or stream than the receiver",
+            Refusal::Sequence => "the PDU sequence is outside its mode's range",
+            Refusal::Pieces => "too many pieces, or Pfirst or Plast without a piece",
+            Refusal::La => "La is before the last locator byte or past the PDU's end",
+            Refusal::Expansion => "the expansion breaks its rules",
+            Refusal::Locator { .. } => "a locator is before its piece's end or past the PDU's end",
+            Refusal::Displacement => {
+                "the displacement is before the last piece's end or past the PDU's end"
+            }
+            Refusal::LogLength => "the log or the list of pieces is too short",
+            Refusal::Value => "a setting has a value that is not sent",
+            Refusal::Packets => {
+                "a packet is empty or over 4,096 bytes, or the unfinished one is not offered whole"
+            }
+            Refusal::Psd => "too much PSD and expansion for the mode and stream",
+            Refusal::Room => "the PDU has no room for a byte of a packet, or for its overhead",
+        }
+    }
+}
+
+impl fmt::Display for Refusal {
+    fn fmt(&self, f: &mut fmt::Formatter<'_>) -> fmt::Result {
+        write!(f, "refusal {}: {}", self.number(), self.words())?;
+        match self {
+            Refusal::Locator { k } => write!(f, " (locator {k})"),
+            _ => Ok(()),
+        }
+    }
+}
+
+impl Error for Refusal {}
