@@ -285,16 +285,16 @@ static void make_rows(const uint8_t *bytes)
 
 static void print_row(const struct row *row)
 {
-    double ours = median_ns(row, 0), peer, low, high;
+    double ours = least_ns(row, 0), peer, low, high;
     printf("%-26s %10.2f", row->name, ours);
     if (row->work[1] != NULL) {
-        peer = median_ns(row, 1);
+        peer = least_ns(row, 1);
         middle_ratios(row, &low, &high);
         printf(" %10.2f %8.2f   %6.2f - %6.2f", peer, ours / peer, low, high);
     } else
         printf(" %10s %8s", "-", "-");
     if (row->work[2] != NULL)
-        printf(" %10.2f", median_ns(row, 2));
+        printf(" %10.2f", least_ns(row, 2));
     printf("\n");
 }
 
@@ -313,7 +313,7 @@ static void print_tables(void)
 
 static void print_notes(void)
 {
-    printf("\nMedians of %d interleaved rounds of processor time. Ratio: ours / peer, above 1 the\n"
+    printf("\nThe least of %d interleaved rounds of processor time. Ratio: ours / peer, above 1 the\n"
            "peer is faster; behind it, between which ratios the middle half of the rounds lies.\n"
            "%d headers per row, the same for both. Buffers are restored before each timed\n"
            "correction; that copy of 96 bytes is in both times.\n",

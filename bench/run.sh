@@ -1,31 +1,121 @@
 #!/usr/bin/env bash
-# How fast the library is: nanoseconds per header of syndromes, parity and correction beside libfec, and per byte of the CRC-8 beside plain C.
-# It measures and judges nothing, and is no part of the gate. It takes some seconds, on one core; other load on the machine shows in the numbers.
-# Needs gcc and a built libcapi.a: in target/staticlib under the project's root, or in the directory that BARZHILUP_LIB names.
-# libfec (Debian: apt-get install libfec-dev) is used where it is installed; without it the header code's numbers stand alone.
+# How fast the library is, and how much stack it uses; docs/PERFORMANCE.md says what came of it.
+# - the header code beside libfec, and the CRC-8 beside plain C (header.c);
+# - writing and receiving PDUs beside the same job in plain C with libfec (plain.c) and beside the referee, as times and as counts of
+#   instructions, with how they grow (pdus.c), and which functions have how much of it;
+# - the stack of each exported function (stack.c).
+# It measures and judges nothing but that all of them answer the same, and is no part of the gate. It takes about a minute, on one core;
+# other load on the machine shows in the times, and not in the counts.
+# Needs gcc and built libcapi.a and libpanel.a: in target/staticlib under the project's root, or in the directory that BARZHILUP_LIB names.
+# Used where they are installed, else what they are for is left out: libfec (Debian: apt-get install libfec-dev), cargo, valgrind.
 set -euo pipefail
 
 root=$(cd "$(dirname "$0")/.." && pwd)
-library=${BARZHILUP_LIB:-$root/target/staticlib}/libcapi.a
-if [ ! -f "$library" ]; then
-    echo "bench: no $library; build the library first, or name its directory in BARZHILUP_LIB" >&2
-    exit 1
-fi
+bench=$root/bench
+libraries=${BARZHILUP_LIB:-$root/target/staticlib}
+library=$libraries/libcapi.a
+panel=$libraries/libpanel.a
+for built in "$library" "$panel"; do
+    if [ ! -f "$built" ]; then
+        echo "bench: no $built; build the libraries first, or name their directory in BARZHILUP_LIB" >&2
+        exit 1
+    fi
+done
 
 build=$(mktemp -d)
 trap 'rm -rf "$build"' EXIT
 
-peer=()
-fec="libfec not installed (apt-get install libfec-dev)"
+# ---- What there is beside the library ----------------------------------------
+
+defined=()
+linked=()
+fec="libfec not installed (apt-get install libfec-dev): the header code stands alone, and the plain C program is left out"
 printf '#include <stddef.h>\n#include <fec.h>\nint main(void) { return init_rs_char(8, 0x11d, 1, 1, 8, 159) == NULL; }\n' > "$build/fec.c"
 if gcc -o "$build/fec" "$build/fec.c" -lfec 2> "$build/fec.log"; then
-    peer=(-DWITH_LIBFEC)
+    defined+=(-DWITH_LIBFEC)
+    linked+=(-lfec)
     fec="libfec $(dpkg-query -W -f '${Version}' libfec-dev 2> "$build/dpkg.log" || echo 'of unknown version')"
 fi
 
-gcc -std=c99 -Wall -Wextra -Wpedantic -Werror -O3 -I "$root/include" "${peer[@]}" -o "$build/header" \
-    "$root/bench/header.c" "$root/bench/peers.c" "$root/bench/timing.c" "$library" ${peer:+-lfec}
+referee="cargo not installed: the referee is left out"
+beside=()
+if command -v cargo > "$build/which.log"; then
+    BARZHILUP_LIB=$libraries CARGO_TARGET_DIR=$build/cargo cargo build --quiet --offline --release --manifest-path "$bench/referee/Cargo.toml"
+    beside=(-DWITH_REFEREE "$build/cargo/release/libreferee_bench.a" -lpthread -ldl -lm)
+    referee=$(rustc --version)
+fi
+
+# ---- Building ----------------------------------------------------------------
+
+# A program's name, and its files and words besides. All symbols are bound at its start, so that nothing of that is measured.
+compile() {
+    local name=$1
+    shift
+    gcc -std=c99 -Wall -Wextra -Wpedantic -Werror -O3 -I "$root/include" "${defined[@]}" -Wl,-z,now -o "$build/$name" "$bench/$name.c" "$bench/peers.c" "$@"
+}
+
+compile header "$bench/timing.c" "$library" "${linked[@]}"
+compile pdus "$bench/agree.c" "$bench/drives.c" "$bench/plain.c" "$bench/timing.c" "$library" "${beside[@]}" "${linked[@]}"
+compile stack "$bench/drives.c" "$bench/plain.c" "$panel" "$library" "${linked[@]}" -lpthread
+
+# ---- Counts of instructions --------------------------------------------------
+
+# A callgrind file's functions, the costliest first, each with its own share of the instructions in percent.
+shares() {
+    awk '
+        # fn=(number) name; the name stands only where the number comes first, also at a call.
+        match($0, /^c?fn=\([0-9]+\)/) {
+            number = substr($0, index($0, "=") + 1, RLENGTH - index($0, "="))
+            if (length($0) > RLENGTH) name[number] = substr($0, RLENGTH + 2)
+            if ($0 ~ /^fn=/) own = number
+            next
+        }
+        /^calls=/ { called = 1; next }
+        /^[-+*0-9]/ { if (!called) cost[own] += $2; called = 0; next }
+        /^totals:/ { total = $2 }
+        END {
+            for (number in cost) {
+                share = 100 * cost[number] / total
+                if (share >= 1 && name[number] !~ /main|^counted$|^0x/) printf "%.1f %% %s\n", share, name[number]
+            }
+        }' "$1" | sort -rn | paste -sd ',' | sed 's/,/, /g'
+}
+
+count() {
+    local options=(--tool=callgrind --callgrind-out-file="$build/calls" --collect-atstart=no --toggle-collect=counted --dump-after=counted)
+    valgrind "${options[@]}" "$build/pdus" once > "$build/labels" 2> "$build/valgrind.log"
+    local i=0 label
+    while IFS= read -r label; do
+        i=$((i + 1))
+        sed -n 's/^totals: //p' "$build/calls.$i"
+    done < "$build/labels" > "$build/counts"
+    "$build/pdus" counts "$build/counts"
+    printf '\nWhose instructions these are, from 1 %% on; what is inlined counts for the caller\n'
+    i=0
+    local seen=""
+    while IFS= read -r label; do
+        i=$((i + 1))
+        case "$seen" in *"|$label|"*) break ;; esac
+        seen="$seen|$label|"
+        case "$label" in
+        *referee) ;;
+        *) printf '%-42s %s\n' "$label:" "$(shares "$build/calls.$i")" ;;
+        esac
+    done < "$build/labels"
+}
+
+# ---- Running -----------------------------------------------------------------
 
 model=$(sed -n '/^model name/{s/^[^:]*: *//p;q}' /proc/cpuinfo)
-echo "CPU: ${model:-unknown}; compiler of this program: $(gcc --version | sed -n 1p); peer: $fec"
+echo "CPU: ${model:-unknown}; $(nproc) cores; load when this began: $(cut -d ' ' -f 1 /proc/loadavg)"
+echo "Compiler of these programs: $(gcc --version | sed -n 1p); of the library: $(rt version 2> "$build/rt.log" || echo 'a Rattle toolchain')"
+echo "Peers: $fec; referee: $referee"
 "$build/header"
+echo
+"$build/pdus"
+if command -v valgrind > "$build/which.log"; then
+    count
+else
+    printf '\nvalgrind is not installed: instructions are not counted.\n'
+fi
+"$build/stack"

@@ -2,7 +2,6 @@
 #include "timing.h"
 
 #include <stdlib.h>
-#include <string.h>
 #include <time.h>
 
 #define ENOUGH_NS 3e6 /* how long one timing takes at least */
@@ -78,12 +77,14 @@ static void sort(double *values)
     qsort(values, ROUNDS, sizeof values[0], compare);
 }
 
-double median_ns(const struct row *row, size_t rival)
+double least_ns(const struct row *row, size_t rival)
 {
-    double sorted[ROUNDS];
-    memcpy(sorted, row->ns[rival], sizeof sorted);
-    sort(sorted);
-    return sorted[ROUNDS / 2];
+    double least = row->ns[rival][0];
+    size_t round;
+    for (round = 1; round < ROUNDS; round++)
+        if (row->ns[rival][round] < least)
+            least = row->ns[rival][round];
+    return least;
 }
 
 void middle_ratios(const struct row *row, double *low, double *high)

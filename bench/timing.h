@@ -7,8 +7,8 @@
 
 #include <stddef.h>
 
-#define ROUNDS 41 /* odd, so that the median is one of the rounds */
-#define RIVALS 3  /* implementations in a row at most */
+#define ROUNDS 41
+#define RIVALS 3 /* implementations in a row at most */
 
 /* Does the work on the inputs as many times as `passes` says. */
 typedef void (*timed_work)(const void *inputs, size_t passes);
@@ -26,8 +26,9 @@ struct row {
 /* Times all rows in all rounds. */
 void time_rows(struct row *rows, size_t count);
 
-/* The median of an implementation's rounds, in nanoseconds per unit. */
-double median_ns(const struct row *row, size_t rival);
+/* The least of an implementation's rounds, in nanoseconds per unit: the round that
+ * other work on the machine got into least. */
+double least_ns(const struct row *row, size_t rival);
 
 /* Between which ratios of the first implementation to the second the middle half
  * of the rounds lies. */
