@@ -2,7 +2,7 @@
 ghost use mathlib.Core.Path.{_≡_};
 ghost use Prim.Native.Nat.{_<_, _≤_};
 ghost use lib.ListN.{getD, length};
-ghost use Rattle.field.specs.Field.{mul, inverse};
+ghost use Rattle.field.specs.Field.{Powers, Logarithms};
 ghost use Rattle.header.specs.Header.{syndromes, distance};
 ghost use Rattle.algebra.specs.Places.{All, keep, below};
 ghost use Rattle.correction.specs.Correction.{Candidate, corrected, answerFor, headerAfter, correctionOf, correctedPdu};
@@ -18,26 +18,36 @@ pub enum Correction {
 }
 
 // The row times the inverse of b.
-fn scaled(row: [u8; 5], b: u8) -> [u8; 5]
+fn scaled(powers: &[u8; 255], logarithms: &[u8; 256], row: [u8; 5], b: u8) -> [u8; 5]
+    requires { ⌜ Powers (now powers) ⌝ }
+    requires { ⌜ Logarithms (now logarithms) ⌝ }
     ensures { λ r. ⌜ Row (scaledBy row b) r 5 ⌝ }
 {
-    let v = field::inverse(b);
+    let v = field::inverse_by(powers, logarithms, b);
     let mut out = row;
     for i in 0..5 {
-        out[i] = field::product(v, row[i]);
+        out[i] = field::product_by(powers, logarithms, v, row[i]);
     }
     out
 }
 
 // The row plus its entry at k times the pivot row.
-fn cleared(row: [u8; 5], p: [u8; 5], k: usize) -> [u8; 5]
+fn cleared(
+    powers: &[u8; 255],
+    logarithms: &[u8; 256],
+    row: [u8; 5],
+    p: [u8; 5],
+    k: usize,
+) -> [u8; 5]
     requires { ⌜ k < 5 ⌝ }
+    requires { ⌜ Powers (now powers) ⌝ }
+    requires { ⌜ Logarithms (now logarithms) ⌝ }
     ensures { λ r. ⌜ Row (clearedBy row p k) r 5 ⌝ }
 {
     let b = row[k];
     let mut out = row;
     for i in 0..5 {
-        out[i] = row[i] ^ field::product(b, p[i]);
+        out[i] = row[i] ^ field::product_by(powers, logarithms, b, p[i]);
     }
     out
 }
@@ -59,14 +69,22 @@ fn pivot(m: [[u8; 5]; 4], k: usize) -> usize
 }
 
 // Row p scaled to a 1 in column k and moved to row k, and column k cleared in every other row.
-fn reduce(m: [[u8; 5]; 4], k: usize, p: usize) -> [[u8; 5]; 4]
+fn reduce(
+    powers: &[u8; 255],
+    logarithms: &[u8; 256],
+    m: [[u8; 5]; 4],
+    k: usize,
+    p: usize,
+) -> [[u8; 5]; 4]
     requires { ⌜ k < 4 ⌝ }
     requires { ⌜ p < 4 ⌝ }
+    requires { ⌜ Powers (now powers) ⌝ }
+    requires { ⌜ Logarithms (now logarithms) ⌝ }
     ensures { λ r. ⌜ Reduce m k p r ⌝ }
 {
     let row = m[p];
     let b = row[k];
-    let top = scaled(row, b);
+    let top = scaled(powers, logarithms, row, b);
     let other = m[k];
     let mut out = m;
     out[p] = other;
@@ -74,7 +92,7 @@ fn reduce(m: [[u8; 5]; 4], k: usize, p: usize) -> [[u8; 5]; 4]
     for r in 0..4 {
         if r != k {
             let old = out[r];
-            out[r] = cleared(old, top, k);
+            out[r] = cleared(powers, logarithms, old, top, k);
         }
     }
     out
@@ -100,7 +118,9 @@ fn column(rows: [[u8; 5]; 4], k: usize) -> [u8; 4]
 }
 
 // Elimination as far as the first column with no pivot.
-fn eliminate(m: [[u8; 5]; 4]) -> Locator
+fn eliminate(powers: &[u8; 255], logarithms: &[u8; 256], m: [[u8; 5]; 4]) -> Locator
+    requires { ⌜ Powers (now powers) ⌝ }
+    requires { ⌜ Logarithms (now logarithms) ⌝ }
     ensures { λ r. ⌜ Solved m (r .degree) (r .coefficients) ⌝ }
 {
     let mut rows = m;
@@ -114,7 +134,7 @@ fn eliminate(m: [[u8; 5]; 4]) -> Locator
                 coefficients: c,
             };
         }
-        let next = reduce(rows, k, p);
+        let next = reduce(powers, logarithms, rows, k, p);
         rows = next;
         k += 1;
     }
@@ -126,20 +146,31 @@ fn eliminate(m: [[u8; 5]; 4]) -> Locator
 }
 
 // One filter: entry j becomes t[j + 1] + x t[j]. The last entry is of no use after it.
-fn filtered(t: [u8; 8], x: u8) -> [u8; 8]
+fn filtered(powers: &[u8; 255], logarithms: &[u8; 256], t: [u8; 8], x: u8) -> [u8; 8]
+    requires { ⌜ Powers (now powers) ⌝ }
+    requires { ⌜ Logarithms (now logarithms) ⌝ }
     ensures { λ r. ⌜ Filtered t x r 7 ⌝ }
 {
     let mut out = [0; 8];
     for j in 0..7 {
-        out[j] = t[j + 1] ^ field::product(x, t[j]);
+        out[j] = t[j + 1] ^ field::product_by(powers, logarithms, x, t[j]);
     }
     out
 }
 
 // The error value at the point z[k], one of the first m points of z, from the syndromes s.
-fn error_value(s: [u8; 8], z: [u8; 8], m: usize, k: usize) -> u8
+fn error_value(
+    powers: &[u8; 255],
+    logarithms: &[u8; 256],
+    s: [u8; 8],
+    z: [u8; 8],
+    m: usize,
+    k: usize,
+) -> u8
     requires { ⌜ m ≤ 8 ⌝ }
     requires { ⌜ k < m ⌝ }
+    requires { ⌜ Powers (now powers) ⌝ }
+    requires { ⌜ Logarithms (now logarithms) ⌝ }
     ensures { λ r. ⌜ r ≡ valueAt s z m k ⌝ }
 {
     let at = z[k];
@@ -148,25 +179,33 @@ fn error_value(s: [u8; 8], z: [u8; 8], m: usize, k: usize) -> u8
     for q in 0..m {
         if q != k {
             let x = z[q];
-            let next = filtered(t, x);
+            let next = filtered(powers, logarithms, t, x);
             t = next;
-            f = field::product(f, at ^ x);
+            f = field::product_by(powers, logarithms, f, at ^ x);
         }
     }
-    let v = field::inverse(f);
-    field::product(t[0], v)
+    let v = field::inverse_by(powers, logarithms, f);
+    field::product_by(powers, logarithms, t[0], v)
 }
 
 // The locator at x.
-fn evaluate(coefficients: [u8; 4], degree: usize, x: u8) -> u8
+fn evaluate(
+    powers: &[u8; 255],
+    logarithms: &[u8; 256],
+    coefficients: [u8; 4],
+    degree: usize,
+    x: u8,
+) -> u8
     requires { ⌜ degree ≤ 4 ⌝ }
+    requires { ⌜ Powers (now powers) ⌝ }
+    requires { ⌜ Logarithms (now logarithms) ⌝ }
     ensures { λ r. ⌜ r ≡ valueFrom coefficients x 0 degree ⌝ }
 {
     let mut v = 1;
     let mut i = degree;
     while 0 < i {
         i -= 1;
-        v = coefficients[i] ^ field::product(x, v);
+        v = coefficients[i] ^ field::product_by(powers, logarithms, x, v);
     }
     v
 }
@@ -178,9 +217,16 @@ struct Places {
 }
 
 // The places at which the locator is zero, the last first.
-fn error_places(coefficients: [u8; 4], degree: usize) -> Places
+fn error_places(
+    powers: &[u8; 255],
+    logarithms: &[u8; 256],
+    coefficients: [u8; 4],
+    degree: usize,
+) -> Places
     requires { ⌜ degree ≤ 4 ⌝ }
     requires { ⌜ length (keep (root coefficients degree) (below 96)) ≤ 4 ⌝ }
+    requires { ⌜ Powers (now powers) ⌝ }
+    requires { ⌜ Logarithms (now logarithms) ⌝ }
     ensures { λ r. ⌜ Search coefficients degree 0 (r .count) (r .places) ⌝ }
 {
     let mut count = 0;
@@ -188,8 +234,8 @@ fn error_places(coefficients: [u8; 4], degree: usize) -> Places
     let mut m = 96;
     while 0 < m {
         m -= 1;
-        let x = field::power(m);
-        let v = evaluate(coefficients, degree, x);
+        let x = field::power_by(powers, m);
+        let v = evaluate(powers, logarithms, coefficients, degree, x);
         if v == 0 {
             places[count] = m;
             count += 1;
@@ -238,16 +284,25 @@ fn points(places: [usize; 4]) -> [u8; 8]
 }
 
 // The header with the error values added at the first m places.
-fn repaired(header: [u8; 96], s: [u8; 8], places: [usize; 4], m: usize) -> [u8; 96]
+fn repaired(
+    powers: &[u8; 255],
+    logarithms: &[u8; 256],
+    header: [u8; 96],
+    s: [u8; 8],
+    places: [usize; 4],
+    m: usize,
+) -> [u8; 96]
     requires { ⌜ m ≤ 4 ⌝ }
     requires { ⌜ DistinctPlaces places m ⌝ }
+    requires { ⌜ Powers (now powers) ⌝ }
+    requires { ⌜ Logarithms (now logarithms) ⌝ }
     ensures { λ r. ⌜ Repaired header s places m m r ⌝ }
 {
     let z = points(places);
     let mut out = header;
     for k in 0..m {
         let at = places[k];
-        out[at] = header[at] ^ error_value(s, z, m, k);
+        out[at] = header[at] ^ error_value(powers, logarithms, s, z, m, k);
     }
     out
 }
@@ -273,13 +328,15 @@ fn candidate(header: [u8; 96], s: [u8; 8]) -> [u8; 96]
     requires { ⌜ s ≡ syndromes header ⌝ }
     ensures { λ r. ⌜ Candidate header r ⌝ }
 {
-    let locator = eliminate(system(s));
+    let powers = field::powers();
+    let logarithms = field::logarithms();
+    let locator = eliminate(&powers, &logarithms, system(s));
     let degree = locator.degree;
     let coefficients = locator.coefficients;
-    let found = error_places(coefficients, degree);
+    let found = error_places(&powers, &logarithms, coefficients, degree);
     let places = found.places;
     let m = found.count;
-    repaired(header, s, places, m)
+    repaired(&powers, &logarithms, header, s, places, m)
 }
 
 // A header after correction, and the answer.

@@ -93,13 +93,14 @@ mul-assoc x y z hx hy hz =
 reciprocal : ℕ → ℕ
 reciprocal x = pow (255 - getD logTable x 0)
 
-pub pow-inverse : (x k : ℕ) → k < 255 → pow k ≡ x → mul x (pow (255 - k)) ≡ 1
-pow-inverse x k h e =
-    ap (λ (w : ℕ). mul w (pow (255 - k))) (sym e) ∙ sym (pow-add k (255 - k)) ∙ ap pow (omega arith) ∙ pow-255
+pub pow-inverse : (x k m : ℕ) → k + m ≡ 255 → pow k ≡ x → mul x (pow m) ≡ 1
+pow-inverse x k m h e = ap (λ (w : ℕ). mul w (pow m)) (sym e) ∙ sym (pow-add k m) ∙ ap pow h ∙ pow-255
 
 mul-reciprocal : (x : ℕ) → 0 < x → x < 256 → mul x (reciprocal x) ≡ 1
 unfolding reciprocal
-mul-reciprocal x z h = pow-inverse x (getD logTable x 0) (log-lt x z h) (log-rule x z h)
+mul-reciprocal x z h =
+    let below : getD logTable x 0 < 255 = log-lt x z h in
+    pow-inverse x (getD logTable x 0) (255 - getD logTable x 0) (omega arith) (log-rule x z h)
 
 pub cancel : (x y z : ℕ) → 0 < x → x < 256 → y < 256 → z < 256 → mul x y ≡ mul x z → y ≡ z
 unfolding reciprocal
@@ -213,5 +214,5 @@ powers-run = record {
     positive k h =
         ⊎-elim
         (λ (e : pow k ≡ 0).
-        (let one : _≡_ {A = ℕ} 0 1 = sym (mul-zero-l (pow (255 - k))) ∙ ap (λ (w : ℕ). mul w (pow (255 - k))) (sym e) ∙ pow-inverse (pow k) k h refl in absurd (omega arith)))
+        (let one : _≡_ {A = ℕ} 0 1 = sym (mul-zero-l (pow (255 - k))) ∙ ap (λ (w : ℕ). mul w (pow (255 - k))) (sym e) ∙ pow-inverse (pow k) k (255 - k) (omega arith) refl in absurd (omega arith)))
         (λ (p : 0 < pow k). p) (eq-zero-or-pos (pow k))

@@ -1,9 +1,12 @@
 -- GF(256), document 01 "Header code": bytes are polynomials over GF(2) in a, lowest bit the constant, with
 -- a^8 = a^4 + a^3 + a^2 + 1 and a = 2. The sum of two elements is `bitXor`.
+use mathlib.Core.Path.{_≡_}
 use mathlib.Core.Bool.{Bool, cond}
-use Prim.Native.Nat.{ℕ, zero, suc, _*_, _/_, _%_}
+use mathlib.Core.List.{List}
+use Prim.Native.Nat.{ℕ, zero, suc, _*_, _/_, _%_, _<_}
 use lib.Bits.{bitXor}
 use lib.Dec.{eqb}
+use lib.ListN.{getD}
 
 -- a^8 = a^4 + a^3 + a^2 + 1
 abbrev pub a8 : ℕ
@@ -39,3 +42,12 @@ lastBelow t (suc n) = cond (t n) n (lastBelow t n)
 -- the inverse of x: the one byte y with x times y = 1; 0 where there is none, so for 0
 unfoldable pub inverse : ℕ → ℕ
 inverse x = lastBelow (λ y. eqb (mul x y) 1) 256
+
+-- a table of a^0 to a^254
+pub record Powers (t : List ℕ) : Type 0 where
+  pub entry : (k : ℕ) → k < 255 → getD t k 0 ≡ pow k
+
+-- a table of the power of a that each nonzero byte is
+pub record Logarithms (t : List ℕ) : Type 0 where
+  pub small : (x : ℕ) → 0 < x → x < 256 → getD t x 0 < 255
+  pub entry : (x : ℕ) → 0 < x → x < 256 → pow (getD t x 0) ≡ x

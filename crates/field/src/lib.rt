@@ -1,7 +1,7 @@
 // GF(256) by tables of powers and logarithms of a = 2 (document 01, "Header code").
 ghost use mathlib.Core.Path.{_≡_};
-ghost use Prim.Native.Nat.{_<_};
-ghost use Rattle.field.specs.Field.{mul, pow, inverse as inverseOf};
+ghost use Prim.Native.Nat.{_+_, _<_};
+ghost use Rattle.field.specs.Field.{mul, pow, inverse as inverseOf, Powers, Logarithms};
 
 // a to the powers 0 to 254: all 255 nonzero bytes.
 const POWERS: [u8; 255] = [
@@ -522,23 +522,52 @@ const LOGARITHMS: [u8; 256] = [
     175,
 ];
 
-// a to the power k.
-pub fn power(k: usize) -> u8
-    ensures { λ r. ⌜ r ≡ pow k ⌝ }
+// The table of powers. Code with many lookups takes it once and lends it to each.
+pub fn powers() -> [u8; 255]
+    ensures { λ r. ⌜ Powers r ⌝ }
 {
-    POWERS[k % 255]
+    POWERS
 }
 
-// The power of a that a nonzero byte is.
-fn logarithm(x: u8) -> usize
+// The table of logarithms, to be lent likewise.
+pub fn logarithms() -> [u8; 256]
+    ensures { λ r. ⌜ Logarithms r ⌝ }
+{
+    LOGARITHMS
+}
+
+// a to the power k, from the lent table.
+pub fn power_by(powers: &[u8; 255], k: usize) -> u8
+    requires { ⌜ Powers (now powers) ⌝ }
+    ensures { λ r. ⌜ r ≡ pow k ⌝ }
+{
+    powers[k % 255]
+}
+
+// The power of a that a nonzero byte is, from the lent table.
+fn logarithm_by(logarithms: &[u8; 256], x: u8) -> usize
+    requires { ⌜ Logarithms (now logarithms) ⌝ }
     requires { ⌜ 0 < x ⌝ }
     ensures { λ r. ⌜ (r < 255) × (pow r ≡ x) ⌝ }
 {
-    LOGARITHMS[x as usize] as usize
+    logarithms[x as usize] as usize
 }
 
-// The product of two bytes.
-pub fn product(x: u8, y: u8) -> u8
+// The same power of a below 255, for the sum of two logarithms: a^255 is 1.
+fn reduced(k: usize) -> usize
+    requires { ⌜ k < 510 ⌝ }
+    ensures { λ r. ⌜ (r < 255) × (pow r ≡ pow k) ⌝ }
+{
+    if k < 255 {
+        return k;
+    }
+    k - 255
+}
+
+// The product of two bytes, from the lent tables.
+pub fn product_by(powers: &[u8; 255], logarithms: &[u8; 256], x: u8, y: u8) -> u8
+    requires { ⌜ Powers (now powers) ⌝ }
+    requires { ⌜ Logarithms (now logarithms) ⌝ }
     ensures { λ r. ⌜ r ≡ mul x y ⌝ }
 {
     if x == 0 {
@@ -547,15 +576,42 @@ pub fn product(x: u8, y: u8) -> u8
     if y == 0 {
         return 0;
     }
-    power(logarithm(x) + logarithm(y))
+    powers[reduced(logarithm_by(logarithms, x) + logarithm_by(logarithms, y))]
 }
 
-// The inverse of a byte; 0 for 0, which has none.
-pub fn inverse(x: u8) -> u8
+// The power of a that is the inverse of a^k: a^255 is 1.
+fn complement(k: usize) -> usize
+    requires { ⌜ k < 255 ⌝ }
+    ensures { λ r. ⌜ k + r ≡ 255 ⌝ }
+{
+    255 - k
+}
+
+// The inverse of a byte, from the lent tables; 0 for 0, which has none.
+pub fn inverse_by(powers: &[u8; 255], logarithms: &[u8; 256], x: u8) -> u8
+    requires { ⌜ Powers (now powers) ⌝ }
+    requires { ⌜ Logarithms (now logarithms) ⌝ }
     ensures { λ r. ⌜ r ≡ inverseOf x ⌝ }
 {
     if x == 0 {
         return 0;
     }
-    power(255 - logarithm(x))
+    power_by(powers, complement(logarithm_by(logarithms, x)))
+}
+
+// a to the power k.
+pub fn power(k: usize) -> u8
+    ensures { λ r. ⌜ r ≡ pow k ⌝ }
+{
+    let powers = powers();
+    power_by(&powers, k)
+}
+
+// The product of two bytes.
+pub fn product(x: u8, y: u8) -> u8
+    ensures { λ r. ⌜ r ≡ mul x y ⌝ }
+{
+    let powers = powers();
+    let logarithms = logarithms();
+    product_by(&powers, &logarithms, x, y)
 }

@@ -2,5 +2,6 @@ pub mod Copies
 pub mod Lengths
 pub mod CodeWords
 pub mod Division
+pub mod HornersRule
 pub mod Distances
 pub mod Unique

@@ -1,20 +1,66 @@
 // The header code: syndromes, and parity by division with the generator (document 01, "Header code").
 ghost use mathlib.Core.Path.{_≡_};
-ghost use Prim.Native.Nat.{_-_, _<_, _≤_};
+ghost use Prim.Native.Nat.{_-_, _<_};
 ghost use lib.ListN.{length, getD};
-ghost use Rattle.header.specs.Header.{syndrome as syndromeOf, syndromes as syndromesOf, exponents, tap as tapOf, divideStep, parityOf, headerOf, allZero, isCodeWord, frontReplaced, lengthRefusal, withParity};
+ghost use Rattle.field.specs.Field.{Powers, Logarithms};
+ghost use Rattle.header.specs.Horner.{points, horner as hornerAt, hornerStep};
+ghost use Rattle.header.specs.Header.{syndromes as syndromesOf, exponents, tap as tapOf, divideStep, parityOf, headerOf, allZero, isCodeWord, frontReplaced, lengthRefusal, withParity};
 
 // The exponents of the generator's coefficients, constant first.
 const EXPONENTS: [u8; 9] = [36, 203, 3, 220, 253, 211, 240, 176, 0];
 
-// Syndrome j.
-fn syndrome(header: &[u8; 96], j: usize) -> u8
-    requires { ⌜ j ≤ 8 ⌝ }
-    ensures { λ r. ⌜ r ≡ syndromeOf j (now (header .entry)) ⌝ }
+// The points of the eight sums S1 to S8: a to the powers 1 to 8.
+const POINTS: [u8; 8] = [2, 4, 8, 16, 32, 64, 128, 29];
+
+// The point of entry k of the sums.
+fn point(k: usize) -> u8
+    requires { ⌜ k < 8 ⌝ }
+    ensures { λ r. ⌜ r ≡ getD points k 0 ⌝ }
 {
-    let mut s: u8 = 0;
-    for i in 0..96 {
-        s = s ^ field::product(header[i], field::power(i * j));
+    POINTS[k]
+}
+
+// Entry k of the sums with byte b below: the entry times its point, plus b.
+fn horner(powers: &[u8; 255], logarithms: &[u8; 256], s: [u8; 8], b: u8, k: usize) -> u8
+    requires { ⌜ Powers (now powers) ⌝ }
+    requires { ⌜ Logarithms (now logarithms) ⌝ }
+    requires { ⌜ k < 8 ⌝ }
+    ensures { λ r. ⌜ r ≡ hornerAt s b k ⌝ }
+{
+    b ^ field::product_by(powers, logarithms, s[k], point(k))
+}
+
+// The eight sums with byte b below.
+fn horner_step(powers: &[u8; 255], logarithms: &[u8; 256], s: [u8; 8], b: u8) -> [u8; 8]
+    requires { ⌜ Powers (now powers) ⌝ }
+    requires { ⌜ Logarithms (now logarithms) ⌝ }
+    ensures { λ r. ⌜ r ≡ hornerStep s b ⌝ }
+{
+    [
+        horner(powers, logarithms, s, b, 0),
+        horner(powers, logarithms, s, b, 1),
+        horner(powers, logarithms, s, b, 2),
+        horner(powers, logarithms, s, b, 3),
+        horner(powers, logarithms, s, b, 4),
+        horner(powers, logarithms, s, b, 5),
+        horner(powers, logarithms, s, b, 6),
+        horner(powers, logarithms, s, b, 7),
+    ]
+}
+
+// The eight sums of 96 bytes by Horner's rule, from byte 95 down.
+fn sums(powers: &[u8; 255], logarithms: &[u8; 256], header: &[u8]) -> [u8; 8]
+    requires { ⌜ Powers (now powers) ⌝ }
+    requires { ⌜ Logarithms (now logarithms) ⌝ }
+    requires { ⌜ length (now header) ≡ 96 ⌝ }
+    ensures { λ r. ⌜ r ≡ syndromesOf (now (header .entry)) ⌝ }
+{
+    let mut s = [0u8; 8];
+    let mut i: usize = 96;
+    while 0 < i {
+        i -= 1;
+        let next = horner_step(powers, logarithms, s, header[i]);
+        s = next;
     }
     s
 }
@@ -23,16 +69,9 @@ fn syndrome(header: &[u8; 96], j: usize) -> u8
 pub fn syndromes(header: &[u8; 96]) -> [u8; 8]
     ensures { λ r. ⌜ r ≡ syndromesOf (now (header .entry)) ⌝ }
 {
-    [
-        syndrome(header, 1),
-        syndrome(header, 2),
-        syndrome(header, 3),
-        syndrome(header, 4),
-        syndrome(header, 5),
-        syndrome(header, 6),
-        syndrome(header, 7),
-        syndrome(header, 8),
-    ]
+    let powers = field::powers();
+    let logarithms = field::logarithms();
+    sums(&powers, &logarithms, header)
 }
 
 // The exponent of the generator's coefficient k.
@@ -44,11 +83,14 @@ fn exponent(k: usize) -> usize
 }
 
 // Coefficient k of X times r plus f times the generator.
-fn tap(r: [u8; 8], f: u8, k: usize) -> u8
+fn tap(powers: &[u8; 255], logarithms: &[u8; 256], r: [u8; 8], f: u8, k: usize) -> u8
+    requires { ⌜ Powers (now powers) ⌝ }
+    requires { ⌜ Logarithms (now logarithms) ⌝ }
     requires { ⌜ k < 8 ⌝ }
     ensures { λ s. ⌜ s ≡ tapOf r f k ⌝ }
 {
-    let g = field::product(field::power(exponent(k)), f);
+    let c = field::power_by(powers, exponent(k));
+    let g = field::product_by(powers, logarithms, c, f);
     if k == 0 {
         return g;
     }
@@ -56,19 +98,21 @@ fn tap(r: [u8; 8], f: u8, k: usize) -> u8
 }
 
 // X times r, plus b at X^8, modulo the generator.
-fn divide_step(r: [u8; 8], b: u8) -> [u8; 8]
+fn divide_step(powers: &[u8; 255], logarithms: &[u8; 256], r: [u8; 8], b: u8) -> [u8; 8]
+    requires { ⌜ Powers (now powers) ⌝ }
+    requires { ⌜ Logarithms (now logarithms) ⌝ }
     ensures { λ s. ⌜ s ≡ divideStep r b ⌝ }
 {
     let f = b ^ r[7];
     [
-        tap(r, f, 0),
-        tap(r, f, 1),
-        tap(r, f, 2),
-        tap(r, f, 3),
-        tap(r, f, 4),
-        tap(r, f, 5),
-        tap(r, f, 6),
-        tap(r, f, 7),
+        tap(powers, logarithms, r, f, 0),
+        tap(powers, logarithms, r, f, 1),
+        tap(powers, logarithms, r, f, 2),
+        tap(powers, logarithms, r, f, 3),
+        tap(powers, logarithms, r, f, 4),
+        tap(powers, logarithms, r, f, 5),
+        tap(powers, logarithms, r, f, 6),
+        tap(powers, logarithms, r, f, 7),
     ]
 }
 
@@ -80,18 +124,29 @@ fn place(k: usize) -> usize
     95 - k
 }
 
-// The remainder of bytes 8 to 95 by the generator.
-fn divide(header: [u8; 96]) -> [u8; 8]
+// The remainder of bytes 8 to 95 by the generator, from the lent tables.
+fn remainder(powers: &[u8; 255], logarithms: &[u8; 256], header: [u8; 96]) -> [u8; 8]
+    requires { ⌜ Powers (now powers) ⌝ }
+    requires { ⌜ Logarithms (now logarithms) ⌝ }
     ensures { λ r. ⌜ r ≡ parityOf header ⌝ }
 {
     let mut r = [0u8; 8];
     let mut k: usize = 0;
     while k < 88 {
-        let next = divide_step(r, header[place(k)]);
+        let next = divide_step(powers, logarithms, r, header[place(k)]);
         r = next;
         k += 1;
     }
     r
+}
+
+// The remainder of bytes 8 to 95 by the generator.
+fn divide(header: [u8; 96]) -> [u8; 8]
+    ensures { λ r. ⌜ r ≡ parityOf header ⌝ }
+{
+    let powers = field::powers();
+    let logarithms = field::logarithms();
+    remainder(&powers, &logarithms, header)
 }
 
 // The parity of a header, by division with the generator.

@@ -16,32 +16,56 @@ use Rattle.correction.proofs.error_places.Reads as error-places-reads
 use Rattle.correction.proofs.repaired.Reads as repaired-reads
 use Rattle.correction.proofs.system.Reads as system-reads
 
+powers-requires : tie.Need-powers-requires
+powers-requires c κs = search needs
+
+logarithms-requires : tie.Need-logarithms-requires
+logarithms-requires c κs = search needs
+
 system-requires : tie.Need-system-requires
 system-requires c κs = search needs
 
 eliminate-requires : tie.Need-eliminate-requires
 eliminate-requires c κs = search needs
 
+-- where the function begins, seen from the elimination
+abbrev start : tie.After-eliminate → tie.Start
+start c = c .before .before .before .before .before .before
+
+long : (c : tie.After-eliminate) → length (start c .args .header) ≡ 96
+long c = start c .good .0 .1 .0 .1
+
 -- what the elimination of the syndromes' system found
-solution : (c : tie.After-eliminate) → Solved (systemOf (c .before .before .args .s)) (c .eliminate .result .degree) (c .eliminate .result .coefficients)
+solution : (c : tie.After-eliminate) → Solved (systemOf (start c .args .s)) (c .eliminate .result .degree) (c .eliminate .result .coefficients)
 solution c = subst (λ (m : List (List ℕ)). Solved m (c .eliminate .result .degree) (c .eliminate .result .coefficients)) (c .before .system .ensures) (c .eliminate .ensures)
 
 error-places-requires : tie.Need-error-places-requires
-error-places-requires c κs = (solution (c .before) .small, few-places _ _ _ _ (omega arith) (c .before .before .before .pre .0) (c .before .before .before .pre .1) (solution (c .before)))
+error-places-requires c κs =
+    let e = c .before .before .before in
+    (solution e .small, (few-places _ _ _ _ (long e) (start e .pre .0) (start e .pre .1) (solution e), search needs))
 
 repaired-requires : tie.Need-repaired-requires
 repaired-requires c κs =
-    let p = c .before .before .before in (
-      c .before .error-places .ensures .few,
-      distinct-places _ _ _ _ (omega arith) (p .before .before .pre .0) (p .before .before .pre .1) (solution p) _ _ (c .before .error-places .ensures),
+    let p = c .before .before .before in
+    let e = p .before .before .before .before in (
+      p .error-places .ensures .few,
+      (distinct-places _ _ _ _ (long e) (start e .pre .0) (start e .pre .1) (solution e) _ _ (p .error-places .ensures), search needs),
     )
 
 returns : tie.Need-returns
 returns c =
     let p = c .before .before .before .before in
-    candidate-word _ _ _ _ (omega arith) (p .before .before .pre .0) (p .before .before .pre .1) (solution p) _ _ (c .before .before .error-places .ensures) _ (c .repaired .ensures)
+    let e = p .before .before .before .before in
+    candidate-word _ _ _ _ (long e) (start e .pre .0) (start e .pre .1) (solution e) _ _ (p .error-places .ensures) _ (c .repaired .ensures)
 
 pub candidate-spec : {M : Type 1} → statement M
 candidate-spec =
     tie.close
-    (tie.spec system-requires eliminate-requires error-places-requires repaired-requires returns)
+    (tie.spec
+    powers-requires
+    logarithms-requires
+    system-requires
+    eliminate-requires
+    error-places-requires
+    repaired-requires
+    returns)

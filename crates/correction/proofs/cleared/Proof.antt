@@ -11,13 +11,13 @@ use Rattle.correction.proofs.cleared.Statement.{statement}
 use Rattle.correction.proofs.cleared.Tie as tie
 use Rattle.correction.proofs.cleared.Reads as reads
 use Rattle.correction.proofs.cleared.Lts as lts
-use Rattle.field.proofs.product.Reads as product-reads
+use Rattle.field.proofs.product_by.Reads as product-by-reads
 
 abbrev Inv-loop : tie.InvT-loop
-Inv-loop k row p b out₀ i₀ out i = (i ≤ 5) × Row (clearedBy row p k) out i
+Inv-loop powers logarithms k row p b out₀ i₀ out i = (i ≤ 5) × Row (clearedBy row p k) out i
 
 abbrev μ-loop : tie.MeasureT-loop
-μ-loop k row p b out₀ i₀ out i = 5 - i
+μ-loop powers logarithms k row p b out₀ i₀ out i = 5 - i
 
 array-read-b : tie.Need-array-read-b Inv-loop μ-loop
 array-read-b c = search needs
@@ -28,11 +28,11 @@ loop-holds c = (omega arith, begin _ _ (search needs))
 array-read-out : tie.Need-array-read-out Inv-loop μ-loop
 array-read-out c = search needs
 
-array-read-product : tie.Need-array-read-product Inv-loop μ-loop
-array-read-product c = search needs
+array-read-product-by : tie.Need-array-read-product-by Inv-loop μ-loop
+array-read-product-by c = search needs
 
-product-requires : tie.Need-product-requires Inv-loop μ-loop
-product-requires c κs = search needs
+product-by-requires : tie.Need-product-by-requires Inv-loop μ-loop
+product-by-requires c κs = search needs
 
 array-write-out : tie.Need-array-write-out Inv-loop μ-loop
 array-write-out c = search needs
@@ -46,9 +46,9 @@ loop-less c = search needs
 loop-again : tie.Need-loop-again Inv-loop μ-loop
 loop-again c = (
   omega arith,
-  grow (clearedBy (c .before .before .before .args .t1) (c .before .before .before .args .t2) (c .before .before .before .args .k)) (c .before .before .loop .out) (c .before .before .loop .i)
-      (bitXor (getD (c .before .before .before .args .t1) (c .before .before .loop .i) 0) (c .product .result))
-      (omega arith) (c .before .before .loop .inv .1) (ap (λ (v : ℕ). bitXor (getD (c .before .before .before .args .t1) (c .before .before .loop .i) 0) v) (c .product .ensures)),
+  grow (clearedBy (c .before .before .before .args .t3) (c .before .before .before .args .t4) (c .before .before .before .args .k)) (c .before .before .loop .out) (c .before .before .loop .i)
+      (bitXor (getD (c .before .before .before .args .t3) (c .before .before .loop .i) 0) (c .product-by .result))
+      (omega arith) (c .before .before .loop .inv .1) (ap (λ (v : ℕ). bitXor (getD (c .before .before .before .args .t3) (c .before .before .loop .i) 0) v) (c .product-by .ensures)),
 )
 
 returns : tie.Need-returns Inv-loop μ-loop
@@ -63,8 +63,8 @@ cleared-spec =
     array-read-b
     loop-holds
     array-read-out
-    array-read-product
-    product-requires
+    array-read-product-by
+    product-by-requires
     array-write-out
     add-i
     loop-less

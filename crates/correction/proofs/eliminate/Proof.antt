@@ -16,10 +16,10 @@ use Rattle.correction.proofs.pivot.Reads as pivot-reads
 use Rattle.correction.proofs.reduce.Reads as reduce-reads
 
 abbrev Inv-loop : tie.InvT-loop
-Inv-loop rows₀ k₀ rows k = (k ≤ 4) × (length rows ≡ 4) × Chain rows₀ k rows
+Inv-loop powers logarithms rows₀ k₀ rows k = (k ≤ 4) × (length rows ≡ 4) × Chain rows₀ k rows
 
 abbrev μ-loop : tie.MeasureT-loop
-μ-loop rows₀ k₀ rows k = 4 - k
+μ-loop powers logarithms rows₀ k₀ rows k = 4 - k
 
 loop-holds : tie.Need-loop-holds Inv-loop μ-loop
 loop-holds c = (omega arith, search needs, begun)
@@ -35,7 +35,7 @@ returns c = solved-here _ (c .before .before .before .before .loop .rows) (c .be
     (c .before .before .before .before .loop .inv .2) (omega arith) (omega arith) (c .before .before .pivot .ensures) (c .column .ensures)
 
 reduce-requires : tie.Need-reduce-requires Inv-loop μ-loop
-reduce-requires c κs = (omega arith, omega arith)
+reduce-requires c κs = (omega arith, (omega arith, c .before .before .before .before .pre))
 
 add-k : tie.Need-add-k Inv-loop μ-loop
 add-k c = search needs

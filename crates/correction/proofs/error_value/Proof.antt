@@ -13,14 +13,14 @@ use Rattle.correction.proofs.error_value.Tie as tie
 use Rattle.correction.proofs.error_value.Reads as reads
 use Rattle.correction.proofs.error_value.Lts as lts
 use Rattle.correction.proofs.filtered.Reads as filtered-reads
-use Rattle.field.proofs.inverse.Reads as inverse-reads
-use Rattle.field.proofs.product.Reads as product-reads
+use Rattle.field.proofs.inverse_by.Reads as inverse-by-reads
+use Rattle.field.proofs.product_by.Reads as product-by-reads
 
 abbrev Inv-loop : tie.InvT-loop
-Inv-loop m k z at t₀ f₀ q₀ t f q = (q ≤ m) × Working t₀ z k q t f
+Inv-loop powers logarithms m k z at t₀ f₀ q₀ t f q = (q ≤ m) × Working t₀ z k q t f
 
 abbrev μ-loop : tie.MeasureT-loop
-μ-loop m k z at t₀ f₀ q₀ t f q = m - q
+μ-loop powers logarithms m k z at t₀ f₀ q₀ t f q = m - q
 
 array-read-at : tie.Need-array-read-at Inv-loop μ-loop
 array-read-at c = search needs
@@ -34,8 +34,8 @@ array-read-x c = search needs
 filtered-requires : tie.Need-filtered-requires Inv-loop μ-loop
 filtered-requires c κs = search needs
 
-product-requires : tie.Need-product-requires Inv-loop μ-loop
-product-requires c κs = search needs
+product-by-requires : tie.Need-product-by-requires Inv-loop μ-loop
+product-by-requires c κs = search needs
 
 add-q : tie.Need-add-q Inv-loop μ-loop
 add-q c = search needs
@@ -52,18 +52,18 @@ loop-again c = (
       (c .if1 .came),
 )
 
-inverse-requires : tie.Need-inverse-requires Inv-loop μ-loop
-inverse-requires c κs = search needs
+inverse-by-requires : tie.Need-inverse-by-requires Inv-loop μ-loop
+inverse-by-requires c κs = search needs
 
-array-read-product : tie.Need-array-read-product Inv-loop μ-loop
-array-read-product c = search needs
+array-read-product-by : tie.Need-array-read-product-by Inv-loop μ-loop
+array-read-product-by c = search needs
 
-product-requires-2 : tie.Need-product-requires-2 Inv-loop μ-loop
-product-requires-2 c κs = search needs
+product-by-requires-2 : tie.Need-product-by-requires-2 Inv-loop μ-loop
+product-by-requires-2 c κs = search needs
 
 returns : tie.Need-returns Inv-loop μ-loop
-returns c = working-end (c .before .before .before .before .args .s) (c .before .before .before .before .args .t2) (c .before .before .before .before .args .k) (c .before .before .before .loop .q) (c .before .before .before .before .args .m) (c .before .before .before .loop .t) (c .before .before .before .loop .f) _ (c .before .inverse .result)
-    (omega arith) (omega arith) (omega arith) (c .before .before .before .loop .inv .1) (c .before .inverse .ensures) (c .product2 .ensures)
+returns c = working-end (c .before .before .before .before .args .s) (c .before .before .before .before .args .t4) (c .before .before .before .before .args .k) (c .before .before .before .loop .q) (c .before .before .before .before .args .m) (c .before .before .before .loop .t) (c .before .before .before .loop .f) _ (c .before .inverse-by .result)
+    (omega arith) (omega arith) (omega arith) (c .before .before .before .loop .inv .1) (c .before .inverse-by .ensures) (c .product-by2 .ensures)
 
 pub error-value-spec : {M : Type 1} → statement M
 error-value-spec =
@@ -75,11 +75,11 @@ error-value-spec =
     loop-holds
     array-read-x
     filtered-requires
-    product-requires
+    product-by-requires
     add-q
     loop-less
     loop-again
-    inverse-requires
-    array-read-product
-    product-requires-2
+    inverse-by-requires
+    array-read-product-by
+    product-by-requires-2
     returns)

@@ -13,13 +13,13 @@ use Rattle.correction.proofs.evaluate.Statement.{statement}
 use Rattle.correction.proofs.evaluate.Tie as tie
 use Rattle.correction.proofs.evaluate.Reads as reads
 use Rattle.correction.proofs.evaluate.Lts as lts
-use Rattle.field.proofs.product.Reads as product-reads
+use Rattle.field.proofs.product_by.Reads as product-by-reads
 
 abbrev Inv-loop : tie.InvT-loop
-Inv-loop degree x coefficients v₀ i₀ v i = (i ≤ 4) × Evaluated coefficients degree x i v
+Inv-loop powers logarithms degree x coefficients v₀ i₀ v i = (i ≤ 4) × Evaluated coefficients degree x i v
 
 abbrev μ-loop : tie.MeasureT-loop
-μ-loop degree x coefficients v₀ i₀ v i = i
+μ-loop powers logarithms degree x coefficients v₀ i₀ v i = i
 
 loop-holds : tie.Need-loop-holds Inv-loop μ-loop
 loop-holds c = (omega arith, evaluate-start _ _ _)
@@ -30,14 +30,14 @@ sub-i c = search needs
 array-read-v : tie.Need-array-read-v Inv-loop μ-loop
 array-read-v c = search needs
 
-product-requires : tie.Need-product-requires Inv-loop μ-loop
-product-requires c κs = search needs
+product-by-requires : tie.Need-product-by-requires Inv-loop μ-loop
+product-by-requires c κs = search needs
 
 loop-less : tie.Need-loop-less Inv-loop μ-loop
 loop-less c = search needs
 
 loop-again : tie.Need-loop-again Inv-loop μ-loop
-loop-again c = (omega arith, evaluate-next _ _ _ (c .before .before .loop .i) (c .before .before .loop .v) _ (omega arith) (c .before .before .loop .inv .1) (c .product .ensures))
+loop-again c = (omega arith, evaluate-next _ _ _ (c .before .before .loop .i) (c .before .before .loop .v) _ (omega arith) (c .before .before .loop .inv .1) (c .product-by .ensures))
 
 returns : tie.Need-returns Inv-loop μ-loop
 returns c = evaluate-end _ _ _ (c .before .loop .i) (c .before .loop .v) (omega arith) (c .before .loop .inv .1)
@@ -51,7 +51,7 @@ evaluate-spec =
     loop-holds
     sub-i
     array-read-v
-    product-requires
+    product-by-requires
     loop-less
     loop-again
     returns)

@@ -12,13 +12,13 @@ use Rattle.correction.proofs.filtered.Statement.{statement}
 use Rattle.correction.proofs.filtered.Tie as tie
 use Rattle.correction.proofs.filtered.Reads as reads
 use Rattle.correction.proofs.filtered.Lts as lts
-use Rattle.field.proofs.product.Reads as product-reads
+use Rattle.field.proofs.product_by.Reads as product-by-reads
 
 abbrev Inv-loop : tie.InvT-loop
-Inv-loop x t out₀ j₀ out j = (j ≤ 7) × Filtered t x out j
+Inv-loop powers logarithms x t out₀ j₀ out j = (j ≤ 7) × Filtered t x out j
 
 abbrev μ-loop : tie.MeasureT-loop
-μ-loop x t out₀ j₀ out j = 7 - j
+μ-loop powers logarithms x t out₀ j₀ out j = 7 - j
 
 loop-holds : tie.Need-loop-holds Inv-loop μ-loop
 loop-holds c = (omega arith, record { long = search needs; entry = λ i l. absurd (omega arith) })
@@ -29,11 +29,11 @@ add-out c = search needs
 array-read-out : tie.Need-array-read-out Inv-loop μ-loop
 array-read-out c = search needs
 
-array-read-product : tie.Need-array-read-product Inv-loop μ-loop
-array-read-product c = search needs
+array-read-product-by : tie.Need-array-read-product-by Inv-loop μ-loop
+array-read-product-by c = search needs
 
-product-requires : tie.Need-product-requires Inv-loop μ-loop
-product-requires c κs = search needs
+product-by-requires : tie.Need-product-by-requires Inv-loop μ-loop
+product-by-requires c κs = search needs
 
 array-write-out : tie.Need-array-write-out Inv-loop μ-loop
 array-write-out c = search needs
@@ -48,7 +48,7 @@ loop-again : tie.Need-loop-again Inv-loop μ-loop
 loop-again c = (
   omega arith,
   filtered-next _ _ (c .before .before .loop .out) (c .before .before .loop .j) _ (omega arith) (c .before .before .loop .inv .1)
-      (ap (λ (u : ℕ). bitXor (getD (c .before .before .before .args .t1) (c .before .before .loop .j + 1) 0) u) (c .product .ensures)),
+      (ap (λ (u : ℕ). bitXor (getD (c .before .before .before .args .t3) (c .before .before .loop .j + 1) 0) u) (c .product-by .ensures)),
 )
 
 returns : tie.Need-returns Inv-loop μ-loop
@@ -63,8 +63,8 @@ filtered-spec =
     loop-holds
     add-out
     array-read-out
-    array-read-product
-    product-requires
+    array-read-product-by
+    product-by-requires
     array-write-out
     add-j
     loop-less

@@ -16,10 +16,10 @@ use Rattle.correction.proofs.cleared.Reads as cleared-reads
 use Rattle.correction.proofs.scaled.Reads as scaled-reads
 
 abbrev Inv-loop : tie.InvT-loop
-Inv-loop k p b top out₀ r₀ out r = (r ≤ 4) × Clear out₀ top k out r
+Inv-loop powers logarithms k p b top out₀ r₀ out r = (r ≤ 4) × Clear out₀ top k out r
 
 abbrev μ-loop : tie.MeasureT-loop
-μ-loop k p b top out₀ r₀ out r = 4 - r
+μ-loop powers logarithms k p b top out₀ r₀ out r = 4 - r
 
 mul-row : tie.Need-mul-row Inv-loop μ-loop
 mul-row c = search needs
@@ -52,7 +52,7 @@ array-set-from-out-2 : tie.Need-array-set-from-out-2 Inv-loop μ-loop
 array-set-from-out-2 c = search needs
 
 loop-holds : tie.Need-loop-holds Inv-loop μ-loop
-loop-holds c = (omega arith, clear-begin (c .before .before .before .args .t1) _ _ _ _ (omega arith) (search needs))
+loop-holds c = (omega arith, clear-begin (c .before .before .before .args .t3) _ _ _ _ (omega arith) (search needs))
 
 mul-old : tie.Need-mul-old Inv-loop μ-loop
 mul-old c = search needs

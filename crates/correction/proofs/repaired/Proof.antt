@@ -15,10 +15,10 @@ use Rattle.correction.proofs.error_value.Reads as error-value-reads
 use Rattle.correction.proofs.points.Reads as points-reads
 
 abbrev Inv-loop : tie.InvT-loop
-Inv-loop s m header places z out₀ k₀ out k = (k ≤ m) × Repaired header s places m k out
+Inv-loop powers logarithms s m header places z out₀ k₀ out k = (k ≤ m) × Repaired header s places m k out
 
 abbrev μ-loop : tie.MeasureT-loop
-μ-loop s m header places z out₀ k₀ out k = m - k
+μ-loop powers logarithms s m header places z out₀ k₀ out k = m - k
 
 points-requires : tie.Need-points-requires Inv-loop μ-loop
 points-requires c κs = search needs
@@ -33,13 +33,13 @@ array-read-at : tie.Need-array-read-at Inv-loop μ-loop
 array-read-at c = search needs
 
 array-read-out : tie.Need-array-read-out Inv-loop μ-loop
-array-read-out c = c .before .before .before .pre .1 .inside (c .before .loop .k) (c .loop-test .taken)
+array-read-out c = c .before .before .before .pre .1 .0 .inside (c .before .loop .k) (c .loop-test .taken)
 
 error-value-requires : tie.Need-error-value-requires Inv-loop μ-loop
 error-value-requires c κs = search needs
 
 array-write-out : tie.Need-array-write-out Inv-loop μ-loop
-array-write-out c = c .before .before .before .before .pre .1 .inside (c .before .before .loop .k) (c .before .loop-test .taken)
+array-write-out c = c .before .before .before .before .pre .1 .0 .inside (c .before .before .loop .k) (c .before .loop-test .taken)
 
 add-k : tie.Need-add-k Inv-loop μ-loop
 add-k c = search needs
@@ -52,8 +52,8 @@ loop-again c =
     let p = c .before .before in
     let a = p .before .before .args in (
       omega arith,
-      repaired-next (a .t1) (a .s) (a .t3) (a .m) (p .loop .k) _ (p .loop .out) (c .before .loop-test .taken) (p .before .before .pre .1) (p .loop .inv .1)
-          (ap (bitXor (getD (a .t1) (getD (a .t3) (p .loop .k) 0) 0)) (c .error-value .ensures ∙ ap (λ (z : List ℕ). valueAt (a .s) z (a .m) (p .loop .k)) (p .before .points .ensures))),
+      repaired-next (a .t3) (a .s) (a .t5) (a .m) (p .loop .k) _ (p .loop .out) (c .before .loop-test .taken) (p .before .before .pre .1 .0) (p .loop .inv .1)
+          (ap (bitXor (getD (a .t3) (getD (a .t5) (p .loop .k) 0) 0)) (c .error-value .ensures ∙ ap (λ (z : List ℕ). valueAt (a .s) z (a .m) (p .loop .k)) (p .before .points .ensures))),
     )
 
 returns : tie.Need-returns Inv-loop μ-loop

@@ -11,26 +11,26 @@ use Rattle.correction.proofs.scaled.Statement.{statement}
 use Rattle.correction.proofs.scaled.Tie as tie
 use Rattle.correction.proofs.scaled.Reads as reads
 use Rattle.correction.proofs.scaled.Lts as lts
-use Rattle.field.proofs.inverse.Reads as inverse-reads
-use Rattle.field.proofs.product.Reads as product-reads
+use Rattle.field.proofs.inverse_by.Reads as inverse-by-reads
+use Rattle.field.proofs.product_by.Reads as product-by-reads
 
 abbrev Inv-loop : tie.InvT-loop
-Inv-loop b row v out₀ i₀ out i = (i ≤ 5) × Row (scaledBy row b) out i
+Inv-loop powers logarithms b row v out₀ i₀ out i = (i ≤ 5) × Row (scaledBy row b) out i
 
 abbrev μ-loop : tie.MeasureT-loop
-μ-loop b row v out₀ i₀ out i = 5 - i
+μ-loop powers logarithms b row v out₀ i₀ out i = 5 - i
 
-inverse-requires : tie.Need-inverse-requires Inv-loop μ-loop
-inverse-requires c κs = search needs
+inverse-by-requires : tie.Need-inverse-by-requires Inv-loop μ-loop
+inverse-by-requires c κs = search needs
 
 loop-holds : tie.Need-loop-holds Inv-loop μ-loop
 loop-holds c = (omega arith, begin _ _ (search needs))
 
-array-read-product : tie.Need-array-read-product Inv-loop μ-loop
-array-read-product c = search needs
+array-read-product-by : tie.Need-array-read-product-by Inv-loop μ-loop
+array-read-product-by c = search needs
 
-product-requires : tie.Need-product-requires Inv-loop μ-loop
-product-requires c κs = search needs
+product-by-requires : tie.Need-product-by-requires Inv-loop μ-loop
+product-by-requires c κs = search needs
 
 array-write-out : tie.Need-array-write-out Inv-loop μ-loop
 array-write-out c = search needs
@@ -44,8 +44,8 @@ loop-less c = search needs
 loop-again : tie.Need-loop-again Inv-loop μ-loop
 loop-again c = (
   omega arith,
-  grow (scaledBy (c .before .before .before .before .args .t1) (c .before .before .before .before .args .b)) (c .before .before .loop .out) (c .before .before .loop .i) (c .product .result)
-      (omega arith) (c .before .before .loop .inv .1) (c .product .ensures ∙ ap (λ (v : ℕ). mul v (getD (c .before .before .before .before .args .t1) (c .before .before .loop .i) 0)) (c .before .before .before .inverse .ensures)),
+  grow (scaledBy (c .before .before .before .before .args .t3) (c .before .before .before .before .args .b)) (c .before .before .loop .out) (c .before .before .loop .i) (c .product-by .result)
+      (omega arith) (c .before .before .loop .inv .1) (c .product-by .ensures ∙ ap (λ (v : ℕ). mul v (getD (c .before .before .before .before .args .t3) (c .before .before .loop .i) 0)) (c .before .before .before .inverse-by .ensures)),
 )
 
 returns : tie.Need-returns Inv-loop μ-loop
@@ -57,10 +57,10 @@ scaled-spec =
     (tie.spec
     Inv-loop
     μ-loop
-    inverse-requires
+    inverse-by-requires
     loop-holds
-    array-read-product
-    product-requires
+    array-read-product-by
+    product-by-requires
     array-write-out
     add-i
     loop-less

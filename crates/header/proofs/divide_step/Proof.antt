@@ -35,7 +35,17 @@ tap-requires-8 c κs = search needs
 
 returns : tie.Need-returns
 unfolding divideStep
-returns c = cc
+returns c =
+    simp (
+      c .before .before .before .before .before .before .before .tap .ensures,
+      c .before .before .before .before .before .before .tap2 .ensures,
+      c .before .before .before .before .before .tap3 .ensures,
+      c .before .before .before .before .tap4 .ensures,
+      c .before .before .before .tap5 .ensures,
+      c .before .before .tap6 .ensures,
+      c .before .tap7 .ensures,
+      c .tap8 .ensures,
+    )
 
 pub divide-step-spec : {M : Type 1} → statement M
 divide-step-spec =

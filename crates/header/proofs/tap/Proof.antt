@@ -13,8 +13,8 @@ use Rattle.header.proofs.tap.Tie as tie
 use Rattle.header.proofs.tap.Reads as reads
 use Rattle.header.proofs.tap.Lts as lts
 use Rattle.header.proofs.exponent.Reads as exponent-reads
-use Rattle.field.proofs.power.Reads as power-reads
-use Rattle.field.proofs.product.Reads as product-reads
+use Rattle.field.proofs.power_by.Reads as power-by-reads
+use Rattle.field.proofs.product_by.Reads as product-by-reads
 
 getD-cons : (x : ℕ) (l : List ℕ) (k : ℕ) → 0 < k → getD (x ∷ l) k 0 ≡ getD l (k - 1) 0
 getD-cons x l zero h = absurd (not-suc-le-zero h)
@@ -23,11 +23,11 @@ getD-cons x l (suc k) h = ap (λ (n : ℕ). getD l n 0) (omega arith)
 exponent-requires : tie.Need-exponent-requires
 exponent-requires c κs = search needs
 
-power-requires : tie.Need-power-requires
-power-requires c κs = search needs
+power-by-requires : tie.Need-power-by-requires
+power-by-requires c κs = search needs
 
-product-requires : tie.Need-product-requires
-product-requires c κs = search needs
+product-by-requires : tie.Need-product-by-requires
+product-by-requires c κs = search needs
 
 -- the generator's coefficient times f
 times : (k f e x g : ℕ) → e ≡ getD exponents k 0 → x ≡ pow e → g ≡ mul x f → g ≡ mul (pow (getD exponents k 0)) f
@@ -38,8 +38,8 @@ unfolding tap
 returns c =
     let g = c .before in
     let a = g .before .before .before .args in
-    times (a .k) (a .f) _ _ _ (g .before .before .exponent .ensures) (g .before .power .ensures) (g .product .ensures)
-    ∙ ap (λ (x : ℕ). bitXor x (mul (pow (getD exponents (a .k) 0)) (a .f))) (sym (ap (λ (x : ℕ). getD (0 ∷ a .t1) x 0) (c .if1 .taken)))
+    times (a .k) (a .f) _ _ _ (g .before .before .exponent .ensures) (g .before .power-by .ensures) (g .product-by .ensures)
+    ∙ ap (λ (x : ℕ). bitXor x (mul (pow (getD exponents (a .k) 0)) (a .f))) (sym (ap (λ (x : ℕ). getD (0 ∷ a .t3) x 0) (c .if1 .taken)))
 
 sub-result : tie.Need-sub-result
 sub-result c = search needs
@@ -52,16 +52,16 @@ unfolding tap
 returns-2 c =
     let g = c .before in
     let a = g .before .before .before .args in
-    ap₂ bitXor (sym (getD-cons 0 (a .t1) (a .k) (omega arith)))
-    (times (a .k) (a .f) _ _ _ (g .before .before .exponent .ensures) (g .before .power .ensures) (g .product .ensures))
+    ap₂ bitXor (sym (getD-cons 0 (a .t3) (a .k) (omega arith)))
+    (times (a .k) (a .f) _ _ _ (g .before .before .exponent .ensures) (g .before .power-by .ensures) (g .product-by .ensures))
 
 pub tap-spec : {M : Type 1} → statement M
 tap-spec =
     tie.close
     (tie.spec
     exponent-requires
-    power-requires
-    product-requires
+    power-by-requires
+    product-by-requires
     returns
     sub-result
     array-read-result

@@ -1,16 +1,15 @@
-use borrow.Author.Needs.{needs}
+use mathlib.Core.Path.{_≡_, ap, sym, _∙_}
+use mathlib.Core.List.{List}
+use Prim.Native.Nat.{ℕ, suc, _+_, _-_, _≤_, _<_}
 use native.Mathlib.Omega.{arith}
-use mathlib.Core.Path.{_≡_, refl, ap, sym, _∙_}
-use Prim.Native.Nat.{ℕ, _+_, _-_, _*_, _≤_, _<_}
-use lib.ListN.{length, take, drop, getD, set, length-set}
-use mathlib.Core.List.{List, [], _∷_, _++_}
+use lib.ListN.{length, getD}
 use lib.Seq.{slice, slice-cons, slice-empty}
-use Prim.Native.Nat.{suc}
 use Rattle.header.specs.Header.{remainder, divideStep, parityOf}
-use Rattle.header.proofs.divide.Statement.{statement}
-use Rattle.header.proofs.divide.Tie as tie
-use Rattle.header.proofs.divide.Reads as reads
-use Rattle.header.proofs.divide.Lts as lts
+use borrow.Author.Needs.{needs}
+use Rattle.header.proofs.remainder.Statement.{statement}
+use Rattle.header.proofs.remainder.Tie as tie
+use Rattle.header.proofs.remainder.Reads as reads
+use Rattle.header.proofs.remainder.Lts as lts
 use Rattle.header.proofs.divide_step.Reads as divide-step-reads
 use Rattle.header.proofs.place.Reads as place-reads
 
@@ -26,14 +25,14 @@ more w r k p h l ep e =
     ∙ sym (ap remainder (slice-cons (95 - k) 96 w 0 (omega arith) l)))
 
 abbrev Inv-loop : tie.InvT-loop
-Inv-loop header r₀ k₀ r k = (k ≤ 88) × (r ≡ remainder (slice (96 - k) 96 header))
+Inv-loop powers logarithms header r₀ k₀ r k = (k ≤ 88) × (r ≡ remainder (slice (96 - k) 96 header))
 
 abbrev μ-loop : tie.MeasureT-loop
-μ-loop header r₀ k₀ r k = 88 - k
+μ-loop powers logarithms header r₀ k₀ r k = 88 - k
 
 loop-holds : tie.Need-loop-holds Inv-loop μ-loop
 unfolding remainder
-loop-holds c = (omega arith, sym (ap remainder (slice-empty 96 (c .args .t1))))
+loop-holds c = (omega arith, sym (ap remainder (slice-empty 96 (c .args .t3))))
 
 place-requires : tie.Need-place-requires Inv-loop μ-loop
 place-requires c κs = search needs
@@ -52,16 +51,16 @@ loop-less c = search needs
 
 loop-again : tie.Need-loop-again Inv-loop μ-loop
 loop-again c =
-    (omega arith, c .divide-step .ensures ∙ more (c .before .before .before .before .args .t1) (c .before .before .before .loop .r) (c .before .before .before .loop .k) _ (omega arith) (omega arith) (c .before .place .ensures) (c .before .before .before .loop .inv .1))
+    (omega arith, c .divide-step .ensures ∙ more (c .before .before .before .before .args .t3) (c .before .before .before .loop .r) (c .before .before .before .loop .k) _ (omega arith) (omega arith) (c .before .place .ensures) (c .before .before .before .loop .inv .1))
 
 returns : tie.Need-returns Inv-loop μ-loop
 unfolding parityOf
 returns c =
     let e : c .before .loop .k ≡ 88 = omega arith in
-    c .before .loop .inv .1 ∙ ap (λ (n : ℕ). remainder (slice (96 - n) 96 (c .before .before .args .t1))) e
+    c .before .loop .inv .1 ∙ ap (λ (n : ℕ). remainder (slice (96 - n) 96 (c .before .before .args .t3))) e
 
-pub divide-spec : {M : Type 1} → statement M
-divide-spec =
+pub remainder-spec : {M : Type 1} → statement M
+remainder-spec =
     tie.close
     (tie.spec
     Inv-loop

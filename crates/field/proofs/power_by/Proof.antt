@@ -1,0 +1,21 @@
+-- `field::power_by` meets its contract: the table's rule at the exponent modulo 255.
+use mathlib.Core.Path.{_∙_}
+use Prim.Native.Nat.{_%_}
+use native.Mathlib.Nat.{mod-lt}
+use lib.Dec.{lit<}
+use Rattle.field.proofs.Laws.{pow-mod}
+use borrow.Author.Needs.{needs}
+use Rattle.field.proofs.power_by.Statement.{statement}
+use Rattle.field.proofs.power_by.Tie as tie
+use Rattle.field.proofs.power_by.Reads as reads
+use Rattle.field.proofs.power_by.Lts as lts
+
+element-copy-out-result : tie.Need-element-copy-out-result
+element-copy-out-result c = search needs
+
+returns : tie.Need-returns
+returns c =
+    c .before .pre .entry (c .before .args .k % 255) (mod-lt (c .before .args .k) (lit< tt)) ∙ pow-mod (c .before .args .k)
+
+pub power-by-spec : {M : Type 1} → statement M
+power-by-spec = tie.close (tie.spec element-copy-out-result returns)

@@ -1,0 +1,19 @@
+-- `header::point` meets its contract: the table is computed.
+use mathlib.Core.Path.{refl}
+use Rattle.field.specs.Field.{timesA, shift, pow}
+use Rattle.header.specs.Horner.{points}
+use borrow.Author.Needs.{needs}
+use Rattle.header.proofs.point.Statement.{statement}
+use Rattle.header.proofs.point.Tie as tie
+use Rattle.header.proofs.point.Reads as reads
+use Rattle.header.proofs.point.Lts as lts
+
+array-read-result : tie.Need-array-read-result
+array-read-result c = search needs
+
+returns : tie.Need-returns
+unfolding points pow shift timesA
+returns c = refl
+
+pub point-spec : {M : Type 1} → statement M
+point-spec = tie.close (tie.spec array-read-result returns)

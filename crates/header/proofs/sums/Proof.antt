@@ -1,0 +1,60 @@
+-- `header::sums` meets its contract: before each turn it has the sums over the bytes from i on.
+use mathlib.Core.Path.{_≡_, _∙_}
+use Prim.Native.Nat.{_≤_}
+use native.Mathlib.Omega.{arith}
+use Rattle.header.proofs.HornersRule.{sumsFrom, sums-start, sums-next, sums-all}
+use borrow.Author.Needs.{needs}
+use Rattle.header.proofs.sums.Statement.{statement}
+use Rattle.header.proofs.sums.Tie as tie
+use Rattle.header.proofs.sums.Reads as reads
+use Rattle.header.proofs.sums.Lts as lts
+use Rattle.header.proofs.horner_step.Reads as horner-step-reads
+
+abbrev Inv-loop : tie.InvT-loop
+Inv-loop powers logarithms header s₀ i₀ s i = (i ≤ 96) × (s ≡ sumsFrom i header)
+
+abbrev μ-loop : tie.MeasureT-loop
+μ-loop powers logarithms header s₀ i₀ s i = i
+
+loop-holds : tie.Need-loop-holds Inv-loop μ-loop
+loop-holds c = (omega arith, sums-start _ _ (omega arith))
+
+sub-i : tie.Need-sub-i Inv-loop μ-loop
+sub-i c = search needs
+
+shared-slice-read-horner-step : tie.Need-shared-slice-read-horner-step Inv-loop μ-loop
+shared-slice-read-horner-step c = search needs
+
+horner-step-requires : tie.Need-horner-step-requires Inv-loop μ-loop
+horner-step-requires c κs = search needs
+
+loop-less : tie.Need-loop-less Inv-loop μ-loop
+loop-less c = search needs
+
+loop-again : tie.Need-loop-again Inv-loop μ-loop
+loop-again c =
+    let l = c .before .before .before in (
+      omega arith,
+      c .horner-step .ensures
+          ∙ sums-next (l .before .before .args .header .now) (l .loop .s) (l .loop .i) (λ k. l .before .shared-slice-known .given k .fits) (omega arith) (omega arith) (l .loop .inv .1),
+    )
+
+returns : tie.Need-returns Inv-loop μ-loop
+returns c =
+    let l = c .before in
+    l .loop .inv .1
+    ∙ sums-all (l .before .before .args .header .now) (l .loop .i) (omega arith) (λ k. l .before .shared-slice-known .given k .fits) (omega arith)
+
+pub sums-spec : {M : Type 1} → statement M
+sums-spec =
+    tie.close
+    (tie.spec
+    Inv-loop
+    μ-loop
+    loop-holds
+    sub-i
+    shared-slice-read-horner-step
+    horner-step-requires
+    loop-less
+    loop-again
+    returns)
