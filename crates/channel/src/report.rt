@@ -15,10 +15,10 @@ pub fn input_ends(label: &[u8], status: u8, read: u64) {
     }
 }
 
-// What the road did, and whether that is all. PDUs that were marked lost before are counted apart.
-pub fn summary(ok: bool, pdus: u64, missing: u64, lost: u64, damaged: u64, altered: u64) {
+// What the road did. PDUs that were marked lost before are counted apart.
+pub fn summary(pdus: u64, missing: u64, lost: u64, damaged: u64, altered: u64) {
     let mut line = [0u8; 256];
-    let mut n = files::put_beginning(&mut line, b"channel", ok);
+    let mut n = text::put(&mut line, 0, b"channel: ");
     n = text::put(&mut line, n, b"PDUs ");
     n = text::put_decimal(&mut line, n, pdus);
     n = text::put(&mut line, n, b" (lost before ");
@@ -40,8 +40,8 @@ pub fn progress(pdus: u64) {
 
 // How the program is used, on standard output.
 pub fn usage() {
-    io::write_all(
-        libc::STDOUT_FILENO,
+    files::print_usage(
+        b"channel",
         b"usage: channel [--in FILE] [--out FILE] [OPTION]...
 
 Damages a file of PDUs as a road would: PDUs are lost in bursts, and of those
@@ -60,6 +60,10 @@ damage.
               (500)
   --bytes N   the most bytes changed in a damaged header, 0 to 96: each has
               1 to N among the PDU's first 96 bytes (4)
+  --help      prints this and does nothing else
+
+Standard error has the counts, and the last line \"channel: stopped early\" if
+not all PDUs are sent.
 ",
     );
 }

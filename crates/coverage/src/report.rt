@@ -8,14 +8,6 @@ fn say(line: &[u8]) {
     io::write_all(STDERR_FILENO, line);
 }
 
-// Words on a file.
-pub fn words(label: &[u8], words: &[u8]) {
-    let mut line = [0u8; 4800];
-    let mut n = text::put(&mut line, 0, label);
-    n = text::put(&mut line, n, words);
-    say(&line[..n]);
-}
-
 pub fn wrong_title() {
     say(b"coverage: --title: over 200 bytes, or not UTF-8\n");
 }
@@ -51,11 +43,11 @@ pub fn wrong_line(label: &[u8], number: u64, wrong: u8) {
     say(&line[..n]);
 }
 
-// What the picture shows, and whether that is all.
-pub fn summary(ok: bool, d: Drive) {
+// What the picture shows.
+pub fn summary(d: Drive) {
     let t = d.totals;
     let mut line = [0u8; 320];
-    let mut n = files::put_beginning(&mut line, b"coverage", ok);
+    let mut n = text::put(&mut line, 0, b"coverage: ");
     n = text::put(&mut line, n, b"PDUs ");
     n = text::put_decimal(&mut line, n, d.count as u64);
     n = text::put(&mut line, n, b" (received ");
@@ -81,8 +73,8 @@ pub fn progress(lines: u64) {
 
 // How the program is used, on standard output.
 pub fn usage() {
-    io::write_all(
-        libc::STDOUT_FILENO,
+    files::print_usage(
+        b"coverage",
         b"usage: coverage [--in FILE] [--out FILE] [OPTION]...
 
 Draws a drive as SVG from the logger's CSV: a cell for each PDU, received,
@@ -93,6 +85,10 @@ packets that it delivered, and a tick where packets are missing; and totals.
   --out FILE    the picture (standard output)
   --title TEXT  its title, at most 200 bytes (Coverage)
   --columns N   how many PDUs stand in a row, 20 to 200 (100)
+  --help        prints this and does nothing else
+
+Standard error has the totals, and the last line \"coverage: stopped early\" if
+there is no whole picture.
 ",
     );
 }

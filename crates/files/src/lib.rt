@@ -29,6 +29,20 @@ pub fn put_label(out: &mut [u8], program: &[u8], known: &[u8], option: &[u8], ot
     text::put(out, k, &path[..size])
 }
 
+// The label of the file that is read.
+pub fn put_input_label(out: &mut [u8], program: &[u8], known: &[u8]) -> usize
+    ensures { λ r. ⌜ Counts r (now (out .exit)) ⌝ }
+{
+    put_label(out, program, known, b"in", b"standard input")
+}
+
+// The label of the file that is written.
+pub fn put_output_label(out: &mut [u8], program: &[u8], known: &[u8]) -> usize
+    ensures { λ r. ⌜ Counts r (now (out .exit)) ⌝ }
+{
+    put_label(out, program, known, b"out", b"standard output")
+}
+
 // A file to be read, standard input where its option is not given; -1 where it cannot be opened, which is said.
 pub fn open_input(known: &[u8], option: &[u8], label: &[u8]) -> i32 {
     if !options::given(known, option) {
@@ -43,18 +57,42 @@ pub fn open_input(known: &[u8], option: &[u8], label: &[u8]) -> i32 {
     fd
 }
 
-// A file to be written, emptied or made anew, standard output where its option is not given; -1 where it cannot be opened, which is said.
+// Whether the file to be written is named as the one that is read, which would be emptied before it is read.
+fn is_read(known: &[u8], path: &[u8]) -> bool {
+    if !options::given(known, b"in") {
+        return false;
+    }
+    let mut other = io::buffer();
+    let n = options::value(known, b"in", &mut other);
+    check::same(path, &other[..n])
+}
+
+// Opens a file to be written, emptied or made anew. Where standard error is closed it would get that one's number, and messages would go into it: it is
+// not opened then.
+fn open_named(path: &[u8], label: &[u8]) -> i32 {
+    let fd = os::open_overwrite(path);
+    if fd < 0 {
+        os::fail(label);
+    }
+    if fd != STDERR_FILENO {
+        return fd;
+    }
+    libc::close(fd);
+    -1
+}
+
+// A file to be written, standard output where its option is not given; -1 where it cannot be opened, which is said.
 pub fn open_output(known: &[u8], option: &[u8], label: &[u8]) -> i32 {
     if !options::given(known, option) {
         return STDOUT_FILENO;
     }
     let mut path = io::buffer();
     let n = options::value(known, option, &mut path);
-    let fd = os::open_overwrite(&path[..n]);
-    if fd < 0 {
-        os::fail(label);
+    if is_read(known, &path[..n]) {
+        say(label, b": is the file that is read\n");
+        return -1;
     }
-    fd
+    open_named(&path[..n], label)
 }
 
 // Closes a file. Answers whether that went well; if not, says why.
@@ -64,6 +102,14 @@ pub fn close(fd: i32, label: &[u8]) -> bool {
     }
     os::fail(label);
     false
+}
+
+// A line on standard error: a label and words.
+pub fn say(label: &[u8], words: &[u8]) {
+    let mut line = [0u8; 4800];
+    let n = text::put(&mut line, 0, label);
+    let k = text::put(&mut line, n, words);
+    io::write_all(STDERR_FILENO, &line[..k]);
 }
 
 // A line on standard error: a label, words, a number and more words.
@@ -87,15 +133,20 @@ pub fn progress(program: &[u8], things: &[u8], count: u64) {
     say_number(program, things, count, b"\r");
 }
 
-// How the last line begins, which counts what was done: it says so if that is not all.
-pub fn put_beginning(out: &mut [u8], program: &[u8], ok: bool) -> usize
-    ensures { λ r. ⌜ Counts r (now (out .exit)) ⌝ }
-{
-    let n = text::put(out, 0, program);
-    if ok {
-        return text::put(out, n, b": ");
+// The last line where not all of the work is done.
+pub fn stopped_early(program: &[u8]) {
+    say(program, b": stopped early\n");
+}
+
+// Prints how a program is used on standard output.
+pub fn print_usage(program: &[u8], usage: &[u8]) {
+    if io::write_all(STDOUT_FILENO, usage) {
+        return;
     }
-    text::put(out, n, b": stopped early: ")
+    let mut label = [0u8; 64];
+    let n = text::put(&mut label, 0, program);
+    let k = text::put(&mut label, n, b": standard output");
+    os::fail(&label[..k]);
 }
 
 // The place in a file from which the next byte is read; negative where there are no places, as in a pipe.

@@ -17,57 +17,52 @@ fn main() {
         report::usage();
         return;
     }
+    if !run() {
+        files::stopped_early(b"generator");
+    }
+}
+
+// Makes the PDUs. Answers whether all is done; what went wrong is said.
+fn run() -> bool {
     if !arguments::check() {
-        return;
+        return false;
     }
     let job = arguments::asked();
     if !job.ok {
-        return;
+        return false;
     }
     let opened = writer::open(job.mode, job.stream);
     if opened.refusal != 0 {
         report::refused(opened.refusal);
-        return;
+        return false;
     }
     let writer = opened.writer;
-    with_writer(job, writer);
+    with_writer(job, writer)
 }
 
 // Reads the PSD, and opens the file of packets.
-fn with_writer(job: Job, writer: Writer) {
+fn with_writer(job: Job, writer: Writer) -> bool {
     let mut psd = [0u8; 256];
     let read = psd::read(&mut psd);
     if read.status == records::FAILED {
-        return;
+        return false;
     }
     let mut from = files::label_buffer();
-    let n = files::put_label(
-        &mut from,
-        b"generator",
-        &arguments::KNOWN,
-        b"in",
-        b"standard input",
-    );
+    let n = files::put_input_label(&mut from, b"generator", &arguments::KNOWN);
     let input = files::open_input(&arguments::KNOWN, b"in", &from[..n]);
     if input < 0 {
-        return;
+        return false;
     }
-    with_input(job, writer, &psd[..read.length], &from[..n], input);
+    with_input(job, writer, &psd[..read.length], &from[..n], input)
 }
 
 // Opens the file of PDUs, and sends.
-fn with_input(job: Job, writer: Writer, psd: &[u8], from: &[u8], input: i32) {
+fn with_input(job: Job, writer: Writer, psd: &[u8], from: &[u8], input: i32) -> bool {
     let mut onto = files::label_buffer();
-    let n = files::put_label(
-        &mut onto,
-        b"generator",
-        &arguments::KNOWN,
-        b"out",
-        b"standard output",
-    );
+    let n = files::put_output_label(&mut onto, b"generator", &arguments::KNOWN);
     let output = files::open_output(&arguments::KNOWN, b"out", &onto[..n]);
     if output < 0 {
-        return;
+        return false;
     }
     let settings = job.settings;
     let task = Task {
@@ -79,12 +74,12 @@ fn with_input(job: Job, writer: Writer, psd: &[u8], from: &[u8], input: i32) {
         settings: settings,
     };
     let run = sending::send(task, from, &onto[..n], psd, job.length, writer);
-    finish(run, output, &onto[..n]);
+    finish(run, output, &onto[..n])
 }
 
 // Closes the file of PDUs, and says what is sent.
-fn finish(run: Run, output: i32, onto: &[u8]) {
+fn finish(run: Run, output: i32, onto: &[u8]) -> bool {
     let closed = files::close(output, onto);
-    let ok = run.ok & closed;
-    report::summary(ok, run.packets, run.octets, run.pdus, run.size);
+    report::summary(run.packets, run.octets, run.pdus, run.size);
+    run.ok & closed
 }

@@ -49,7 +49,11 @@ fn put_cause(out: &mut [u8], at: usize, refusal: u32) -> usize
             at,
             b"expansion fields that do not go together, or a displacement in a PDU over 16,384",
         ),
-        14 => text::put(out, at, b"a setting that is not sent, or past its width"),
+        14 => text::put(
+            out,
+            at,
+            b"a value that may not be sent: blend 3, blend with a program, gain 7 to 23, or past its width",
+        ),
         15 => text::put(out, at, b"packet length 0 or over 4,096"),
         16 => text::put(
             out,
@@ -71,10 +75,10 @@ pub fn refused(refusal: u32) {
     say(&line[..n]);
 }
 
-// What is sent, and whether that is all.
-pub fn summary(ok: bool, packets: u64, octets: u64, pdus: u64, size: u64) {
+// What is sent.
+pub fn summary(packets: u64, octets: u64, pdus: u64, size: u64) {
     let mut line = [0u8; 256];
-    let mut n = files::put_beginning(&mut line, b"generator", ok);
+    let mut n = text::put(&mut line, 0, b"generator: ");
     n = text::put(&mut line, n, b"packets ");
     n = text::put_decimal(&mut line, n, packets);
     n = text::put(&mut line, n, b" (bytes ");
@@ -94,8 +98,8 @@ pub fn progress(pdus: u64) {
 
 // How the program is used, on standard output.
 pub fn usage() {
-    io::write_all(
-        libc::STDOUT_FILENO,
+    files::print_usage(
+        b"generator",
         b"usage: generator [--in FILE] [--out FILE] [OPTION]...
 
 Makes a file of PDUs from a file of packets. A record of either file is its
@@ -112,6 +116,7 @@ length in two bytes, low byte first, and then its bytes.
   --gain N          gain, or in stream 1 the stream delay (0)
   --common-delay N  0 to 63 (0)
   --latency N       0 to 7 (0)
+  --help            prints this and does nothing else
 
 Expansion fields, sent if an option of theirs is given:
   --class N         class, 1
@@ -122,7 +127,7 @@ Expansion fields, sent if an option of theirs is given:
   --services N      applied services, 0 or 1
   --marker N        marker, 0 to 2097151
 
-The last line on standard error counts what is sent; it says \"stopped early\"
+Standard error has what is sent, and the last line \"generator: stopped early\"
 if that is not all.
 ",
     );

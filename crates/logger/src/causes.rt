@@ -42,12 +42,11 @@ pub fn put_refusal(out: &mut [u8], at: usize, number: u32) -> usize
     put_high(out, at, number)
 }
 
-// The end of a line on a refusal: its number and cause with other words between them, and the k of the wrong locator where it is 11.
-pub fn put_refused(out: &mut [u8], at: usize, number: u32, between: &[u8], wrong: u32) -> usize
+// The cause of a refusal at the end of a line, with the k of the wrong locator where it is 11.
+pub fn put_refused(out: &mut [u8], at: usize, number: u32, wrong: u32) -> usize
     ensures { λ r. ⌜ Counts r (now (out .exit)) ⌝ }
 {
-    let n = phrases::put_number(out, at, b"", number as u64, between);
-    let k = put_refusal(out, n, number);
+    let k = put_refusal(out, at, number);
     if number != 11 {
         return phrases::put(out, k, b"\n");
     }

@@ -30,7 +30,9 @@ pub fn put_pdu(out: &mut [u8], pdu: u64, o: Outcome) -> usize
         return put_length(out, 0, pdu, b",received,", o.number, o.length as u64);
     }
     let n = phrases::put_number(out, 0, b"", pdu, b",refused,");
-    causes::put_refused(out, n, o.number, b",,", o.wrong)
+    let k = phrases::put_number(out, n, b"", o.number as u64, b",");
+    let m = phrases::put_number(out, k, b"", o.length as u64, b",");
+    causes::put_refused(out, m, o.number, o.wrong)
 }
 
 fn put_psd(out: &mut [u8], at: usize, pdu: u64, length: u32) -> usize

@@ -23,52 +23,47 @@ fn main() {
         report::usage();
         return;
     }
+    if !run() {
+        files::stopped_early(b"logger");
+    }
+}
+
+// Makes the log. Answers whether all is done; what went wrong is said.
+fn run() -> bool {
     if !arguments::check() {
-        return;
+        return false;
     }
     let job = arguments::asked();
     if !job.ok {
-        return;
+        return false;
     }
     let opened = receiver::open(job.mode, job.stream);
     if opened.refusal != 0 {
         report::not_opened(opened.refusal);
-        return;
+        return false;
     }
     let receiver = opened.receiver;
-    with_receiver(job, receiver);
+    with_receiver(job, receiver)
 }
 
 // Opens the file of PDUs.
-fn with_receiver(job: Job, receiver: Receiver) {
+fn with_receiver(job: Job, receiver: Receiver) -> bool {
     let mut from = files::label_buffer();
-    let n = files::put_label(
-        &mut from,
-        b"logger",
-        &arguments::KNOWN,
-        b"in",
-        b"standard input",
-    );
+    let n = files::put_input_label(&mut from, b"logger", &arguments::KNOWN);
     let input = files::open_input(&arguments::KNOWN, b"in", &from[..n]);
     if input < 0 {
-        return;
+        return false;
     }
-    with_input(job, receiver, &from[..n], input);
+    with_input(job, receiver, &from[..n], input)
 }
 
 // Opens the file of the log, and logs.
-fn with_input(job: Job, receiver: Receiver, from: &[u8], input: i32) {
+fn with_input(job: Job, receiver: Receiver, from: &[u8], input: i32) -> bool {
     let mut onto = files::label_buffer();
-    let n = files::put_label(
-        &mut onto,
-        b"logger",
-        &arguments::KNOWN,
-        b"out",
-        b"standard output",
-    );
+    let n = files::put_output_label(&mut onto, b"logger", &arguments::KNOWN);
     let output = files::open_output(&arguments::KNOWN, b"out", &onto[..n]);
     if output < 0 {
-        return;
+        return false;
     }
     let task = Task {
         input: input,
@@ -79,12 +74,12 @@ fn with_input(job: Job, receiver: Receiver, from: &[u8], input: i32) {
     };
     let mut counts = counts::none();
     let run = logging::log_all(task, from, &onto[..n], receiver, &mut counts);
-    finish(run, output, &onto[..n], &counts);
+    finish(run, output, &onto[..n], &counts)
 }
 
 // Closes the file of the log, and says what was received.
-fn finish(run: Run, output: i32, onto: &[u8], counts: &[u64]) {
+fn finish(run: Run, output: i32, onto: &[u8], counts: &[u64]) -> bool {
     let closed = files::close(output, onto);
-    let ok = run.ok & closed;
-    report::summary(ok, run.pdus, counts);
+    report::summary(run.pdus, counts);
+    run.ok & closed
 }

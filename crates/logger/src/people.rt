@@ -20,7 +20,8 @@ pub fn put_pdu(out: &mut [u8], pdu: u64, o: Outcome) -> usize
         return phrases::put(out, k, b" corrected\n");
     }
     let n = phrases::put_number(out, 0, b"PDU ", pdu, b": refused with ");
-    causes::put_refused(out, n, o.number, b": ", o.wrong)
+    let k = phrases::put_number(out, n, b"", o.number as u64, b": ");
+    causes::put_refused(out, k, o.number, o.wrong)
 }
 
 fn put_packet(out: &mut [u8], at: usize, number: u32, length: u32) -> usize

@@ -31,8 +31,14 @@ pub fn no_format(name: &[u8]) {
 // The receiver is not opened.
 pub fn not_opened(refusal: u32) {
     let mut line = [0u8; 128];
-    let n = phrases::put(&mut line, 0, b"logger: refused with ");
-    let k = causes::put_refused(&mut line, n, refusal, b": ", 0);
+    let n = phrases::put_number(
+        &mut line,
+        0,
+        b"logger: refused with ",
+        refusal as u64,
+        b": ",
+    );
+    let k = causes::put_refused(&mut line, n, refusal, 0);
     say(&line[..k]);
 }
 
@@ -43,8 +49,9 @@ pub fn outcome(pdu: u64, o: Outcome) {
     }
     let mut line = [0u8; 128];
     let n = phrases::put_number(&mut line, 0, b"logger: PDU ", pdu, b": refused with ");
-    let k = causes::put_refused(&mut line, n, o.number, b": ", o.wrong);
-    say(&line[..k]);
+    let k = phrases::put_number(&mut line, n, b"", o.number as u64, b": ");
+    let m = causes::put_refused(&mut line, k, o.number, o.wrong);
+    say(&line[..m]);
 }
 
 // The refusals with a number, in a line; nothing where there are none.
@@ -139,10 +146,10 @@ fn put_noted(out: &mut [u8], at: usize, counts: &[u64]) -> usize
     put_notes(out, n, counts)
 }
 
-// What was received and logged, and whether that is all.
-pub fn summary(ok: bool, pdus: u64, counts: &[u64]) {
+// What was received and logged.
+pub fn summary(pdus: u64, counts: &[u64]) {
     let mut lines = io::buffer();
-    let mut n = files::put_beginning(&mut lines, b"logger", ok);
+    let mut n = phrases::put(&mut lines, 0, b"logger: ");
     n = put_pdus(&mut lines, n, pdus, counts);
     n = put_logged(&mut lines, n, counts);
     n = put_noted(&mut lines, n, counts);
@@ -156,8 +163,8 @@ pub fn progress(pdus: u64) {
 
 // How the program is used, on standard output.
 pub fn usage() {
-    io::write_all(
-        libc::STDOUT_FILENO,
+    files::print_usage(
+        b"logger",
         b"usage: logger [--in FILE] [--out FILE] [OPTION]...
 
 Turns a file of PDUs into the packet log. A record of the file is a PDU's length
@@ -169,6 +176,7 @@ that is marked lost.
   --mode N        0, 1, 2, 3, 10 or 13 (0)
   --stream N      0 core, 1 enhanced (0)
   --format F      words, text or csv (text)
+  --help          prints this and does nothing else
 
 Formats:
   words           the log's words, each in four bytes, low byte first
@@ -176,7 +184,8 @@ Formats:
   csv             the same, in the columns pdu, kind, number, length and cause
 
 A PDU that is refused is marked lost, unless it is of another mode or stream. At
-the end standard error has the counts.
+the end standard error has the counts, and the last line \"logger: stopped early\"
+if not all PDUs are logged.
 ",
     );
 }

@@ -192,11 +192,11 @@ pub fn check(program: &[u8], known: &[u8]) -> bool {
     false
 }
 
-// The words for a number outside its range.
+// The words for a value that is no number in its range.
 fn put_range(out: &mut [u8], low: u32, high: u32) -> usize
     ensures { λ r. ⌜ Counts r (now (out .exit)) ⌝ }
 {
-    let mut n = text::put(out, 0, b": not from ");
+    let mut n = text::put(out, 0, b": not a number from ");
     n = text::put_decimal(out, n, low as u64);
     n = text::put(out, n, b" to ");
     n = text::put_decimal(out, n, high as u64);
@@ -218,8 +218,7 @@ fn in_range(program: &[u8], name: &[u8], value: &[u8], low: u32, high: u32) -> N
 {
     let number = text::parse(value);
     if !number.ok {
-        complain(program, b"--", name, b": not a number: ", value);
-        return no_number();
+        return out_of_range(program, name, value, low, high);
     }
     if number.value < low {
         return out_of_range(program, name, value, low, high);
