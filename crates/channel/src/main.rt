@@ -10,10 +10,6 @@ use road::Run;
 use road::Task;
 
 fn main() {
-    if arguments::given(b"help") {
-        report::usage();
-        return;
-    }
     if !run() {
         files::stopped_early(b"channel");
     }
@@ -21,6 +17,9 @@ fn main() {
 
 // Sends the PDUs over the road. Answers whether all is done; what went wrong is said.
 fn run() -> bool {
+    if arguments::given(b"help") {
+        return report::usage();
+    }
     if !arguments::check() {
         return false;
     }

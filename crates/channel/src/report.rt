@@ -39,7 +39,7 @@ pub fn progress(pdus: u64) {
 }
 
 // How the program is used, on standard output.
-pub fn usage() {
+pub fn usage() -> bool {
     files::print_usage(
         b"channel",
         b"usage: channel [--in FILE] [--out FILE] [OPTION]...
@@ -65,5 +65,5 @@ damage.
 Standard error has the counts, and the last line \"channel: stopped early\" if
 not all PDUs are sent.
 ",
-    );
+    )
 }

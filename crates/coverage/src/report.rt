@@ -72,7 +72,7 @@ pub fn progress(lines: u64) {
 }
 
 // How the program is used, on standard output.
-pub fn usage() {
+pub fn usage() -> bool {
     files::print_usage(
         b"coverage",
         b"usage: coverage [--in FILE] [--out FILE] [OPTION]...
@@ -90,5 +90,5 @@ packets that it delivered, and a tick where packets are missing; and totals.
 Standard error has the totals, and the last line \"coverage: stopped early\" if
 there is no whole picture.
 ",
-    );
+    )
 }

@@ -67,21 +67,27 @@ fn is_read(known: &[u8], path: &[u8]) -> bool {
     check::same(path, &other[..n])
 }
 
-// Opens a file to be written, emptied or made anew. Where standard error is closed it would get that one's number, and messages would go into it: it is
-// not opened then.
+// Whether standard error is closed. A file that is opened then could get its number, and messages would go into that file.
+fn is_mute() -> bool {
+    if 0 <= libc::lseek(STDERR_FILENO, 0, libc::SEEK_CUR) {
+        return false;
+    }
+    os::errno() == libc::EBADF
+}
+
+// Opens a file to be written, emptied or made anew.
 fn open_named(path: &[u8], label: &[u8]) -> i32 {
+    if is_mute() {
+        return -1;
+    }
     let fd = os::open_overwrite(path);
     if fd < 0 {
         os::fail(label);
     }
-    if fd != STDERR_FILENO {
-        return fd;
-    }
-    libc::close(fd);
-    -1
+    fd
 }
 
-// A file to be written, standard output where its option is not given; -1 where it cannot be opened, which is said.
+// A file to be written, standard output where its option is not given; -1 where it is not opened, which is said.
 pub fn open_output(known: &[u8], option: &[u8], label: &[u8]) -> i32 {
     if !options::given(known, option) {
         return STDOUT_FILENO;
@@ -138,15 +144,16 @@ pub fn stopped_early(program: &[u8]) {
     say(program, b": stopped early\n");
 }
 
-// Prints how a program is used on standard output.
-pub fn print_usage(program: &[u8], usage: &[u8]) {
+// Prints how a program is used on standard output. Answers whether all is printed; if not, says why.
+pub fn print_usage(program: &[u8], usage: &[u8]) -> bool {
     if io::write_all(STDOUT_FILENO, usage) {
-        return;
+        return true;
     }
     let mut label = [0u8; 64];
     let n = text::put(&mut label, 0, program);
     let k = text::put(&mut label, n, b": standard output");
     os::fail(&label[..k]);
+    false
 }
 
 // The place in a file from which the next byte is read; negative where there are no places, as in a pipe.

@@ -13,10 +13,6 @@ use window::Source;
 use writer::Writer;
 
 fn main() {
-    if arguments::given(b"help") {
-        report::usage();
-        return;
-    }
     if !run() {
         files::stopped_early(b"generator");
     }
@@ -24,6 +20,9 @@ fn main() {
 
 // Makes the PDUs. Answers whether all is done; what went wrong is said.
 fn run() -> bool {
+    if arguments::given(b"help") {
+        return report::usage();
+    }
     if !arguments::check() {
         return false;
     }

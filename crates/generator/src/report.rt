@@ -97,7 +97,7 @@ pub fn progress(pdus: u64) {
 }
 
 // How the program is used, on standard output.
-pub fn usage() {
+pub fn usage() -> bool {
     files::print_usage(
         b"generator",
         b"usage: generator [--in FILE] [--out FILE] [OPTION]...
@@ -130,5 +130,5 @@ Expansion fields, sent if an option of theirs is given:
 Standard error has what is sent, and the last line \"generator: stopped early\"
 if that is not all.
 ",
-    );
+    )
 }

@@ -162,7 +162,7 @@ pub fn progress(pdus: u64) {
 }
 
 // How the program is used, on standard output.
-pub fn usage() {
+pub fn usage() -> bool {
     files::print_usage(
         b"logger",
         b"usage: logger [--in FILE] [--out FILE] [OPTION]...
@@ -187,5 +187,5 @@ A PDU that is refused is marked lost, unless it is of another mode or stream. At
 the end standard error has the counts, and the last line \"logger: stopped early\"
 if not all PDUs are logged.
 ",
-    );
+    )
 }
