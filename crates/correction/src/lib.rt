@@ -3,7 +3,7 @@ ghost use mathlib.Core.Path.{_≡_};
 ghost use Prim.Native.Nat.{_<_, _≤_};
 ghost use lib.ListN.{getD, length};
 ghost use Rattle.field.specs.Field.{Powers, Logarithms};
-ghost use Rattle.header.specs.Header.{syndromes, distance};
+ghost use Rattle.header.specs.Header.{syndromes};
 ghost use Rattle.algebra.specs.Places.{All, keep, below};
 ghost use Rattle.correction.specs.Correction.{Candidate, corrected, answerFor, headerAfter, correctionOf, correctedPdu};
 ghost use Rattle.correction.specs.declared.Correction.the-variants.{Refused};
@@ -307,21 +307,6 @@ fn repaired(
     out
 }
 
-// In how many bytes two headers differ.
-fn difference(u: [u8; 96], v: [u8; 96]) -> u32
-    ensures { λ n. ⌜ n ≡ distance u v ⌝ }
-{
-    let mut n: u32 = 0;
-    let mut i: usize = 96;
-    while 0 < i {
-        i -= 1;
-        if u[i] != v[i] {
-            n += 1;
-        }
-    }
-    n
-}
-
 // The only code word within four bytes of a header with these syndromes, if there is one.
 fn candidate(header: [u8; 96], s: [u8; 8]) -> [u8; 96]
     requires { ⌜ All (λ x. x < 256) header ⌝ }
@@ -369,7 +354,7 @@ fn decode(header: [u8; 96]) -> Decoded
         };
     }
     let fixed = candidate(header, s);
-    let n = difference(header, fixed);
+    let n = header::difference(header, fixed);
     if 4 < n {
         return refused(header);
     }

@@ -4,7 +4,7 @@ ghost use Prim.Native.Nat.{_-_, _<_};
 ghost use lib.ListN.{length, getD};
 ghost use Rattle.field.specs.Field.{Powers, Logarithms};
 ghost use Rattle.header.specs.Horner.{points, horner as hornerAt, hornerStep};
-ghost use Rattle.header.specs.Header.{syndromes as syndromesOf, exponents, tap as tapOf, divideStep, parityOf, headerOf, allZero, isCodeWord, frontReplaced, lengthRefusal, withParity};
+ghost use Rattle.header.specs.Header.{syndromes as syndromesOf, distance, exponents, tap as tapOf, divideStep, parityOf, headerOf, allZero, isCodeWord, frontReplaced, lengthRefusal, withParity};
 
 // The exponents of the generator's coefficients, constant first.
 const EXPONENTS: [u8; 9] = [36, 203, 3, 220, 253, 211, 240, 176, 0];
@@ -191,6 +191,21 @@ pub fn all_zero(s: [u8; 8]) -> bool
         i += 1;
     }
     true
+}
+
+// In how many bytes two headers differ.
+pub fn difference(u: [u8; 96], v: [u8; 96]) -> u32
+    ensures { λ n. ⌜ n ≡ distance u v ⌝ }
+{
+    let mut n: u32 = 0;
+    let mut place: usize = 96;
+    while 0 < place {
+        place -= 1;
+        if u[place] != v[place] {
+            n += 1;
+        }
+    }
+    n
 }
 
 // Copies bytes over the first ones of a PDU, as many as it has room for.

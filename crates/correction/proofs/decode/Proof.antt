@@ -11,7 +11,6 @@ use Rattle.correction.proofs.decode.Tie as tie
 use Rattle.correction.proofs.decode.Reads as reads
 use Rattle.correction.proofs.decode.Lts as lts
 use Rattle.correction.proofs.candidate.Reads as candidate-reads
-use Rattle.correction.proofs.difference.Reads as difference-reads
 use Rattle.correction.proofs.refused.Reads as refused-reads
 use Rattle.header.proofs.all_zero.Reads as all-zero-reads
 use Rattle.header.proofs.is_code_word.Reads as is-code-word-reads

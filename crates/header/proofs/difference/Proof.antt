@@ -11,11 +11,9 @@ use mathlib.Core.Path.{ap₂}
 use mathlib.Core.Bool.{cond}
 use native.Mathlib.Numerals.{add-one}
 use borrow.Author.Tests.{eq-eqb, ne-eqb}
 use Rattle.header.specs.Header.{distance}
-use Rattle.correction.proofs.difference.Statement.{statement}
-use Rattle.correction.proofs.difference.Tie as tie
-use Rattle.correction.proofs.difference.Reads as reads
-use Rattle.correction.proofs.difference.Lts as lts
+use Rattle.header.proofs.difference.Statement.{statement}
+use Rattle.header.proofs.difference.Tie as tie
 
 none-left : (u v : List ℕ) → length u ≤ 96 → 0 ≡ distance (drop 96 u) (drop 96 v)
 unfolding distance
@@ -47,8 +45,8 @@ loop-holds c =
     let a = c .args in
     (omega arith, omega arith, none-left (a .t1) (a .t2) (omega arith))
 
-sub-i : tie.Need-sub-i Inv-loop μ-loop
-sub-i c = search needs
+sub-place : tie.Need-sub-place Inv-loop μ-loop
+sub-place c = search needs
 
 array-read-if1 : tie.Need-array-read-if1 Inv-loop μ-loop
 array-read-if1 c = search needs
@@ -67,7 +65,7 @@ loop-again c =
     let p = c .before .before in (
       omega arith,
       omega arith,
-      differ (p .before .args .t1) (p .before .args .t2) (p .loop .n) (p .loop .i) (omega arith) (omega arith) (omega arith) (c .if1 .taken) (p .loop .inv .2),
+      differ (p .before .args .t1) (p .before .args .t2) (p .loop .n) (p .loop .place) (omega arith) (omega arith) (omega arith) (c .if1 .taken) (p .loop .inv .2),
     )
 
 loop-less-2 : tie.Need-loop-less-2 Inv-loop μ-loop
@@ -78,13 +76,13 @@ loop-again-2 c =
     let p = c .before .before in (
       omega arith,
       omega arith,
-      agree (p .before .args .t1) (p .before .args .t2) (p .loop .n) (p .loop .i) (omega arith) (omega arith) (omega arith) (c .if1 .left) (p .loop .inv .2),
+      agree (p .before .args .t1) (p .before .args .t2) (p .loop .n) (p .loop .place) (omega arith) (omega arith) (omega arith) (c .if1 .left) (p .loop .inv .2),
     )
 
 returns : tie.Need-returns Inv-loop μ-loop
 returns c =
     let p = c .before in
-    let e : p .loop .i ≡ 0 = omega arith in
+    let e : p .loop .place ≡ 0 = omega arith in
     p .loop .inv .2 ∙ ap (λ (k : ℕ). distance (drop k (p .before .args .t1)) (drop k (p .before .args .t2))) e
 
 pub difference-spec : {M : Type 1} → statement M
@@ -94,7 +92,7 @@ difference-spec =
     Inv-loop
     μ-loop
     loop-holds
-    sub-i
+    sub-place
     array-read-if1
     array-read-if1-2
     add-n
