@@ -71,6 +71,10 @@ extern "C" {
  * word".) */
 #define BARZHILUP_PIECES_MAX 54
 
+/* Entries of the arrays in a barzhilup_reading: one for each value of NOP's six
+ * bits. */
+#define BARZHILUP_READING_PIECES 64
+
 /* ---- Refusal numbers (document 01, "What is turned down") --------------- */
 
 /* Not refused. */
@@ -218,31 +222,45 @@ uint8_t barzhilup_crc8(const uint8_t *bytes, size_t length);
 
 /* The control word, bytes 8 to 13 of a PDU. */
 typedef struct {
+    /* Codec mode and stream, of the table in document 01, "Modes"; stream is 0
+     * core, 1 enhanced. */
     uint8_t mode;
     uint8_t stream;
+    /* PDU sequence: 0 to 1 or 0 to 7, by mode and stream. */
     uint8_t sequence;
+    /* Blend control, 0 to 3. */
     uint8_t blend;
-    /* Gain (core) or stream delay (enhanced). */
+    /* Gain (core) or stream delay (enhanced), 0 to 31. */
     uint8_t gain;
+    /* Common delay, 0 to 63. */
     uint8_t common_delay;
+    /* Latency, 0 to 7. */
     uint8_t latency;
-    /* 1 or 0. */
+    /* 1 where the first piece continues a packet begun in an earlier PDU. */
     uint8_t pfirst;
+    /* 1 where the last piece is continued in a later PDU. */
     uint8_t plast;
+    /* The starting number, 0 to 63: that of the first packet not continued. */
     uint8_t start;
+    /* The count of pieces, at most BARZHILUP_PIECES_MAX. */
     uint8_t nop;
     /* 1 where expansion bytes follow the locators, else 0. */
     uint8_t expansion;
+    /* The place of the last byte before the first piece. */
     uint8_t la;
 } barzhilup_control_word;
 
 /* The expansion fields; 0 where not sent or not interpreted. */
 typedef struct {
+    /* ID 0: class, 1 to 15. */
     uint8_t class_code;
+    /* ID 1: program number, 0 to 7, and the place of the PDU's last byte. */
     uint8_t program;
     uint16_t displacement;
+    /* ID 2: access, 0 or 1, and program type, 0 to 255. */
     uint8_t access;
     uint8_t type_code;
+    /* ID 4: applied services, 0 to 7, and marker, 0 to 2,097,151. */
     uint8_t services;
     uint32_t marker;
 } barzhilup_expansion;
@@ -255,6 +273,7 @@ typedef struct {
     uint32_t refusal;
     /* With BARZHILUP_REFUSED_LOCATOR, the number k of a wrong locator, from 0. */
     uint32_t wrong_locator;
+    /* What bytes 8 to 13 and the expansion bytes say. */
     barzhilup_control_word control;
     barzhilup_expansion expansion;
     /* Where the PSD starts in the PDU, and its length. With no PSD these are
@@ -263,8 +282,8 @@ typedef struct {
     uint32_t psd_length;
     /* Piece k's start in the PDU and its length, without its CRC byte; 0 from
      * NOP on. */
-    uint16_t starts[64];
-    uint16_t lengths[64];
+    uint16_t starts[BARZHILUP_READING_PIECES];
+    uint16_t lengths[BARZHILUP_READING_PIECES];
 } barzhilup_reading;
 
 /*
@@ -279,6 +298,7 @@ barzhilup_reading barzhilup_read(uint8_t *pdu, size_t length);
 /* What a writer remembers. A caller keeps it between calls and need not look
  * inside. */
 typedef struct {
+    /* The codec mode that it was opened for. */
     uint8_t mode;
     /* 0 core, 1 enhanced. */
     uint8_t stream;
@@ -294,8 +314,8 @@ typedef struct {
 typedef struct {
     /* BARZHILUP_ACCEPTED or BARZHILUP_REFUSED_MODE. */
     uint32_t refusal;
-    /* All 0 if refused, which is also what a writer of mode 0, core, looks like:
-     * ask for `refusal` first. */
+    /* At sequence 0 and number 0. All 0 if refused, which is also what a writer
+     * of mode 0, core, looks like: ask for `refusal` first. */
     barzhilup_writer writer;
 } barzhilup_writer_opened;
 
@@ -321,7 +341,7 @@ typedef struct {
     uint8_t program;
     /* The displacement, which is the PDU's length minus 1; lengths to 16,384. */
     bool displaced;
-    /* Access, 1 with class 1 and 0 without, and type, 0 to 255. */
+    /* Access, 1 with class 1 and 0 without, and program type, 0 to 255. */
     bool typed;
     uint8_t access;
     uint8_t type_code;
@@ -421,6 +441,7 @@ barzhilup_written barzhilup_write(barzhilup_writer writer,
  * carry buffer, and need not look inside. A bool is true or false: any other
  * byte in its place is undefined, as in C. */
 typedef struct {
+    /* The codec mode that it was opened for. */
     uint8_t mode;
     /* 0 core, 1 enhanced. */
     uint8_t stream;
@@ -510,8 +531,14 @@ typedef struct {
 /* What came of stepping a receiver in place: a barzhilup_received without the
  * receiver. */
 typedef struct {
+    /* BARZHILUP_ACCEPTED, or a BARZHILUP_REFUSED_ number: 1 to 13 for receiving,
+     * 1 or 13 for marking lost. */
     uint32_t refusal;
+    /* With BARZHILUP_REFUSED_LOCATOR, the number k of a wrong locator, from 0;
+     * otherwise 0. */
     uint32_t wrong_locator;
+    /* How many words of the log were written, from its first on. 0 if
+     * refused. */
     uint32_t words;
 } barzhilup_stepped;
 
