@@ -33,6 +33,9 @@ use std::thread;
 /// How often something came, by its name or number.
 type Counts<K> = BTreeMap<K, u64>;
 
+/// The bytes of an output file before a program is run.
+const OLD: u8 = 0xEE;
+
 fn count<K: Ord>(counts: &mut Counts<K>, key: K, more: usize) {
     *counts.entry(key).or_default() += more as u64;
 }
@@ -137,7 +140,7 @@ impl Bench {
         };
         let named = self.rng.below(2) == 0;
         // What stood in the file before is longer than what some runs write.
-        let output = self.file("output", &[0xEE; 3_000]);
+        let output = self.file("output", &[OLD; 3_000]);
         if named {
             command.args(["--out", &output]).stdout(Stdio::null());
         } else {
@@ -796,8 +799,7 @@ struct Logged {
     entries: Vec<Entry>,
 }
 
-/// A whole file by the reference. A refused PDU is marked lost unless it is
-/// refused with 5 or 6.
+/// A whole file by the reference. A refused PDU is marked lost.
 fn heard(line: &Line, records: &[Vec<u8>]) -> Vec<Logged> {
     let mut receiver = receiver::open(line.mode, line.stream).expect("a line of the table");
     let mut carry = vec![0; CARRY_BYTES];
@@ -811,7 +813,7 @@ fn heard(line: &Line, records: &[Vec<u8>]) -> Vec<Logged> {
             receiver::receive(receiver, &mut carry, &mut pdu, &mut log)
         };
         let came = came_of(record, &answer);
-        if let Came::Refused(1..=4 | 7.., _) = came {
+        if let Came::Refused(..) = came {
             answer = receiver::mark_lost(receiver, &mut log);
         }
         receiver = answer.receiver;
@@ -1254,7 +1256,7 @@ impl Shown {
     /// The legend's words with their numbers, and the shares of those.
     fn totals(&self) -> Vec<(String, Vec<String>)> {
         let counts = self.counts();
-        let (all, packets) = (counts[0], counts[5] + counts[6]);
+        let all = counts[0];
         let total = |((words, whole), number): ((&str, usize), usize)| {
             let mut numbers = vec![number.to_string()];
             if let Some(tenths) = (number * 1_000 + whole / 2).checked_div(whole) {
@@ -1268,8 +1270,8 @@ impl Shown {
             ("of these corrected", all),
             ("lost", all),
             ("refused", all),
-            ("packets delivered", packets),
-            ("packets missing", packets),
+            ("packets delivered", 0),
+            ("missing, at least", 0),
         ];
         words.into_iter().zip(counts).map(total).collect()
     }
@@ -1279,7 +1281,7 @@ impl Shown {
         let [all, received, corrected, lost, refused, packets, missing] = self.counts();
         format!(
             "coverage: PDUs {all} (received {received}, of these corrected {corrected}; \
-             lost {lost}; refused {refused}), packets delivered {packets}, missing {missing}"
+             lost {lost}; refused {refused}), packets delivered {packets}, missing at least {missing}"
         )
     }
 
@@ -1493,14 +1495,14 @@ fn refusals() {
             continue;
         }
         let words = generator_words(refusal);
-        let mut said = vec![format!("generator: refused with {refusal}: {words}")];
-        // Mode and stream are looked at before anything is opened.
-        if refusal != 5 {
-            assert_eq!(ran.written, [], "{options:?}");
-            said.push(sending.said(0, 0));
-        }
-        said.push(stopped_early("generator"));
-        assert_eq!(ran.said, said, "{options:?}");
+        let refused = format!("generator: refused with {refusal}: {words}");
+        // Nothing is written, and what stood in the file before is kept.
+        assert!(ran.written.iter().all(|&byte| byte == OLD), "{options:?}");
+        assert_eq!(
+            ran.said,
+            [refused, stopped_early("generator")],
+            "{options:?}"
+        );
     }
     println!("generator, by refusal: {numbers:?}");
     let seen: Vec<u32> = numbers.into_keys().collect();

@@ -347,7 +347,7 @@ check_empty() {
     same "an empty CSV, what is said" "$(nothing_of logger)" "$(cat err)"
     cp out title.csv
     run coverage --in title.csv
-    same "a picture of no PDUs" "coverage: PDUs 0 (received 0, of these corrected 0; lost 0; refused 0), packets delivered 0, missing 0" "$(cat err)"
+    same "a picture of no PDUs" "coverage: PDUs 0 (received 0, of these corrected 0; lost 0; refused 0), packets delivered 0, missing at least 0" "$(cat err)"
     same "a picture of no PDUs is whole" "</svg>" "$(tail -n 1 out)"
     run generator --in one --psd empty --length 96
     cp out without
@@ -355,15 +355,15 @@ check_empty() {
     same_file "an empty PSD is none" without out
 }
 
-# A refusal of the generator's: its number, its words and the options. With 5 nothing is opened yet, and so nothing counted.
+# A refusal of the generator's: its number, its words and the options. What was in its output before is kept, also where a packet is wrong too.
 refuses() {
-    local lines="generator: refused with $1: $2"
-    if [ "$1" != 5 ]; then
-        lines="$lines
-$(nothing_of generator)"
-    fi
+    local line="generator: refused with $1: $2"
     shift 2
-    stops "$lines" generator --in one "$@"
+    stops "$line" generator --in one "$@"
+    echo old >kept
+    stops "$line" generator --in one "$@" --out kept
+    same "generator $*: what was there is kept" old "$(cat kept)"
+    stops "$line" generator --in empty "$@"
 }
 
 # The generator with settings that are right at the edge.
@@ -511,7 +511,8 @@ check_drive() {
     has_line "it is marked lost, too" "4,note,0,,lost" out
     has_line "a PDU of another mode" "5,refused,6,96,mode and stream not those asked for" out
     has_line "a second one" "6,refused,6,96,mode and stream not those asked for" out
-    same "that is not marked lost" 0 "$(grep -c '^5,note' out || true)"
+    has_line "that is marked lost" "5,note,0,,lost" out
+    has_line "and so is the second" "6,note,0,,lost" out
     has_line "a PDU of zeros" "7,refused,9,96,La out of place" out
     same "standard error" "logger: PDU 1: refused with 3: length not 96 to 20480
 logger: PDU 4: refused with 3: length not 96 to 20480
@@ -527,6 +528,18 @@ logger:   refused with 9 (La out of place): 1" "$(head -n 9 err)"
     run coverage --in drive.csv
     same "its picture" "coverage: PDUs 9 (received 3, of these corrected 0; lost 1; refused 5)" "$(head -n 1 err | cut -d ',' -f 1-2)"
     same "its picture is whole" whole "$(end_of coverage)"
+}
+
+# A packet in eight PDUs, two of which are of another mode instead: the one-bit sequence fits again after them, and nothing is joined.
+check_hole() {
+    record 600 >big
+    "$bin/generator" --in big --length 96 --out long 2>/dev/null
+    run logger --in long --format csv
+    has_line "a packet in eight PDUs" "7,packet,0,600," out
+    { head -c 196 long; cat other; tail -c +393 long; } >holed
+    run logger --in holed --format csv
+    same "PDUs with a hole" 8 "$(grep -c ',received,\|,refused,' out)"
+    same "no packet is joined across PDUs of another mode" 0 "$(grep -c ',packet,' out || true)"
 }
 
 # Lines that are no log.
@@ -743,6 +756,7 @@ check_settings
 check_packets
 check_example
 check_drive
+check_hole
 check_lines
 check_picture
 check_cuts

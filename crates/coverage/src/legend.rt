@@ -98,7 +98,7 @@ fn put_ticks(out: &mut [u8], at: usize, y: u64) -> usize
         b"t",
         WORDS,
         y,
-        b"packets missing just before, counted modulo 64",
+        b"packets missing before, modulo 64 (ends not counted)",
     )
 }
 
@@ -161,10 +161,10 @@ fn put_failed(out: &mut [u8], at: usize, base: u64, all: u64, t: Totals) -> usiz
     put_total(out, n, line_of(base, 4), 10, b"refused", t.refused, all)
 }
 
+// The totals of packets have no shares: packets that are missing by whole runs of 64, or at the drive's ends, are not known of.
 fn put_packets(out: &mut [u8], at: usize, base: u64, t: Totals) -> usize
     requires { ⌜ base < 300000000000 ⌝ }
 {
-    let sent = std::num::wrapping_add_u64(t.packets, t.missing);
     let n = put_total(
         out,
         at,
@@ -172,16 +172,16 @@ fn put_packets(out: &mut [u8], at: usize, base: u64, t: Totals) -> usize
         0,
         b"packets delivered",
         t.packets,
-        sent,
+        0,
     );
     put_total(
         out,
         n,
         line_of(base, 6),
         0,
-        b"packets missing",
+        b"missing, at least",
         t.missing,
-        sent,
+        0,
     )
 }
 

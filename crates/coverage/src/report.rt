@@ -60,7 +60,7 @@ pub fn summary(d: Drive) {
     n = text::put_decimal(&mut line, n, t.refused);
     n = text::put(&mut line, n, b"), packets delivered ");
     n = text::put_decimal(&mut line, n, t.packets);
-    n = text::put(&mut line, n, b", missing ");
+    n = text::put(&mut line, n, b", missing at least ");
     n = text::put_decimal(&mut line, n, t.missing);
     n = text::put(&mut line, n, b"\n");
     say(&line[..n]);

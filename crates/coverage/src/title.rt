@@ -90,17 +90,31 @@ fn characters(text: &[u8]) -> u64
     count
 }
 
-// The size of a title's letters: smaller where there are many of them for the width.
-pub fn size(text: &[u8], width: u64) -> u64 {
-    let count = characters(text);
+// A count of letters that decides their size: fewer than 30 count as 30, and more than 200 as 200.
+fn counted(count: u64) -> u64
+    ensures { λ r. ⌜ (30 ≤ r) × (r ≤ 200) ⌝ }
+{
     if count < 30 {
+        return 30;
+    }
+    if 200 < count {
+        return 200;
+    }
+    count
+}
+
+// The size of a title's letters, at most 20: one takes up to seven tenths of it, and all are to fit the width.
+pub fn size(text: &[u8], width: u64) -> u64
+    ensures { λ r. ⌜ r ≤ 20 ⌝ }
+{
+    if 10000 < width {
         return 20;
     }
-    let fitting = width / (count / 10 * 7);
-    if 200 < fitting {
+    let fitting = width * 10 / (counted(characters(text)) * 7);
+    if 20 < fitting {
         return 20;
     }
-    fitting / 10
+    fitting
 }
 
 // One byte, as it stands in SVG: what would begin a tag or an entity is written as an entity, and a control character as a space.

@@ -57,13 +57,13 @@ pub fn open_input(known: &[u8], option: &[u8], label: &[u8]) -> i32 {
     fd
 }
 
-// Whether the file to be written is named as the one that is read, which would be emptied before it is read.
-fn is_read(known: &[u8], path: &[u8]) -> bool {
-    if !options::given(known, b"in") {
+// Whether the file to be written has the name that an option gives to a file that is read, which would be emptied before that.
+fn is_read(known: &[u8], option: &[u8], path: &[u8]) -> bool {
+    if !options::given(known, option) {
         return false;
     }
     let mut other = io::buffer();
-    let n = options::value(known, b"in", &mut other);
+    let n = options::value(known, option, &mut other);
     check::same(path, &other[..n])
 }
 
@@ -87,14 +87,15 @@ fn open_named(path: &[u8], label: &[u8]) -> i32 {
     fd
 }
 
-// A file to be written, standard output where its option is not given; -1 where it is not opened, which is said.
+// A file to be written, standard output where its option is not given; -1 where it is not opened: it cannot be, or it is read, which is said, or
+// there is no standard error to say anything on.
 pub fn open_output(known: &[u8], option: &[u8], label: &[u8]) -> i32 {
     if !options::given(known, option) {
         return STDOUT_FILENO;
     }
     let mut path = io::buffer();
     let n = options::value(known, option, &mut path);
-    if is_read(known, &path[..n]) {
+    if is_read(known, b"in", &path[..n]) | is_read(known, b"psd", &path[..n]) {
         say(label, b": is the file that is read\n");
         return -1;
     }

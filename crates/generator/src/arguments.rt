@@ -2,7 +2,6 @@
 use settings::Settings;
 use text::Number;
 ghost use Prim.Native.Nat.{_≤_};
-ghost use Rattle.io.specs.Counts.{Counts};
 
 // The options that are known.
 pub const KNOWN: [u8; 143] =
@@ -35,12 +34,6 @@ pub fn check() -> bool {
 
 pub fn given(name: &[u8]) -> bool {
     options::given(&KNOWN, name)
-}
-
-pub fn value(name: &[u8], buf: &mut [u8]) -> usize
-    ensures { λ r. ⌜ Counts r (now (buf .exit)) ⌝ }
-{
-    options::value(&KNOWN, name, buf)
 }
 
 fn number(name: &[u8], default: u32, high: u32) -> Number

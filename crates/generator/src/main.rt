@@ -39,11 +39,15 @@ fn run() -> bool {
     with_writer(job, writer)
 }
 
-// Reads the PSD, and opens the file of packets.
+// Reads the PSD, tries the settings, and opens the file of packets.
 fn with_writer(job: Job, writer: Writer) -> bool {
     let mut psd = [0u8; 256];
     let read = psd::read(&mut psd);
     if read.status == records::FAILED {
+        return false;
+    }
+    let settings = job.settings;
+    if !sending::is_taken(settings, &psd[..read.length], job.length, writer) {
         return false;
     }
     let mut from = files::label_buffer();

@@ -37,6 +37,18 @@ fn least(a: usize, b: usize) -> usize
     b
 }
 
+// Whether the writer takes the settings, the PSD and the length, tried on a packet of one byte; if not, says why.
+pub fn is_taken(settings: Settings, psd: &[u8], length: usize, writer: Writer) -> bool {
+    let mut pdu = [0u8; 65535];
+    let size = least(length, 65535);
+    let r = writer.write(settings, psd, &[1u16], &[0u8], &mut pdu[0..size]);
+    if r.refusal == 0 {
+        return true;
+    }
+    report::refused(r.refusal);
+    false
+}
+
 fn begin(writer: Writer) -> Run {
     Run {
         going: true,

@@ -1,8 +1,6 @@
 // What comes of a record of the file of PDUs.
 use receiver::Received;
 use receiver::Receiver;
-ghost use mathlib.Core.Path.{_≡_};
-ghost use Rattle.header.specs.Header.{distance};
 
 // The kinds of outcomes.
 pub const RECEIVED: u8 = 0;
@@ -22,21 +20,6 @@ pub struct Outcome {
     // How many words stand in the log, from its first word on.
     pub words: usize,
     pub receiver: Receiver,
-}
-
-// In how many bytes two headers differ.
-fn difference(u: [u8; 96], v: [u8; 96]) -> u32
-    ensures { λ n. ⌜ n ≡ distance u v ⌝ }
-{
-    let mut n: u32 = 0;
-    let mut i: usize = 96;
-    while 0 < i {
-        i -= 1;
-        if u[i] != v[i] {
-            n += 1;
-        }
-    }
-    n
 }
 
 // A refusal, with the words that were logged all the same.
@@ -67,13 +50,9 @@ fn marked_lost(receiver: Receiver, log: &mut [u32]) -> Outcome {
     }
 }
 
-// A PDU that is refused is marked lost, so that no packet is joined across it. But one refused with 5 or 6 is of another mode or stream, and
-// none of this receiver's.
+// A PDU that is refused is marked lost, so that no packet is joined across it.
 fn passed_over(r: Received, length: usize, log: &mut [u32]) -> Outcome {
     let receiver = r.receiver;
-    if (r.refusal == 5) | (r.refusal == 6) {
-        return refused(r, length, 0, receiver);
-    }
     let lost = receiver.mark_lost(log);
     let next = lost.receiver;
     refused(r, length, lost.words, next)
@@ -102,5 +81,5 @@ pub fn of_record(receiver: Receiver, carry: &mut [u8], pdu: &mut [u8], log: &mut
         return passed_over(r, pdu.len(), log);
     }
     let after = header::header_of(pdu);
-    received(r, difference(before, after), pdu.len())
+    received(r, header::difference(before, after), pdu.len())
 }

@@ -5,6 +5,7 @@ use crate::outcome as outcomes;
 use crate::phrases;
 use libc::STDERR_FILENO;
 use outcomes::Outcome;
+ghost use Prim.Native.Nat.{_<_};
 ghost use Rattle.io.specs.Counts.{Counts};
 
 fn say(line: &[u8]) {
@@ -54,49 +55,46 @@ pub fn outcome(pdu: u64, o: Outcome) {
     say(&line[..m]);
 }
 
-// The refusals with a number, in a line; nothing where there are none.
-fn put_refusals_with(out: &mut [u8], at: usize, number: u32, count: u64) -> usize
+// The refusals with a number.
+fn put_refusals(out: &mut [u8], at: usize, number: u32, count: u64) -> usize
     ensures { λ r. ⌜ Counts r (now (out .exit)) ⌝ }
 {
-    if count == 0 {
-        return phrases::put(out, at, b"");
-    }
     let n = phrases::put_number(out, at, b"logger:   refused with ", number as u64, b" (");
     let k = causes::put_refusal(out, n, number);
     phrases::put_number(out, k, b"): ", count, b"\n")
 }
 
-fn put_refusals(out: &mut [u8], at: usize, counts: &[u64]) -> usize
+// The notes of a cause.
+fn put_notes(out: &mut [u8], at: usize, cause: u32, count: u64) -> usize
     ensures { λ r. ⌜ Counts r (now (out .exit)) ⌝ }
 {
-    let mut n = phrases::put(out, at, b"");
-    let mut k: u32 = 0;
-    while k < counts::REFUSALS {
-        n = put_refusals_with(out, n, k, counts::at(counts, counts::REFUSED + k as usize));
-        k += 1;
-    }
-    n
-}
-
-// The notes of a cause, in a line; nothing where there are none.
-fn put_notes_of(out: &mut [u8], at: usize, cause: u32, count: u64) -> usize
-    ensures { λ r. ⌜ Counts r (now (out .exit)) ⌝ }
-{
-    if count == 0 {
-        return phrases::put(out, at, b"");
-    }
     let n = phrases::put(out, at, b"logger:   note ");
     let k = causes::put_note(out, n, cause);
     phrases::put_number(out, k, b": ", count, b"\n")
 }
 
-fn put_notes(out: &mut [u8], at: usize, counts: &[u64]) -> usize
+// The refusals with a number, or the notes of a cause, in a line; nothing where there are none.
+fn put_line(out: &mut [u8], at: usize, first: usize, number: u32, count: u64) -> usize
+    ensures { λ r. ⌜ Counts r (now (out .exit)) ⌝ }
+{
+    if count == 0 {
+        return phrases::put(out, at, b"");
+    }
+    if first == counts::REFUSED {
+        return put_refusals(out, at, number, count);
+    }
+    put_notes(out, at, number, count)
+}
+
+// A line for each count but 0 of so many from a place on: refusals, or notes.
+fn put_lines(out: &mut [u8], at: usize, counts: &[u64], first: usize, many: u32) -> usize
+    requires { ⌜ first < 32 ⌝ }
     ensures { λ r. ⌜ Counts r (now (out .exit)) ⌝ }
 {
     let mut n = phrases::put(out, at, b"");
     let mut k: u32 = 0;
-    while k < counts::CAUSES {
-        n = put_notes_of(out, n, k, counts::at(counts, counts::NOTES + k as usize));
+    while k < many {
+        n = put_line(out, n, first, k, counts::at(counts, first + k as usize));
         k += 1;
     }
     n
@@ -118,7 +116,7 @@ fn put_pdus(out: &mut [u8], at: usize, pdus: u64, counts: &[u64]) -> usize
     n = put_at(out, n, b": received ", counts, counts::RECEIVED);
     n = put_at(out, n, b", lost ", counts, counts::LOST);
     n = phrases::put_number(out, n, b", refused ", refused, b"\n");
-    put_refusals(out, n, counts)
+    put_lines(out, n, counts, counts::REFUSED, counts::REFUSALS)
 }
 
 // The counts of what was corrected, and of packets and PSD.
@@ -143,7 +141,7 @@ fn put_noted(out: &mut [u8], at: usize, counts: &[u64]) -> usize
 {
     let notes = counts::sum(counts, counts::NOTES, counts::CAUSES);
     let n = phrases::put_number(out, at, b", notes ", notes, b"\n");
-    put_notes(out, n, counts)
+    put_lines(out, n, counts, counts::NOTES, counts::CAUSES)
 }
 
 // What was received and logged.
@@ -183,9 +181,9 @@ Formats:
   text            a line for each PDU, and one for each packet, PSD and note
   csv             the same, in the columns pdu, kind, number, length and cause
 
-A PDU that is refused is marked lost, unless it is of another mode or stream. At
-the end standard error has the counts, and the last line \"logger: stopped early\"
-if not all PDUs are logged.
+A PDU that is refused is marked lost, also one of another mode or stream. At the
+end standard error has the counts, and the last line \"logger: stopped early\" if
+not all PDUs are logged.
 ",
     )
 }

@@ -41,15 +41,6 @@ pub fn put_decimal(out: &mut [u8], at: usize, number: u64) -> usize
     put(out, at, &digits[..count])
 }
 
-// A number's hexadecimal digits, in lower case and at least `width` of them, as `put` puts bytes.
-pub fn put_hex(out: &mut [u8], at: usize, number: u64, width: usize) -> usize
-    ensures { λ r. ⌜ Counts r (now (out .exit)) ⌝ }
-{
-    let mut digits = [0u8; 16];
-    let count = io::hex(number, width, &mut digits);
-    put(out, at, &digits[..count])
-}
-
 fn wide(x: u8) -> u64
     ensures { λ r. ⌜ (r ≡ x) × (r < 256) ⌝ }
 {

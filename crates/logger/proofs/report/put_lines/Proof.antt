@@ -3,14 +3,14 @@ use mathlib.Core.Path.{_≡_}
 use Prim.Native.Nat.{_-_, _≤_}
 use lib.ListN.{length}
 use Rattle.io.specs.Counts.{Counts}
-use Rattle.logger.proofs.report.put_notes.Statement.{statement}
-use Rattle.logger.proofs.report.put_notes.Tie as tie
+use Rattle.logger.proofs.report.put_lines.Statement.{statement}
+use Rattle.logger.proofs.report.put_lines.Tie as tie
 
 abbrev Inv-loop : tie.InvT-loop
-Inv-loop out₀ at counts n₀ k₀ out n k = (Counts n out) × (length out ≡ length out₀) × (k ≤ 8)
+Inv-loop out₀ at counts first many n₀ k₀ out n k = (Counts n out) × (length out ≡ length out₀) × (k ≤ many)
 
 abbrev μ-loop : tie.MeasureT-loop
-μ-loop out₀ at counts n₀ k₀ out n k = 8 - k
+μ-loop out₀ at counts first many n₀ k₀ out n k = many - k
 
 slice-aggregate-put : tie.Need-slice-aggregate-put Inv-loop μ-loop
 slice-aggregate-put c = search needs
@@ -30,8 +30,8 @@ add-at c = search needs
 at-requires : tie.Need-at-requires Inv-loop μ-loop
 at-requires c κs = search needs
 
-put-notes-of-requires : tie.Need-put-notes-of-requires Inv-loop μ-loop
-put-notes-of-requires c κs = search needs
+put-line-requires : tie.Need-put-line-requires Inv-loop μ-loop
+put-line-requires c κs = search needs
 
 add-k : tie.Need-add-k Inv-loop μ-loop
 add-k c = search needs
@@ -48,8 +48,8 @@ same-length c = search needs
 returns : tie.Need-returns Inv-loop μ-loop
 returns c = search needs
 
-pub put-notes-spec : {M : Type 1} → statement M
-put-notes-spec =
+pub put-lines-spec : {M : Type 1} → statement M
+put-lines-spec =
     tie.close
     (tie.spec
     Inv-loop
@@ -60,7 +60,7 @@ put-notes-spec =
     cast-at
     add-at
     at-requires
-    put-notes-of-requires
+    put-line-requires
     add-k
     loop-less
     loop-again
