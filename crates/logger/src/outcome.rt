@@ -1,6 +1,12 @@
 // What comes of a record of the file of PDUs.
 use receiver::Received;
 use receiver::Receiver;
+ghost use mathlib.Core.Path.{_≡_};
+ghost use mathlib.Core.Bool.{cond};
+ghost use lib.Dec.{eqb};
+ghost use Rattle.pdu.specs.Reading.{WrongOne};
+ghost use Rattle.receiver.specs.Receiving.{lostNumber, lostAnswer, logAfterLost};
+ghost use Rattle.logger.specs.Logging.{outcomeOf, recordNumber, recordOutcome, recordCarry, recordPdu, recordLog};
 
 // The kinds of outcomes.
 pub const RECEIVED: u8 = 0;
@@ -22,64 +28,59 @@ pub struct Outcome {
     pub receiver: Receiver,
 }
 
-// A refusal, with the words that were logged all the same.
-fn refused(r: Received, length: usize, words: u32, receiver: Receiver) -> Outcome {
+// An outcome, with the words and the receiver of a call's answer.
+fn outcome_of(kind: u8, number: u32, wrong: u32, length: usize, a: Received) -> Outcome
+    ensures { λ o. ⌜ o ≡ outcomeOf kind number wrong length a ⌝ }
+{
+    let receiver = a.receiver;
     Outcome {
-        kind: REFUSED,
-        number: r.refusal,
-        wrong: r.wrong,
+        kind: kind,
+        number: number,
+        wrong: wrong,
         length: length,
-        words: words as usize,
+        words: a.words as usize,
         receiver: receiver,
     }
 }
 
-fn marked_lost(receiver: Receiver, log: &mut [u32]) -> Outcome {
-    let r = receiver.mark_lost(log);
-    let next = r.receiver;
-    if r.refusal != 0 {
-        return refused(r, 0, 0, next);
+// An empty record is a PDU that is lost.
+fn marked_lost(receiver: Receiver, log: &mut [u32]) -> Outcome
+    ensures { λ o. ⌜ o ≡ cond (eqb (lostNumber (now (log .entry)) receiver) 0) (outcomeOf 1 0 0 0 (lostAnswer (now (log .entry)) receiver)) (outcomeOf 2 (lostNumber (now (log .entry)) receiver) 0 0 (lostAnswer (now (log .entry)) receiver)) ⌝ }
+    ensures { λ _. ⌜ now (log .exit) ≡ logAfterLost (now (log .entry)) receiver ⌝ }
+{
+    let a = receiver.mark_lost(log);
+    if a.refusal != 0 {
+        return outcome_of(REFUSED, a.refusal, 0, 0, a);
     }
-    Outcome {
-        kind: LOST,
-        number: 0,
-        wrong: 0,
-        length: 0,
-        words: r.words as usize,
-        receiver: next,
-    }
+    outcome_of(LOST, 0, 0, 0, a)
 }
 
 // A PDU that is refused is marked lost, so that no packet is joined across it.
-fn passed_over(r: Received, length: usize, log: &mut [u32]) -> Outcome {
+fn passed_over(r: Received, log: &mut [u32]) -> Received
+    ensures { λ a. ⌜ a ≡ lostAnswer (now (log .entry)) (r .receiver) ⌝ }
+    ensures { λ _. ⌜ now (log .exit) ≡ logAfterLost (now (log .entry)) (r .receiver) ⌝ }
+{
     let receiver = r.receiver;
-    let lost = receiver.mark_lost(log);
-    let next = lost.receiver;
-    refused(r, length, lost.words, next)
-}
-
-fn received(r: Received, corrected: u32, length: usize) -> Outcome {
-    let receiver = r.receiver;
-    Outcome {
-        kind: RECEIVED,
-        number: corrected,
-        wrong: 0,
-        length: length,
-        words: r.words as usize,
-        receiver: receiver,
-    }
+    receiver.mark_lost(log)
 }
 
 // Receives a PDU; an empty record is one that is lost.
-pub fn of_record(receiver: Receiver, carry: &mut [u8], pdu: &mut [u8], log: &mut [u32]) -> Outcome {
+pub fn of_record(receiver: Receiver, carry: &mut [u8], pdu: &mut [u8], log: &mut [u32]) -> Outcome
+    ensures { λ o. ⌜ o ≡ recordOutcome (now (carry .entry)) (now (pdu .entry)) (now (log .entry)) receiver (o .wrong) ⌝ }
+    ensures { λ o. ⌜ WrongOne (now (pdu .entry)) (recordNumber (now (carry .entry)) (now (pdu .entry)) (now (log .entry)) receiver) (o .wrong) ⌝ }
+    ensures { λ _. ⌜ now (carry .exit) ≡ recordCarry (now (carry .entry)) (now (pdu .entry)) (now (log .entry)) receiver ⌝ }
+    ensures { λ _. ⌜ now (pdu .exit) ≡ recordPdu (now (carry .entry)) (now (pdu .entry)) (now (log .entry)) receiver ⌝ }
+    ensures { λ _. ⌜ now (log .exit) ≡ recordLog (now (carry .entry)) (now (pdu .entry)) (now (log .entry)) receiver ⌝ }
+{
     if pdu.len() == 0 {
         return marked_lost(receiver, log);
     }
     let before = header::header_of(pdu);
     let r = receiver.receive(carry, &mut *pdu, &mut *log);
     if r.refusal != 0 {
-        return passed_over(r, pdu.len(), log);
+        let lost = passed_over(r, log);
+        return outcome_of(REFUSED, r.refusal, r.wrong, pdu.len(), lost);
     }
     let after = header::header_of(pdu);
-    received(r, header::difference(before, after), pdu.len())
+    outcome_of(RECEIVED, header::difference(before, after), 0, pdu.len(), r)
 }
