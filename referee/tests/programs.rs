@@ -1,9 +1,10 @@
-//! Sends random drives through the four programs, run as processes, and
-//! compares what they write and say with the reference: the generator's PDUs
-//! with the writer's, the channel's damage with its options, the logger's
-//! words, lines and counts with the receiver's log, and the coverage picture
-//! with what the log says. The programs are those in `../target/bin` seen from
-//! this package; they have to be built before.
+//! Sends random drives through the program's four subcommands, run as
+//! processes, and compares what they write and say with the reference: the
+//! generated PDUs with the writer's, the channel's damage with its options, the
+//! log's words, lines and counts with the receiver's log, and the coverage
+//! picture with what the log says. The exit status has to go with what is said.
+//! The program is `barzhilup` in `../target/bin` seen from this package, or in
+//! the directory that `BARZHILUP_BIN` names; it has to be built before.
 
 #[allow(dead_code)]
 mod calls;
@@ -23,6 +24,7 @@ use referee::settings::{Applied, ProgramType, Settings};
 use referee::writer::{self, Offer};
 use samples::{Sample, Wish};
 use std::collections::BTreeMap;
+use std::env;
 use std::fmt::Display;
 use std::fs::{self, File};
 use std::io::Write;
@@ -33,24 +35,25 @@ use std::thread;
 /// How often something came, by its name or number.
 type Counts<K> = BTreeMap<K, u64>;
 
-/// The bytes of an output file before a program is run.
-const OLD: u8 = 0xEE;
+/// The bytes of an output file that is there before; more than some runs write.
+const OLD: [u8; 3_000] = [0xEE; 3_000];
 
 fn count<K: Ord>(counts: &mut Counts<K>, key: K, more: usize) {
     *counts.entry(key).or_default() += more as u64;
 }
 
-// The programs.
+// The program.
 
-/// Where a program is. It is wrong that there is none.
-fn program(name: &str) -> PathBuf {
-    let bin = Path::new(env!("CARGO_MANIFEST_DIR")).join("../target/bin");
-    let path = bin.join(name);
+/// Where the program is. It is wrong that there is none.
+fn program() -> PathBuf {
+    let own = Path::new(env!("CARGO_MANIFEST_DIR")).join("../target/bin");
+    let bin = env::var_os("BARZHILUP_BIN").map_or(own, PathBuf::from);
+    let path = bin.join("barzhilup");
     assert!(path.is_file(), "no {}; build it first", path.display());
     path
 }
 
-/// How a program gets what it reads.
+/// How the program gets what it reads.
 #[derive(Clone, Copy, Debug, PartialEq, Eq, PartialOrd, Ord)]
 enum Way {
     Named,
@@ -58,15 +61,25 @@ enum Way {
     Piped,
 }
 
-/// Runs programs with files of its own.
+/// Where what the program writes goes: to a pipe, to a file that is not there,
+/// or to one that is, which has to be kept under the name with a tilde.
+#[derive(Clone, Copy, Debug, PartialEq, Eq, PartialOrd, Ord)]
+enum Onto {
+    Pipe,
+    New,
+    Forced,
+}
+
+/// Runs the program with files of its own.
 struct Bench {
     place: PathBuf,
     rng: Rng,
     runs: Counts<String>,
     ways: Counts<Way>,
+    ontos: Counts<Onto>,
 }
 
-/// What a program wrote, and what it said on standard error.
+/// What a subcommand wrote, and what it said on standard error.
 struct Ran {
     written: Vec<u8>,
     said: Vec<String>,
@@ -91,9 +104,42 @@ fn option_but<V: Display + PartialEq>(
     }
 }
 
-/// The last line of a program that has not done all.
+/// The options that have no value.
+const FLAGS: [&str; 2] = ["--adts", "--displacement"];
+
+/// The options, some of them with their value in the same argument.
+fn joined(rng: &mut Rng, options: &[String]) -> Vec<String> {
+    let mut joined = Vec::new();
+    let mut left = options.iter();
+    while let Some(option) = left.next() {
+        joined.push(option.clone());
+        if FLAGS.contains(&option.as_str()) {
+            continue;
+        }
+        let value = left.next().expect("a value");
+        if rng.below(2) == 0 {
+            joined.push(value.clone());
+        } else {
+            joined.last_mut().expect("an option").push('=');
+            joined.last_mut().expect("an option").push_str(value);
+        }
+    }
+    joined
+}
+
+/// The last line of a subcommand that has not done all.
 fn stopped_early(name: &str) -> String {
-    format!("{name}: stopped early")
+    format!("barzhilup {name}: stopped early")
+}
+
+/// The exit status has to go with what is said: 1 where the last line says that
+/// not all is done, else 0, and no other line says so.
+fn check_status(name: &str, status: Option<i32>, said: &[String]) {
+    let last = stopped_early(name);
+    let early = said.last() == Some(&last);
+    assert_eq!(status, Some(i32::from(early)), "{name}: {said:?}");
+    let lines = said.iter().filter(|line| **line == last).count();
+    assert_eq!(lines, usize::from(early), "{name}: {said:?}");
 }
 
 /// The lines of a text.
@@ -112,6 +158,7 @@ impl Bench {
             rng: Rng::new(seed),
             runs: Counts::new(),
             ways: Counts::new(),
+            ontos: Counts::new(),
         }
     }
 
@@ -122,38 +169,93 @@ impl Bench {
         path.to_str().expect("a name in UTF-8").to_string()
     }
 
-    /// Any way that a program can get what it reads.
+    /// Any way that the program can get what it reads.
     fn way(&mut self) -> Way {
         [Way::Named, Way::Redirected, Way::Piped][self.rng.below(3)]
     }
 
-    /// Runs a program that reads these bytes in this way. What it writes goes
-    /// to a named file or to a pipe.
+    /// The place of the file that is written, and of one that it had to leave.
+    fn output(&self) -> (PathBuf, PathBuf) {
+        (self.place.join("output"), self.place.join("output~"))
+    }
+
+    /// Where what the program writes goes, at random; a file that is there has
+    /// old bytes.
+    fn onto(&mut self) -> Onto {
+        let onto = [Onto::Pipe, Onto::New, Onto::Forced][self.rng.below(3)];
+        let (output, kept) = self.output();
+        for file in [&output, &kept] {
+            if file.exists() {
+                fs::remove_file(file).expect("a file that can be removed");
+            }
+        }
+        if onto == Onto::Forced {
+            self.file("output", &OLD);
+        }
+        count(&mut self.ontos, onto, 1);
+        onto
+    }
+
+    /// Runs a subcommand that reads these bytes in this way.
     fn run(&mut self, name: &str, options: &[String], bytes: &[u8], way: Way) -> Ran {
-        let mut command = Command::new(program(name));
-        command.args(options).stderr(Stdio::piped());
+        let mut command = Command::new(program());
+        let options = joined(&mut self.rng, options);
+        command.arg(name).args(options).stderr(Stdio::piped());
         let input = self.file("input", bytes);
         match way {
             Way::Named => command.args(["--in", &input]).stdin(Stdio::null()),
             Way::Redirected => command.stdin(File::open(&input).expect("the file")),
             Way::Piped => command.stdin(Stdio::piped()),
         };
-        let named = self.rng.below(2) == 0;
-        // What stood in the file before is longer than what some runs write.
-        let output = self.file("output", &[OLD; 3_000]);
-        if named {
-            command.args(["--out", &output]).stdout(Stdio::null());
-        } else {
-            command.stdout(Stdio::piped());
-        }
+        let onto = self.onto();
+        let (output, _) = self.output();
+        match onto {
+            Onto::Pipe => command.stdout(Stdio::piped()),
+            Onto::New => command.arg("--out").arg(&output),
+            Onto::Forced => command.arg("--force").arg("--out").arg(&output),
+        };
         count(&mut self.runs, name.to_string(), 1);
         count(&mut self.ways, way, 1);
-        let ran = feed(command, bytes, way);
-        if named {
-            let written = fs::read(&output).expect("the written file");
-            return Ran { written, ..ran };
+        let (status, ran) = feed(command, bytes, way);
+        check_status(name, status, &ran.said);
+        let written = self.written(onto, ran.written);
+        let said = self.without_renaming(name, ran.said);
+        Ran { written, said }
+    }
+
+    /// What is said but for the line that tells of an old file's new name, which
+    /// has to stand there where it has one.
+    fn without_renaming(&self, name: &str, said: Vec<String>) -> Vec<String> {
+        let (output, kept) = self.output();
+        let (from, to) = (output.display(), kept.display());
+        let line = format!("barzhilup {name}: {from}: renamed to {to}");
+        let (renamed, others): (Vec<String>, Vec<String>) =
+            said.into_iter().partition(|said| *said == line);
+        assert_eq!(renamed.len(), usize::from(kept.exists()), "{others:?}");
+        others
+    }
+
+    /// What is written: to a pipe, or to a file. What stood in the file before
+    /// has to be kept, under the other name if something is written. A file
+    /// that is not made, or not touched, has nothing written to it.
+    fn written(&self, onto: Onto, piped: Vec<u8>) -> Vec<u8> {
+        let (output, kept) = self.output();
+        match onto {
+            Onto::Pipe => return piped,
+            Onto::New => assert!(!kept.exists(), "{}", kept.display()),
+            Onto::Forced => {
+                let old = if kept.exists() { &kept } else { &output };
+                assert!(fs::read(old).is_ok_and(|bytes| bytes == OLD), "{onto:?}");
+                if old == &output {
+                    return Vec::new();
+                }
+            }
         }
-        ran
+        assert!(piped.is_empty(), "{onto:?}");
+        if !output.exists() {
+            return Vec::new();
+        }
+        fs::read(&output).expect("the written file")
     }
 }
 
@@ -166,24 +268,25 @@ impl Drop for Bench {
     }
 }
 
-/// Runs a command, and feeds the bytes to it if it reads a pipe.
-fn feed(mut command: Command, bytes: &[u8], way: Way) -> Ran {
+/// Runs a command, and feeds the bytes to it if it reads a pipe. Answers its
+/// exit status, too; none if a signal ended it.
+fn feed(mut command: Command, bytes: &[u8], way: Way) -> (Option<i32>, Ran) {
     let mut child = command.spawn().expect("a program that starts");
     let feeder = child.stdin.take().filter(|_| way == Way::Piped);
     let fed = feeder.map(|mut pipe| {
         let bytes = bytes.to_vec();
-        // A program that stops early leaves the rest of the pipe.
+        // A subcommand that stops early leaves the rest of the pipe.
         thread::spawn(move || pipe.write_all(&bytes).ok())
     });
     let output = child.wait_with_output().expect("a program that ends");
     if let Some(fed) = fed {
         fed.join().expect("the pipe is fed");
     }
-    assert!(output.status.success(), "{:?}", output.status);
-    Ran {
+    let ran = Ran {
         written: output.stdout,
         said: text_lines(output.stderr),
-    }
+    };
+    (output.status.code(), ran)
 }
 
 // Files.
@@ -249,7 +352,7 @@ fn to_frames(rng: &mut Rng, packets: &[Vec<u8>], headers: Headers) -> Vec<Vec<u8
     packets.iter().map(frame).collect()
 }
 
-// The generator.
+// Packets to PDUs.
 
 /// What is sent: packets, and how.
 struct Sending {
@@ -332,11 +435,11 @@ impl Sending {
         (pdus, 0)
     }
 
-    /// What the generator says where so many packets are sent in so many PDUs.
+    /// What is said where so many packets are sent in so many PDUs.
     fn said(&self, packets: usize, pdus: usize) -> String {
         let octets: usize = self.packets[..packets].iter().map(Vec::len).sum();
         format!(
-            "generator: packets {packets} (bytes {octets}), PDUs {pdus} (bytes {})",
+            "barzhilup generate: packets {packets} (bytes {octets}), PDUs {pdus} (bytes {})",
             pdus * self.length
         )
     }
@@ -397,7 +500,7 @@ fn some_packets(rng: &mut Rng, length: usize) -> Vec<Vec<u8>> {
     packets
 }
 
-/// What the generator says where the writer refuses.
+/// What is said where the writer refuses.
 fn generator_words(refusal: u32) -> &'static str {
     match refusal {
         3 => "PDU length not 96 to 20,480, or over 4,096 with locators of 12 bits",
@@ -413,7 +516,7 @@ fn generator_words(refusal: u32) -> &'static str {
     }
 }
 
-/// What was compared of the generator's.
+/// What was compared of the generated PDUs.
 #[derive(Debug, Default)]
 struct Sent {
     lines: Counts<(u8, u8)>,
@@ -438,14 +541,14 @@ impl Sent {
     }
 
     fn report(&self) {
-        println!("generator, twice, equal to the writer's: {self:?}");
+        println!("generate, twice, equal to the writer's: {self:?}");
         assert_eq!(self.lines.len(), TABLE.len());
         assert_eq!(self.dumps.len(), 3);
         assert!(self.with_psd > 20 && self.with_expansion > 20);
     }
 }
 
-/// Runs the generator with packets in records, or in a dump: it has to write
+/// Generates from packets in records, or in a dump: it has to write
 /// these PDUs. Answers how it read them, and what it said.
 fn send(
     bench: &mut Bench,
@@ -458,12 +561,12 @@ fn send(
         options.push("--adts".to_string());
     }
     let way = bench.way();
-    let ran = bench.run("generator", &options, bytes, way);
+    let ran = bench.run("generate", &options, bytes, way);
     assert!(ran.written == to_records(pdus), "{way:?} {options:?}");
     (way, ran.said)
 }
 
-/// Sends by the generator, from records and from a dump; both have to be the
+/// Generates from records and from a dump; both have to be the
 /// writer's PDUs.
 fn generated(bench: &mut Bench, sending: &Sending, sent: &mut Sent) -> Vec<Vec<u8>> {
     let (pdus, refusal) = sending.pdus();
@@ -564,7 +667,7 @@ impl Damage {
     /// What the road says of itself.
     fn said(&self) -> String {
         format!(
-            "channel: PDUs {} (lost before {}), lost {}, damaged {}, bytes altered {}",
+            "barzhilup channel: PDUs {} (lost before {}), lost {}, damaged {}, bytes altered {}",
             self.pdus, self.missing, self.lost, self.damaged, self.altered
         )
     }
@@ -781,7 +884,7 @@ fn mixed(rng: &mut Rng, pdus: Vec<Vec<u8>>, line: &Line) -> Vec<Vec<u8>> {
     records
 }
 
-// The logger.
+// PDUs to the log.
 
 /// What becomes of a record.
 enum Came {
@@ -790,6 +893,31 @@ enum Came {
     Lost,
     /// By number, with the k of each wrong locator.
     Refused(u32, Vec<usize>),
+    /// With 6: the mode and the stream that came.
+    Strange(u8, u8),
+}
+
+impl Came {
+    fn is_refused(&self) -> bool {
+        matches!(self, Came::Refused(..) | Came::Strange(..))
+    }
+
+    /// The number with which it is refused, 0 if it is not.
+    fn refusal(&self) -> u32 {
+        match self {
+            Came::Refused(number, _) => *number,
+            Came::Strange(..) => 6,
+            _ => 0,
+        }
+    }
+
+    /// The k of each wrong locator.
+    fn wrong(&self) -> &[usize] {
+        match self {
+            Came::Refused(_, wrong) => wrong,
+            _ => &[],
+        }
+    }
 }
 
 /// A record by the reference: what becomes of it, and its log.
@@ -813,7 +941,7 @@ fn heard(line: &Line, records: &[Vec<u8>]) -> Vec<Logged> {
             receiver::receive(receiver, &mut carry, &mut pdu, &mut log)
         };
         let came = came_of(record, &answer);
-        if let Came::Refused(..) = came {
+        if came.is_refused() {
             answer = receiver::mark_lost(receiver, &mut log);
         }
         receiver = answer.receiver;
@@ -827,17 +955,22 @@ fn heard(line: &Line, records: &[Vec<u8>]) -> Vec<Logged> {
 }
 
 fn came_of(record: &[u8], answer: &receiver::Answer) -> Came {
-    if answer.refusal != 0 {
+    if ![0, 6].contains(&answer.refusal) {
         return Came::Refused(answer.refusal, answer.wrong_locators());
     }
     if record.is_empty() {
         return Came::Lost;
     }
     let mended = header::correct(&header::header_of(record)).expect("a header that can be mended");
+    if answer.refusal == 6 {
+        let place = control::FIRST..control::FIRST + control::BYTES;
+        let word = control::decode(mended.0[place].try_into().expect("six bytes"));
+        return Came::Strange(word.mode, word.stream);
+    }
     Came::Received(mended.1)
 }
 
-/// What the logger says for a refusal's number.
+/// What the log says for a refusal's number.
 fn refusal_words(number: u32) -> &'static str {
     match number {
         3 => "length not 96 to 20480",
@@ -877,8 +1010,8 @@ fn refused_lines(beginning: &str, number: u32, wrong: &[usize]) -> Vec<String> {
 }
 
 /// The lines of a file in one of the two formats for reading, each with all
-/// that it may be.
-fn lines(logged: &[Logged], csv: bool) -> Vec<Vec<String>> {
+/// that it may be. The CSV has a last line if the file is whole.
+fn lines(logged: &[Logged], csv: bool, whole: bool) -> Vec<Vec<String>> {
     let mut lines = Vec::new();
     if csv {
         lines.push(vec!["pdu,kind,number,length,cause".to_string()]);
@@ -897,6 +1030,9 @@ fn lines(logged: &[Logged], csv: bool) -> Vec<Vec<String>> {
             }]);
         }
     }
+    if csv && whole {
+        lines.push(vec![format!(",end,{},,whole", logged.len())]);
+    }
     lines
 }
 
@@ -905,8 +1041,10 @@ fn columns(pdu: usize, one: &Logged) -> Vec<String> {
     match &one.came {
         Came::Received(mended) => vec![format!("{pdu},received,{mended},{length},")],
         Came::Lost => vec![format!("{pdu},lost,,,")],
-        Came::Refused(number, wrong) => {
-            refused_lines(&format!("{pdu},refused,{number},{length},"), *number, wrong)
+        came => {
+            let number = came.refusal();
+            let beginning = format!("{pdu},refused,{number},{length},");
+            refused_lines(&beginning, number, came.wrong())
         }
     }
 }
@@ -931,11 +1069,11 @@ fn sentences(pdu: usize, one: &Logged) -> Vec<String> {
             vec![format!("PDU {pdu}: received, {bytes} corrected")]
         }
         Came::Lost => vec![format!("PDU {pdu}: lost")],
-        Came::Refused(number, wrong) => refused_lines(
-            &format!("PDU {pdu}: refused with {number}: "),
-            *number,
-            wrong,
-        ),
+        came => {
+            let number = came.refusal();
+            let beginning = format!("PDU {pdu}: refused with {number}: ");
+            refused_lines(&beginning, number, came.wrong())
+        }
     }
 }
 
@@ -979,14 +1117,14 @@ impl Tally {
     fn take(&mut self, logged: &[Logged]) {
         self.pdus += logged.len();
         for one in logged {
-            match one.came {
+            match &one.came {
                 Came::Received(mended) => {
                     self.received += 1;
-                    self.headers += usize::from(mended > 0);
-                    self.mended += mended as usize;
+                    self.headers += usize::from(*mended > 0);
+                    self.mended += *mended as usize;
                 }
                 Came::Lost => self.lost += 1,
-                Came::Refused(number, _) => count(&mut self.refused, number, 1),
+                came => count(&mut self.refused, came.refusal(), 1),
             }
             for entry in &one.entries {
                 match entry {
@@ -998,36 +1136,39 @@ impl Tally {
         }
     }
 
-    /// The lines of the logger's summary.
+    /// The lines of the log's summary.
     fn said(&self) -> Vec<String> {
         let refused: u64 = self.refused.values().sum();
         let notes: u64 = self.notes.values().sum();
         let mut said = vec![format!(
-            "logger: PDUs {}: received {}, lost {}, refused {refused}",
+            "barzhilup log: PDUs {}: received {}, lost {}, refused {refused}",
             self.pdus, self.received, self.lost
         )];
         for (&number, count) in &self.refused {
             let words = refusal_words(number);
             said.push(format!(
-                "logger:   refused with {number} ({words}): {count}"
+                "barzhilup log:   refused with {number} ({words}): {count}"
             ));
         }
         said.push(format!(
-            "logger: headers corrected {}, bytes corrected {}",
+            "barzhilup log: headers corrected {}, bytes corrected {}",
             self.headers, self.mended
         ));
         said.push(format!(
-            "logger: packets {}, PSD entries {}, notes {notes}",
+            "barzhilup log: packets {}, PSD entries {}, notes {notes}",
             self.packets, self.psd
         ));
         for (&cause, count) in &self.notes {
-            said.push(format!("logger:   note {}: {count}", note_words(cause)));
+            said.push(format!(
+                "barzhilup log:   note {}: {count}",
+                note_words(cause)
+            ));
         }
         said
     }
 }
 
-/// What was compared of the logger's.
+/// What was compared of the logs.
 #[derive(Debug, Default)]
 struct Reading {
     drives: u64,
@@ -1038,23 +1179,45 @@ struct Reading {
 
 impl Reading {
     fn report(&self) {
-        println!("logger, in three formats, equal to the receiver's: {self:?}");
+        println!("log, in three formats, equal to the receiver's: {self:?}");
         assert!(self.total.refused.keys().copied().eq(3..=12));
         assert!(self.total.notes.keys().copied().eq(1..=6));
     }
 }
 
-/// What the logger says on standard error: each refused PDU, and the counts.
-fn check_said(said: &[String], logged: &[Logged], options: &[String]) {
-    let mut wanted = Vec::new();
-    for (pdu, one) in logged.iter().enumerate() {
-        if let Came::Refused(..) = one.came {
-            let lines = sentences(pdu, one).into_iter();
-            wanted.push(lines.map(|line| format!("logger: {line}")).collect());
-        }
+/// How many refused PDUs are said each in a line.
+const REFUSED_LINES: usize = 5;
+
+/// What is said of a refused PDU: that of another mode or stream is told with
+/// those that came.
+fn refused_said(pdu: usize, one: &Logged) -> Vec<String> {
+    let came = match one.came {
+        Came::Strange(mode, stream) => format!(" (mode {mode}, stream {stream} came)"),
+        _ => String::new(),
+    };
+    let lines = sentences(pdu, one).into_iter();
+    lines
+        .map(|line| format!("barzhilup log: {line}{came}"))
+        .collect()
+}
+
+/// What is said on standard error: the first refused PDUs, that others are only
+/// counted, and the counts.
+fn log_said(logged: &[Logged]) -> Vec<Vec<String>> {
+    let mut wanted: Vec<Vec<String>> = logged
+        .iter()
+        .enumerate()
+        .filter(|(_, one)| one.came.is_refused())
+        .map(|(pdu, one)| refused_said(pdu, one))
+        .collect();
+    if wanted.len() > REFUSED_LINES {
+        wanted.truncate(REFUSED_LINES);
+        wanted.push(vec![
+            "barzhilup log: further refused PDUs are counted only".to_string()
+        ]);
     }
     wanted.extend(Tally::of(logged).said().into_iter().map(|line| vec![line]));
-    check_lines(said, &wanted, options);
+    wanted
 }
 
 /// Compares line by line.
@@ -1077,8 +1240,8 @@ fn logged(bench: &mut Bench, line: &Line, records: &[Vec<u8>], seen: &mut Readin
         let mut options = mode_options(&mut bench.rng, line);
         option_but(&mut bench.rng, &mut options, "format", format, "text");
         let way = bench.way();
-        let ran = bench.run("logger", &options, &file, way);
-        check_said(&ran.said, &wanted, &options);
+        let ran = bench.run("log", &options, &file, way);
+        check_lines(&ran.said, &log_said(&wanted), &options);
         if format == "words" {
             let words: Vec<u32> = wanted
                 .iter()
@@ -1090,7 +1253,7 @@ fn logged(bench: &mut Bench, line: &Line, records: &[Vec<u8>], seen: &mut Readin
             continue;
         }
         let text = text_lines(ran.written.clone());
-        check_lines(&text, &lines(&wanted, format == "csv"), &options);
+        check_lines(&text, &lines(&wanted, format == "csv", true), &options);
         seen.lines += text.len() as u64;
         csv = ran.written;
     }
@@ -1141,19 +1304,28 @@ impl Rectangle {
 /// The classes of cells.
 const CELLS: [&str; 7] = ["r", "c1", "c2", "c3", "c4", "l", "f"];
 
+/// The cells of the legend: those with a wrong CRC are among them.
+const SWATCHES: [&str; 9] = ["r", "c1", "c2", "c3", "c4", "r", "c1", "l", "f"];
+
 /// What a picture shows, by PDU.
 #[derive(Default)]
 struct Picture {
     cells: Vec<Rectangle>,
     /// Crosses and strokes in cells.
     marks: Vec<usize>,
+    /// Those with pieces that have a wrong CRC.
+    wrong: Vec<usize>,
     bars: BTreeMap<usize, Rectangle>,
-    missing: BTreeMap<usize, usize>,
+    /// What is written where packets are missing, or may be.
+    missing: BTreeMap<usize, String>,
     /// The cells of the legend.
     swatches: Vec<String>,
-    /// Words of the legend with the numbers behind them.
-    totals: Vec<(String, Vec<String>)>,
+    /// The totals, by their place from above: words, a number, a share.
+    totals: BTreeMap<usize, Vec<String>>,
 }
+
+/// From where on the legend has totals.
+const TOTALS: usize = 400;
 
 impl Picture {
     fn of(svg: &str) -> Picture {
@@ -1180,56 +1352,98 @@ impl Picture {
                 assert!(before.is_none(), "two bars for PDU {pdu}");
             }
             ("<path", "x", false) => self.marks.push(pdu),
+            ("<circle", "w", false) => self.wrong.push(pdu),
             ("<text", "n" | "o" | "k", false) => {
-                let number = content(line).parse().expect("a number");
-                assert!(self.missing.insert(pdu, number).is_none());
+                assert!(self.missing.insert(pdu, content(line)).is_none());
             }
             ("<rect", class, true) if CELLS.contains(&class) => {
                 self.swatches.push(class.to_string());
             }
-            ("<text", "t", true) => self.totals.push((content(line), Vec::new())),
-            ("<text", "e", true) => {
-                let words = self.totals.last_mut().expect("words before a number");
-                words.1.push(content(line));
-            }
+            ("<text", "t" | "e" | "z", true) => self.take_total(line),
             _ => {}
+        }
+    }
+
+    /// Words or a number of the legend; those of the totals stand on the right.
+    fn take_total(&mut self, line: &str) {
+        let place = |name| attribute(line, name).parse().expect("a number");
+        let (x, y): (usize, usize) = (place("x"), place("y"));
+        if x > TOTALS {
+            self.totals.entry(y).or_default().push(content(line));
         }
     }
 }
 
-/// What a picture has to show.
+/// What a picture has to show, by PDU.
+#[derive(Default)]
 struct Shown {
     classes: Vec<&'static str>,
+    /// Pieces with a wrong CRC.
+    wrong: Vec<usize>,
     packets: Vec<usize>,
     /// Packets missing before those of each PDU: numbers go on modulo 64.
     missing: Vec<usize>,
+    /// Gaps before them that the numbers do not tell: the sequence broke.
+    unknown: Vec<usize>,
+}
+
+/// What is known before a packet: the number that is next, and whether the
+/// sequence broke since the last one.
+#[derive(Default)]
+struct Before {
+    next: Option<usize>,
+    broken: bool,
+}
+
+impl Before {
+    /// A packet: how many are missing before it, and whether that is not known.
+    fn deliver(&mut self, number: usize) -> (usize, usize) {
+        let next = self.next.replace((number + 1) % 64);
+        let broken = std::mem::take(&mut self.broken);
+        match next {
+            None => (0, 0),
+            Some(_) if broken => (0, 1),
+            Some(next) => ((64 + number - next) % 64, 0),
+        }
+    }
+}
+
+/// How many of a whole in per cent with one decimal; nothing of nothing.
+fn share(part: usize, whole: usize) -> Option<String> {
+    let tenths = (part * 1_000 + whole / 2).checked_div(whole)?;
+    Some(format!("{}.{} %", tenths / 10, tenths % 10))
 }
 
 impl Shown {
     fn of(logged: &[Logged]) -> Shown {
-        let mut shown = Shown {
-            classes: Vec::new(),
-            packets: Vec::new(),
-            missing: Vec::new(),
-        };
-        let mut next = None;
+        let mut shown = Shown::default();
+        let mut before = Before::default();
         for one in logged {
-            let (mut packets, mut missing) = (0, 0);
+            let (mut wrong, mut packets, mut missing, mut unknown) = (0, 0, 0, 0);
             for entry in &one.entries {
-                if let Entry::Packet(number, _) = entry {
-                    packets += 1;
-                    let number = usize::from(*number);
-                    missing += (64 + number - next.unwrap_or(number)) % 64;
-                    next = Some((number + 1) % 64);
+                match entry {
+                    Entry::Packet(number, _) => {
+                        let gap = before.deliver(usize::from(*number));
+                        packets += 1;
+                        missing += gap.0;
+                        unknown += gap.1;
+                    }
+                    Entry::Note(note) => {
+                        wrong += usize::from(note.cause() == 2);
+                        before.broken |= note.cause() == 1;
+                    }
+                    Entry::Psd(_) => {}
                 }
             }
             shown.classes.push(match one.came {
                 Came::Received(mended) => CELLS[mended as usize],
                 Came::Lost => "l",
-                Came::Refused(..) => "f",
+                _ => "f",
             });
+            shown.wrong.push(wrong);
             shown.packets.push(packets);
             shown.missing.push(missing);
+            shown.unknown.push(unknown);
         }
         shown
     }
@@ -1239,50 +1453,73 @@ impl Shown {
         self.classes.iter().filter(among).count()
     }
 
-    /// How many PDUs there are, are received, corrected, lost and refused, and
-    /// how many packets are delivered and missing.
-    fn counts(&self) -> [usize; 7] {
+    /// How many PDUs there are, are received, corrected, lost and refused; how
+    /// many pieces have a wrong CRC; how many packets are delivered and
+    /// missing, and how many gaps are not known.
+    fn counts(&self) -> [usize; 9] {
         [
             self.classes.len(),
             self.many(&CELLS[..5]),
             self.many(&CELLS[1..5]),
             self.many(&["l"]),
             self.many(&["f"]),
+            self.wrong.iter().sum(),
             self.packets.iter().sum(),
             self.missing.iter().sum(),
+            self.unknown.iter().sum(),
         ]
     }
 
     /// The legend's words with their numbers, and the shares of those.
-    fn totals(&self) -> Vec<(String, Vec<String>)> {
+    fn totals(&self) -> Vec<Vec<String>> {
         let counts = self.counts();
-        let all = counts[0];
-        let total = |((words, whole), number): ((&str, usize), usize)| {
-            let mut numbers = vec![number.to_string()];
-            if let Some(tenths) = (number * 1_000 + whole / 2).checked_div(whole) {
-                numbers.push(format!("{}.{} %", tenths / 10, tenths % 10));
+        let (all, received) = ((counts[0], "of PDUs"), (counts[1], "of the received"));
+        let total = |((words, whole), number): ((&str, (usize, &str)), usize)| {
+            let mut row = vec![words.to_string(), number.to_string()];
+            if let Some(share) = share(number, whole.0) {
+                row.extend([share, whole.1.to_string()]);
             }
-            (words.to_string(), numbers)
+            row
         };
         let words = [
-            ("PDUs", 0),
+            ("PDUs", (0, "")),
             ("received", all),
-            ("of these corrected", all),
+            ("of these corrected", received),
             ("lost", all),
             ("refused", all),
-            ("packets delivered", 0),
-            ("missing, at least", 0),
+            ("wrong CRCs", (0, "")),
+            ("packets delivered", (0, "")),
+            ("missing, at least", (0, "")),
+            ("gaps unknown", (0, "")),
         ];
         words.into_iter().zip(counts).map(total).collect()
     }
 
     /// What is said on standard error.
     fn said(&self) -> String {
-        let [all, received, corrected, lost, refused, packets, missing] = self.counts();
+        let [all, received, corrected, lost, refused, crcs, packets, missing, unknown] =
+            self.counts();
+        let of = |part, whole, words| {
+            share(part, whole).map_or(String::new(), |share| format!(" ({share} {words})"))
+        };
+        let received_share = of(received, all, "of PDUs");
+        let corrected_share = of(corrected, received, "of the received");
         format!(
-            "coverage: PDUs {all} (received {received}, of these corrected {corrected}; \
-             lost {lost}; refused {refused}), packets delivered {packets}, missing at least {missing}"
+            "barzhilup coverage: PDUs {all}: received {received}{received_share}, \
+             of these corrected {corrected}{corrected_share}, lost {lost}, refused {refused}; \
+             wrong CRCs {crcs}; packets delivered {packets}, missing at least {missing}, \
+             gaps unknown {unknown}"
         )
+    }
+
+    /// What is written at a PDU's tick.
+    fn tick(&self, pdu: usize) -> Option<String> {
+        match (self.missing[pdu], self.unknown[pdu]) {
+            (0, 0) => None,
+            (missing, 0) => Some(missing.to_string()),
+            (0, _) => Some("?".to_string()),
+            (missing, _) => Some(format!("?+{missing}")),
+        }
     }
 
     /// One cell for each PDU, in its class and in its place; the marks of lost
@@ -1291,7 +1528,11 @@ impl Shown {
         let cells = &picture.cells;
         let classes: Vec<&str> = cells.iter().map(|cell| cell.class.as_str()).collect();
         assert_eq!(classes, self.classes);
-        assert_eq!(picture.swatches, CELLS);
+        assert_eq!(picture.swatches, SWATCHES);
+        let wrong: Vec<usize> = (0..classes.len())
+            .filter(|&pdu| self.wrong[pdu] > 0)
+            .collect();
+        assert_eq!(picture.wrong, wrong);
         let marked = |&pdu: &usize| ["l", "f"].contains(&self.classes[pdu]);
         let marked: Vec<usize> = (0..classes.len()).filter(marked).collect();
         assert_eq!(picture.marks, marked);
@@ -1335,8 +1576,11 @@ impl Shown {
                 let bottom = bar.y + bar.height;
                 assert_eq!(bottom - cell.y, cell.height + 3 + full, "PDU {pdu}");
             }
-            let missing = picture.missing.get(&pdu).copied().unwrap_or(0);
-            assert_eq!(missing, self.missing[pdu], "PDU {pdu}");
+            assert_eq!(
+                picture.missing.get(&pdu),
+                self.tick(pdu).as_ref(),
+                "PDU {pdu}"
+            );
         }
     }
 }
@@ -1357,6 +1601,8 @@ struct Drawn {
     bars: u64,
     ticks: u64,
     missing: u64,
+    unknown: u64,
+    wrong: u64,
 }
 
 impl Drawn {
@@ -1368,12 +1614,14 @@ impl Drawn {
         self.bars += picture.bars.len() as u64;
         self.ticks += picture.missing.len() as u64;
         self.missing += shown.missing.iter().sum::<usize>() as u64;
+        self.unknown += shown.unknown.iter().sum::<usize>() as u64;
+        self.wrong += shown.wrong.iter().sum::<usize>() as u64;
     }
 
     fn report(&self) {
         println!("coverage, equal to what the log says: {self:?}");
         assert_eq!(self.cells.len(), CELLS.len());
-        assert!(self.ticks > 100);
+        assert!(self.ticks > 100 && self.unknown > 100 && self.wrong > 100);
     }
 }
 
@@ -1400,8 +1648,7 @@ fn covered(bench: &mut Bench, csv: &[u8], logged: &[Logged], seen: &mut Drawn) {
     let picture = Picture::of(&svg);
     shown.check_cells(&picture, columns, size);
     shown.check_packets(&picture);
-    let numbered = |total: &&(String, Vec<String>)| !total.1.is_empty();
-    let totals: Vec<_> = picture.totals.iter().filter(numbered).cloned().collect();
+    let totals: Vec<_> = picture.totals.values().cloned().collect();
     assert_eq!(totals, shown.totals(), "{options:?}");
     assert_eq!(ran.said, [shown.said()], "{options:?}");
     seen.add(&shown, &picture);
@@ -1431,8 +1678,8 @@ fn drives() {
     readings.report();
     drawn.report();
     println!(
-        "programs run: {:?}, what they read: {:?}",
-        bench.runs, bench.ways
+        "runs: {:?}, what they read: {:?}, what they wrote: {:?}",
+        bench.runs, bench.ways, bench.ontos
     );
 }
 
@@ -1483,7 +1730,7 @@ fn refusals() {
         let (pdus, refusal) = sending.pdus();
         let options = sending.options(&mut bench);
         let ran = bench.run(
-            "generator",
+            "generate",
             &options,
             &to_records(&sending.packets),
             Way::Piped,
@@ -1495,16 +1742,15 @@ fn refusals() {
             continue;
         }
         let words = generator_words(refusal);
-        let refused = format!("generator: refused with {refusal}: {words}");
-        // Nothing is written, and what stood in the file before is kept.
-        assert!(ran.written.iter().all(|&byte| byte == OLD), "{options:?}");
+        let refused = format!("barzhilup generate: refused with {refusal}: {words}");
+        assert!(ran.written.is_empty(), "{options:?}");
         assert_eq!(
             ran.said,
-            [refused, stopped_early("generator")],
+            [refused, stopped_early("generate")],
             "{options:?}"
         );
     }
-    println!("generator, by refusal: {numbers:?}");
+    println!("generate, by refusal: {numbers:?}");
     let seen: Vec<u32> = numbers.into_keys().collect();
     assert_eq!(seen, [0, 3, 5, 10, 14, 16, 17]);
 }
@@ -1538,7 +1784,7 @@ fn cut_lines(
         Way::Named => file.to_str().expect("a name in UTF-8"),
         _ => "standard input",
     };
-    let first = format!("{name}: {label}: ends inside {inside}");
+    let first = format!("barzhilup {name}: {label}: ends inside {inside}");
     [vec![first], counts, vec![stopped_early(name)]].concat()
 }
 
@@ -1564,7 +1810,7 @@ fn cut_files() {
     assert!(ends[&true] > 50);
 }
 
-/// The generator with a file of packets, or a dump, that is cut.
+/// Generates from a file of packets, or a dump, that is cut.
 fn cut_sending(bench: &mut Bench, mut sending: Sending) -> bool {
     let adts = bench.rng.below(2) == 0;
     let parts = if adts {
@@ -1580,11 +1826,11 @@ fn cut_sending(bench: &mut Bench, mut sending: Sending) -> bool {
     let (way, said) = send(bench, &sending, (adts, &file[..cut]), &pdus);
     let inside = (!is_end).then(|| format!("packet {packets}"));
     let counts = vec![sending.said(packets, pdus.len())];
-    assert_eq!(said, cut_lines(bench, ("generator", way), inside, counts));
+    assert_eq!(said, cut_lines(bench, ("generate", way), inside, counts));
     !is_end
 }
 
-/// The channel and the logger with a file of PDUs that is cut.
+/// Channel and log with a file of PDUs that is cut.
 fn cut_drive(bench: &mut Bench, line: &Line, pdus: &[Vec<u8>]) -> bool {
     let parts = each_record(pdus);
     let file = parts.concat();
@@ -1602,10 +1848,11 @@ fn cut_drive(bench: &mut Bench, line: &Line, pdus: &[Vec<u8>]) -> bool {
     let logged = heard(line, &pdus[..many]);
     let mut options = mode_options(&mut bench.rng, line);
     option(&mut options, "format", "csv");
-    let ran = bench.run("logger", &options, &file[..cut], way);
-    check_lines(&text_lines(ran.written), &lines(&logged, true), &options);
+    let ran = bench.run("log", &options, &file[..cut], way);
+    let csv = lines(&logged, true, is_end);
+    check_lines(&text_lines(ran.written), &csv, &options);
     let counts = Tally::of(&logged).said();
-    let wanted = cut_lines(bench, ("logger", way), inside, counts);
+    let wanted = cut_lines(bench, ("log", way), inside, counts);
     assert_eq!(ran.said, wanted, "{options:?}");
     !is_end
 }

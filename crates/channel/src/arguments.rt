@@ -1,30 +1,25 @@
 // What the command line asks for.
-use crate::road::Road;
+use crate::sending::Channel;
 use text::Number;
 ghost use Prim.Native.Nat.{_≤_};
 
+// What the program calls itself.
+pub const PROGRAM: [u8; 17] = *b"barzhilup channel";
+
 // The options that are known.
-pub const KNOWN: [u8; 48] = *b"in=\0out=\0seed=\0loss=\0burst=\0damage=\0bytes=\0help\0";
+pub const KNOWN: [u8; 54] = *b"in=\0out=\0force\0seed=\0loss=\0burst=\0damage=\0bytes=\0help\0";
 
 // What is asked for; ok where every option has a value in its range.
 pub struct Job {
     pub ok: bool,
     pub seed: u32,
-    pub road: Road,
-}
-
-pub fn check() -> bool {
-    options::check(b"channel", &KNOWN)
-}
-
-pub fn given(name: &[u8]) -> bool {
-    options::given(&KNOWN, name)
+    pub channel: Channel,
 }
 
 fn number(name: &[u8], default: u32, low: u32, high: u32) -> Number
     ensures { λ r. ⌜ r .value ≤ high ⌝ }
 {
-    options::number(b"channel", &KNOWN, name, default, low, high)
+    options::number(&PROGRAM, &KNOWN, name, default, low, high)
 }
 
 pub fn asked() -> Job {
@@ -36,7 +31,7 @@ pub fn asked() -> Job {
     Job {
         ok: seed.ok & loss.ok & burst.ok & damage.ok & bytes.ok,
         seed: seed.value,
-        road: Road {
+        channel: Channel {
             loss: loss.value as u64,
             burst: burst.value as u64,
             damage: damage.value as u64,

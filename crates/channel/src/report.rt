@@ -1,6 +1,6 @@
 // What the program says on standard error, a line in one write.
+use crate::arguments::PROGRAM;
 use libc::STDERR_FILENO;
-ghost use Rattle.io.specs.Counts.{Counts};
 
 fn say(line: &[u8]) {
     io::write_all(STDERR_FILENO, line);
@@ -15,43 +15,37 @@ pub fn input_ends(label: &[u8], status: u8, read: u64) {
     }
 }
 
-// What the road did. PDUs that were marked lost before are counted apart.
+// What the channel did. PDUs that were marked lost before are counted apart.
 pub fn summary(pdus: u64, missing: u64, lost: u64, damaged: u64, altered: u64) {
     let mut line = [0u8; 256];
-    let mut n = text::put(&mut line, 0, b"channel: ");
-    n = text::put(&mut line, n, b"PDUs ");
-    n = text::put_decimal(&mut line, n, pdus);
-    n = text::put(&mut line, n, b" (lost before ");
-    n = text::put_decimal(&mut line, n, missing);
-    n = text::put(&mut line, n, b"), lost ");
-    n = text::put_decimal(&mut line, n, lost);
-    n = text::put(&mut line, n, b", damaged ");
-    n = text::put_decimal(&mut line, n, damaged);
-    n = text::put(&mut line, n, b", bytes altered ");
-    n = text::put_decimal(&mut line, n, altered);
-    n = text::put(&mut line, n, b"\n");
+    let n = text::fill(
+        &mut line,
+        0,
+        b"barzhilup channel: PDUs @ (lost before @), lost @, damaged @, bytes altered @\n",
+        &[pdus, missing, lost, damaged, altered],
+    );
     say(&line[..n]);
 }
 
 // How far the work is, where somebody looks on.
 pub fn progress(pdus: u64) {
-    files::progress(b"channel", b": PDUs ", pdus);
+    files::progress(&PROGRAM, b": PDUs ", pdus);
 }
 
 // How the program is used, on standard output.
 pub fn usage() -> bool {
     files::print_usage(
-        b"channel",
-        b"usage: channel [--in FILE] [--out FILE] [OPTION]...
+        &PROGRAM,
+        b"usage: barzhilup channel [--in FILE] [--out FILE] [OPTION]...
 
-Damages a file of PDUs as a road would: PDUs are lost in bursts, and of those
-that come through some have bytes of the header changed. A record of either
-file is its length in two bytes, low byte first, and then its bytes; a record
-of length 0 is a PDU marked lost, and stays so. The same seed gives the same
-damage.
+Damages a file of PDUs: PDUs are lost in bursts, and of those that come through
+some have bytes of the header changed. A record of either file is its length in
+two bytes, low byte first, and then its bytes; a record of length 0 is a PDU
+marked lost, and stays so. The same seed gives the same damage.
 
-  --in FILE   PDUs (standard input)
-  --out FILE  the PDUs that come through (standard output)
+  --in FILE   PDUs (standard input, also for -)
+  --out FILE  the PDUs that come through (standard output, also for -)
+  --force     an existing FILE of --out is renamed FILE~ first
   --seed N    0 to 4294967295 (1)
   --loss N    how many PDUs in a thousand begin a burst of lost ones,
               0 to 1000 (50)
@@ -60,10 +54,11 @@ damage.
               (500)
   --bytes N   the most bytes changed in a damaged header, 0 to 96: each has
               1 to N among the PDU's first 96 bytes (4)
-  --help      prints this and does nothing else
+  --help      prints this and does nothing else (also -h)
 
-Standard error has the counts, and the last line \"channel: stopped early\" if
-not all PDUs are sent.
+Standard error has the counts, and if not all PDUs are sent the last line
+\"barzhilup channel: stopped early\". The exit status is 0 if all are sent,
+1 if not, 2 if the usage is wrong.
 ",
     )
 }

@@ -1,94 +1,74 @@
 // What the program says on standard error, a line in one write.
-use crate::drive::Drive;
-use crate::entry;
+use crate::arguments;
+use drawing::Run;
 use libc::STDERR_FILENO;
-ghost use Rattle.io.specs.Counts.{Counts};
 
 fn say(line: &[u8]) {
     io::write_all(STDERR_FILENO, line);
 }
 
-pub fn wrong_title() {
-    say(b"coverage: --title: over 200 bytes, or not UTF-8\n");
-}
-
-// The words for what is wrong with a line.
-fn put_wrong(out: &mut [u8], at: usize, wrong: u8) -> usize
-    ensures { λ r. ⌜ Counts r (now (out .exit)) ⌝ }
-{
-    match wrong {
-        entry::NO_FIRST => text::put(out, at, b"not pdu,kind,number,length,cause"),
-        entry::TOO_LONG => text::put(out, at, b"over 200 bytes"),
-        entry::FEW_FIELDS => text::put(out, at, b"fewer than five fields"),
-        entry::NO_KIND => text::put(
-            out,
-            at,
-            b"kind is none of received, lost, refused, packet, psd, note",
-        ),
-        entry::NO_NUMBER => text::put(out, at, b"pdu, number or length is not a number"),
-        entry::NO_PACKET => text::put(out, at, b"packet number over 63"),
-        _ => text::put(out, at, b"pdu is out of order"),
+// Whether a text may be the picture's title; says so where it may not.
+pub fn is_fit(text: &[u8]) -> bool {
+    if title::is_fit(text) {
+        return true;
     }
+    say(b"barzhilup coverage: --title: over 200 bytes, or not UTF-8\n");
+    false
 }
 
 // What is wrong with a line of a file, counted from 1.
-pub fn wrong_line(label: &[u8], number: u64, wrong: u8) {
+fn wrong_line(label: &[u8], number: u64, wrong: u8) {
     let mut line = [0u8; 4800];
     let mut n = text::put(&mut line, 0, label);
-    n = text::put(&mut line, n, b": line ");
-    n = text::put_decimal(&mut line, n, number);
-    n = text::put(&mut line, n, b": ");
-    n = put_wrong(&mut line, n, wrong);
-    n = text::put(&mut line, n, b"\n");
+    n = text::fill(&mut line, n, b": line @: ", &[number]);
+    n = text::put(
+        &mut line,
+        n,
+        text::entry(
+            b"\0not pdu,kind,number,length,cause\n\0over 200 bytes\n\0fewer than five fields\n\0kind is none of received, lost, refused, packet, psd, note\n\0pdu, number or length is not a number\n\0packet number over 63\n\0pdu is out of order\n\0not ,end,N,,whole\n\0not the count of PDUs\n\0after the last line\n\0",
+            wrong as u32,
+        ),
+    );
     say(&line[..n]);
 }
 
-// What the picture shows.
-pub fn summary(d: Drive) {
-    let t = d.totals;
-    let mut line = [0u8; 320];
-    let mut n = text::put(&mut line, 0, b"coverage: ");
-    n = text::put(&mut line, n, b"PDUs ");
-    n = text::put_decimal(&mut line, n, d.count as u64);
-    n = text::put(&mut line, n, b" (received ");
-    n = text::put_decimal(&mut line, n, t.received);
-    n = text::put(&mut line, n, b", of these corrected ");
-    n = text::put_decimal(&mut line, n, t.corrected);
-    n = text::put(&mut line, n, b"; lost ");
-    n = text::put_decimal(&mut line, n, t.lost);
-    n = text::put(&mut line, n, b"; refused ");
-    n = text::put_decimal(&mut line, n, t.refused);
-    n = text::put(&mut line, n, b"), packets delivered ");
-    n = text::put_decimal(&mut line, n, t.packets);
-    n = text::put(&mut line, n, b", missing at least ");
-    n = text::put_decimal(&mut line, n, t.missing);
-    n = text::put(&mut line, n, b"\n");
-    say(&line[..n]);
-}
-
-// How far the work is, where somebody looks on.
-pub fn progress(lines: u64) {
-    files::progress(b"coverage", b": lines ", lines);
+// Why a reading stopped; nothing where all lines are read. Answers whether they are.
+pub fn is_read(run: Run, from: &[u8], onto: &[u8]) -> bool {
+    let state = run.state;
+    match state {
+        drawing::WRONG => wrong_line(from, std::num::wrapping_add_u64(run.count, 1), run.wrong),
+        drawing::NOT_READ => os::fail(from),
+        drawing::NOT_WRITTEN => os::fail(onto),
+        _ => {}
+    }
+    state == drawing::READ
 }
 
 // How the program is used, on standard output.
 pub fn usage() -> bool {
     files::print_usage(
-        b"coverage",
-        b"usage: coverage [--in FILE] [--out FILE] [OPTION]...
+        &arguments::NAME,
+        b"usage: barzhilup coverage [--in FILE] [--out FILE] [OPTION]...
 
-Draws a drive as SVG from the logger's CSV: a cell for each PDU, received,
-received with a corrected header, lost or refused; under it a bar for the
-packets that it delivered, and a tick where packets are missing; and totals.
+Draws a drive as SVG from the CSV of barzhilup log: a cell for each PDU,
+received, received with a corrected header, lost or refused, with a mark where
+a CRC is wrong; under it a bar for the packets that it delivered, and a tick
+where packets are missing before those; and totals. Where the PDUs' sequence
+broke, as where a PDU came twice, it is not known how many packets are missing:
+such gaps are counted apart.
 
-  --in FILE     the CSV (standard input); it is read twice, so no pipe
-  --out FILE    the picture (standard output)
+  --in FILE     the CSV (standard input, also for -); it is read twice, so no
+                pipe
+  --out FILE    the picture (standard output, also for -)
+  --force       an existing FILE of --out is renamed FILE~ first
   --title TEXT  its title, at most 200 bytes (Coverage)
   --columns N   how many PDUs stand in a row, 20 to 200 (100)
-  --help        prints this and does nothing else
+  --help        prints this and does nothing else (also -h)
 
-Standard error has the totals, and the last line \"coverage: stopped early\" if
-there is no whole picture.
+Where the CSV has no last line, its log is not whole: standard error and the
+picture say so. Standard error has the totals, and if there is no whole picture
+the last line \"barzhilup coverage: stopped early\". The exit status is 0 if
+there is one, 1 if not, 2 if the usage is wrong.
 ",
     )
 }

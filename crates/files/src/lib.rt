@@ -8,6 +8,13 @@ ghost use mathlib.Core.Path.{_≡_};
 ghost use lib.ListN.{length};
 ghost use Rattle.io.specs.Counts.{Counts};
 
+// The exit statuses: all is done, the work stopped early, or the usage is wrong.
+pub const DONE: i32 = 0;
+
+pub const EARLY: i32 = 1;
+
+pub const WRONG: i32 = 2;
+
 // Room for a label.
 pub fn label_buffer() -> [u8; 4608]
     ensures { λ r. ⌜ 4608 ≡ length r ⌝ }
@@ -15,13 +22,23 @@ pub fn label_buffer() -> [u8; 4608]
     [0; 4608]
 }
 
-// The program's name and that of a file: the value of the option that names it, or the other name where it is not given.
+// Whether an option names a file: it is given, and its value is no dash, which stands for standard input or output.
+fn is_named(known: &[u8], option: &[u8]) -> bool {
+    if !options::given(known, option) {
+        return false;
+    }
+    let mut path = io::buffer();
+    let n = options::value(known, option, &mut path);
+    !check::same(&path[..n], b"-")
+}
+
+// The program's name and that of a file: the value of the option that names it, or the other name where it names none.
 pub fn put_label(out: &mut [u8], program: &[u8], known: &[u8], option: &[u8], other: &[u8]) -> usize
     ensures { λ r. ⌜ Counts r (now (out .exit)) ⌝ }
 {
     let n = text::put(out, 0, program);
     let k = text::put(out, n, b": ");
-    if !options::given(known, option) {
+    if !is_named(known, option) {
         return text::put(out, k, other);
     }
     let mut path = io::buffer();
@@ -43,9 +60,9 @@ pub fn put_output_label(out: &mut [u8], program: &[u8], known: &[u8]) -> usize
     put_label(out, program, known, b"out", b"standard output")
 }
 
-// A file to be read, standard input where its option is not given; -1 where it cannot be opened, which is said.
+// A file to be read, standard input where its option names none; -1 where it cannot be opened, which is said.
 pub fn open_input(known: &[u8], option: &[u8], label: &[u8]) -> i32 {
-    if !options::given(known, option) {
+    if !is_named(known, option) {
         return STDIN_FILENO;
     }
     let mut path = io::buffer();
@@ -57,16 +74,6 @@ pub fn open_input(known: &[u8], option: &[u8], label: &[u8]) -> i32 {
     fd
 }
 
-// Whether the file to be written has the name that an option gives to a file that is read, which would be emptied before that.
-fn is_read(known: &[u8], option: &[u8], path: &[u8]) -> bool {
-    if !options::given(known, option) {
-        return false;
-    }
-    let mut other = io::buffer();
-    let n = options::value(known, option, &mut other);
-    check::same(path, &other[..n])
-}
-
 // Whether standard error is closed. A file that is opened then could get its number, and messages would go into that file.
 fn is_mute() -> bool {
     if 0 <= libc::lseek(STDERR_FILENO, 0, libc::SEEK_CUR) {
@@ -75,31 +82,91 @@ fn is_mute() -> bool {
     os::errno() == libc::EBADF
 }
 
-// Opens a file to be written, emptied or made anew.
-fn open_named(path: &[u8], label: &[u8]) -> i32 {
+// Whether a name is that of an ordinary file that may be written: only such a file can be set to the length that it has. Its bytes stay.
+fn is_ordinary(path: &[u8]) -> bool {
+    let fd = os::open_update(path);
+    if fd < 0 {
+        return false;
+    }
+    let ordinary = libc::ftruncate(fd, libc::lseek(fd, 0, libc::SEEK_END)) == 0;
+    libc::close(fd);
+    ordinary
+}
+
+// A name with a tilde after it, to which a file is renamed.
+fn put_backup(out: &mut [u8], name: &[u8]) -> usize
+    ensures { λ r. ⌜ Counts r (now (out .exit)) ⌝ }
+{
+    let n = text::put(out, 0, name);
+    text::put(out, n, b"~")
+}
+
+// Takes a name that no file has, by an empty file. Answers whether that went well; if not, says why.
+fn take_name(path: &[u8], label: &[u8]) -> bool {
+    let fd = os::create(path);
+    if fd < 0 {
+        os::fail(label);
+        return false;
+    }
+    libc::close(fd);
+    true
+}
+
+// Renames a file: the new name is one that no file has, so nothing is lost. Answers whether that went well; it is said, and if not, why.
+fn set_aside(path: &[u8], label: &[u8]) -> bool {
+    let mut backup = label_buffer();
+    let n = put_backup(&mut backup, path);
+    let mut other = label_buffer();
+    let k = put_backup(&mut other, label);
+    if !take_name(&backup[..n], &other[..k]) {
+        return false;
+    }
+    if os::rename(path, &backup[..n]) != 0 {
+        os::fail(label);
+        os::unlink(&backup[..n]);
+        return false;
+    }
+    say_line(label, b": renamed to ", &backup[..n]);
+    true
+}
+
+// Whether a name is free as far as that is asked for: with --force an ordinary file that has it is renamed; a device, a pipe and a file that may
+// not be written keep theirs, which the making of the new file refuses.
+fn make_way(known: &[u8], path: &[u8], label: &[u8]) -> bool {
+    if !options::given(known, b"force") {
+        return true;
+    }
+    if !is_ordinary(path) {
+        return true;
+    }
+    set_aside(path, label)
+}
+
+// Makes a file that is written. A name that is taken is refused, which is said, and its file stays as it is; with --force that file is renamed
+// first. So no file is ever emptied or lost, whatever its names, and one that is being read is read to its end.
+fn make_named(known: &[u8], path: &[u8], label: &[u8]) -> i32 {
     if is_mute() {
         return -1;
     }
-    let fd = os::open_overwrite(path);
+    if !make_way(known, path, label) {
+        return -1;
+    }
+    let fd = os::create(path);
     if fd < 0 {
         os::fail(label);
     }
     fd
 }
 
-// A file to be written, standard output where its option is not given; -1 where it is not opened: it cannot be, or it is read, which is said, or
-// there is no standard error to say anything on.
+// A file to be written, standard output where its option names none; -1 where it is not made: its name is taken or cannot be had, which is
+// said, or there is no standard error to say anything on.
 pub fn open_output(known: &[u8], option: &[u8], label: &[u8]) -> i32 {
-    if !options::given(known, option) {
+    if !is_named(known, option) {
         return STDOUT_FILENO;
     }
     let mut path = io::buffer();
     let n = options::value(known, option, &mut path);
-    if is_read(known, b"in", &path[..n]) | is_read(known, b"psd", &path[..n]) {
-        say(label, b": is the file that is read\n");
-        return -1;
-    }
-    open_named(&path[..n], label)
+    make_named(known, &path[..n], label)
 }
 
 // Closes a file. Answers whether that went well; if not, says why.
@@ -117,6 +184,16 @@ pub fn say(label: &[u8], words: &[u8]) {
     let n = text::put(&mut line, 0, label);
     let k = text::put(&mut line, n, words);
     io::write_all(STDERR_FILENO, &line[..k]);
+}
+
+// A line on standard error, in three parts.
+pub fn say_line(a: &[u8], b: &[u8], c: &[u8]) {
+    let mut line = [0u8; 9216];
+    let mut n = text::put(&mut line, 0, a);
+    n = text::put(&mut line, n, b);
+    n = text::put(&mut line, n, c);
+    n = text::put(&mut line, n, b"\n");
+    io::write_all(STDERR_FILENO, &line[..n]);
 }
 
 // A line on standard error: a label, words, a number and more words.
@@ -143,6 +220,23 @@ pub fn progress(program: &[u8], things: &[u8], count: u64) {
 // The last line where not all of the work is done.
 pub fn stopped_early(program: &[u8]) {
     say(program, b": stopped early\n");
+}
+
+// The exit status of work that is all done or not; where it is not, the last line says so.
+pub fn status(program: &[u8], done: bool) -> i32 {
+    if done {
+        return DONE;
+    }
+    stopped_early(program);
+    EARLY
+}
+
+// The exit status as it is; where the usage is wrong, the last line says where help is.
+pub fn with_hint(program: &[u8], status: i32) -> i32 {
+    if status == WRONG {
+        say_line(b"try '", program, b" --help'");
+    }
+    status
 }
 
 // Prints how a program is used on standard output. Answers whether all is printed; if not, says why.

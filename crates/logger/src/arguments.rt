@@ -1,13 +1,11 @@
 // What the command line asks for.
-use crate::formats;
 use text::Number;
 ghost use Prim.Native.Nat.{_≤_};
-ghost use Rattle.io.specs.Counts.{Counts};
 
 // The options that are known.
-pub const KNOWN: [u8; 36] = *b"in=\0out=\0mode=\0stream=\0format=\0help\0";
+pub const KNOWN: [u8; 42] = *b"in=\0out=\0force\0mode=\0stream=\0format=\0help\0";
 
-// What is asked for; ok where every option is one that is known, with a value that it takes.
+// What is asked for; ok where mode, stream and format are given as they can be.
 pub struct Job {
     pub ok: bool,
     pub mode: u8,
@@ -15,25 +13,11 @@ pub struct Job {
     pub format: u8,
 }
 
-pub fn check() -> bool {
-    options::check(b"logger", &KNOWN)
-}
-
-pub fn given(name: &[u8]) -> bool {
-    options::given(&KNOWN, name)
-}
-
-pub fn value(name: &[u8], buf: &mut [u8]) -> usize
-    ensures { λ r. ⌜ Counts r (now (buf .exit)) ⌝ }
-{
-    options::value(&KNOWN, name, buf)
-}
-
 // A number of one byte, 0 where its option is not given.
 fn number(name: &[u8]) -> Number
     ensures { λ r. ⌜ r .value ≤ 255 ⌝ }
 {
-    options::number(b"logger", &KNOWN, name, 0, 0, 255)
+    options::number(b"barzhilup log", &KNOWN, name, 0, 0, 255)
 }
 
 fn format_named(name: &[u8]) -> u8 {
@@ -51,11 +35,11 @@ fn format_named(name: &[u8]) -> u8 {
 
 // The format that is asked for; where there is no such format, says so.
 fn format_asked() -> u8 {
-    if !given(b"format") {
+    if !options::given(&KNOWN, b"format") {
         return formats::TEXT;
     }
     let mut name = io::buffer();
-    let n = value(b"format", &mut name);
+    let n = options::value(&KNOWN, b"format", &mut name);
     let format = format_named(&name[..n]);
     if format == formats::NO_FORMAT {
         crate::report::no_format(&name[..n]);

@@ -1,46 +1,92 @@
-// Options on the command line: `--name value`, or `--name` alone. The last one counts where an option is given more than once.
+// Options on the command line: `--name value` or `--name=value`, and flags, `--name`; `-h` is `--help`. An option may be given once.
 //
 // A program gives the names that it knows as one text: each name without its dashes, then `=` if a value follows it, then a zero byte, as in
-// b"in=\0adts\0". What is wrong is said in a line on standard error that begins with the program's name.
+// b"in=\0adts\0". A name has fewer than 60 bytes, a value at most 4,096. What is wrong is said in a line on standard error that begins with the
+// program's name.
 use text::Number;
 ghost use mathlib.Core.Path.{_≡_};
 ghost use Prim.Native.Nat.{_≤_, _<_};
+ghost use lib.ListN.{length};
 ghost use Rattle.io.specs.Counts.{Counts};
 
-// How many arguments an option takes up if this is the entry of its name among the known ones, else 0.
-fn span_of(entry: &[u8], name: &[u8]) -> usize {
+// The first argument after the program's name and the subcommand.
+const FIRST: usize = 2;
+
+// What an argument is as an option: none that is known, a flag, or an option with a value.
+const UNKNOWN: u8 = 0;
+
+const FLAG: u8 = 1;
+
+const VALUED: u8 = 2;
+
+// The longest value.
+const LONGEST: usize = 4096;
+
+// What is wrong with an argument, as numbers of the texts that say it.
+const RIGHT: u32 = 0;
+
+const STRANGE: u32 = 1;
+
+const TWICE: u32 = 2;
+
+const NO_FLAG: u32 = 3;
+
+const MISSING: u32 = 4;
+
+const TOO_LONG: u32 = 5;
+
+// Room for an option and its value in one argument.
+fn argument() -> [u8; 4160]
+    ensures { λ r. ⌜ 4160 ≡ length r ⌝ }
+{
+    [0; 4160]
+}
+
+// The first bytes of an argument into the buffer, all of it where it fits. Answers how many.
+fn head(i: usize, buf: &mut [u8]) -> usize
+    ensures { λ r. ⌜ Counts r (now (buf .exit)) ⌝ }
+{
+    let n = os::arg(i, buf);
+    if os::errno() == libc::ENAMETOOLONG {
+        return buf.len();
+    }
+    n
+}
+
+// What the option of a name is if this is its entry among the known ones.
+fn kind_of(entry: &[u8], name: &[u8]) -> u8 {
     let n = entry.len();
     if n == 0 {
-        return 0;
+        return UNKNOWN;
     }
     if entry[n - 1] == b'=' {
         if check::same(&entry[0..n - 1], name) {
-            return 2;
+            return VALUED;
         }
-        return 0;
+        return UNKNOWN;
     }
     if check::same(entry, name) {
-        return 1;
+        return FLAG;
     }
-    0
+    UNKNOWN
 }
 
-// How many arguments the option of a name takes up, 0 if it is not known.
-fn span(known: &[u8], name: &[u8]) -> usize {
+// What the option of a name is.
+fn kind(known: &[u8], name: &[u8]) -> u8 {
     let mut at: usize = 0;
     while at < known.len() {
         let end = bytes::scan::find(known, at, known.len(), 0);
-        let n = span_of(&known[at..end], name);
-        if 0 < n {
-            return n;
+        let found = kind_of(&known[at..end], name);
+        if found != UNKNOWN {
+            return found;
         }
         at = end + 1;
     }
-    0
+    UNKNOWN
 }
 
-// An argument without its two dashes; nothing where it has none.
-fn bare(arg: &[u8]) -> &[u8] {
+// An argument's bytes from its two dashes to an equals sign or its end; nothing where it has no dashes.
+fn name_of(arg: &[u8]) -> &[u8] {
     if arg.len() < 2 {
         return &arg[0..0];
     }
@@ -50,21 +96,49 @@ fn bare(arg: &[u8]) -> &[u8] {
     if arg[1] != b'-' {
         return &arg[0..0];
     }
-    &arg[2..]
+    let end = bytes::scan::find(arg, 2, arg.len(), b'=');
+    &arg[2..end]
 }
 
-// How many arguments the option at an argument takes up, 0 if it is not known.
-fn span_at(known: &[u8], i: usize) -> usize {
+// The name of the option at an argument into the buffer. Answers its length, 0 where it is no option.
+fn put_name(i: usize, out: &mut [u8]) -> usize
+    ensures { λ r. ⌜ Counts r (now (out .exit)) ⌝ }
+{
     let mut arg = [0u8; 64];
-    let n = os::arg(i, &mut arg);
-    span(known, bare(&arg[..n]))
+    let n = head(i, &mut arg);
+    if check::same(&arg[..n], b"-h") {
+        return text::put(out, 0, b"help");
+    }
+    text::put(out, 0, name_of(&arg[..n]))
+}
+
+// What the option at an argument is.
+fn kind_at(known: &[u8], i: usize) -> u8 {
+    let mut name = [0u8; 64];
+    let n = put_name(i, &mut name);
+    kind(known, &name[..n])
 }
 
 // Whether an argument is the option of a name.
 fn is_option(i: usize, name: &[u8]) -> bool {
+    let mut own = [0u8; 64];
+    let n = put_name(i, &mut own);
+    check::same(&own[..n], name)
+}
+
+// Whether an argument has an equals sign, and so its option's value.
+fn has_value(i: usize) -> bool {
     let mut arg = [0u8; 64];
-    let n = os::arg(i, &mut arg);
-    check::same(bare(&arg[..n]), name)
+    let n = head(i, &mut arg);
+    bytes::scan::find(&arg[..n], 0, n, b'=') < n
+}
+
+// Whether the argument after an option is its value.
+fn takes_next(known: &[u8], i: usize) -> bool {
+    if kind_at(known, i) != VALUED {
+        return false;
+    }
+    !has_value(i)
 }
 
 // The argument after the option at an argument and its value, at most the count of all.
@@ -72,44 +146,55 @@ fn next(known: &[u8], i: usize, count: usize) -> usize
     requires { ⌜ i < count ⌝ }
     ensures { λ r. ⌜ (i < r) × (r ≤ count) ⌝ }
 {
-    let n = span_at(known, i);
-    if n < 2 {
+    if !takes_next(known, i) {
         return i + 1;
     }
-    if count - i < n {
+    if count - i < 2 {
         return count;
     }
-    i + n
+    i + 2
 }
 
-// The argument that is the option of a name, 0 if there is none.
+// The first argument that is the option of a name, 0 if there is none.
 fn find(known: &[u8], name: &[u8]) -> usize
     ensures { λ r. ⌜ r < 18446744073709551615 ⌝ }
 {
     let count = os::arg_count();
-    let mut found: usize = 0;
-    let mut i: usize = 1;
+    let mut i: usize = FIRST;
     while i < count {
-        found = later(i, name, found);
+        if is_option(i, name) {
+            return i;
+        }
         i = next(known, i, count);
     }
-    found
-}
-
-// This argument if it is the option of a name, else the one that was found before.
-fn later(i: usize, name: &[u8], found: usize) -> usize
-    requires { ⌜ found < i ⌝ }
-    ensures { λ r. ⌜ r ≤ i ⌝ }
-{
-    if is_option(i, name) {
-        return i;
-    }
-    found
+    0
 }
 
 // Whether an option is given.
 pub fn given(known: &[u8], name: &[u8]) -> bool {
     0 < find(known, name)
+}
+
+// The value that stands in an argument after its equals sign into the buffer. Answers its length, 0 where it does not fit.
+fn put_own_value(i: usize, buf: &mut [u8]) -> usize
+    ensures { λ r. ⌜ Counts r (now (buf .exit)) ⌝ }
+{
+    let mut arg = argument();
+    let n = head(i, &mut arg);
+    let value = value_of(&arg[..n]);
+    if buf.len() < value.len() {
+        return 0;
+    }
+    text::put(buf, 0, value)
+}
+
+// An argument's bytes after its first equals sign; nothing where it has none.
+fn value_of(arg: &[u8]) -> &[u8] {
+    let end = bytes::scan::find(arg, 0, arg.len(), b'=');
+    if end == arg.len() {
+        return &arg[0..0];
+    }
+    &arg[end + 1..]
 }
 
 // The value of an option into the buffer. Answers its length, 0 where the option is not given or its value does not fit.
@@ -119,6 +204,9 @@ pub fn value(known: &[u8], name: &[u8], buf: &mut [u8]) -> usize
     let at = find(known, name);
     if at == 0 {
         return 0;
+    }
+    if has_value(at) {
+        return put_own_value(at, buf);
     }
     os::arg(at + 1, buf)
 }
@@ -136,71 +224,91 @@ fn complain(program: &[u8], a: &[u8], b: &[u8], c: &[u8], d: &[u8]) {
     io::write_all(libc::STDERR_FILENO, &line[..n]);
 }
 
-// What is wrong with the value at an argument, in errno's numbers: EINVAL where it is missing, ENAMETOOLONG where it is over 4,096 bytes; or 0.
-fn value_error(i: usize) -> i32 {
+// What is wrong with the value that stands in an argument.
+fn own_value_wrong(i: usize) -> u32 {
+    let mut arg = argument();
+    let n = head(i, &mut arg);
+    if LONGEST < value_of(&arg[..n]).len() {
+        return TOO_LONG;
+    }
+    RIGHT
+}
+
+// What is wrong with the value that an argument is.
+fn value_wrong(i: usize) -> u32 {
     let mut value = io::buffer();
     os::arg(i, &mut value);
-    os::errno()
+    match os::errno() {
+        0 => RIGHT,
+        libc::EINVAL => MISSING,
+        _ => TOO_LONG,
+    }
 }
 
-// Whether an argument is no known option, or one whose value is missing or too long.
-fn is_wrong(known: &[u8], i: usize) -> bool
+// Whether the option at an argument is given at an earlier one.
+fn is_given_before(known: &[u8], i: usize) -> bool {
+    let mut name = [0u8; 64];
+    let n = put_name(i, &mut name);
+    find(known, &name[..n]) < i
+}
+
+// What is wrong with the option at an argument.
+fn wrong_at(known: &[u8], i: usize) -> u32
     requires { ⌜ i < 18446744073709551615 ⌝ }
 {
-    let n = span_at(known, i);
-    if n == 0 {
-        return true;
+    let kind = kind_at(known, i);
+    if kind == UNKNOWN {
+        return STRANGE;
     }
-    if n == 1 {
-        return false;
+    if is_given_before(known, i) {
+        return TWICE;
     }
-    value_error(i + 1) != 0
-}
-
-// The first argument that is no known option, or one whose value is missing or too long; 0 if there is none.
-fn first_wrong(known: &[u8]) -> usize
-    ensures { λ r. ⌜ r < 18446744073709551615 ⌝ }
-{
-    let count = os::arg_count();
-    let mut i: usize = 1;
-    while i < count {
-        if is_wrong(known, i) {
-            return i;
+    if kind == VALUED {
+        if has_value(i) {
+            return own_value_wrong(i);
         }
-        i = next(known, i, count);
+        return value_wrong(i + 1);
     }
-    0
+    if has_value(i) {
+        return NO_FLAG;
+    }
+    RIGHT
 }
 
-// Whether every argument is a known option or its value, of at most 4,096 bytes. If not, says what is wrong with the first that is not.
-pub fn check(program: &[u8], known: &[u8]) -> bool {
-    let i = first_wrong(known);
-    if i == 0 {
+// Whether the option at an argument is right; if not, says what is wrong.
+fn is_right(program: &[u8], known: &[u8], i: usize) -> bool
+    requires { ⌜ i < 18446744073709551615 ⌝ }
+{
+    let wrong = wrong_at(known, i);
+    if wrong == RIGHT {
         return true;
     }
     let mut arg = io::buffer();
-    let n = os::arg(i, &mut arg);
-    if span_at(known, i) == 0 {
+    if wrong == STRANGE {
+        let n = head(i, &mut arg);
         complain(program, b"unknown option ", &arg[..n], b"", b"");
         return false;
     }
-    if value_error(i + 1) == libc::EINVAL {
-        complain(program, &arg[..n], b": value missing", b"", b"");
-        return false;
-    }
-    complain(program, &arg[..n], b": value too long", b"", b"");
+    let n = put_name(i, &mut arg);
+    let words = text::entry(
+        b"\0\0: given twice\0: takes no value\0: value missing\0: value too long\0",
+        wrong,
+    );
+    complain(program, b"--", &arg[..n], words, b"");
     false
 }
 
-// The words for a value that is no number in its range.
-fn put_range(out: &mut [u8], low: u32, high: u32) -> usize
-    ensures { λ r. ⌜ Counts r (now (out .exit)) ⌝ }
-{
-    let mut n = text::put(out, 0, b": not a number from ");
-    n = text::put_decimal(out, n, low as u64);
-    n = text::put(out, n, b" to ");
-    n = text::put_decimal(out, n, high as u64);
-    text::put(out, n, b": ")
+// Whether every argument is a known option, given once, with a value of at most 4,096 bytes where it takes one, or such a value. Says what is
+// wrong with each that is not.
+pub fn check(program: &[u8], known: &[u8]) -> bool {
+    let count = os::arg_count();
+    let mut right = true;
+    let mut i: usize = FIRST;
+    while i < count {
+        right = is_right(program, known, i) & right;
+        i = next(known, i, count);
+    }
+    right
 }
 
 fn no_number() -> Number
@@ -229,11 +337,17 @@ fn in_range(program: &[u8], name: &[u8], value: &[u8], low: u32, high: u32) -> N
     number
 }
 
+// Says that a value is no number in its range.
 fn out_of_range(program: &[u8], name: &[u8], value: &[u8], low: u32, high: u32) -> Number
     ensures { λ r. ⌜ r .value ≡ 0 ⌝ }
 {
     let mut words = [0u8; 64];
-    let n = put_range(&mut words, low, high);
+    let n = text::fill(
+        &mut words,
+        0,
+        b": not a number from @ to @: ",
+        &[low as u64, high as u64],
+    );
     complain(program, b"--", name, &words[..n], value);
     no_number()
 }

@@ -41,6 +41,72 @@ pub fn put_decimal(out: &mut [u8], at: usize, number: u64) -> usize
     put(out, at, &digits[..count])
 }
 
+// One byte of a template, or the number that stands for it: an at sign stands for the next number, while there is one.
+fn put_part(out: &mut [u8], at: usize, byte: u8, numbers: &[u64], used: usize) -> usize
+    ensures { λ r. ⌜ Counts r (now (out .exit)) ⌝ }
+{
+    if byte == b'@' {
+        if used < numbers.len() {
+            return put_decimal(out, at, numbers[used]);
+        }
+    }
+    put(out, at, &[byte])
+}
+
+// How many numbers are used after a byte of a template.
+fn used_after(byte: u8, used: usize) -> usize {
+    if byte == b'@' {
+        return std::num::wrapping_add_usize(used, 1);
+    }
+    used
+}
+
+// A template with its numbers, as `put` puts bytes: the first at sign stands for the first number, and so on.
+pub fn fill(out: &mut [u8], at: usize, template: &[u8], numbers: &[u64]) -> usize
+    ensures { λ r. ⌜ Counts r (now (out .exit)) ⌝ }
+{
+    let mut n = put(out, at, b"");
+    let mut used: usize = 0;
+    let mut i: usize = 0;
+    while i < template.len() {
+        n = put_part(out, n, template[i], numbers, used);
+        used = used_after(template[i], used);
+        i += 1;
+    }
+    n
+}
+
+// The place after a text of a table, from a place in it on: that of its zero byte, or the table's end.
+fn entry_end(table: &[u8], from: usize) -> usize
+    requires { ⌜ from ≤ length (now table) ⌝ }
+    ensures { λ r. ⌜ (from ≤ r) × (r ≤ length (now (table .entry))) ⌝ }
+{
+    let mut i = from;
+    while i < table.len() {
+        if table[i] == 0 {
+            return i;
+        }
+        i += 1;
+    }
+    i
+}
+
+// The text of a number, counted from 0, in a table of texts with a zero byte after each; nothing where there is none.
+pub fn entry(table: &[u8], number: u32) -> &[u8] {
+    let mut from: usize = 0;
+    let mut left = number;
+    while 0 < left {
+        let end = entry_end(table, from);
+        if end == table.len() {
+            return &table[0..0];
+        }
+        from = end + 1;
+        left -= 1;
+    }
+    let last = entry_end(table, from);
+    &table[from..last]
+}
+
 fn wide(x: u8) -> u64
     ensures { λ r. ⌜ (r ≡ x) × (r < 256) ⌝ }
 {

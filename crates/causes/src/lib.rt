@@ -1,0 +1,67 @@
+// The causes of refusals and of notes (document 01, "What is turned down" and "Receiver"), in words that have no comma, so that they stand in a
+// column.
+ghost use Rattle.io.specs.Counts.{Counts};
+
+// The causes of the receiver's refusals by their numbers, from 0 on, which none has.
+const REFUSALS: [u8; 311] =
+    *b"unknown\0wrong receiver state\0carry buffer too short\0length not 96 to 20480\0header beyond correction\0mode and stream not in the table\0mode and stream not those asked for\0sequence outside its range\0wrong count of pieces\0La out of place\0wrong expansion\0locator out of place\0displacement out of place\0log too short\0";
+
+// The causes of notes by their numbers, from 0 on, which none has.
+const NOTES: [u8; 68] =
+    *b"unknown\0sequence\0wrong CRC\0nothing held\0not continued\0too long\0lost\0";
+
+// The number of a cause, 0 where it is past the last one.
+fn listed(number: u32, last: u32) -> u32 {
+    if last < number {
+        return 0;
+    }
+    number
+}
+
+// The cause of a refusal of the receiver's.
+pub fn put_refusal(out: &mut [u8], at: usize, number: u32) -> usize
+    ensures { λ r. ⌜ Counts r (now (out .exit)) ⌝ }
+{
+    text::put(out, at, text::entry(&REFUSALS, listed(number, 13)))
+}
+
+// The cause of a note.
+pub fn put_note(out: &mut [u8], at: usize, number: u32) -> usize
+    ensures { λ r. ⌜ Counts r (now (out .exit)) ⌝ }
+{
+    text::put(out, at, text::entry(&NOTES, listed(number, 6)))
+}
+
+// 1 for the refusal that comes with the k of a wrong locator, else 0.
+fn has_k(number: u32) -> u32 {
+    if number == 11 {
+        return 1;
+    }
+    0
+}
+
+// The cause of a refusal at the end of a line, with the k of the wrong locator where it is 11.
+pub fn put_refused(out: &mut [u8], at: usize, number: u32, wrong: u32) -> usize
+    ensures { λ r. ⌜ Counts r (now (out .exit)) ⌝ }
+{
+    let n = put_refusal(out, at, number);
+    text::fill(
+        out,
+        n,
+        text::entry(b"\n\0 (k @)\n\0", has_k(number)),
+        &[wrong as u64],
+    )
+}
+
+// The cause of refusal 6 at the end of a line, with the mode and the stream that came.
+pub fn put_other(out: &mut [u8], at: usize, mode: u8, stream: u8) -> usize
+    ensures { λ r. ⌜ Counts r (now (out .exit)) ⌝ }
+{
+    let n = put_refusal(out, at, 6);
+    text::fill(
+        out,
+        n,
+        b" (mode @, stream @ came)\n",
+        &[mode as u64, stream as u64],
+    )
+}

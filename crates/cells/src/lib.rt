@@ -1,0 +1,155 @@
+// A PDU in the picture: its cell, its bar, and the tick where packets are missing.
+use csv::entry;
+use drive::Pdu;
+use page::Shape;
+ghost use Prim.Native.Nat.{_≤_, _<_};
+
+// Which cell a PDU has: 0 received, 1 to 4 by how many bytes of its header were corrected, 5 lost, 6 refused.
+fn cell_of(kind: u32, corrected: u32) -> u32
+    ensures { λ r. ⌜ r ≤ 6 ⌝ }
+{
+    if kind == entry::LOST {
+        return 5;
+    }
+    if kind == entry::REFUSED {
+        return 6;
+    }
+    if 4 < corrected {
+        return 4;
+    }
+    corrected
+}
+
+// How far below a cell's top its mark begins.
+fn mark_of(cell: u32) -> u64
+    ensures { λ r. ⌜ r ≤ 7 ⌝ }
+{
+    if cell == 6 {
+        return 7;
+    }
+    4
+}
+
+// A PDU's cell: darker by how many bytes of its header were corrected; a lost one has a cross, and a refused one a bar, which tell the two apart
+// without colours.
+fn put_cell(out: &mut [u8], at: usize, pdu: Pdu, x: u64, y: u64) -> usize
+    requires { ⌜ (x < 1000000000000) × (y < 1000000000000) ⌝ }
+{
+    let cell = cell_of(pdu.kind, pdu.corrected);
+    let mark = mark_of(cell);
+    text::fill(
+        out,
+        at,
+        text::entry(
+            b"<rect class=\"r\" x=\"@\" y=\"@\" width=\"9\" height=\"14\"/>\n\0<rect class=\"c1\" x=\"@\" y=\"@\" width=\"9\" height=\"14\"/>\n\0<rect class=\"c2\" x=\"@\" y=\"@\" width=\"9\" height=\"14\"/>\n\0<rect class=\"c3\" x=\"@\" y=\"@\" width=\"9\" height=\"14\"/>\n\0<rect class=\"c4\" x=\"@\" y=\"@\" width=\"9\" height=\"14\"/>\n\0<rect class=\"l\" x=\"@\" y=\"@\" width=\"9\" height=\"14\"/>\n<path class=\"x\" d=\"M@ @l5 6m0-6l-5 6\"/>\n\0<rect class=\"f\" x=\"@\" y=\"@\" width=\"9\" height=\"14\"/>\n<path class=\"x\" d=\"M@ @h5\"/>\n\0",
+            cell,
+        ),
+        &[x, y, x + 2, y + mark],
+    )
+}
+
+// A PDU's bar; nothing where it delivered no packet.
+fn put_bar(out: &mut [u8], at: usize, shape: Shape, packets: u32, x: u64, y: u64) -> usize
+    requires { ⌜ (x < 1000000000000) × (y < 1000000000000) ⌝ }
+{
+    let h = page::bar(packets, shape.most);
+    if h == 0 {
+        return at;
+    }
+    text::fill(
+        out,
+        at,
+        b"<rect class=\"b\" x=\"@\" y=\"@\" width=\"9\" height=\"@\"/>\n",
+        &[x, y + page::STRIP + page::BAR - h, h],
+    )
+}
+
+// The mark of a PDU that has pieces with a wrong CRC.
+fn put_wrong(out: &mut [u8], at: usize, crcs: u32, x: u64, y: u64) -> usize
+    requires { ⌜ (x < 1000000000000) × (y < 1000000000000) ⌝ }
+{
+    if crcs == 0 {
+        return at;
+    }
+    text::fill(
+        out,
+        at,
+        b"<circle class=\"w\" cx=\"@.5\" cy=\"@\" r=\"2.5\"/>\n",
+        &[x + 4, y + 7],
+    )
+}
+
+// Which tick a PDU has: 0 none; packets are missing before its own, 1 to 3 by how long their number is, since a long one is written smaller and so
+// keeps clear of its neighbours; 4 a gap is not known, 5 one is not known and packets are missing besides.
+fn tick_of(missing: u32, unknown: u32) -> u32 {
+    if 0 < unknown {
+        if missing == 0 {
+            return 4;
+        }
+        return 5;
+    }
+    if missing == 0 {
+        return 0;
+    }
+    if missing < 100 {
+        return 1;
+    }
+    if missing < 1000 {
+        return 2;
+    }
+    3
+}
+
+// The tick where packets are missing before those of a PDU, and how many.
+fn put_tick(out: &mut [u8], at: usize, tick: u32, missing: u32, x: u64, y: u64) -> usize
+    requires { ⌜ (x < 1000000000000) × (y < 1000000000000) ⌝ }
+{
+    text::fill(
+        out,
+        at,
+        text::entry(
+            b"\0<path class=\"m\" d=\"M@ @v22\"/>\n<text class=\"n\" x=\"@\" y=\"@\">@</text>\n\0<path class=\"m\" d=\"M@ @v22\"/>\n<text class=\"o\" x=\"@\" y=\"@\">@</text>\n\0<path class=\"m\" d=\"M@ @v22\"/>\n<text class=\"k\" x=\"@\" y=\"@\">@</text>\n\0<path class=\"u\" d=\"M@ @v22\"/>\n<text class=\"n\" x=\"@\" y=\"@\">?</text>\n\0<path class=\"u\" d=\"M@ @v22\"/>\n<text class=\"k\" x=\"@\" y=\"@\">?+@</text>\n\0",
+            tick,
+        ),
+        &[x, y + page::STRIP, x, y + 46, missing as u64],
+    )
+}
+
+// The beginning of a row, before its first PDU: that one's number, and the strip's ground.
+fn put_row(out: &mut [u8], at: usize, shape: Shape, number: u32, x: u64, y: u64) -> usize
+    requires { ⌜ (x < 1000000000000) × (y < 1000000000000) ⌝ }
+{
+    if !page::is_first(shape, number) {
+        return at;
+    }
+    let count = page::in_row(shape, number) as u64;
+    text::fill(
+        out,
+        at,
+        b"<text class=\"q\" x=\"56\" y=\"@\">@</text>\n<rect class=\"s\" x=\"@\" y=\"@\" width=\"@\" height=\"20\"/>\n",
+        &[
+            y + 11,
+            number as u64,
+            x,
+            y + page::STRIP,
+            count * page::PITCH,
+        ],
+    )
+}
+
+// A PDU, after the beginning of its row where it is the first there.
+pub fn put_pdu(out: &mut [u8], at: usize, shape: Shape, number: u32, pdu: Pdu) -> usize {
+    let p = page::place_of(shape, number);
+    let mut n = put_row(out, at, shape, number, p.x, p.y);
+    n = put_cell(out, n, pdu, p.x, p.y);
+    n = put_wrong(out, n, pdu.crcs, p.x, p.y);
+    n = put_bar(out, n, shape, pdu.packets, p.x, p.y);
+    put_tick(
+        out,
+        n,
+        tick_of(pdu.missing, pdu.unknown),
+        pdu.missing,
+        p.x,
+        p.y,
+    )
+}

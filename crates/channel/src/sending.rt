@@ -1,0 +1,224 @@
+// PDUs sent over a channel.
+use crate::report;
+use damage::dice::Dice;
+
+// How bad the channel is: how many PDUs in a thousand begin a burst of lost ones, the longest burst, how many PDUs in a thousand have a damaged
+// header, and the most bytes that are altered in one.
+pub struct Channel {
+    pub loss: u64,
+    pub burst: u64,
+    pub damage: u64,
+    pub bytes: u64,
+}
+
+// Where PDUs come from, where they go, and the channel between.
+pub struct Task {
+    pub input: i32,
+    pub output: i32,
+    pub channel: Channel,
+}
+
+// A run so far: whether it goes on, whether nothing went wrong, the dice, and how many more PDUs the burst takes.
+pub struct Run {
+    pub going: bool,
+    pub ok: bool,
+    pub dice: Dice,
+    pub burst: u64,
+    // How many PDUs there were, were marked lost before, were lost and were damaged, and how many bytes were altered.
+    pub pdus: u64,
+    pub missing: u64,
+    pub lost: u64,
+    pub damaged: u64,
+    pub altered: u64,
+}
+
+// What becomes of a PDU: how many PDUs a burst takes from this one on, 0 where it is not lost; how many bytes of its header are to be altered
+// where it comes through; and the dice.
+struct Fate {
+    burst: u64,
+    bytes: u64,
+    dice: Dice,
+}
+
+// What one PDU adds to the counts: 1 or 0 PDUs that were marked lost before, 1 or 0 lost, and bytes altered.
+struct Share {
+    missing: u64,
+    lost: u64,
+    altered: u64,
+}
+
+fn begin(dice: Dice) -> Run {
+    Run {
+        going: true,
+        ok: true,
+        dice: dice,
+        burst: 0,
+        pdus: 0,
+        missing: 0,
+        lost: 0,
+        damaged: 0,
+        altered: 0,
+    }
+}
+
+// Sends every PDU over the channel. They are counted down from a number that no run uses up, since a proved loop has to end, and nothing says that
+// a file does.
+pub fn send_all(task: Task, from: &[u8], onto: &[u8], dice: Dice) -> Run {
+    let mut pdu = io::large_buffer();
+    let mut run = begin(dice);
+    let mut turns = u64::MAX;
+    while 0 < turns {
+        let next = turn(task, from, onto, &mut pdu, run);
+        run = next;
+        if !run.going {
+            return run;
+        }
+        report::progress(run.pdus);
+        turns -= 1;
+    }
+    run
+}
+
+// Reads a PDU and sends it; stops where none can be read.
+fn turn(task: Task, from: &[u8], onto: &[u8], buf: &mut [u8], run: Run) -> Run {
+    let r = records::read(task.input, buf);
+    if r.status != records::WHOLE {
+        report::input_ends(from, r.status, run.pdus);
+        return stopped(run, r.status == records::END);
+    }
+    sent(task, onto, &mut buf[..r.length], run)
+}
+
+// Sends a PDU: it is lost, or damaged, or comes through as it is.
+fn sent(task: Task, onto: &[u8], pdu: &mut [u8], run: Run) -> Run {
+    let channel = task.channel;
+    let before = run.dice;
+    let fate = fate_of(channel, run.burst, before);
+    let dice = fate.dice;
+    if pdu.len() == 0 {
+        return kept(
+            task.output,
+            onto,
+            b"",
+            run,
+            after(run, fate.burst, dice, came(1, 0, 0)),
+        );
+    }
+    if 0 < fate.burst {
+        return kept(
+            task.output,
+            onto,
+            b"",
+            run,
+            after(run, fate.burst, dice, came(0, 1, 0)),
+        );
+    }
+    let done = damage::damaged(pdu, fate.bytes, dice);
+    let last = done.dice;
+    kept(
+        task.output,
+        onto,
+        pdu,
+        run,
+        after(run, 0, last, came(0, 0, done.altered)),
+    )
+}
+
+// Draws a PDU's fate: four draws for each PDU, also where not all of them count.
+fn fate_of(channel: Channel, burst: u64, dice: Dice) -> Fate {
+    let first = dice.next();
+    let second = first.next();
+    let third = second.next();
+    let fourth = third.next();
+    Fate {
+        burst: burst_of(channel, burst, first, second),
+        bytes: bytes_of(channel, third, fourth),
+        dice: fourth,
+    }
+}
+
+// The burst that goes on, or one that begins.
+fn burst_of(channel: Channel, burst: u64, begins: Dice, length: Dice) -> u64 {
+    if 0 < burst {
+        return burst;
+    }
+    if begins.happens(channel.loss) {
+        return length.up_to(channel.burst);
+    }
+    0
+}
+
+fn bytes_of(channel: Channel, damaged: Dice, count: Dice) -> u64 {
+    if damaged.happens(channel.damage) {
+        return count.up_to(channel.bytes);
+    }
+    0
+}
+
+fn came(missing: u64, lost: u64, altered: u64) -> Share {
+    Share {
+        missing: missing,
+        lost: lost,
+        altered: altered,
+    }
+}
+
+fn add(a: u64, b: u64) -> u64 {
+    std::num::wrapping_add_u64(a, b)
+}
+
+// One PDU less, and none of none.
+fn fewer(n: u64) -> u64 {
+    if n == 0 {
+        return 0;
+    }
+    n - 1
+}
+
+// 1 where there is any, else 0.
+fn any(n: u64) -> u64 {
+    if n == 0 {
+        return 0;
+    }
+    1
+}
+
+// The run after a PDU in a burst that takes so many from it on.
+fn after(run: Run, burst: u64, dice: Dice, share: Share) -> Run {
+    Run {
+        going: true,
+        ok: true,
+        dice: dice,
+        burst: fewer(burst),
+        pdus: add(run.pdus, 1),
+        missing: add(run.missing, share.missing),
+        lost: add(run.lost, share.lost),
+        damaged: add(run.damaged, any(share.altered)),
+        altered: add(run.altered, share.altered),
+    }
+}
+
+// Writes what came of a PDU, and answers the run after it; where that fails, says why and stops the run before it.
+fn kept(output: i32, onto: &[u8], pdu: &[u8], before: Run, next: Run) -> Run {
+    if !records::write(output, pdu) {
+        os::fail(onto);
+        return stopped(before, false);
+    }
+    next
+}
+
+// The run at its end, and whether all went well.
+fn stopped(run: Run, ok: bool) -> Run {
+    let dice = run.dice;
+    Run {
+        going: false,
+        ok: ok,
+        dice: dice,
+        burst: run.burst,
+        pdus: run.pdus,
+        missing: run.missing,
+        lost: run.lost,
+        damaged: run.damaged,
+        altered: run.altered,
+    }
+}

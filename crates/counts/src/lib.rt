@@ -1,0 +1,214 @@
+// What a run counts, as one row of numbers with a place for each count, and the lines that sum it up.
+use outcome::Outcome;
+use words::Word;
+ghost use mathlib.Core.Path.{_≡_};
+ghost use Prim.Native.Nat.{_<_};
+ghost use lib.ListN.{length};
+ghost use Rattle.io.specs.Counts.{Counts};
+
+const RECEIVED: usize = 0;
+
+const LOST: usize = 1;
+
+// Headers that were corrected, and bytes of theirs.
+const HEADERS: usize = 2;
+
+const BYTES: usize = 3;
+
+const PACKETS: usize = 4;
+
+const PSD: usize = 5;
+
+// The place for the refusals with number 0; those with the other numbers follow.
+const REFUSED: usize = 6;
+
+// How many numbers there are of refusals.
+const REFUSALS: u32 = 18;
+
+// The place for the notes of cause 0; those of the other causes follow.
+const NOTES: usize = 24;
+
+// How many causes there are of notes.
+const CAUSES: u32 = 8;
+
+// Every count 0.
+pub fn none() -> [u64; 32]
+    ensures { λ r. ⌜ 32 ≡ length r ⌝ }
+{
+    [0; 32]
+}
+
+fn at(counts: &[u64], place: usize) -> u64 {
+    if counts.len() <= place {
+        return 0;
+    }
+    counts[place]
+}
+
+fn add(counts: &mut [u64], place: usize, more: u64) {
+    if counts.len() <= place {
+        return;
+    }
+    counts[place] = std::num::wrapping_add_u64(counts[place], more);
+}
+
+// The place of a number among so many that follow a place.
+fn place_of(first: usize, number: u32, many: u32) -> usize
+    requires { ⌜ first < 32 ⌝ }
+{
+    if number < many {
+        return first + number as usize;
+    }
+    first
+}
+
+// Counts what came of a PDU.
+pub fn add_outcome(counts: &mut [u64], o: Outcome) {
+    if o.kind == outcome::LOST {
+        add(counts, LOST, 1);
+        return;
+    }
+    if o.kind == outcome::REFUSED {
+        add(counts, place_of(REFUSED, o.number, REFUSALS), 1);
+        return;
+    }
+    add(counts, RECEIVED, 1);
+    if o.number != 0 {
+        add(counts, HEADERS, 1);
+        add(counts, BYTES, o.number as u64);
+    }
+}
+
+fn add_word(counts: &mut [u64], w: Word) {
+    let kind = w.kind;
+    match kind {
+        words::PACKET => add(counts, PACKETS, 1),
+        words::PSD => add(counts, PSD, 1),
+        words::NOTE => add(counts, place_of(NOTES, w.high, CAUSES), 1),
+        _ => {}
+    }
+}
+
+// Counts the entries of a PDU's log.
+pub fn add_log(counts: &mut [u64], log: &[u32]) {
+    let mut i: usize = 0;
+    while i < log.len() {
+        add_word(counts, words::split(log[i]));
+        i += 1;
+    }
+}
+
+// The sum of so many counts from a place on.
+fn sum(counts: &[u64], first: usize, many: u32) -> u64
+    requires { ⌜ first < 32 ⌝ }
+{
+    let mut total: u64 = 0;
+    let mut k: u32 = 0;
+    while k < many {
+        total = std::num::wrapping_add_u64(total, at(counts, first + k as usize));
+        k += 1;
+    }
+    total
+}
+
+// How many PDUs were refused.
+pub fn refused(counts: &[u64]) -> u64 {
+    sum(counts, REFUSED, REFUSALS)
+}
+
+// The refusals with a number.
+fn put_refusals(out: &mut [u8], at: usize, number: u32, count: u64) -> usize
+    ensures { λ r. ⌜ Counts r (now (out .exit)) ⌝ }
+{
+    let n = text::fill(
+        out,
+        at,
+        b"barzhilup log:   refused with @ (",
+        &[number as u64],
+    );
+    let k = causes::put_refusal(out, n, number);
+    text::fill(out, k, b"): @\n", &[count])
+}
+
+// The notes of a cause.
+fn put_notes(out: &mut [u8], at: usize, cause: u32, count: u64) -> usize
+    ensures { λ r. ⌜ Counts r (now (out .exit)) ⌝ }
+{
+    let n = text::put(out, at, b"barzhilup log:   note ");
+    let k = causes::put_note(out, n, cause);
+    text::fill(out, k, b": @\n", &[count])
+}
+
+// The refusals with a number, or the notes of a cause, in a line; nothing where there are none.
+fn put_line(out: &mut [u8], at: usize, first: usize, number: u32, count: u64) -> usize
+    ensures { λ r. ⌜ Counts r (now (out .exit)) ⌝ }
+{
+    if count == 0 {
+        return text::put(out, at, b"");
+    }
+    if first == REFUSED {
+        return put_refusals(out, at, number, count);
+    }
+    put_notes(out, at, number, count)
+}
+
+// A line for each count but 0 of so many from a place on: refusals, or notes.
+fn put_lines(out: &mut [u8], start: usize, counts: &[u64], first: usize, many: u32) -> usize
+    requires { ⌜ first < 32 ⌝ }
+    ensures { λ r. ⌜ Counts r (now (out .exit)) ⌝ }
+{
+    let mut n = text::put(out, start, b"");
+    let mut k: u32 = 0;
+    while k < many {
+        n = put_line(out, n, first, k, at(counts, first + k as usize));
+        k += 1;
+    }
+    n
+}
+
+// The counts of PDUs, and those of refusals.
+fn put_pdus(out: &mut [u8], pdus: u64, counts: &[u64]) -> usize
+    ensures { λ r. ⌜ Counts r (now (out .exit)) ⌝ }
+{
+    let n = text::fill(
+        out,
+        0,
+        b"barzhilup log: PDUs @: received @, lost @, refused @\n",
+        &[
+            pdus,
+            at(counts, RECEIVED),
+            at(counts, LOST),
+            refused(counts),
+        ],
+    );
+    put_lines(out, n, counts, REFUSED, REFUSALS)
+}
+
+// The counts of what was corrected and of what was logged, and those of notes.
+fn put_logged(out: &mut [u8], start: usize, counts: &[u64]) -> usize
+    ensures { λ r. ⌜ Counts r (now (out .exit)) ⌝ }
+{
+    let n = text::fill(
+        out,
+        start,
+        b"barzhilup log: headers corrected @, bytes corrected @
+barzhilup log: packets @, PSD entries @, notes @
+",
+        &[
+            at(counts, HEADERS),
+            at(counts, BYTES),
+            at(counts, PACKETS),
+            at(counts, PSD),
+            sum(counts, NOTES, CAUSES),
+        ],
+    );
+    put_lines(out, n, counts, NOTES, CAUSES)
+}
+
+// What was received and logged.
+pub fn put_summary(out: &mut [u8], pdus: u64, counts: &[u64]) -> usize
+    ensures { λ r. ⌜ Counts r (now (out .exit)) ⌝ }
+{
+    let n = put_pdus(out, pdus, counts);
+    put_logged(out, n, counts)
+}

@@ -1,0 +1,3 @@
+// The packet log as comma-separated values: its lines, and what each one says.
+pub mod entry;
+pub mod lines;

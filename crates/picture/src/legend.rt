@@ -1,0 +1,135 @@
+// What stands below the rows: what the picture's parts mean, and the totals.
+use drive::Drive;
+use drive::Totals;
+use page::Shape;
+use page::share;
+
+// What the picture's parts mean, at places below the rows' end.
+fn put_meanings(out: &mut [u8], base: u64, width: u64, most: u32) -> usize {
+    text::fill(
+        out,
+        0,
+        b"<g transform=\"translate(0 @)\">
+<rect class=\"v\" x=\"64\" y=\"4\" width=\"@\" height=\"1\"/>
+<rect class=\"r\" x=\"64\" y=\"17\" width=\"9\" height=\"14\"/>
+<text class=\"t\" x=\"114\" y=\"28\">received</text>
+<rect class=\"c1\" x=\"64\" y=\"35\" width=\"9\" height=\"14\"/>
+<rect class=\"c2\" x=\"74\" y=\"35\" width=\"9\" height=\"14\"/>
+<rect class=\"c3\" x=\"84\" y=\"35\" width=\"9\" height=\"14\"/>
+<rect class=\"c4\" x=\"94\" y=\"35\" width=\"9\" height=\"14\"/>
+<text class=\"t\" x=\"114\" y=\"46\">received, header bytes corrected: 1, 2, 3, 4 or more</text>
+<path class=\"r\" d=\"M64 53h9v14h-9z\"/>
+<circle class=\"w\" cx=\"68.5\" cy=\"60\" r=\"2.5\"/>
+<path class=\"c1\" d=\"M74 53h9v14h-9z\"/>
+<circle class=\"w\" cx=\"78.5\" cy=\"60\" r=\"2.5\"/>
+<text class=\"t\" x=\"114\" y=\"64\">received, with a wrong CRC</text>
+<rect class=\"l\" x=\"64\" y=\"71\" width=\"9\" height=\"14\"/>
+<path class=\"x\" d=\"M66 75l5 6m0-6l-5 6\"/>
+<text class=\"t\" x=\"114\" y=\"82\">lost</text>
+<rect class=\"f\" x=\"64\" y=\"89\" width=\"9\" height=\"14\"/>
+<path class=\"x\" d=\"M66 96h5\"/>
+<text class=\"t\" x=\"114\" y=\"100\">refused</text>
+<rect class=\"s\" x=\"64\" y=\"107\" width=\"30\" height=\"14\"/>
+<rect class=\"b\" x=\"64\" y=\"116\" width=\"9\" height=\"5\"/>
+<rect class=\"b\" x=\"74\" y=\"107\" width=\"9\" height=\"14\"/>
+<rect class=\"b\" x=\"84\" y=\"112\" width=\"9\" height=\"9\"/>
+<text class=\"t\" x=\"114\" y=\"118\">packets delivered in a PDU; full height: @</text>
+<path class=\"m\" d=\"M69 125v14\"/>
+<text class=\"n\" x=\"80\" y=\"136\">12</text>
+<text class=\"t\" x=\"114\" y=\"136\">packets missing before, modulo 64 (ends not counted)</text>
+<path class=\"u\" d=\"M69 143v14\"/>
+<text class=\"n\" x=\"80\" y=\"154\">?</text>
+<text class=\"t\" x=\"114\" y=\"154\">gap before, not known: the PDUs' sequence broke</text>
+",
+        &[base, width, most as u64],
+    )
+}
+
+// The totals. Those of packets have no shares: packets that are missing by whole runs of 64, or at the drive's ends, are not known of.
+fn put_totals(out: &mut [u8], at: usize, all: u64, t: Totals) -> usize {
+    text::fill(
+        out,
+        at,
+        b"<text class=\"t\" x=\"404\" y=\"28\">PDUs</text>
+<text class=\"e\" x=\"580\" y=\"28\">@</text>
+<text class=\"t\" x=\"414\" y=\"46\">received</text>
+<text class=\"e\" x=\"580\" y=\"46\">@</text>
+<text class=\"t\" x=\"424\" y=\"64\">of these corrected</text>
+<text class=\"e\" x=\"580\" y=\"64\">@</text>
+<text class=\"t\" x=\"414\" y=\"82\">lost</text>
+<text class=\"e\" x=\"580\" y=\"82\">@</text>
+<text class=\"t\" x=\"414\" y=\"100\">refused</text>
+<text class=\"e\" x=\"580\" y=\"100\">@</text>
+<text class=\"t\" x=\"404\" y=\"118\">wrong CRCs</text>
+<text class=\"e\" x=\"580\" y=\"118\">@</text>
+<text class=\"t\" x=\"404\" y=\"136\">packets delivered</text>
+<text class=\"e\" x=\"580\" y=\"136\">@</text>
+<text class=\"t\" x=\"404\" y=\"154\">missing, at least</text>
+<text class=\"e\" x=\"580\" y=\"154\">@</text>
+<text class=\"t\" x=\"404\" y=\"172\">gaps unknown</text>
+<text class=\"e\" x=\"580\" y=\"172\">@</text>
+",
+        &[
+            all,
+            t.received,
+            t.corrected,
+            t.lost,
+            t.refused,
+            t.crcs,
+            t.packets,
+            t.missing,
+            t.unknown,
+        ],
+    )
+}
+
+// The share in a row of the totals, counted from 0.
+fn put_share(out: &mut [u8], at: usize, row: u32, part: u64, whole: u64) -> usize {
+    share::put(
+        out,
+        at,
+        text::entry(
+            b"<text class=\"e\" x=\"628\" y=\"46\">@.@ %</text>\n<text class=\"t\" x=\"633\" y=\"46\">of PDUs</text>\n\0<text class=\"e\" x=\"628\" y=\"64\">@.@ %</text>\n<text class=\"t\" x=\"633\" y=\"64\">of the received</text>\n\0<text class=\"e\" x=\"628\" y=\"82\">@.@ %</text>\n<text class=\"t\" x=\"633\" y=\"82\">of PDUs</text>\n\0<text class=\"e\" x=\"628\" y=\"100\">@.@ %</text>\n<text class=\"t\" x=\"633\" y=\"100\">of PDUs</text>\n\0",
+            row,
+        ),
+        part,
+        whole,
+    )
+}
+
+fn put_shares(out: &mut [u8], at: usize, all: u64, t: Totals) -> usize {
+    let mut n = put_share(out, at, 0, t.received, all);
+    n = put_share(out, n, 1, t.corrected, t.received);
+    n = put_share(out, n, 2, t.lost, all);
+    put_share(out, n, 3, t.refused, all)
+}
+
+fn one_unless(test: bool) -> u32 {
+    if test {
+        return 0;
+    }
+    1
+}
+
+// The picture's end, after a warning where the log is not whole.
+fn put_end(out: &mut [u8], at: usize, whole: bool) -> usize {
+    text::put(
+        out,
+        at,
+        text::entry(
+            b"</g>\n</svg>\n\0<text class=\"z\" x=\"592\" y=\"28\">log is not whole</text>\n</g>\n</svg>\n\0",
+            one_unless(whole),
+        ),
+    )
+}
+
+// All that stands below the rows, from the block's start on.
+pub fn put_legend(out: &mut [u8], shape: Shape, d: Drive) -> usize {
+    let t = d.totals;
+    let base = page::top_of(page::rows(shape));
+    let width = page::width(shape) - page::LEFT - page::RIGHT;
+    let mut n = put_meanings(out, base, width, shape.most);
+    n = put_totals(out, n, shape.pdus as u64, t);
+    n = put_shares(out, n, shape.pdus as u64, t);
+    put_end(out, n, d.whole)
+}

@@ -1,0 +1,63 @@
+// The reception of the records of a file of PDUs: what comes of each, and a line on standard error for those that are refused.
+use libc::STDERR_FILENO;
+use outcome::Outcome;
+use receiver::Receiver;
+ghost use Rattle.io.specs.Counts.{Counts};
+
+// How many refused PDUs have a line each; further ones are counted only.
+const LINES: u64 = 5;
+
+// The cause of a PDU's refusal at the end of a line: with 6 the mode and the stream that came, as they stand in its corrected header.
+fn put_cause(out: &mut [u8], at: usize, o: Outcome, bytes: &mut [u8]) -> usize
+    ensures { λ r. ⌜ Counts r (now (out .exit)) ⌝ }
+{
+    if o.number != 6 {
+        return causes::put_refused(out, at, o.number, o.wrong);
+    }
+    let came = outcome::control_of(bytes);
+    causes::put_other(out, at, came.mode, came.stream)
+}
+
+// Says that a PDU, counted from 0, is refused.
+fn say_refused(pdu: u64, o: Outcome, bytes: &mut [u8]) {
+    let mut line = [0u8; 192];
+    let n = text::fill(
+        &mut line,
+        0,
+        b"barzhilup log: PDU @: refused with @: ",
+        &[pdu, o.number as u64],
+    );
+    let k = put_cause(&mut line, n, o, bytes);
+    io::write_all(STDERR_FILENO, &line[..k]);
+}
+
+// Says what is to be said of a PDU, counted from 0, after so many that were refused.
+fn report(pdu: u64, o: Outcome, bytes: &mut [u8], refused: u64) {
+    if o.kind != outcome::REFUSED {
+        return;
+    }
+    if refused < LINES {
+        say_refused(pdu, o, bytes);
+        return;
+    }
+    if refused == LINES {
+        io::write_all(
+            STDERR_FILENO,
+            b"barzhilup log: further refused PDUs are counted only\n",
+        );
+    }
+}
+
+// Receives a PDU, counted from 0, as `outcome::of_record` does, after so many that were refused; where it is refused, says so.
+pub fn receive(
+    receiver: Receiver,
+    carry: &mut [u8],
+    bytes: &mut [u8],
+    log: &mut [u32],
+    pdu: u64,
+    refused: u64,
+) -> Outcome {
+    let o = outcome::of_record(receiver, carry, &mut *bytes, log);
+    report(pdu, o, bytes, refused);
+    o
+}

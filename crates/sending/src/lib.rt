@@ -1,0 +1,188 @@
+// A run of the writer: packets are read ahead, and each turn sends a PDU.
+use packets::Source;
+use settings::Settings;
+use window::Window;
+use writer::Writer;
+use writer::Written;
+
+// Where packets come from, where PDUs go, and the settings of each PDU.
+pub struct Task {
+    pub source: Source,
+    pub output: i32,
+    pub settings: Settings,
+}
+
+// A run so far: whether it goes on, whether nothing went wrong, its writer, and the packets that wait.
+pub struct Run {
+    pub going: bool,
+    pub ok: bool,
+    pub writer: Writer,
+    pub window: Window,
+    // How many packets, bytes of packets, PDUs and bytes of PDUs are sent.
+    pub packets: u64,
+    pub octets: u64,
+    pub pdus: u64,
+    pub size: u64,
+}
+
+fn begin(writer: Writer) -> Run {
+    Run {
+        going: true,
+        ok: true,
+        writer: writer,
+        window: window::empty(),
+        packets: 0,
+        octets: 0,
+        pdus: 0,
+        size: 0,
+    }
+}
+
+// Sends all packets in PDUs of a length: those over 20,480 are refused.
+pub fn send(
+    task: Task,
+    from: &[u8],
+    onto: &[u8],
+    psd: &[u8],
+    length: usize,
+    writer: Writer,
+) -> Run {
+    let mut lengths = [0u16; 256];
+    let mut bytes = io::large_buffer();
+    let mut pdu = [0u8; trial::OVER];
+    let size = trial::size_for(length);
+    all_turns(
+        task,
+        from,
+        onto,
+        psd,
+        &mut lengths,
+        &mut bytes,
+        &mut pdu[0..size],
+        begin(writer),
+    )
+}
+
+// All turns. They are counted down from a number that no run uses up, since a proved loop has to end, and nothing says that a file does.
+fn all_turns(
+    task: Task,
+    from: &[u8],
+    onto: &[u8],
+    psd: &[u8],
+    lengths: &mut [u16],
+    bytes: &mut [u8],
+    pdu: &mut [u8],
+    start: Run,
+) -> Run {
+    let mut run = start;
+    let mut turns = u64::MAX;
+    while 0 < turns {
+        let next = turn(task, from, onto, psd, lengths, bytes, pdu, run);
+        run = next;
+        if !run.going {
+            return run;
+        }
+        progress(run.pdus);
+        turns -= 1;
+    }
+    run
+}
+
+// Reads ahead and sends a PDU; stops where no packet waits.
+fn turn(
+    task: Task,
+    from: &[u8],
+    onto: &[u8],
+    psd: &[u8],
+    lengths: &mut [u16],
+    bytes: &mut [u8],
+    pdu: &mut [u8],
+    run: Run,
+) -> Run {
+    let source = task.source;
+    let before = run.window;
+    let w = window::filled(source, from, before, lengths, bytes);
+    if w.end <= w.first {
+        return stopped(run, !w.broken);
+    }
+    sent(task, onto, psd, w, lengths, bytes, pdu, run)
+}
+
+// Sends a PDU from the packets that wait, and drops those that ended; stops at a refusal, or where the PDU cannot be written.
+fn sent(
+    task: Task,
+    onto: &[u8],
+    psd: &[u8],
+    w: Window,
+    lengths: &[u16],
+    bytes: &[u8],
+    pdu: &mut [u8],
+    run: Run,
+) -> Run {
+    let writer = run.writer;
+    let settings = task.settings;
+    let offered = window::lengths_of(lengths, w.first, w.end);
+    let joined = window::bytes_of(bytes, w.from, w.to);
+    let r = writer.write(settings, psd, offered, joined, pdu);
+    if !is_kept(r, task.output, onto, pdu) {
+        return stopped(run, false);
+    }
+    let next = window::without(w, lengths, r.ended);
+    advanced(run, r, w, next, pdu.len())
+}
+
+// How far the work is, where somebody looks on.
+fn progress(pdus: u64) {
+    files::progress(b"barzhilup generate", b": PDUs ", pdus);
+}
+
+// Writes a PDU that was not refused to its file. Answers whether it is there; if not, says why.
+fn is_kept(r: Written, output: i32, onto: &[u8], pdu: &[u8]) -> bool {
+    if r.refusal != 0 {
+        trial::say_refusal(r.refusal);
+        return false;
+    }
+    if !records::write(output, pdu) {
+        os::fail(onto);
+        return false;
+    }
+    true
+}
+
+// The run at its end, and whether all went well.
+fn stopped(run: Run, ok: bool) -> Run {
+    let writer = run.writer;
+    let window = run.window;
+    Run {
+        going: false,
+        ok: ok,
+        writer: writer,
+        window: window,
+        packets: run.packets,
+        octets: run.octets,
+        pdus: run.pdus,
+        size: run.size,
+    }
+}
+
+fn between(from: usize, to: usize) -> u64 {
+    if to < from {
+        return 0;
+    }
+    (to - from) as u64
+}
+
+// The run after a PDU of a length.
+fn advanced(run: Run, r: Written, before: Window, next: Window, length: usize) -> Run {
+    let writer = r.writer;
+    Run {
+        going: true,
+        ok: true,
+        writer: writer,
+        window: next,
+        packets: std::num::wrapping_add_u64(run.packets, r.ended as u64),
+        octets: std::num::wrapping_add_u64(run.octets, between(before.from, next.from)),
+        pdus: std::num::wrapping_add_u64(run.pdus, 1),
+        size: std::num::wrapping_add_u64(run.size, length as u64),
+    }
+}

@@ -1,0 +1,106 @@
+# Packets to PDUs: settings, PSD and packets that are refused or just not, ADTS frames, and a PDU by hand. Sourced by run.sh.
+
+# The words of a refusal's number.
+generate_words() {
+    awk -F '|' -v number="$1" '$1 == number { print $2 }' "$data/generate.words"
+}
+
+# A refusal: its number and the options. Nothing is made, and what was in its output before is kept, also with --force, and where a packet is wrong
+# too.
+refuses() {
+    local line
+    line="barzhilup generate: refused with $1: $(generate_words "$1")"
+    shift
+    stops "$line" generate --in one "$@" --out new
+    there "generate $*" no new
+    echo old >kept
+    stops "$line" generate --in one "$@" --out kept --force
+    same "generate $*: what was there is kept" old "$(cat kept)"
+    there "generate $*" no kept~
+    stops "$line" generate --in empty "$@"
+}
+
+# Settings that are right at the edge.
+takes() {
+    run generate --in one "$@"
+    same "generate $*, what is said" "barzhilup generate: packets 1 (bytes 100), PDUs" "$(cut -d ' ' -f 1-7 err)"
+    ended "generate $*" 0 generate
+}
+
+# The table of settings: each line has a refusal's number, or 0 where they are taken, and the options.
+check_settings() {
+    local number options length
+    for length in 14 22 78 79 128 129 5000; do
+        head -c "$length" /dev/zero >"psd$length"
+    done
+    while read -r number options; do
+        # The options are words without spaces in them.
+        case $number in
+            '#') ;;
+            0) takes $options ;;
+            *) refuses "$number" $options ;;
+        esac
+    done <"$data/generate.settings"
+}
+
+# Packets that are refused with 15, and dumps that are none; those before them are sent.
+check_packets() {
+    local before="barzhilup generate: packets 1 (bytes 100), PDUs 1 (bytes 1024)"
+    local wrong
+    { record 100; record 0; record 5; } >zero
+    run generate --in one
+    cp out first
+    run generate --in zero
+    said "a packet of length 0" 1 generate "barzhilup generate: zero: refused with 15: packet 1 has no bytes
+$before"
+    same_file "the packets before one of length 0 are sent" first out
+    { record 100; record 4097; record 5; } >long
+    run generate --in long
+    said "a packet over 4,096" 1 generate "barzhilup generate: long: refused with 15: packet 1 has over 4,096 bytes
+$before"
+    { frame 107; frame 4104; } >long
+    run generate --adts --in long
+    said "a frame over 4,096" 1 generate "barzhilup generate: long: refused with 15: packet 1 has over 4,096 bytes
+$before"
+    { frame 107; frame 7; } >zero
+    run generate --adts --in zero
+    said "a frame without a packet" 1 generate "barzhilup generate: zero: refused with 15: packet 1 has no bytes
+$before"
+    for wrong in '\xff\xe1\x50\x80\x01\x1f\xfc' '\xfe\xf1\x50\x80\x01\x1f\xfc' '\xff\xf1\x50\x80\x00\xdf\xfc' 'ID3....'; do
+        { frame 107; printf '%b' "$wrong"; } >none.adts
+        run generate --adts --in none.adts
+        said "no frame at $wrong" 1 generate "barzhilup generate: none.adts: no ADTS frame at packet 1
+$before"
+    done
+    run generate --adts --in dump --length 300 --psd psd
+    same_file "a dump is sent as its packets are" sent out
+    ended "a dump is sent" 0 generate
+}
+
+# A PDU by hand (document 01, example j): mode 0, 96 bytes, a packet of 100: 79 of it sent, locator 95, Plast.
+check_example() {
+    run generate --in one --length 96
+    same "example j, length, control word and locator" "60 00 00 00 00 04 02 0f 5f 00" \
+        "$(od -An -v -t x1 -j 0 -N 18 out | tr -d '\n' | cut -d ' ' -f 2,3,12-19)"
+    said "example j, the second PDU ends the packet" 0 generate "barzhilup generate: packets 1 (bytes 100), PDUs 2 (bytes 192)"
+    cp out example
+    run log --in example
+    said "example j, logged" 0 log "barzhilup log: PDUs 2: received 2, lost 0, refused 0
+barzhilup log: headers corrected 0, bytes corrected 0
+barzhilup log: packets 1, PSD entries 0, notes 0"
+}
+
+# Nothing to do, and no PSD.
+check_empty() {
+    local sub
+    for sub in generate channel log; do
+        says 0 /dev/null "$(nothing_of "$sub")" "$sub"
+        says 0 /dev/null "$(nothing_of "$sub")" "$sub" --in empty
+    done
+    says 0 /dev/null "$(nothing_of generate)" generate --in empty --adts
+    says 0 /dev/null "$(nothing_of log)" log --in empty --format words
+    run generate --in one --length 96
+    cp out without
+    run generate --in one --psd empty --length 96
+    same_file "an empty PSD is none" without out
+}

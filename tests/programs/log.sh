@@ -1,0 +1,141 @@
+# PDUs to the packet log: refused and lost ones, the CSV's last line, and PDUs that come twice or out of order. Sourced by run.sh.
+
+# A mode and stream that the table has not.
+check_unlisted() {
+    local line="barzhilup log: refused with 5: mode and stream not in the table"
+    stops "$line" log --mode 4 --in sent --out new
+    there "log of an unlisted mode" no new
+    stops "$line" log --stream 1 --in sent
+    stops "$line" log --stream=2 --mode=1 --in=none
+}
+
+# The PDUs of a drive, five of them refused: of lengths that no PDU has, of another mode and stream, and of zeros.
+make_drive() {
+    "$program" generate --in one --mode 1 --stream 1 --length 96 2>/dev/null >other
+    { pdus 0 1; record 95; pdus 1 1; record 0; record 20481; cat other; record 96; pdus 2 1; } >drive
+}
+
+# Lost and refused PDUs in a drive that goes on.
+check_drive() {
+    make_drive
+    run log --in drive --format csv
+    cp out drive.csv
+    same "the PDUs of a drive, refused and lost ones too" "0 received 1 refused 2 received 3 lost 4 refused 5 refused 6 refused 7 refused 8 received" \
+        "$(sed -n 's/^\([0-9]*\),\(received\|lost\|refused\),.*/\1 \2/p' out | tr '\n' ' ' | sed 's/ $//')"
+    has_line "a PDU of 95 bytes" "1,refused,3,95,length not 96 to 20480" out
+    has_line "it is marked lost" "1,note,0,,lost" out
+    has_line "a PDU of 20,481 bytes" "4,refused,3,20481,length not 96 to 20480" out
+    has_line "it is marked lost, too" "4,note,0,,lost" out
+    has_line "a PDU of another mode is marked lost" "5,note,0,,lost" out
+    has_line "and so is the second" "6,note,0,,lost" out
+    has_line "a PDU of zeros" "7,refused,9,96,La out of place" out
+    has_line "a PDU of another mode and stream" "5,refused,6,96,mode and stream not those asked for" out
+    has_line "a second one" "6,refused,6,96,mode and stream not those asked for" out
+    ended "with refused PDUs" 0 log
+    check_drive_said
+}
+
+# What is said of that drive: a line for each refused PDU, and the counts by number.
+check_drive_said() {
+    same "refused PDUs, what is said" "barzhilup log: PDU 1: refused with 3: length not 96 to 20480
+barzhilup log: PDU 4: refused with 3: length not 96 to 20480
+barzhilup log: PDU 5: refused with 6: mode and stream not those asked for (mode 1, stream 1 came)
+barzhilup log: PDU 6: refused with 6: mode and stream not those asked for (mode 1, stream 1 came)
+barzhilup log: PDU 7: refused with 9: La out of place
+barzhilup log: PDUs 9: received 3, lost 1, refused 5
+barzhilup log:   refused with 3 (length not 96 to 20480): 2
+barzhilup log:   refused with 6 (mode and stream not those asked for): 2
+barzhilup log:   refused with 9 (La out of place): 1" "$(head -n 9 err)"
+    run coverage --in drive.csv
+    same "its picture" "barzhilup coverage: PDUs 9: received 3 (33.3 % of PDUs)" "$(cut -d , -f 1 err)"
+    ended "its picture" 0 coverage
+}
+
+# After five refused PDUs the others are only counted; in the log each has its line.
+check_many_refused() {
+    { pdus 0 1; records 4 95; pdus 1 1; records 3 96; pdus 2 1; record 95; } >drive
+    run log --in drive --format csv
+    same "eight refused PDUs in the log" 8 "$(grep -c ',refused,' out)"
+    same "eight refused PDUs, what is said" "barzhilup log: PDU 1: refused with 3: length not 96 to 20480
+barzhilup log: PDU 2: refused with 3: length not 96 to 20480
+barzhilup log: PDU 3: refused with 3: length not 96 to 20480
+barzhilup log: PDU 4: refused with 3: length not 96 to 20480
+barzhilup log: PDU 6: refused with 9: La out of place
+barzhilup log: further refused PDUs are counted only
+barzhilup log: PDUs 11: received 3, lost 0, refused 8
+barzhilup log:   refused with 3 (length not 96 to 20480): 5
+barzhilup log:   refused with 9 (La out of place): 3" "$(head -n 9 err)"
+    ended "eight refused PDUs" 0 log
+    records 5 95 >drive
+    run log --in drive
+    same "with five refused PDUs none is counted only" 0 "$(grep -c 'counted only' err || true)"
+}
+
+# A packet in eight PDUs, two of which are of another mode instead: the one-bit sequence fits again after them, and nothing is joined.
+check_hole() {
+    record 600 >big
+    "$program" generate --in big --length 96 2>/dev/null >long
+    run log --in long --format csv
+    has_line "a packet in eight PDUs" "7,packet,0,600," out
+    { head -c 196 long; cat other; tail -c +393 long; } >holed
+    run log --in holed --format csv
+    same "PDUs with a hole" 8 "$(grep -c ',received,\|,refused,' out)"
+    same "no packet is joined across PDUs of another mode" 0 "$(grep -c ',packet,' out || true)"
+}
+
+# The CSV's last line counts the PDUs, and stands only where all is logged.
+check_last_line() {
+    local many
+    many=$(grep -c ',received,\|,lost,\|,refused,' log.csv)
+    same "the CSV's last line" ",end,$many,,whole" "$(tail -n 1 log.csv)"
+    same "it stands once" 1 "$(grep -c ',end,' log.csv)"
+    run log --in empty --format csv
+    same "the CSV of no PDUs" "pdu,kind,number,length,cause
+,end,0,,whole" "$(cat out)"
+    run log --in drive --format csv
+    same "the CSV's last line with refused PDUs" ",end,5,,whole" "$(tail -n 1 out)"
+    head -c -1 damaged >part
+    run log --in part --format csv
+    same "no last line in the CSV of a cut file" 0 "$(grep -c ',end,' out || true)"
+    same "no last line in the text" 0 "$(grep -c 'end' log.text || true)"
+}
+
+# Makes the log of PDUs in an order, and draws it: the file, and what the picture's summary says from the packets on.
+draws() {
+    local file=$1
+    local packets=$2
+    run log --in "$file" --mode 1 --format csv
+    ended "the log of $file" 0 log
+    cp out "$file.csv"
+    run coverage --in "$file.csv"
+    ended "the picture of $file" 0 coverage
+    same "the picture of $file, packets" "$packets" "$(sed 's/.*packets delivered/packets delivered/' err)"
+}
+
+# A PDU that comes twice, and PDUs out of order: how many packets are missing there is not known. A PDU that is marked lost has one packet here.
+check_order() {
+    steps 0 1 2 3 4 5 6 7 >ordered
+    draws ordered "packets delivered 8, missing at least 0, gaps unknown 0"
+    steps 0 1 2 2 3 4 5 6 7 >twice
+    draws twice "packets delivered 9, missing at least 0, gaps unknown 1"
+    steps 0 1 3 2 4 5 6 7 >swapped
+    draws swapped "packets delivered 8, missing at least 0, gaps unknown 3"
+    { steps 0 1 2; record 0; steps 4 5 6 7; } >lost
+    draws lost "packets delivered 7, missing at least 1, gaps unknown 0"
+    steps 0 1 2 4 5 6 7 >unmarked
+    draws unmarked "packets delivered 7, missing at least 0, gaps unknown 1"
+    { steps 0 1 1 2; record 0; record 0; steps 5 6 6; } >both
+    draws both "packets delivered 7, missing at least 2, gaps unknown 2"
+}
+
+# Stored outputs: the programs give the same bytes as when they were stored.
+check_stored() {
+    run generate --in "$data/generate.packets" --length 96
+    same_file "stored PDUs" "$data/generate.pdus" out
+    run channel --in "$data/channel.pdus" --seed 7 --loss 150 --burst 3
+    same_file "stored damage: the same seed gives the same on every machine" "$data/channel.received" out
+    run log --in "$data/log.pdus" --format csv
+    same_file "stored log" "$data/log.csv" out
+    run coverage --in "$data/drive.csv" --columns 20 --title 'Up & down the hill <test>'
+    same_file "stored picture" "$data/drive.svg" out
+}
