@@ -28,7 +28,9 @@ returns : tie.Need-returns
 returns c = with-class _ _ _ _ _ _ (c .match .keys1)
 
 returns-2 : tie.Need-returns-2
-returns-2 c = with-displacement _ _ _ _ _ _ _ (c .before .before .match .keys2) (c .before .if1 .taken) (c .fourteen .ensures)
+returns-2 c =
+    let a = c .before .before .before .args in
+    with-displacement (a .v) (a .id) (a .b) (a .r0) (a .r1) (a .r2) (c .fourteen .result) (c .before .before .match .keys2) (c .before .if1 .taken) (c .fourteen .ensures)
 
 returns-3 : tie.Need-returns-3
 returns-3 c = with-program _ _ _ _ _ _ (c .before .match .keys2) (c .if1 .left)

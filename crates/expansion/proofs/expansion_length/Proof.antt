@@ -1,4 +1,5 @@
 use borrow.Author.Needs.{needs}
+use denote.Ref.{now}
 use native.Mathlib.Omega.{arith}
 use mathlib.Core.Path.{_≡_, refl, ap, sym, _∙_}
 use Prim.Native.Nat.{ℕ, _+_, _-_, _*_, _≤_, _<_}
@@ -23,7 +24,9 @@ add-place : tie.Need-add-place Inv-loop μ-loop
 add-place c = search needs
 
 returns : tie.Need-returns Inv-loop μ-loop
-returns c = let p = c .before .before in left-past-la _ _ _ (p .loop .i) (c .if1 .taken) (p .loop .inv .1)
+returns c = let p = c .before .before in
+    let a = p .before .args in
+    left-past-la (now (a .pdu)) (a .at) (a .la) (p .loop .i) (omega (arith, c .if1 .taken)) (p .loop .inv .1)
 
 returns-2 : tie.Need-returns-2 Inv-loop μ-loop
 returns-2 c = let p = c .before .before .before in left-past-end _ _ _ (p .loop .i) (c .if2 .taken) (p .loop .inv .1)
@@ -37,8 +40,9 @@ add-result c = search needs
 returns-3 : tie.Need-returns-3 Inv-loop μ-loop
 returns-3 c =
     let p = c .before .before .before .before .before in
+    let a = p .before .args in
     let e = c .before .before in
-    left-found _ _ _ (p .loop .i) (omega arith) (e .before .if1 .left) (e .if2 .left) (p .loop .inv .1) (c .if3 .taken)
+    left-found (now (a .pdu)) (a .at) (a .la) (p .loop .i) (omega arith) (omega (arith, e .before .if1 .left)) (e .if2 .left) (p .loop .inv .1) (c .if3 .taken)
 
 add-i : tie.Need-add-i Inv-loop μ-loop
 add-i c = search needs
@@ -49,8 +53,9 @@ loop-less c = search needs
 loop-again : tie.Need-loop-again Inv-loop μ-loop
 loop-again c =
     let p = c .before .before .before .before .before in
+    let a = p .before .args in
     let e = c .before .before in
-    (omega arith, left-next _ _ _ (p .loop .i) (omega arith) (e .before .if1 .left) (e .if2 .left) (p .loop .inv .1) (c .if3 .left))
+    (omega arith, left-next (now (a .pdu)) (a .at) (a .la) (p .loop .i) (omega arith) (omega (arith, e .before .if1 .left)) (e .if2 .left) (p .loop .inv .1) (c .if3 .left))
 
 returns-4 : tie.Need-returns-4 Inv-loop μ-loop
 returns-4 c = left-full _ _ _ (c .before .loop .i) (omega arith) (c .before .loop .inv .1)

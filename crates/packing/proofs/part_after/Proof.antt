@@ -54,7 +54,7 @@ returns-2 : tie.Need-returns-2
 returns-2 c =
     let a = c .before .before .before .args in
     let t = sym (c .before .before .fits2 .ensures) ∙ not-false _ (c .before .if1 .left) in
-    ap (λ (n : ℕ). a .size - (n + a .used + 1)) (c .overhead .ensures .0) ∙ part-some (a .width) (a .extra) (a .size) (a .k) (a .used) t
+    omega (arith, c .overhead .ensures .0, part-some (a .width) (a .extra) (a .size) (a .k) (a .used) t)
 
 pub part-after-spec : {M : Type 1} → statement M
 part-after-spec =

@@ -23,7 +23,7 @@ use Rattle.pdu.proofs.wrong_la.Reads as wrong-la-reads
 use Rattle.pdu.proofs.wrong_pieces.Reads as wrong-pieces-reads
 
 sequence-right : (e : tie.Else1) → leb (e .before .before .before .before .args .m .sequences) (e .before .before .before .before .args .c .sequence) ≡ false
-sequence-right e = lt-leb (e .before .before .before .before .args .m .sequences) (e .before .before .before .before .args .c .sequence) (e .if1 .left)
+sequence-right e = lt-leb (e .before .before .before .before .args .m .sequences) (e .before .before .before .before .args .c .sequence) (omega (arith, e .if1 .left))
 
 pieces-right : (e : tie.Else2) → wrongPieces (e .before .before .before .before .before .before .args .m .width) (e .before .before .before .before .before .before .args .c) ≡ false
 pieces-right e = sym (e .before .wrong-pieces .ensures) ∙ e .if2 .left
@@ -45,7 +45,7 @@ plain-requires : tie.Need-plain-requires
 plain-requires c κs = search needs
 
 returns : tie.Need-returns
-returns c = let a = c .before .before .before .before .before .args in number-7 (a .m) (a .c) (now (a .y)) (le-leb (a .m .sequences) (a .c .sequence) (c .before .if1 .taken)) _ _ (c .plain .ensures .0) (c .plain .ensures .1)
+returns c = let a = c .before .before .before .before .before .args in number-7 (a .m) (a .c) (now (a .y)) (le-leb (a .m .sequences) (a .c .sequence) (omega (arith, c .before .if1 .taken))) _ _ (c .plain .ensures .0) (c .plain .ensures .1)
 
 wrong-pieces-requires : tie.Need-wrong-pieces-requires
 wrong-pieces-requires c κs = search needs

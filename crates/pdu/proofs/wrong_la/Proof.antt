@@ -25,10 +25,10 @@ cast-if1 : tie.Need-cast-if1
 cast-if1 c = search needs
 
 returns : tie.Need-returns
-returns c = let a = c .before .before .before .before .args in la-low (a .width) (a .c) (now (a .y)) _ (c .before .after-locators .ensures .0) (c .if1 .taken)
+returns c = let a = c .before .before .before .before .args in la-low (a .width) (a .c) (now (a .y)) _ (c .before .after-locators .ensures .0) (omega (arith, c .if1 .taken))
 
 returns-2 : tie.Need-returns-2
-returns-2 c = let a = c .before .before .before .before .args in la-high (a .width) (a .c) (now (a .y)) _ (c .before .after-locators .ensures .0) (c .if1 .left)
+returns-2 c = let a = c .before .before .before .before .args in la-high (a .width) (a .c) (now (a .y)) _ (c .before .after-locators .ensures .0) (omega (arith, c .if1 .left))
 
 pub wrong-la-spec : {M : Type 1} → statement M
 wrong-la-spec =

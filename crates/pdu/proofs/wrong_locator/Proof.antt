@@ -32,10 +32,10 @@ add-if1-2 : tie.Need-add-if1-2
 add-if1-2 c = search needs
 
 returns : tie.Need-returns
-returns c = let a = c .before .before .before .before .args in locator-low (a .width) (a .c) (now (a .y)) (a .k) _ _ (c .before .before .locator .ensures) (c .before .mark .ensures) (c .if1 .taken)
+returns c = let a = c .before .before .before .before .args in locator-low (a .width) (a .c) (now (a .y)) (a .k) _ _ (c .before .before .locator .ensures) (c .before .mark .ensures) (omega (arith, c .if1 .taken))
 
 returns-2 : tie.Need-returns-2
-returns-2 c = let a = c .before .before .before .before .args in locator-high (a .width) (a .c) (now (a .y)) (a .k) _ _ (c .before .before .locator .ensures) (c .before .mark .ensures) (c .if1 .left)
+returns-2 c = let a = c .before .before .before .before .args in locator-high (a .width) (a .c) (now (a .y)) (a .k) _ _ (c .before .before .locator .ensures) (c .before .mark .ensures) (omega (arith, c .if1 .left))
 
 pub wrong-locator-spec : {M : Type 1} → statement M
 wrong-locator-spec =

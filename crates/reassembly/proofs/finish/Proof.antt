@@ -20,7 +20,7 @@ drop-noted-requires : tie.Need-drop-noted-requires
 drop-noted-requires c κs =
     let p = c .before .before .before .before .before in
     let a = p .args in
-    (omega arith, long-room (a .n) (a .k) (a .ends) (a .from) (a .at) (now (a .carry)) (now (a .piece)) (now (a .log)) (p .pre .0) (p .pre .1 .0) (c .before .if1 .taken) (p .pre .1 .1 .1 .1))
+    (omega arith, long-room (a .n) (a .k) (a .ends) (a .from) (a .at) (now (a .carry)) (now (a .piece)) (now (a .log)) (p .pre .0) (p .pre .1 .0) (omega arith) (p .pre .1 .1 .1 .1))
 
 same-length : tie.Need-same-length
 same-length c = search needs
@@ -30,7 +30,7 @@ returns c =
     let p = c .before .before .before .before .before .before .before .before in
     let a = p .args in
     let q = c .before .before .drop-noted in
-    long-did (a .n) (a .k) (a .ends) (a .from) (a .at) (now (a .carry)) (now (a .piece)) (now (a .log)) (p .pre .0) (p .pre .1 .0) _ (q .result) (c .before .before .before .before .if1 .taken) (q .ensures (now (a .carry)))
+    long-did (a .n) (a .k) (a .ends) (a .from) (a .at) (now (a .carry)) (now (a .piece)) (now (a .log)) (p .pre .0) (p .pre .1 .0) _ (q .result) (omega arith) (q .ensures (now (a .carry)))
 
 slice-reshare-prefix-put-packet : tie.Need-slice-reshare-prefix-put-packet
 slice-reshare-prefix-put-packet c = search needs
@@ -46,13 +46,13 @@ put-packet-requires c κs =
     let p = c .before .before .before .before .before .before .before in
     let a = p .args in
     let l : length (take (a .from) (now (a .carry))) ≡ a .from = length-take-le (a .from) (now (a .carry)) (omega arith) in
-    (omega (arith, l, c .before .before .before .if1 .left), ended-room (a .n) (a .k) (a .ends) (a .from) (a .at) (now (a .carry)) (now (a .piece)) (now (a .log)) (p .pre .0) (p .pre .1 .0) (c .before .before .if2 .taken) (c .before .before .before .if1 .left) (p .pre .1 .1 .1 .1))
+    (omega (arith, l), ended-room (a .n) (a .k) (a .ends) (a .from) (a .at) (now (a .carry)) (now (a .piece)) (now (a .log)) (p .pre .0) (p .pre .1 .0) (c .before .before .if2 .taken) (omega arith) (p .pre .1 .1 .1 .1))
 
 add-t19 : tie.Need-add-t19
 add-t19 c =
     let p = c .before .before .before .before .before .before .before .before .before .before in
     let a = p .args in
-    omega (arith, c .before .before .put-packet .ensures .0, ended-room (a .n) (a .k) (a .ends) (a .from) (a .at) (now (a .carry)) (now (a .piece)) (now (a .log)) (p .pre .0) (p .pre .1 .0) (c .before .before .before .before .before .if2 .taken) (c .before .before .before .before .before .before .if1 .left) (p .pre .1 .1 .1 .1))
+    omega (arith, c .before .before .put-packet .ensures .0, ended-room (a .n) (a .k) (a .ends) (a .from) (a .at) (now (a .carry)) (now (a .piece)) (now (a .log)) (p .pre .0) (p .pre .1 .0) (c .before .before .before .before .before .if2 .taken) (omega arith) (p .pre .1 .1 .1 .1))
 
 same-length-2 : tie.Need-same-length-2
 same-length-2 c = search needs
@@ -65,7 +65,7 @@ returns-2 c =
     let p = c .before .before .before .before .before .before .before .before .before .before in
     let a = p .args in
     let q = c .before .before .put-packet in
-    ended-did (a .n) (a .k) (a .ends) (a .from) (a .at) (now (a .carry)) (now (a .piece)) (now (a .log)) (p .pre .0) (p .pre .1 .0) (q .result) _ (c .before .before .before .before .before .if2 .taken) (c .before .before .before .before .before .before .if1 .left) (q .ensures .0) (q .ensures .1)
+    ended-did (a .n) (a .k) (a .ends) (a .from) (a .at) (now (a .carry)) (now (a .piece)) (now (a .log)) (p .pre .0) (p .pre .1 .0) (q .result) _ (c .before .before .before .before .before .if2 .taken) (omega arith) (q .ensures .0) (q .ensures .1)
 
 put-bytes-requires : tie.Need-put-bytes-requires
 put-bytes-requires c κs = search needs
@@ -77,7 +77,7 @@ returns-3 : tie.Need-returns-3
 returns-3 c =
     let p = c .before .before .before .before .before .before .before .before .before in
     let a = p .args in
-    held-did (a .n) (a .k) (a .ends) (a .from) (a .at) (now (a .carry)) (now (a .piece)) (now (a .log)) (p .pre .0) (p .pre .1 .0) _ (c .before .before .before .before .if2 .left) (c .before .before .before .before .before .if1 .left) (c .before .before .put-bytes .ensures)
+    held-did (a .n) (a .k) (a .ends) (a .from) (a .at) (now (a .carry)) (now (a .piece)) (now (a .log)) (p .pre .0) (p .pre .1 .0) _ (c .before .before .before .before .if2 .left) (omega arith) (c .before .before .put-bytes .ensures)
 
 pub finish-spec : {M : Type 1} → statement M
 finish-spec =

@@ -1,3 +1,4 @@
+use native.Mathlib.Omega.{arith}
 use denote.Ref.{now}
 use Rattle.receiver.proofs.Parsing.{few-pieces, all-marked}
 use Rattle.receiver.proofs.Taking.{Ready, needed, too-short, accepts, run-fits, taken}
@@ -59,20 +60,20 @@ refused-requires c κs = search needs
 returns : tie.Need-returns
 returns c =
     let w = c .before .before in
-    too-short (ready (w .before)) (w .words-needed .result) (w .words-needed .ensures) (c .refused .result) (c .before .if1 .taken) (c .refused .ensures)
+    too-short (ready (w .before)) (w .words-needed .result) (w .words-needed .ensures) (c .refused .result) (omega (arith, c .before .if1 .taken)) (c .refused .ensures)
 
 accept-requires : tie.Need-accept-requires
 accept-requires c κs =
     let e = c .before .before in
     let w = e .before in
-    accepts (ready (w .before)) (w .words-needed .result) (w .words-needed .ensures) (e .if1 .left)
+    accepts (ready (w .before)) (w .words-needed .result) (w .words-needed .ensures) (omega (arith, e .if1 .left))
 
 accepted-requires : tie.Need-accepted-requires
 accepted-requires c κs =
     let d = c .before .before .before .before in
     let e = d .before .before .before in
     let w = e .before in
-    run-fits (ready (w .before)) (w .words-needed .result) (w .words-needed .ensures) (e .if1 .left) (d .accept .last .1 .1 .1 .1 .1 .1 .0) (d .accept .last .1 .1 .1 .1 .1 .1 .1 .0) (d .accept .result) (d .accept .ensures)
+    run-fits (ready (w .before)) (w .words-needed .result) (w .words-needed .ensures) (omega (arith, e .if1 .left)) (d .accept .last .1 .1 .1 .1 .1 .1 .0) (d .accept .last .1 .1 .1 .1 .1 .1 .1 .0) (d .accept .result) (d .accept .ensures)
 
 same-length : tie.Need-same-length
 same-length c = search needs
@@ -85,7 +86,7 @@ returns-2 c =
     let d = c .before .before .before .before .before in
     let e = d .before .before .before in
     let w = e .before in
-    taken (ready (w .before)) (w .words-needed .result) (w .words-needed .ensures) (e .if1 .left) (d .accept .last .1 .1 .1 .1 .1 .1 .0) (d .accept .last .1 .1 .1 .1 .1 .1 .1 .0) (d .accept .result) (d .accept .ensures) (c .accepted .result) (c .accepted .ensures)
+    taken (ready (w .before)) (w .words-needed .result) (w .words-needed .ensures) (omega (arith, e .if1 .left)) (d .accept .last .1 .1 .1 .1 .1 .1 .0) (d .accept .last .1 .1 .1 .1 .1 .1 .1 .0) (d .accept .result) (d .accept .ensures) (c .accepted .result) (c .accepted .ensures)
 
 pub receive-read-spec : {M : Type 1} → statement M
 receive-read-spec =
