@@ -1304,9 +1304,6 @@ impl Rectangle {
 /// The classes of cells.
 const CELLS: [&str; 7] = ["r", "c1", "c2", "c3", "c4", "l", "f"];
 
-/// The cells of the legend: those with a wrong CRC are among them.
-const SWATCHES: [&str; 9] = ["r", "c1", "c2", "c3", "c4", "r", "c1", "l", "f"];
-
 /// What a picture shows, by PDU.
 #[derive(Default)]
 struct Picture {
@@ -1528,7 +1525,7 @@ impl Shown {
         let cells = &picture.cells;
         let classes: Vec<&str> = cells.iter().map(|cell| cell.class.as_str()).collect();
         assert_eq!(classes, self.classes);
-        assert_eq!(picture.swatches, SWATCHES);
+        assert_eq!(picture.swatches, CELLS);
         let wrong: Vec<usize> = (0..classes.len())
             .filter(|&pdu| self.wrong[pdu] > 0)
             .collect();
