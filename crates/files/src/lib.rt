@@ -1,12 +1,14 @@
 // The files that a program's options name, and what it says of its work on standard error.
 //
 // A label is the program's name and that of a file, for a line that says what is wrong.
+use libc::PATH_MAX;
 use libc::STDERR_FILENO;
 use libc::STDIN_FILENO;
 use libc::STDOUT_FILENO;
 ghost use mathlib.Core.Path.{_≡_};
 ghost use lib.ListN.{length};
 ghost use Rattle.io.specs.Counts.{Counts};
+ghost use Rattle.libc.specs.Io.{Ended};
 
 // The exit statuses: all is done, the work stopped early, or the usage is wrong.
 pub const DONE: i32 = 0;
@@ -82,15 +84,66 @@ fn is_mute() -> bool {
     os::errno() == libc::EBADF
 }
 
-// Whether a name is that of an ordinary file that may be written: only such a file can be set to the length that it has. Its bytes stay.
-fn is_ordinary(path: &[u8]) -> bool {
+// The last byte of a path as C reads it.
+const LAST: usize = PATH_MAX - 1;
+
+// A path as C reads it: as much as leaves room for a zero byte, and then zeros.
+fn ended(path: &[u8]) -> [u8; PATH_MAX]
+    ensures { λ r. ⌜ Ended r ⌝ }
+{
+    let mut out = io::buffer();
+    text::put(&mut out, 0, path);
+    out[LAST] = 0;
+    out
+}
+
+// What a name is that of: nothing that can be had, an ordinary file that may be written, or another thing.
+const NOTHING: u8 = 0;
+
+const ORDINARY: u8 = 1;
+
+const OTHER: u8 = 2;
+
+// The place of the next hole in a file, for lseek. A block device knows no holes.
+const SEEK_HOLE: i32 = 4;
+
+// Whether an open file can be brought to its device, and knows holes: a FIFO or a character device cannot, a block device does not. Nothing
+// of it changes.
+fn is_ordinary(fd: i32) -> bool {
+    if libc::fsync(fd) != 0 {
+        return false;
+    }
+    if 0 <= libc::lseek(fd, 0, SEEK_HOLE) {
+        return true;
+    }
+    os::errno() != libc::EINVAL
+}
+
+// Whether a name is that of an ordinary file that may be written.
+fn may_be_written(path: &[u8]) -> bool {
     let fd = os::open_update(path);
     if fd < 0 {
         return false;
     }
-    let ordinary = libc::ftruncate(fd, libc::lseek(fd, 0, libc::SEEK_END)) == 0;
+    let ordinary = is_ordinary(fd);
     libc::close(fd);
     ordinary
+}
+
+// What a name is that of. A symbolic link is another thing, whatever it leads to.
+fn kind(path: &[u8]) -> u8 {
+    let name = ended(path);
+    let mut target = [0u8; 1];
+    if 0 <= libc::readlink(&name, &mut target) {
+        return OTHER;
+    }
+    if libc::access(&name, libc::F_OK) != 0 {
+        return NOTHING;
+    }
+    if may_be_written(path) {
+        return ORDINARY;
+    }
+    OTHER
 }
 
 // A name with a tilde after it, to which a file is renamed.
@@ -130,16 +183,36 @@ fn set_aside(path: &[u8], label: &[u8]) -> bool {
     true
 }
 
-// Whether a name is free as far as that is asked for: with --force an ordinary file that has it is renamed; a device, a pipe and a file that may
-// not be written keep theirs, which the making of the new file refuses.
+// Whether a name is free as far as that is asked for: with --force an ordinary file that has it is renamed. A link, a device, a FIFO and a file
+// that may not be written keep theirs, which is said.
 fn make_way(known: &[u8], path: &[u8], label: &[u8]) -> bool {
     if !options::given(known, b"force") {
         return true;
     }
-    if !is_ordinary(path) {
+    let kind = kind(path);
+    if kind == NOTHING {
         return true;
     }
-    set_aside(path, label)
+    if kind == ORDINARY {
+        return set_aside(path, label);
+    }
+    say(
+        label,
+        b": is not an ordinary file that may be written, so it is not renamed\n",
+    );
+    false
+}
+
+// Says why a file is not made: its name is taken, or what errno has.
+fn say_not_made(path: &[u8], label: &[u8]) {
+    if os::errno() != libc::EEXIST {
+        os::fail(label);
+        return;
+    }
+    let mut words = label_buffer();
+    let n = text::put(&mut words, 0, b": File exists (--force renames it ");
+    let k = text::put(&mut words, n, path);
+    say_line(label, &words[..k], b"~ first)");
 }
 
 // Makes a file that is written. A name that is taken is refused, which is said, and its file stays as it is; with --force that file is renamed
@@ -153,7 +226,7 @@ fn make_named(known: &[u8], path: &[u8], label: &[u8]) -> i32 {
     }
     let fd = os::create(path);
     if fd < 0 {
-        os::fail(label);
+        say_not_made(path, label);
     }
     fd
 }

@@ -170,9 +170,16 @@ fn find(known: &[u8], name: &[u8]) -> usize
     0
 }
 
-// Whether an option is given.
+// Whether an option is given. A flag that has a value is not: that is wrong usage.
 pub fn given(known: &[u8], name: &[u8]) -> bool {
-    0 < find(known, name)
+    let at = find(known, name);
+    if at == 0 {
+        return false;
+    }
+    if kind(known, name) == VALUED {
+        return true;
+    }
+    !has_value(at)
 }
 
 // The value that stands in an argument after its equals sign into the buffer. Answers its length, 0 where it does not fit.
@@ -224,22 +231,35 @@ fn complain(program: &[u8], a: &[u8], b: &[u8], c: &[u8], d: &[u8]) {
     io::write_all(libc::STDERR_FILENO, &line[..n]);
 }
 
-// What is wrong with the value that stands in an argument.
-fn own_value_wrong(i: usize) -> u32 {
-    let mut arg = argument();
-    let n = head(i, &mut arg);
-    if LONGEST < value_of(&arg[..n]).len() {
+// What is wrong with a value of so many bytes of the option at an argument: a file has a name.
+fn length_wrong(i: usize, length: usize) -> u32 {
+    if LONGEST < length {
         return TOO_LONG;
+    }
+    if 0 < length {
+        return RIGHT;
+    }
+    if kind_at(b"in=\0out=\0psd=\0", i) == VALUED {
+        return MISSING;
     }
     RIGHT
 }
 
-// What is wrong with the value that an argument is.
-fn value_wrong(i: usize) -> u32 {
+// What is wrong with the value that stands in an argument.
+fn own_value_wrong(i: usize) -> u32 {
+    let mut arg = argument();
+    let n = head(i, &mut arg);
+    length_wrong(i, value_of(&arg[..n]).len())
+}
+
+// What is wrong with the value that is the argument after an option.
+fn value_wrong(i: usize) -> u32
+    requires { ⌜ i < 18446744073709551615 ⌝ }
+{
     let mut value = io::buffer();
-    os::arg(i, &mut value);
+    let n = os::arg(i + 1, &mut value);
     match os::errno() {
-        0 => RIGHT,
+        0 => length_wrong(i, n),
         libc::EINVAL => MISSING,
         _ => TOO_LONG,
     }
@@ -267,7 +287,7 @@ fn wrong_at(known: &[u8], i: usize) -> u32
         if has_value(i) {
             return own_value_wrong(i);
         }
-        return value_wrong(i + 1);
+        return value_wrong(i);
     }
     if has_value(i) {
         return NO_FLAG;
@@ -298,8 +318,8 @@ fn is_right(program: &[u8], known: &[u8], i: usize) -> bool
     false
 }
 
-// Whether every argument is a known option, given once, with a value of at most 4,096 bytes where it takes one, or such a value. Says what is
-// wrong with each that is not.
+// Whether every argument is a known option, given once, with a value of at most 4,096 bytes where it takes one, or such a value; one that names
+// a file, `in`, `out` or `psd`, is not empty. Says what is wrong with each that is not.
 pub fn check(program: &[u8], known: &[u8]) -> bool {
     let count = os::arg_count();
     let mut right = true;
