@@ -10,7 +10,7 @@ check_files() {
         there "$sub without its input" no new
         stops "barzhilup $sub: none/in: No such file or directory" "$sub" --in none/in
         stops "barzhilup $sub: none/out: No such file or directory" "$sub" --in "$(input_of "$sub")" --out none/out
-        stops "barzhilup $sub: folder: File exists" "$sub" --in "$(input_of "$sub")" --out folder
+        stops "$(taken "$sub" folder)" "$sub" --in "$(input_of "$sub")" --out folder
     done
     stops "barzhilup generate: none: No such file or directory" generate --in one --psd none
     stops "barzhilup generate: folder: Is a directory" generate --in one --psd folder
@@ -56,14 +56,19 @@ check_dash_psd() {
     wrong "barzhilup generate: --psd: standard input has the packets" generate --psd=- --in - --out new
 }
 
+# What a subcommand says of a name that is taken.
+taken() {
+    echo "barzhilup $1: $2: File exists (--force renames it $2~ first)"
+}
+
 # A name that is taken is not written; what is there stays.
 check_taken() {
     local sub=$1
     echo old >kept
-    stops "barzhilup $sub: kept: File exists" "$sub" --in "$(input_of "$sub")" --out kept
+    stops "$(taken "$sub" kept)" "$sub" --in "$(input_of "$sub")" --out kept
     same "$sub: a name that is taken" old "$(cat kept)"
     : >kept
-    stops "barzhilup $sub: kept: File exists" "$sub" --in "$(input_of "$sub")" --out=kept
+    stops "$(taken "$sub" kept)" "$sub" --in "$(input_of "$sub")" --out=kept
     same "$sub: an empty file" "" "$(cat kept)"
     rm -f kept
 }
@@ -85,40 +90,57 @@ check_recording() {
     input=$(input_of "$sub")
     names_of_recording "$input"
     for name in "${names[@]}"; do
-        stops "barzhilup $sub: $name: File exists" "$sub" --in both --out "$name"
+        stops "$(taken "$sub" "$name")" "$sub" --in both --out "$name"
         same_file "$sub --out $name: the recording" "$input" both
-        stops "barzhilup $sub: both: File exists" "$sub" --in "$name" --out both
+        stops "$(taken "$sub" both)" "$sub" --in "$name" --out both
         same_file "$sub --in $name: the recording" "$input" both
     done
-    stops "barzhilup $sub: both: File exists" "$sub" --out both
+    stops "$(taken "$sub" both)" "$sub" --out both
     there "$sub without --force" no both~
 }
 
-# With --force the old file has the name with a tilde, and the recording is there byte for byte, also where it is the file that is read.
+# With --force the old file has the name with a tilde, and the recording is there byte for byte and with its time, also where it is the file
+# that is read. A symbolic link to it is not renamed.
 check_forced() {
     local sub=$1
     local input name
     input=$(input_of "$sub")
     run "$sub" --in "$input"
     cp out wanted
-    names_of_recording "$input"
-    for name in "${names[@]}"; do
+    for name in both ./both "$work/both" folder/../both hard; do
         names_of_recording "$input"
+        touch -d @1000000000 both
         run "$sub" --in both --out "$name" --force
         ended "$sub --out $name --force" 0 "$sub"
         has_line "$sub --out $name --force" "barzhilup $sub: $name: renamed to $name~" err
         same_file "$sub --out $name --force, what is written" wanted "$name"
         same_file "$sub --out $name --force, the recording" "$input" "$name~"
-        case $name in
-            *both) ;;
-            *) same_file "$sub --out $name --force, the recording by its own name" "$input" both ;;
-        esac
+        same "$sub --out $name --force, the recording's time" 1000000000 "$(stat -c %Y "$name~")"
     done
+    same_file "$sub --force on another name of the recording, the recording by its own" "$input" both
     names_of_recording "$input"
     run "$sub" --out both --force <both
     ended "$sub --force on standard input's file" 0 "$sub"
     same_file "$sub --force on standard input's file, what is written" wanted both
     same_file "$sub --force on standard input's file, the recording" "$input" both~
+    names_of_recording "$input"
+    touch -d @1000000000 both
+    for name in link far ./far; do
+        check_not_renamed "$sub" "$name"
+        same_file "$sub --out $name --force, the recording" "$input" both
+        same "$sub --out $name --force, the recording's time" 1000000000 "$(stat -c %Y both)"
+    done
+}
+
+# With --force a name that is not renamed: that is said, and what has the name keeps it.
+check_not_renamed() {
+    local sub=$1
+    local name=$2
+    local before
+    before=$(stat -c '%F %i %N' "$name")
+    stops "barzhilup $sub: $name: is not an ordinary file that may be written, so it is not renamed" "$sub" --in "$(input_of "$sub")" --out "$name" --force
+    same "$sub --out $name --force, what has the name" "$before" "$(stat -c '%F %i %N' "$name")"
+    there "$sub --out $name --force" no "$name~"
 }
 
 # With --force a name with a tilde that is taken is not written either, and a name that is free is simply made.
@@ -145,17 +167,48 @@ check_forced_taken() {
     rm kept both
 }
 
-# With --force what is no ordinary file keeps its name: a directory, a FIFO.
+# With --force what is no ordinary file keeps its name: a directory, a FIFO, a device, a link to what standard output is, to a device or to
+# nothing; and so does a file that may not be written.
 check_forced_kinds() {
     local sub=$1
-    local input
-    input=$(input_of "$sub")
-    stops "barzhilup $sub: folder: File exists" "$sub" --in "$input" --out folder --force
-    same "$sub --force leaves a directory" yes "$([ -d folder ] && echo yes || echo no)"
-    there "$sub --force on a directory" no folder~
-    stops "barzhilup $sub: waiting: File exists" "$sub" --in "$input" --out waiting --force
-    same "$sub --force leaves a FIFO" yes "$([ -p waiting ] && echo yes || echo no)"
-    there "$sub --force on a FIFO" no waiting~
+    local name
+    ln -sfn /proc/self/fd/1 onto
+    ln -sfn /dev/null null
+    ln -sfn none nowhere
+    for name in folder waiting /dev/null /dev/stdout onto null nowhere; do
+        check_not_renamed "$sub" "$name"
+    done
+    there "$sub --force on a link to nothing" no none
+    rm onto null nowhere
+    check_forced_locked "$sub"
+}
+
+# With --force a file that may not be written. Root may write all files, so the program is then run as another user.
+check_forced_locked() {
+    local sub=$1
+    local other=()
+    if [ "$(id -u)" = 0 ]; then
+        other=(setpriv --reuid 65534 --regid 65534 --clear-groups)
+    fi
+    rm -rf locked
+    mkdir locked
+    cp "$program" locked/program
+    cp "$(input_of "$sub")" locked/read
+    echo old >locked/kept
+    chmod 755 . locked/program
+    chmod 777 locked
+    chmod 444 locked/read locked/kept
+    if ! "${other[@]}" test -x locked/program 2>/dev/null; then
+        echo "programs: no user but root here; $sub --force on a file that may not be written is not looked at"
+        return
+    fi
+    status=0
+    "${other[@]}" locked/program "$sub" --in locked/read --out locked/kept --force >out 2>err || status=$?
+    said "$sub --force on a file that may not be written" 1 "$sub" \
+        "barzhilup $sub: locked/kept: is not an ordinary file that may be written, so it is not renamed"
+    same "$sub --force on a file that may not be written, the file" old "$(cat locked/kept)"
+    there "$sub --force on a file that may not be written" no locked/kept~
+    rm -rf locked
 }
 
 # Standard input, output and error may be closed. What is to be said then goes nowhere, and least of all into a file.
@@ -172,7 +225,11 @@ check_closed() {
     rm -f written
     run "$sub" --out written <&-
     ended "$sub without standard input, to a file" 1 "$sub"
-    same "$sub without standard input, no message in the file" 0 "$(cat written 2>/dev/null | grep -ac "barzhilup" || true)"
+    rm -f written
+    status=0
+    "$program" "$sub" --out written <&- 2>&- || status=$?
+    same "$sub without standard input or error, exit status" 1 "$status"
+    there "$sub without standard input or error" no written
     status=0
     "$program" "$sub" --in "$input" >&- 2>err || status=$?
     ended "$sub without standard output" 1 "$sub"
@@ -269,7 +326,7 @@ check_full_devices() {
     done
     run coverage --in log.csv
     check_full "a picture to a full device" "$(cat err)" coverage --in log.csv
-    stops "barzhilup log: /dev/full: File exists" log --in sent --out /dev/full
+    stops "$(taken log /dev/full)" log --in sent --out /dev/full
 }
 
 # The same through pipes and redirections.

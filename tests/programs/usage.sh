@@ -37,7 +37,7 @@ check_subcommands() {
     local word
     run <packets
     said_of_subcommand "no subcommand" "barzhilup: subcommand missing"
-    for word in generator logger Generate lo logs '' -x --in --unknown; do
+    for word in generator logger Generate lo logs '' -x --in --unknown --help=1 -h=1; do
         run "$word" --in packets --out new <packets
         said_of_subcommand "subcommand $word" "barzhilup: unknown subcommand $word"
         there "subcommand $word" no new
@@ -97,7 +97,7 @@ right_value() {
 check_options() {
     local sub=$1
     local option
-    for option in --unknown word -x -i -- --inn --inn=sent --i --in-sent --=1 ''; do
+    for option in --unknown word -x -i -- --inn --inn=sent --i --in-sent --=1 -h=1 ''; do
         wrong "barzhilup $sub: unknown option $option" "$sub" "$option"
     done
     wrong "barzhilup $sub: unknown option --later" "$sub" --in one --later
@@ -110,6 +110,12 @@ barzhilup $sub: unknown option --second" "$sub" --first --in one --second
     for option in $(options_of "$sub" FLAG | grep -v help); do
         wrong "barzhilup $sub: --$option: takes no value" "$sub" "--$option=1"
         wrong "barzhilup $sub: --$option: given twice" "$sub" "--$option" "--$option"
+    done
+    wrong "barzhilup $sub: --help: takes no value" "$sub" --help=1
+    wrong "barzhilup $sub: --help: takes no value" "$sub" --in one --help=
+    for option in $(options_of "$sub" FILE); do
+        wrong "barzhilup $sub: --$option: value missing" "$sub" "--$option" ''
+        wrong "barzhilup $sub: --$option: value missing" "$sub" "--$option="
     done
     wrong "barzhilup $sub: --in: value too long" "$sub" --in "$(head -c 5000 /dev/zero | tr '\0' x)"
     wrong "barzhilup $sub: --in: value too long" "$sub" --in="$(head -c 5000 /dev/zero | tr '\0' x)"
