@@ -1136,6 +1136,11 @@ impl Tally {
         }
     }
 
+    /// Whether PDUs were refused, and none was received.
+    fn is_none_received(&self) -> bool {
+        self.received == 0 && !self.refused.is_empty()
+    }
+
     /// The lines of the log's summary.
     fn said(&self) -> Vec<String> {
         let refused: u64 = self.refused.values().sum();
@@ -1201,23 +1206,44 @@ fn refused_said(pdu: usize, one: &Logged) -> Vec<String> {
         .collect()
 }
 
-/// What is said on standard error: the first refused PDUs, that others are only
-/// counted, and the counts.
-fn log_said(logged: &[Logged]) -> Vec<Vec<String>> {
-    let mut wanted: Vec<Vec<String>> = logged
+/// What is said of the refused PDUs: the first ones and the first of another
+/// mode or stream have a line each, and after the first ones it is said that
+/// others are only counted.
+fn refusals_said(logged: &[Logged]) -> Vec<Vec<String>> {
+    let refused: Vec<(usize, &Logged)> = logged
         .iter()
         .enumerate()
         .filter(|(_, one)| one.came.is_refused())
-        .map(|(pdu, one)| refused_said(pdu, one))
         .collect();
-    if wanted.len() > REFUSED_LINES {
-        wanted.truncate(REFUSED_LINES);
-        wanted.push(vec![
-            "barzhilup log: further refused PDUs are counted only".to_string()
-        ]);
+    let strange = refused.iter().position(|(_, one)| one.came.refusal() == 6);
+    let mut said = Vec::new();
+    for (before, &(pdu, one)) in refused.iter().enumerate() {
+        if before < REFUSED_LINES || strange == Some(before) {
+            said.push(refused_said(pdu, one));
+        }
+        if before == REFUSED_LINES {
+            said.push(vec![
+                "barzhilup log: further refused PDUs are counted only".to_string()
+            ]);
+        }
     }
-    wanted.extend(Tally::of(logged).said().into_iter().map(|line| vec![line]));
-    wanted
+    said
+}
+
+/// What is said on standard error: the refused PDUs, the counts, and, where PDUs
+/// were refused and none was received, whether the file is of this mode and
+/// stream.
+fn log_said(line: &Line, logged: &[Logged]) -> Vec<Vec<String>> {
+    let tally = Tally::of(logged);
+    let mut said = refusals_said(logged);
+    said.extend(tally.said().into_iter().map(|line| vec![line]));
+    if tally.is_none_received() {
+        said.push(vec![format!(
+            "barzhilup log: no PDU was received: is this a file of PDUs of mode {}, stream {}?",
+            line.mode, line.stream
+        )]);
+    }
+    said
 }
 
 /// Compares line by line.
@@ -1241,7 +1267,7 @@ fn logged(bench: &mut Bench, line: &Line, records: &[Vec<u8>], seen: &mut Readin
         option_but(&mut bench.rng, &mut options, "format", format, "text");
         let way = bench.way();
         let ran = bench.run("log", &options, &file, way);
-        check_lines(&ran.said, &log_said(&wanted), &options);
+        check_lines(&ran.said, &log_said(line, &wanted), &options);
         if format == "words" {
             let words: Vec<u32> = wanted
                 .iter()
@@ -1678,6 +1704,31 @@ fn drives() {
         "runs: {:?}, what they read: {:?}, what they wrote: {:?}",
         bench.runs, bench.ways, bench.ontos
     );
+}
+
+/// Drives of another mode or stream than is asked for, after PDUs that are
+/// refused for their length, of which the first few have a line each.
+#[test]
+fn other_drives() {
+    let mut bench = Bench::new("other_drives", 0x9B0A_0007);
+    let mut readings = Reading::default();
+    let mut late = 0;
+    let mut alone = 0;
+    for case in 0..90 {
+        let line = TABLE[case % TABLE.len()];
+        let asked = TABLE[(case + 1 + case % 9) % TABLE.len()];
+        let (pdus, _) = Sending::new(&mut bench.rng, line).pdus();
+        let short = case % 9;
+        let mut records = some_records(&mut bench.rng, short, PLACES - 1);
+        late += usize::from(short >= REFUSED_LINES && !pdus.is_empty());
+        records.extend(pdus);
+        alone += usize::from(Tally::of(&heard(&asked, &records)).is_none_received());
+        logged(&mut bench, &asked, &records, &mut readings);
+    }
+    println!("drives of another mode or stream: {readings:?}");
+    println!("first after five refused PDUs: {late}, no PDU received: {alone}");
+    assert!(readings.total.refused.keys().copied().eq([3, 6]));
+    assert!(late > 20 && alone > 60);
 }
 
 /// A sending with one part made anew without a look at the others.

@@ -66,9 +66,58 @@ barzhilup log: PDUs 11: received 3, lost 0, refused 8
 barzhilup log:   refused with 3 (length not 96 to 20480): 5
 barzhilup log:   refused with 9 (La out of place): 3" "$(head -n 9 err)"
     ended "eight refused PDUs" 0 log
+    check_none_received
+    check_other_mode
+}
+
+# Five refused PDUs and none received: none is counted only, and the mode and the stream are asked about after the counts. With a PDU that is received
+# they are not, nor with lost PDUs alone.
+check_none_received() {
+    local line="barzhilup log: no PDU was received: is this a file of PDUs of mode"
+    { record 0; pdus 0 1; record 95; } >drive
+    run log --in drive
+    same "with a PDU received nothing is asked" 0 "$(grep -c 'no PDU was received' err || true)"
+    records 3 0 >drive
+    run log --in drive
+    same "with lost PDUs alone nothing is asked" 0 "$(grep -c 'no PDU was received' err || true)"
+    { record 0; record 95; } >drive
+    run log --in drive --mode 2 --stream 1
+    same "a lost and a refused PDU, the last line" "$line 2, stream 1?" "$(tail -n 1 err)"
+    ended "a lost and a refused PDU" 0 log
+    head -c -1 drive >part
+    run log --in part
+    same "a lost PDU and one that is cut, nothing is asked" 0 "$(grep -c 'no PDU was received' err || true)"
     records 5 95 >drive
     run log --in drive
     same "with five refused PDUs none is counted only" 0 "$(grep -c 'counted only' err || true)"
+    same "five refused PDUs, the last line" "$line 0, stream 0?" "$(tail -n 1 err)"
+    ended "five refused PDUs" 0 log
+}
+
+# PDUs of another mode after five that are refused: the first one's line is said, with the mode and the stream that came, and the others are counted.
+check_other_mode() {
+    local asked="barzhilup log: no PDU was received: is this a file of PDUs of mode 0, stream 0?"
+    local came="refused with 6: mode and stream not those asked for (mode 1, stream 0 came)"
+    { records 5 95; steps 0 1 2; } >other.drive
+    run log --in other.drive
+    same "PDUs of another mode after five, what is said" "barzhilup log: PDU 4: refused with 3: length not 96 to 20480
+barzhilup log: PDU 5: $came
+barzhilup log: further refused PDUs are counted only
+barzhilup log: PDUs 8: received 0, lost 0, refused 8
+barzhilup log:   refused with 3 (length not 96 to 20480): 5
+barzhilup log:   refused with 6 (mode and stream not those asked for): 3" "$(sed -n 5,10p err)"
+    same "PDUs of another mode after five, the last line" "$asked" "$(tail -n 1 err)"
+    ended "PDUs of another mode after five" 0 log
+    { records 7 95; steps 0 1 2; pdus 0 1; } >other.drive
+    run log --in other.drive
+    same "PDUs of another mode after seven, what is said" "barzhilup log: PDU 4: refused with 3: length not 96 to 20480
+barzhilup log: further refused PDUs are counted only
+barzhilup log: PDU 7: $came
+barzhilup log: PDUs 11: received 1, lost 0, refused 10" "$(sed -n 5,8p err)"
+    steps 0 1 2 3 4 5 6 >other.drive
+    run log --in other.drive
+    same "PDUs of another mode, how many are said" 5 "$(grep -c '^barzhilup log: PDU [0-9]*: refused with 6' err)"
+    same "PDUs of another mode, the last line" "$asked" "$(tail -n 1 err)"
 }
 
 # A packet in eight PDUs, two of which are of another mode instead: the one-bit sequence fits again after them, and nothing is joined.

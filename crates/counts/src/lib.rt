@@ -22,6 +22,9 @@ const PSD: usize = 5;
 // The place for the refusals with number 0; those with the other numbers follow.
 const REFUSED: usize = 6;
 
+// The place for the refusals with number 6.
+const OTHERS: usize = 12;
+
 // How many numbers there are of refusals.
 const REFUSALS: u32 = 18;
 
@@ -114,6 +117,16 @@ fn sum(counts: &[u64], first: usize, many: u32) -> u64
 // How many PDUs were refused.
 pub fn refused(counts: &[u64]) -> u64 {
     sum(counts, REFUSED, REFUSALS)
+}
+
+// How many PDUs were refused with 6: those of another mode or stream.
+pub fn others(counts: &[u64]) -> u64 {
+    at(counts, OTHERS)
+}
+
+// Whether PDUs were refused, and none was received.
+pub fn is_none_received(counts: &[u64]) -> bool {
+    (at(counts, RECEIVED) == 0) & (refused(counts) != 0)
 }
 
 // The refusals with a number.

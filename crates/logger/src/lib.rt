@@ -63,12 +63,15 @@ fn with_input(job: Job, receiver: Receiver, from: &[u8], input: i32) -> bool {
     let mut counts = counts::none();
     let run = logging::log_all(task, receiver, &mut counts);
     report::ends(run.status, from, &onto[..n], run.pdus);
-    finish(run, output, &onto[..n], &counts)
+    finish(job, run, output, &onto[..n], &counts)
 }
 
 // Closes the file of the log, and says what was received.
-fn finish(run: Run, output: i32, onto: &[u8], counts: &[u64]) -> bool {
+fn finish(job: Job, run: Run, output: i32, onto: &[u8], counts: &[u64]) -> bool {
     let closed = files::close(output, onto);
     report::summary(run.pdus, counts);
+    if counts::is_none_received(counts) {
+        report::none_received(job.mode, job.stream);
+    }
     (run.status == records::END) & closed
 }

@@ -47,6 +47,18 @@ pub fn summary(pdus: u64, counts: &[u64]) {
     say(&lines[..n]);
 }
 
+// PDUs were refused, and none was received: the mode and the stream that are asked for may not be the file's.
+pub fn none_received(mode: u8, stream: u8) {
+    let mut line = [0u8; 128];
+    let n = text::fill(
+        &mut line,
+        0,
+        b"barzhilup log: no PDU was received: is this a file of PDUs of mode @, stream @?\n",
+        &[mode as u64, stream as u64],
+    );
+    say(&line[..n]);
+}
+
 // How the program is used, on standard output.
 pub fn usage() -> bool {
     files::print_usage(
@@ -72,9 +84,10 @@ Formats:
                   the last line is \",end,N,,whole\" if all N PDUs are logged
 
 A PDU that is refused is marked lost, also one of another mode or stream.
-Standard error has a line for each of the first five, then the counts, and the
-last line \"barzhilup log: stopped early\" if not all PDUs are logged. The exit
-status is 0 if all are logged, 1 if not, 2 if the usage is wrong.
+Standard error has a line for each of the first five and for the first of
+another mode or stream, then the counts, and the last line
+\"barzhilup log: stopped early\" if not all PDUs are logged. The exit status is
+0 if all are logged, 1 if not, 2 if the usage is wrong.
 ",
     )
 }

@@ -119,7 +119,16 @@ fn turn(
     }
     let n = r.length;
     let refused = counts::refused(counts);
-    let o = reception::receive(receiver, carry, &mut pdu[..n], log, run.pdus, refused);
+    let others = counts::others(counts);
+    let o = reception::receive(
+        receiver,
+        carry,
+        &mut pdu[..n],
+        log,
+        run.pdus,
+        refused,
+        others,
+    );
     let sink = task.sink;
     taken(sink, o, log, block, counts, run.pdus)
 }

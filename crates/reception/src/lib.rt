@@ -4,7 +4,7 @@ use outcome::Outcome;
 use receiver::Receiver;
 ghost use Rattle.io.specs.Counts.{Counts};
 
-// How many refused PDUs have a line each; further ones are counted only.
+// How many refused PDUs have a line each; of further ones only the first that is refused with 6 has one.
 const LINES: u64 = 5;
 
 // The cause of a PDU's refusal at the end of a line: with 6 the mode and the stream that came, as they stand in its corrected header.
@@ -31,15 +31,21 @@ fn say_refused(pdu: u64, o: Outcome, bytes: &mut [u8]) {
     io::write_all(STDERR_FILENO, &line[..k]);
 }
 
-// Says what is to be said of a PDU, counted from 0, after so many that were refused.
-fn report(pdu: u64, o: Outcome, bytes: &mut [u8], refused: u64) {
-    if o.kind != outcome::REFUSED {
-        return;
-    }
-    if refused < LINES {
+// Whether a refused PDU has a line, after so many that were refused, and so many of these with 6.
+fn has_line(number: u32, refused: u64, others: u64) -> bool {
+    (refused < LINES) | ((number == 6) & (others == 0))
+}
+
+// Says that a PDU, counted from 0, is refused, if it has a line.
+fn say_line(pdu: u64, o: Outcome, bytes: &mut [u8], refused: u64, others: u64) {
+    if has_line(o.number, refused, others) {
         say_refused(pdu, o, bytes);
         return;
     }
+}
+
+// Says, after as many refused PDUs as have a line each, that further ones have none.
+fn say_further(refused: u64) {
     if refused == LINES {
         io::write_all(
             STDERR_FILENO,
@@ -48,7 +54,17 @@ fn report(pdu: u64, o: Outcome, bytes: &mut [u8], refused: u64) {
     }
 }
 
-// Receives a PDU, counted from 0, as `outcome::of_record` does, after so many that were refused; where it is refused, says so.
+// Says what is to be said of a PDU, counted from 0, after so many that were refused, and so many of these with 6.
+fn report(pdu: u64, o: Outcome, bytes: &mut [u8], refused: u64, others: u64) {
+    if o.kind != outcome::REFUSED {
+        return;
+    }
+    say_line(pdu, o, bytes, refused, others);
+    say_further(refused);
+}
+
+// Receives a PDU, counted from 0, as `outcome::of_record` does, after so many that were refused, and so many of these with 6; where it is refused,
+// says so.
 pub fn receive(
     receiver: Receiver,
     carry: &mut [u8],
@@ -56,8 +72,9 @@ pub fn receive(
     log: &mut [u32],
     pdu: u64,
     refused: u64,
+    others: u64,
 ) -> Outcome {
     let o = outcome::of_record(receiver, carry, &mut *bytes, log);
-    report(pdu, o, bytes, refused);
+    report(pdu, o, bytes, refused, others);
     o
 }

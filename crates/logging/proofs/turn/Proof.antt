@@ -24,6 +24,9 @@ returns c = search needs
 refused-requires : tie.Need-refused-requires
 refused-requires c κs = search needs
 
+others-requires : tie.Need-others-requires
+others-requires c κs = search needs
+
 slice-relend-prefix-receive : tie.Need-slice-relend-prefix-receive
 slice-relend-prefix-receive c = search needs
 
@@ -42,7 +45,7 @@ same-length-2 c = search needs
 same-length-3 : tie.Need-same-length-3
 same-length-3 c =
     let back = c .before .before .before .before .before .before .before .before .before .before .before .before in
-    let f = back .before .before .before .before .before .before .before .before .before .before .before .before .before in
+    let f = back .before .before .before .before .before .before .before .before .before .before .before .before .before .before .before in
     omega (arith, back .pdu2 .given .1, f .read .kept .1 .0)
 
 same-length-4 : tie.Need-same-length-4
@@ -66,6 +69,7 @@ turn-spec =
     same-length
     returns
     refused-requires
+    others-requires
     slice-relend-prefix-receive
     slice-aggregate-receive
     receive-requires
