@@ -32,6 +32,10 @@ pub const SEQUENCE: u32 = 1;
 
 pub const WRONG_CRC: u32 = 2;
 
+pub const PIECE_TOO_LONG: u32 = 5;
+
+pub const PDU_LOST: u32 = 6;
+
 // What is wrong with a line, 0 for nothing.
 pub const NO_FIRST: u8 = 1;
 

@@ -25,9 +25,10 @@ pub struct Lines {
     pub failed: bool,
 }
 
-// What came of reading a line, where it stands in the buffer, and what is read ahead after it.
+// What came of reading a line, whether its end is there, where it stands in the buffer, and what is read ahead after it.
 pub struct Line {
     pub status: u8,
+    pub ended: bool,
     pub from: usize,
     pub to: usize,
     pub rest: Lines,
@@ -115,9 +116,10 @@ fn text_end(buf: &[u8], from: usize, to: usize) -> usize {
     to
 }
 
-fn found(status: u8, from: usize, to: usize, s: Lines, next: usize) -> Line {
+fn found(status: u8, ended: bool, from: usize, to: usize, s: Lines, next: usize) -> Line {
     Line {
         status: status,
+        ended: ended,
         from: from,
         to: to,
         rest: Lines {
@@ -134,18 +136,25 @@ fn found(status: u8, from: usize, to: usize, s: Lines, next: usize) -> Line {
 pub fn next(s: Lines, buf: &mut [u8]) -> Line {
     let w = filled(s, buf);
     if w.failed {
-        return found(FAILED, 0, 0, w, w.from);
+        return found(FAILED, false, 0, 0, w, w.from);
     }
     if w.to <= w.from {
-        return found(END, 0, 0, w, w.from);
+        return found(END, false, 0, 0, w, w.from);
     }
     let limit = on(w.from, MOST + 1, w.to);
     let end = line_end(buf, w.from, limit);
     if end < limit {
-        return found(GOT, w.from, text_end(buf, w.from, end), w, on(end, 1, w.to));
+        return found(
+            GOT,
+            true,
+            w.from,
+            text_end(buf, w.from, end),
+            w,
+            on(end, 1, w.to),
+        );
     }
     if MOST < between(w.from, limit) {
-        return found(LONG, 0, 0, w, w.from);
+        return found(LONG, false, 0, 0, w, w.from);
     }
-    found(GOT, w.from, text_end(buf, w.from, limit), w, limit)
+    found(GOT, false, w.from, text_end(buf, w.from, limit), w, limit)
 }

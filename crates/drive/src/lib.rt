@@ -47,6 +47,7 @@ pub fn begin() -> Drive {
             any: false,
             last: 0,
             broken: false,
+            missed: false,
         },
         totals: Totals {
             received: 0,
@@ -147,11 +148,12 @@ pub fn taken(d: Drive, e: Entry) -> Drive {
     }
 }
 
-// The drive with one more PDU.
+// The drive with one more PDU: one that is lost or refused is missed.
 fn begun(d: Drive, e: Entry) -> Drive {
     let t = d.totals;
-    let before = d.before;
+    let mut before = d.before;
     let received = e.kind == entry::RECEIVED;
+    before.missed = before.missed | !received;
     Drive {
         whole: false,
         count: more(d.count, 1),
@@ -193,6 +195,7 @@ fn delivered(d: Drive, number: u32) -> Drive {
             any: true,
             last: number,
             broken: false,
+            missed: false,
         },
         totals: Totals {
             received: t.received,
@@ -208,6 +211,11 @@ fn delivered(d: Drive, number: u32) -> Drive {
     }
 }
 
+// Whether a note tells that something was missed.
+fn is_missed(cause: u32) -> bool {
+    (cause == entry::WRONG_CRC) | (cause == entry::PIECE_TOO_LONG) | (cause == entry::PDU_LOST)
+}
+
 // The drive with one more note: one for the sequence breaks it, one for a wrong CRC is counted.
 fn noted(d: Drive, cause: u32) -> Drive {
     let mut p = d.pdu;
@@ -217,6 +225,7 @@ fn noted(d: Drive, cause: u32) -> Drive {
     p.crcs = more(p.crcs, wrong);
     t.crcs = add(t.crcs, wrong);
     before.broken = before.broken | (cause == entry::SEQUENCE);
+    before.missed = before.missed | is_missed(cause);
     Drive {
         whole: false,
         count: d.count,

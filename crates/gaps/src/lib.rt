@@ -1,14 +1,15 @@
 // Packets that are missing before one that is delivered.
 ghost use mathlib.Core.Path.{_≡_};
 ghost use Prim.Native.Nat.{_+_, _%_, _<_};
-ghost use Rattle.gaps.specs.Gaps.{missingOf, gapOf};
+ghost use Rattle.gaps.specs.Gaps.{missingOf, isTold, gapOf};
 
-// What is known before a packet: whether one was delivered before it, the number of the last one, and whether the sequence of PDUs was broken
-// since then.
+// What is known before a packet: whether one was delivered before it, and the number of the last one; and since then, whether the sequence of PDUs
+// was broken, and whether something was missed: a PDU was lost or refused, or a piece had a wrong CRC or was too long.
 pub struct Before {
     pub any: bool,
     pub last: u32,
     pub broken: bool,
+    pub missed: bool,
 }
 
 // A gap: how many packets are missing, 0 where that is not known; and 1 where it is not known, else 0.
@@ -25,8 +26,18 @@ pub fn missing(last: u32, number: u32) -> u32
     (number % 64 + 63 - last % 64) % 64
 }
 
-// The gap before a packet. Before the first one nothing is known to be missing. After a break of the sequence a PDU may have come twice, or
-// before its turn: the numbers don't tell then how many packets are missing.
+// Whether numbers that do not follow each other tell how many packets are missing: something was missed, and the sequence was not broken. Else a
+// PDU may have come twice, or out of turn; where sequence numbers are few, that need not break the sequence.
+fn is_told(before: Before) -> bool
+    ensures { λ r. ⌜ r ≡ isTold before ⌝ }
+{
+    if before.broken {
+        return false;
+    }
+    before.missed
+}
+
+// The gap before a packet. Before the first one nothing is known to be missing.
 pub fn gap_before(before: Before, number: u32) -> Gap
     ensures { λ r. ⌜ r ≡ gapOf before number ⌝ }
 {
@@ -36,14 +47,21 @@ pub fn gap_before(before: Before, number: u32) -> Gap
             unknown: 0,
         };
     }
-    if before.broken {
+    let count = missing(before.last, number);
+    if count == 0 {
+        return Gap {
+            missing: 0,
+            unknown: 0,
+        };
+    }
+    if !is_told(before) {
         return Gap {
             missing: 0,
             unknown: 1,
         };
     }
     Gap {
-        missing: missing(before.last, number),
+        missing: count,
         unknown: 0,
     }
 }
