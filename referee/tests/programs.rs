@@ -1406,28 +1406,44 @@ struct Shown {
     packets: Vec<usize>,
     /// Packets missing before those of each PDU: numbers go on modulo 64.
     missing: Vec<usize>,
-    /// Gaps before them that the numbers do not tell: the sequence broke.
+    /// Gaps before them that the numbers do not tell.
     unknown: Vec<usize>,
 }
 
-/// What is known before a packet: the number that is next, and whether the
-/// sequence broke since the last one.
+/// What is known before a packet: the number that is next; and since the last
+/// one, whether the sequence broke, and whether something was missed: a PDU was
+/// lost or refused, or a piece had a wrong CRC or was too long.
 #[derive(Default)]
 struct Before {
     next: Option<usize>,
     broken: bool,
+    missed: bool,
 }
 
 impl Before {
     /// A packet: how many are missing before it, and whether that is not known.
+    /// What its number says counts only where something was missed in a
+    /// sequence that did not break.
     fn deliver(&mut self, number: usize) -> (usize, usize) {
-        let next = self.next.replace((number + 1) % 64);
-        let broken = std::mem::take(&mut self.broken);
-        match next {
+        let next = Some((number + 1) % 64);
+        let since = std::mem::replace(
+            self,
+            Before {
+                next,
+                ..Before::default()
+            },
+        );
+        match since.next {
             None => (0, 0),
-            Some(_) if broken => (0, 1),
-            Some(next) => ((64 + number - next) % 64, 0),
+            Some(next) if next == number => (0, 0),
+            Some(next) if since.missed && !since.broken => ((64 + number - next) % 64, 0),
+            Some(_) => (0, 1),
         }
+    }
+
+    fn note(&mut self, cause: u32) {
+        self.broken |= cause == 1;
+        self.missed |= [2, 5, 6].contains(&cause);
     }
 }
 
@@ -1443,6 +1459,7 @@ impl Shown {
         let mut before = Before::default();
         for one in logged {
             let (mut wrong, mut packets, mut missing, mut unknown) = (0, 0, 0, 0);
+            before.missed |= !matches!(one.came, Came::Received(_));
             for entry in &one.entries {
                 match entry {
                     Entry::Packet(number, _) => {
@@ -1453,7 +1470,7 @@ impl Shown {
                     }
                     Entry::Note(note) => {
                         wrong += usize::from(note.cause() == 2);
-                        before.broken |= note.cause() == 1;
+                        before.note(note.cause());
                     }
                     Entry::Psd(_) => {}
                 }
@@ -1512,7 +1529,7 @@ impl Shown {
             ("refused", all),
             ("wrong CRCs", (0, "")),
             ("packets delivered", (0, "")),
-            ("missing, at least", (0, "")),
+            ("missing, by number", (0, "")),
             ("gaps unknown", (0, "")),
         ];
         words.into_iter().zip(counts).map(total).collect()
@@ -1530,7 +1547,7 @@ impl Shown {
         format!(
             "barzhilup coverage: PDUs {all}: received {received}{received_share}, \
              of these corrected {corrected}{corrected_share}, lost {lost}, refused {refused}; \
-             wrong CRCs {crcs}; packets delivered {packets}, missing at least {missing}, \
+             wrong CRCs {crcs}; packets delivered {packets}, missing by number {missing}, \
              gaps unknown {unknown}"
         )
     }

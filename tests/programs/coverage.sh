@@ -5,7 +5,7 @@ check_lines() {
     local title="pdu,kind,number,length,cause"
     local number line words
     while IFS='|' read -r number line words; do
-        printf '%s\n0,received,0,96,\n%b' "$title" "$line" >wrong.csv
+        printf '%s\n0,received,0,96,\n%b\n' "$title" "$line" >wrong.csv
         stops "barzhilup coverage: wrong.csv: line $number: $words" coverage --in wrong.csv --out new
         there "a wrong log" no new
     done < <(grep -v '^#' "$data/coverage.lines")
@@ -50,6 +50,61 @@ $wanted"
     run coverage <title.csv
     same "a log of no PDUs without its last line" "barzhilup coverage: standard input: has no last line: the log is not whole" "$(head -n 1 err)"
     ended "a log of no PDUs without its last line" 0 coverage
+    check_cut_lines
+}
+
+# What a cut log is drawn as: its lines before the cut, without the one that is cut.
+check_cut() { # WHAT WHOLE-LINES
+    grep -v ',end,' "$2" >shorter.csv
+    run coverage --in shorter.csv
+    cp out shorter.svg
+    run coverage --in cut.csv
+    same_file "$1: the picture" shorter.svg out
+    same "$1: what is said" "barzhilup coverage: cut.csv: has no last line: the log is not whole" "$(head -n 1 err)"
+    ended "$1" 0 coverage
+}
+
+# A log that is cut inside a line: in one of a PDU, after each of its bytes that leave it not whole; in its last line; and in its first.
+check_cut_lines() {
+    local title="pdu,kind,number,length,cause"
+    local line length
+    printf '%s\n0,received,0,96,\n0,packet,5,40,\n' "$title" >start.csv
+    for line in 1,received,0,96 0,packet,63,4096 0,psd,,14 0,note,0, 1,refused,9,96 1,lost,, ,end,1,,whol; do
+        for ((length = 1; length <= ${#line}; length += 1)); do
+            { cat start.csv; printf '%s' "${line:0:length}"; } >cut.csv
+            check_cut "a log cut after '${line:0:length}'" start.csv
+        done
+    done
+    { cat start.csv; printf '1,lost,,,'; } >cut.csv
+    { cat start.csv; printf '1,lost,,,\n'; } >whole.csv
+    check_cut "a log cut before a line's end" whole.csv
+    for line in 2,lost,,, ,end,2,,whole; do
+        { cat start.csv; printf '%s' "$line"; } >cut.csv
+        run coverage --in cut.csv
+        ended "a line that is whole but for its end, and wrong: $line" 1 coverage
+    done
+    { cat start.csv; printf ',end,1,,whole\n1,lo'; } >cut.csv
+    stops "barzhilup coverage: cut.csv: line 5: fewer than five fields" coverage --in cut.csv
+    printf 'pdu,kind,number' >cut.csv
+    stops "barzhilup coverage: cut.csv: line 1: not $title" coverage --in cut.csv
+}
+
+# The PDUs of the file bits by their numbers, in the order given. They have 96 bytes and are of mode 0, whose sequence has one bit.
+bits() {
+    local number
+    for number in "$@"; do
+        head -c $((98 * (number + 1))) bits | tail -c 98
+    done
+}
+
+# Makes the log of such PDUs in an order, and draws it: the file, and what the picture's summary says from the packets on.
+draws_bits() {
+    run log --in "$1" --format csv
+    ended "the log of $1 in mode 0" 0 log
+    cp out "$1.csv"
+    run coverage --in "$1.csv"
+    ended "the picture of $1 in mode 0" 0 coverage
+    same "the picture of $1 in mode 0, packets" "$2" "$(sed 's/.*packets delivered/packets delivered/' err)"
 }
 
 # A share in per cent with one decimal, as the summary has it.
@@ -78,7 +133,7 @@ totals_of() {
 
 check_totals() {
     run coverage --in "$1"
-    same "the totals of $1" "$(totals_of "$1")" "$(sed 's/, missing at least.*//' err)"
+    same "the totals of $1" "$(totals_of "$1")" "$(sed 's/, missing by number.*//' err)"
     ended "the picture of $1" 0 coverage
 }
 

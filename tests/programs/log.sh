@@ -162,19 +162,29 @@ draws() {
 }
 
 # A PDU that comes twice, and PDUs out of order: how many packets are missing there is not known. A PDU that is marked lost has one packet here.
+# In mode 0 a PDU out of turn can fit the sequence again; and after a lost PDU no sequence tells one that comes twice, whose number is counted.
 check_order() {
     steps 0 1 2 3 4 5 6 7 >ordered
-    draws ordered "packets delivered 8, missing at least 0, gaps unknown 0"
+    draws ordered "packets delivered 8, missing by number 0, gaps unknown 0"
     steps 0 1 2 2 3 4 5 6 7 >twice
-    draws twice "packets delivered 9, missing at least 0, gaps unknown 1"
+    draws twice "packets delivered 9, missing by number 0, gaps unknown 1"
     steps 0 1 3 2 4 5 6 7 >swapped
-    draws swapped "packets delivered 8, missing at least 0, gaps unknown 3"
+    draws swapped "packets delivered 8, missing by number 0, gaps unknown 3"
     { steps 0 1 2; record 0; steps 4 5 6 7; } >lost
-    draws lost "packets delivered 7, missing at least 1, gaps unknown 0"
+    draws lost "packets delivered 7, missing by number 1, gaps unknown 0"
     steps 0 1 2 4 5 6 7 >unmarked
-    draws unmarked "packets delivered 7, missing at least 0, gaps unknown 1"
+    draws unmarked "packets delivered 7, missing by number 0, gaps unknown 1"
     { steps 0 1 1 2; record 0; record 0; steps 5 6 6; } >both
-    draws both "packets delivered 7, missing at least 2, gaps unknown 2"
+    draws both "packets delivered 7, missing by number 2, gaps unknown 2"
+    made bits generate --in eight --length 96
+    bits 0 1 3 2 4 5 6 7 >swapped
+    draws_bits swapped "packets delivered 8, missing by number 0, gaps unknown 3"
+    bits 0 1 2 3 2 3 4 5 6 7 >pair
+    draws_bits pair "packets delivered 10, missing by number 0, gaps unknown 1"
+    { bits 0 1 2; record 0; bits 4 4 5 6; } >lost
+    draws_bits lost "packets delivered 7, missing by number 1, gaps unknown 1"
+    { bits 0 1 2; record 95; bits 2 3 4; } >repeated
+    draws_bits repeated "packets delivered 6, missing by number 63, gaps unknown 0"
 }
 
 # Stored outputs: the programs give the same bytes as when they were stored.

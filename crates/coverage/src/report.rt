@@ -53,9 +53,9 @@ pub fn usage() -> bool {
 Draws a drive as SVG from the CSV of barzhilup log: a cell for each PDU,
 received, received with a corrected header, lost or refused, with a mark where
 a CRC is wrong; under it a bar for the packets that it delivered, and a tick
-where packets are missing before those; and totals. Where the PDUs' sequence
-broke, as where a PDU came twice, it is not known how many packets are missing:
-such gaps are counted apart.
+where packets are missing before those, by their numbers; and totals. Where
+PDUs may have come twice or out of turn, it is not known how many packets are
+missing: such gaps are counted apart.
 
   --in FILE     the CSV (standard input, also for -); it is read twice, so no
                 pipe
@@ -66,9 +66,10 @@ such gaps are counted apart.
   --help        prints this and does nothing else (also -h)
 
 Where the CSV has no last line, its log is not whole: standard error and the
-picture say so. Standard error has the totals, and if there is no whole picture
-the last line \"barzhilup coverage: stopped early\". The exit status is 0 if
-there is one, 1 if not, 2 if the usage is wrong.
+picture say so. A line that the file's end cuts is left out. Standard error has
+the totals, and if there is no whole picture the last line
+\"barzhilup coverage: stopped early\". The exit status is 0 if there is one, 1 if
+not, 2 if the usage is wrong.
 ",
     )
 }

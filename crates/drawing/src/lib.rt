@@ -159,7 +159,14 @@ fn ended(task: Task, block: &mut [u8], run: Run, status: u8) -> Run {
     last
 }
 
-// Reads a line and takes it.
+// Whether a line is the beginning of one, with which the file is cut: it lacks its end and says nothing, the first line is there, and the last is
+// not.
+fn is_cut(run: Run, ended: bool, e: Entry) -> bool {
+    let d = run.drive;
+    !ended & (e.wrong != 0) & (run.count != 0) & !d.whole
+}
+
+// Reads a line and takes it; one that is cut is left out.
 fn turn(task: Task, buf: &mut [u8], block: &mut [u8], run: Run) -> Run {
     let before = run.ahead;
     let l = lines::next(before, buf);
@@ -168,6 +175,9 @@ fn turn(task: Task, buf: &mut [u8], block: &mut [u8], run: Run) -> Run {
     }
     let ahead = l.rest;
     let e = entry::read(lines::part(buf, l.from, l.to), run.count);
+    if is_cut(run, l.ended, e) {
+        return ended(task, block, run, lines::END);
+    }
     taken(task, block, run, ahead, e)
 }
 

@@ -39,7 +39,7 @@ fn put_meanings(out: &mut [u8], base: u64, width: u64, most: u32) -> usize {
 <text class=\"t\" x=\"114\" y=\"136\">packets missing before, modulo 64 (ends not counted)</text>
 <path class=\"u\" d=\"M69 143v14\"/>
 <text class=\"n\" x=\"80\" y=\"154\">?</text>
-<text class=\"t\" x=\"114\" y=\"154\">gap before, not known: the PDUs' sequence broke</text>
+<text class=\"t\" x=\"114\" y=\"154\">gap before, not known: PDUs may be out of turn</text>
 ",
         &[base, width, most as u64],
     )
@@ -64,7 +64,7 @@ fn put_totals(out: &mut [u8], at: usize, all: u64, t: Totals) -> usize {
 <text class=\"e\" x=\"580\" y=\"118\">@</text>
 <text class=\"t\" x=\"404\" y=\"136\">packets delivered</text>
 <text class=\"e\" x=\"580\" y=\"136\">@</text>
-<text class=\"t\" x=\"404\" y=\"154\">missing, at least</text>
+<text class=\"t\" x=\"404\" y=\"154\">missing, by number</text>
 <text class=\"e\" x=\"580\" y=\"154\">@</text>
 <text class=\"t\" x=\"404\" y=\"172\">gaps unknown</text>
 <text class=\"e\" x=\"580\" y=\"172\">@</text>

@@ -25,7 +25,7 @@ pub fn say(d: Drive) {
     let k = text::fill(
         &mut line,
         n,
-        b", lost @, refused @; wrong CRCs @; packets delivered @, missing at least @, gaps unknown @\n",
+        b", lost @, refused @; wrong CRCs @; packets delivered @, missing by number @, gaps unknown @\n",
         &[t.lost, t.refused, t.crcs, t.packets, t.missing, t.unknown],
     );
     io::write_all(STDERR_FILENO, &line[..k]);
