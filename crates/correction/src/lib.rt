@@ -1,13 +1,13 @@
 // Error correction of the header code (document 01, "Header code").
 ghost use mathlib.Core.Path.{_≡_};
 ghost use Prim.Native.Nat.{_<_, _≤_};
-ghost use lib.ListN.{getD, length};
+ghost use lib.ListN.{getD, length, take};
 ghost use Rattle.field.specs.Field.{Powers, Logarithms};
 ghost use Rattle.header.specs.Header.{syndromes};
 ghost use Rattle.algebra.specs.Places.{All, keep, below};
 ghost use Rattle.correction.specs.Correction.{Candidate, corrected, answerFor, headerAfter, correctionOf, correctedPdu};
 ghost use Rattle.correction.specs.declared.Correction.the-variants.{Refused};
-ghost use Rattle.correction.specs.Elimination.{Row, scaledBy, clearedBy, Pivot, Reduce, Column, Solved, systemRow, systemOf};
+ghost use Rattle.correction.specs.Elimination.{Row, scaledBy, clearedBy, Pivot, ReduceRows, ReduceRight, Column, Solved, systemRow, systemOf, unknowns, rightSide, beside};
 ghost use Rattle.correction.specs.ErrorPlaces.{valueFrom, root, Search};
 ghost use Rattle.correction.specs.ErrorValues.{Filtered, valueAt, pointsOf, DistinctPlaces, Repaired};
 
@@ -18,14 +18,14 @@ pub enum Correction {
 }
 
 // The row times the inverse of b.
-fn scaled(powers: &[u8; 255], logarithms: &[u8; 256], row: [u8; 5], b: u8) -> [u8; 5]
+fn scaled(powers: &[u8; 255], logarithms: &[u8; 256], row: [u8; 4], b: u8) -> [u8; 4]
     requires { ⌜ Powers (now powers) ⌝ }
     requires { ⌜ Logarithms (now logarithms) ⌝ }
-    ensures { λ r. ⌜ Row (scaledBy row b) r 5 ⌝ }
+    ensures { λ r. ⌜ Row 4 (scaledBy row b) r 4 ⌝ }
 {
     let v = field::inverse_by(powers, logarithms, b);
     let mut out = row;
-    for i in 0..5 {
+    for i in 0..4 {
         out[i] = field::product_by(powers, logarithms, v, row[i]);
     }
     out
@@ -35,26 +35,26 @@ fn scaled(powers: &[u8; 255], logarithms: &[u8; 256], row: [u8; 5], b: u8) -> [u
 fn cleared(
     powers: &[u8; 255],
     logarithms: &[u8; 256],
-    row: [u8; 5],
-    p: [u8; 5],
+    row: [u8; 4],
+    p: [u8; 4],
     k: usize,
-) -> [u8; 5]
-    requires { ⌜ k < 5 ⌝ }
+) -> [u8; 4]
+    requires { ⌜ k < 4 ⌝ }
     requires { ⌜ Powers (now powers) ⌝ }
     requires { ⌜ Logarithms (now logarithms) ⌝ }
-    ensures { λ r. ⌜ Row (clearedBy row p k) r 5 ⌝ }
+    ensures { λ r. ⌜ Row 4 (clearedBy row p k) r 4 ⌝ }
 {
     let b = row[k];
     let mut out = row;
-    for i in 0..5 {
+    for i in 0..4 {
         out[i] = row[i] ^ field::product_by(powers, logarithms, b, p[i]);
     }
     out
 }
 
 // The first row from k on with a nonzero entry in column k, or 4.
-fn pivot(m: [[u8; 5]; 4], k: usize) -> usize
-    requires { ⌜ k ≤ 4 ⌝ }
+fn pivot(m: [[u8; 4]; 4], k: usize) -> usize
+    requires { ⌜ k < 4 ⌝ }
     ensures { λ p. ⌜ Pivot m k p ⌝ }
 {
     let mut r = k;
@@ -72,15 +72,15 @@ fn pivot(m: [[u8; 5]; 4], k: usize) -> usize
 fn reduce(
     powers: &[u8; 255],
     logarithms: &[u8; 256],
-    m: [[u8; 5]; 4],
+    m: [[u8; 4]; 4],
     k: usize,
     p: usize,
-) -> [[u8; 5]; 4]
+) -> [[u8; 4]; 4]
     requires { ⌜ k < 4 ⌝ }
     requires { ⌜ p < 4 ⌝ }
     requires { ⌜ Powers (now powers) ⌝ }
     requires { ⌜ Logarithms (now logarithms) ⌝ }
-    ensures { λ r. ⌜ Reduce m k p r ⌝ }
+    ensures { λ r. ⌜ ReduceRows 4 m k p r ⌝ }
 {
     let row = m[p];
     let b = row[k];
@@ -98,6 +98,39 @@ fn reduce(
     out
 }
 
+// The right side after the same step: the entry of row p scaled and moved to row k, and the others changed as their rows are cleared.
+fn reduce_right(
+    powers: &[u8; 255],
+    logarithms: &[u8; 256],
+    m: [[u8; 4]; 4],
+    right: [u8; 4],
+    k: usize,
+    p: usize,
+) -> [u8; 4]
+    requires { ⌜ k < 4 ⌝ }
+    requires { ⌜ p < 4 ⌝ }
+    requires { ⌜ Powers (now powers) ⌝ }
+    requires { ⌜ Logarithms (now logarithms) ⌝ }
+    ensures { λ r. ⌜ ReduceRight m right k p r ⌝ }
+{
+    let row = m[p];
+    let v = field::inverse_by(powers, logarithms, row[k]);
+    let top = field::product_by(powers, logarithms, v, right[p]);
+    let other = m[k];
+    let mut rows = m;
+    rows[p] = other;
+    let mut out = right;
+    out[p] = right[k];
+    out[k] = top;
+    for r in 0..4 {
+        if r != k {
+            let old = rows[r];
+            out[r] = out[r] ^ field::product_by(powers, logarithms, old[k], top);
+        }
+    }
+    out
+}
+
 // The polynomial with a 1 at its degree and these coefficients below, zero at the points of the wrong bytes.
 struct Locator {
     pub degree: usize,
@@ -105,8 +138,8 @@ struct Locator {
 }
 
 // The first k entries of column k.
-fn column(rows: [[u8; 5]; 4], k: usize) -> [u8; 4]
-    requires { ⌜ k ≤ 4 ⌝ }
+fn column(rows: [[u8; 4]; 4], k: usize) -> [u8; 4]
+    requires { ⌜ k < 4 ⌝ }
     ensures { λ r. ⌜ Column rows k r k ⌝ }
 {
     let mut out = [0; 4];
@@ -117,13 +150,14 @@ fn column(rows: [[u8; 5]; 4], k: usize) -> [u8; 4]
     out
 }
 
-// Elimination as far as the first column with no pivot.
-fn eliminate(powers: &[u8; 255], logarithms: &[u8; 256], m: [[u8; 5]; 4]) -> Locator
+// Elimination of the system m with its right side, as far as the first column with no pivot.
+fn eliminate(powers: &[u8; 255], logarithms: &[u8; 256], m: [[u8; 4]; 4], t: [u8; 4]) -> Locator
     requires { ⌜ Powers (now powers) ⌝ }
     requires { ⌜ Logarithms (now logarithms) ⌝ }
-    ensures { λ r. ⌜ Solved m (r .degree) (r .coefficients) ⌝ }
+    ensures { λ r. ⌜ Solved (beside m t) (r .degree) (r .coefficients) ⌝ }
 {
     let mut rows = m;
+    let mut right = t;
     let mut k = 0;
     while k < 4 {
         let p = pivot(rows, k);
@@ -134,14 +168,15 @@ fn eliminate(powers: &[u8; 255], logarithms: &[u8; 256], m: [[u8; 5]; 4]) -> Loc
                 coefficients: c,
             };
         }
+        let next_right = reduce_right(powers, logarithms, rows, right, k, p);
         let next = reduce(powers, logarithms, rows, k, p);
+        right = next_right;
         rows = next;
         k += 1;
     }
-    let c = column(rows, 4);
     Locator {
         degree: 4,
-        coefficients: c,
+        coefficients: right,
     }
 }
 
@@ -247,17 +282,17 @@ fn error_places(
     }
 }
 
-// Row r of the system: syndromes r + 1 to r + 5.
-fn system_row(s: [u8; 8], r: usize) -> [u8; 5]
+// Row r of the system: syndromes r + 1 to r + 4.
+fn system_row(s: [u8; 8], r: usize) -> [u8; 4]
     requires { ⌜ r < 4 ⌝ }
-    ensures { λ t. ⌜ t ≡ systemRow s r ⌝ }
+    ensures { λ t. ⌜ t ≡ take 4 (systemRow s r) ⌝ }
 {
-    [s[r], s[r + 1], s[r + 2], s[r + 3], s[r + 4]]
+    [s[r], s[r + 1], s[r + 2], s[r + 3]]
 }
 
-// The four by four system of the syndromes, its right side as column 4.
-fn system(s: [u8; 8]) -> [[u8; 5]; 4]
-    ensures { λ m. ⌜ m ≡ systemOf s ⌝ }
+// The four by four system of the syndromes.
+fn system(s: [u8; 8]) -> [[u8; 4]; 4]
+    ensures { λ m. ⌜ m ≡ unknowns (systemOf s) ⌝ }
 {
     [
         system_row(s, 0),
@@ -265,6 +300,13 @@ fn system(s: [u8; 8]) -> [[u8; 5]; 4]
         system_row(s, 2),
         system_row(s, 3),
     ]
+}
+
+// Its right side: syndromes 5 to 8.
+fn right_side(s: [u8; 8]) -> [u8; 4]
+    ensures { λ t. ⌜ t ≡ rightSide (systemOf s) ⌝ }
+{
+    [s[4], s[5], s[6], s[7]]
 }
 
 // The points of four places, filled up with zeros.
@@ -315,7 +357,7 @@ fn candidate(header: [u8; 96], s: [u8; 8]) -> [u8; 96]
 {
     let powers = field::powers();
     let logarithms = field::logarithms();
-    let locator = eliminate(&powers, &logarithms, system(s));
+    let locator = eliminate(&powers, &logarithms, system(s), right_side(s));
     let degree = locator.degree;
     let coefficients = locator.coefficients;
     let found = error_places(&powers, &logarithms, coefficients, degree);

@@ -14,16 +14,16 @@ use Rattle.correction.proofs.cleared.Lts as lts
 use Rattle.field.proofs.product_by.Reads as product-by-reads
 
 abbrev Inv-loop : tie.InvT-loop
-Inv-loop powers logarithms k row p b out₀ i₀ out i = (i ≤ 5) × Row (clearedBy row p k) out i
+Inv-loop powers logarithms k row p b out₀ i₀ out i = (i ≤ 4) × Row 4 (clearedBy row p k) out i
 
 abbrev μ-loop : tie.MeasureT-loop
-μ-loop powers logarithms k row p b out₀ i₀ out i = 5 - i
+μ-loop powers logarithms k row p b out₀ i₀ out i = 4 - i
 
 array-read-b : tie.Need-array-read-b Inv-loop μ-loop
 array-read-b c = search needs
 
 loop-holds : tie.Need-loop-holds Inv-loop μ-loop
-loop-holds c = (omega arith, begin _ _ (search needs))
+loop-holds c = (omega arith, begin _ _ _ (search needs))
 
 array-read-out : tie.Need-array-read-out Inv-loop μ-loop
 array-read-out c = search needs
@@ -46,13 +46,13 @@ loop-less c = search needs
 loop-again : tie.Need-loop-again Inv-loop μ-loop
 loop-again c = (
   omega arith,
-  grow (clearedBy (c .before .before .before .args .t3) (c .before .before .before .args .t4) (c .before .before .before .args .k)) (c .before .before .loop .out) (c .before .before .loop .i)
+  grow 4 (clearedBy (c .before .before .before .args .t3) (c .before .before .before .args .t4) (c .before .before .before .args .k)) (c .before .before .loop .out) (c .before .before .loop .i)
       (bitXor (getD (c .before .before .before .args .t3) (c .before .before .loop .i) 0) (c .product-by .result))
       (omega arith) (c .before .before .loop .inv .1) (ap (λ (v : ℕ). bitXor (getD (c .before .before .before .args .t3) (c .before .before .loop .i) 0) v) (c .product-by .ensures)),
 )
 
 returns : tie.Need-returns Inv-loop μ-loop
-returns c = finish _ _ (c .before .loop .i) (omega arith) (c .before .loop .inv .1)
+returns c = finish _ _ _ (c .before .loop .i) (omega arith) (c .before .loop .inv .1)
 
 pub cleared-spec : {M : Type 1} → statement M
 cleared-spec =

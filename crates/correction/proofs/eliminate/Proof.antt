@@ -1,12 +1,12 @@
-use mathlib.Core.Path.{_≡_, refl, sym, _∙_, ap}
-use mathlib.Core.List.{List, [], _∷_}
-use Prim.Native.Nat.{ℕ, zero, suc, _+_, _-_, _<_, _≤_}
-use native.Mathlib.Omega.{arith}
-use lib.ListN.{length, getD, set, length-set}
 use borrow.Author.Needs.{needs}
-use Rattle.correction.specs.Elimination.{Column, Pivot, Reduce}
-use Rattle.correction.specs.Elimination.{Chain, begun}
+use native.Mathlib.Omega.{arith}
+use mathlib.Core.Path.{_≡_, refl, ap, sym, _∙_}
+use Prim.Native.Nat.{ℕ, _+_, _-_, _*_, _≤_, _<_}
+use lib.ListN.{length, take, drop, getD, set, length-set}
+use mathlib.Core.List.{List, [], _∷_, _++_}
+use Rattle.correction.specs.Elimination.{Chain, begun, beside}
 use Rattle.correction.proofs.Solving.{chain-next, solved-here, solved-full}
+use Rattle.correction.proofs.Steps.{pivot-beside, column-beside, right-column, reduce-beside}
 use Rattle.correction.proofs.eliminate.Statement.{statement}
 use Rattle.correction.proofs.eliminate.Tie as tie
 use Rattle.correction.proofs.eliminate.Reads as reads
@@ -14,15 +14,16 @@ use Rattle.correction.proofs.eliminate.Lts as lts
 use Rattle.correction.proofs.column.Reads as column-reads
 use Rattle.correction.proofs.pivot.Reads as pivot-reads
 use Rattle.correction.proofs.reduce.Reads as reduce-reads
+use Rattle.correction.proofs.reduce_right.Reads as reduce-right-reads
 
 abbrev Inv-loop : tie.InvT-loop
-Inv-loop powers logarithms rows₀ k₀ rows k = (k ≤ 4) × (length rows ≡ 4) × Chain rows₀ k rows
+Inv-loop powers logarithms rows₀ right₀ k₀ rows right k = (k ≤ 4) × (length rows ≡ 4) × (length right ≡ 4) × Chain (beside rows₀ right₀) k (beside rows right)
 
 abbrev μ-loop : tie.MeasureT-loop
-μ-loop powers logarithms rows₀ k₀ rows k = 4 - k
+μ-loop powers logarithms rows₀ right₀ k₀ rows right k = 4 - k
 
 loop-holds : tie.Need-loop-holds Inv-loop μ-loop
-loop-holds c = (omega arith, search needs, begun)
+loop-holds c = (omega arith, search needs, search needs, begun)
 
 pivot-requires : tie.Need-pivot-requires Inv-loop μ-loop
 pivot-requires c κs = search needs
@@ -31,11 +32,18 @@ column-requires : tie.Need-column-requires Inv-loop μ-loop
 column-requires c κs = search needs
 
 returns : tie.Need-returns Inv-loop μ-loop
-returns c = solved-here _ (c .before .before .before .before .loop .rows) (c .before .before .before .before .loop .k) (c .before .before .pivot .result) _
-    (c .before .before .before .before .loop .inv .2) (omega arith) (omega arith) (c .before .before .pivot .ensures) (c .column .ensures)
+returns c =
+    let p = c .before .before in
+    let l = p .before .before .loop in
+    let h : l .k < 4 = p .before .loop-test .taken in
+    solved-here _ (beside (l .rows) (l .right)) (l .k) (p .pivot .result) _ (l .inv .3) (omega arith) (c .before .if1 .taken)
+    (pivot-beside (l .rows) (l .right) (l .k) (p .pivot .result) h (p .pivot .ensures)) (column-beside (l .rows) (l .right) (l .k) _ h (c .column .ensures))
+
+reduce-right-requires : tie.Need-reduce-right-requires Inv-loop μ-loop
+reduce-right-requires c κs = (omega arith, (omega arith, c .before .before .before .before .pre))
 
 reduce-requires : tie.Need-reduce-requires Inv-loop μ-loop
-reduce-requires c κs = (omega arith, (omega arith, c .before .before .before .before .pre))
+reduce-requires c κs = (omega arith, (omega arith, c .before .before .before .before .before .pre))
 
 add-k : tie.Need-add-k Inv-loop μ-loop
 add-k c = search needs
@@ -44,18 +52,26 @@ loop-less : tie.Need-loop-less Inv-loop μ-loop
 loop-less c = search needs
 
 loop-again : tie.Need-loop-again Inv-loop μ-loop
-loop-again c = (
-  omega arith,
-  c .reduce .ensures .tall,
-  chain-next _ (c .before .before .before .before .loop .rows) _ (c .before .before .before .before .loop .k) (c .before .before .pivot .result)
-      (c .before .before .before .before .loop .inv .2) (omega arith) (c .before .if1 .left) (c .before .before .before .before .loop .inv .1) (c .before .before .pivot .ensures) (c .reduce .ensures),
-)
-
-column-requires-2 : tie.Need-column-requires-2 Inv-loop μ-loop
-column-requires-2 c κs = search needs
+loop-again c =
+    let e = c .before .before in
+    let p = e .before in
+    let l = p .before .before .loop in
+    let h : l .k < 4 = p .before .loop-test .taken in
+    let u : p .pivot .result ≤ 4 = p .pivot .ensures .high in
+    let d : ¬ (p .pivot .result ≡ 4) = e .if1 .left in
+    let b : p .pivot .result < 4 = omega arith in (
+      omega arith,
+      c .reduce .ensures .tall,
+      c .before .reduce-right .ensures .long,
+      chain-next _ (beside (l .rows) (l .right)) _ (l .k) (p .pivot .result) (l .inv .3) h d refl
+          (pivot-beside (l .rows) (l .right) (l .k) (p .pivot .result) h (p .pivot .ensures))
+          (reduce-beside (l .rows) _ (l .right) _ (l .k) (p .pivot .result) (l .inv .1) (l .inv .2) h b (c .reduce .ensures) (c .before .reduce-right .ensures)),
+    )
 
 returns-2 : tie.Need-returns-2 Inv-loop μ-loop
-returns-2 c = solved-full _ (c .before .before .loop .rows) (c .before .before .loop .k) _ (c .before .before .loop .inv .2) (omega arith) (c .column2 .ensures)
+returns-2 c =
+    let l = c .before .loop in
+    solved-full _ (beside (l .rows) (l .right)) (l .k) _ (l .inv .3) (omega arith) (right-column (l .rows) (l .right) (l .inv .2))
 
 pub eliminate-spec : {M : Type 1} → statement M
 eliminate-spec =
@@ -67,9 +83,9 @@ eliminate-spec =
     pivot-requires
     column-requires
     returns
+    reduce-right-requires
     reduce-requires
     add-k
     loop-less
     loop-again
-    column-requires-2
     returns-2)

@@ -15,16 +15,16 @@ use Rattle.field.proofs.inverse_by.Reads as inverse-by-reads
 use Rattle.field.proofs.product_by.Reads as product-by-reads
 
 abbrev Inv-loop : tie.InvT-loop
-Inv-loop powers logarithms b row v out₀ i₀ out i = (i ≤ 5) × Row (scaledBy row b) out i
+Inv-loop powers logarithms b row v out₀ i₀ out i = (i ≤ 4) × Row 4 (scaledBy row b) out i
 
 abbrev μ-loop : tie.MeasureT-loop
-μ-loop powers logarithms b row v out₀ i₀ out i = 5 - i
+μ-loop powers logarithms b row v out₀ i₀ out i = 4 - i
 
 inverse-by-requires : tie.Need-inverse-by-requires Inv-loop μ-loop
 inverse-by-requires c κs = search needs
 
 loop-holds : tie.Need-loop-holds Inv-loop μ-loop
-loop-holds c = (omega arith, begin _ _ (search needs))
+loop-holds c = (omega arith, begin _ _ _ (search needs))
 
 array-read-product-by : tie.Need-array-read-product-by Inv-loop μ-loop
 array-read-product-by c = search needs
@@ -44,12 +44,12 @@ loop-less c = search needs
 loop-again : tie.Need-loop-again Inv-loop μ-loop
 loop-again c = (
   omega arith,
-  grow (scaledBy (c .before .before .before .before .args .t3) (c .before .before .before .before .args .b)) (c .before .before .loop .out) (c .before .before .loop .i) (c .product-by .result)
+  grow 4 (scaledBy (c .before .before .before .before .args .t3) (c .before .before .before .before .args .b)) (c .before .before .loop .out) (c .before .before .loop .i) (c .product-by .result)
       (omega arith) (c .before .before .loop .inv .1) (c .product-by .ensures ∙ ap (λ (v : ℕ). mul v (getD (c .before .before .before .before .args .t3) (c .before .before .loop .i) 0)) (c .before .before .before .inverse-by .ensures)),
 )
 
 returns : tie.Need-returns Inv-loop μ-loop
-returns c = finish _ _ (c .before .loop .i) (omega arith) (c .before .loop .inv .1)
+returns c = finish _ _ _ (c .before .loop .i) (omega arith) (c .before .loop .inv .1)
 
 pub scaled-spec : {M : Type 1} → statement M
 scaled-spec =
