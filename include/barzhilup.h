@@ -314,8 +314,8 @@ typedef struct {
 typedef struct {
     /* BARZHILUP_ACCEPTED or BARZHILUP_REFUSED_MODE. */
     uint32_t refusal;
-    /* At sequence 0 and number 0. All 0 if refused, which is also what a writer
-     * of mode 0, core, looks like: ask for `refusal` first. */
+    /* At sequence 0 and number 0. If refused, a writer of mode 255, which every
+     * call turns down with BARZHILUP_REFUSED_STATE. */
     barzhilup_writer writer;
 } barzhilup_writer_opened;
 
@@ -461,8 +461,8 @@ typedef struct {
 typedef struct {
     /* BARZHILUP_ACCEPTED or BARZHILUP_REFUSED_MODE. */
     uint32_t refusal;
-    /* No sequence known, nothing held. All 0 if refused, which is also what a
-     * receiver of mode 0, core, looks like: ask for `refusal` first. */
+    /* No sequence known, nothing held. If refused, a receiver of mode 255, which
+     * every call turns down with BARZHILUP_REFUSED_STATE. */
     barzhilup_receiver receiver;
 } barzhilup_receiver_opened;
 

@@ -863,8 +863,8 @@ fn report_drives(seen: &Seen) {
     );
 }
 
-/// Every mode and stream that bytes can say: 0 for all of the receiver if
-/// refused with 5.
+/// Every mode and stream that bytes can say; refused with 5, a receiver of
+/// mode 255, which no call takes.
 #[test]
 fn opening() {
     let mut opened = 0;

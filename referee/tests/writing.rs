@@ -907,8 +907,8 @@ fn writing() {
     assert!(total.calls >= 200_000);
 }
 
-/// Every mode and stream that bytes can say: 0 for all of the writer if
-/// refused with 5.
+/// Every mode and stream that bytes can say; refused with 5, a writer of
+/// mode 255, which no call takes.
 #[test]
 fn opening() {
     let mut opened = 0;
@@ -937,7 +937,7 @@ fn opening() {
 fn compare_opening(mode: u8, stream: u8, wanted: Result<Writer, u32>) {
     let right = product::writer::Opened {
         refusal: wanted.err().unwrap_or(0),
-        writer: trial::writer_for(&wanted.unwrap_or_default()),
+        writer: trial::writer_for(&wanted.unwrap_or(Writer { mode: 255, ..Writer::default() })),
     };
     let answer = product::writer::open(mode, stream);
     assert_eq!(answer, right, "mode {mode}, stream {stream}");

@@ -465,7 +465,7 @@ static void test_opening(void)
             barzhilup_receiver_opened o =
                 barzhilup_open_receiver((uint8_t)mode, (uint8_t)stream);
             const struct line *l = line_of(mode, stream);
-            barzhilup_receiver r = {0, 0, false, 0, 0, 0};
+            barzhilup_receiver r = {255, 0, false, 0, 0, 0};
             if (l != NULL) {
                 r.mode = l->mode;
                 r.stream = l->stream;

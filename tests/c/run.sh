@@ -1,5 +1,6 @@
 #!/usr/bin/env bash
-# Builds the C tests against the static libraries and runs them, plainly and with gcc's sanitizers, and tries the header in C++.
+# Builds the C tests against the static libraries and runs them, plainly and with gcc's sanitizers, compares the header code with libfec where
+# that is installed, and tries the header in C++.
 # Needs gcc and g++ and built libcapi.a and libpanel.a: in target/staticlib under the project's root, or in the directory that BARZHILUP_LIB
 # names.
 set -euo pipefail
@@ -37,6 +38,16 @@ for test in header_test writer_test receiver_test; do
     run "$test" "$library"
 done
 run panel_test "$panel" "$library"
+
+# libfec, where it is installed (Debian: apt-get install libfec-dev).
+if gcc -std=c99 "${warnings[@]}" -O2 -o "$build/fec_test" "$root/tests/c/fec_test.c" "$library" -lfec 2>"$build/fec.log"; then
+    "$build/fec_test"
+elif grep -q 'fec\.h: No such file\|cannot find -lfec' "$build/fec.log"; then
+    echo "libfec is not installed: the header code is not compared with it"
+else
+    cat "$build/fec.log" >&2
+    exit 1
+fi
 
 # The example of docs/USING.md: it has to print what that page says.
 gcc -std=c99 "${warnings[@]}" -o "$build/example" "$root/tests/c/example.c" "$library"

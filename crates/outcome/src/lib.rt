@@ -88,9 +88,9 @@ pub fn of_record(receiver: Receiver, carry: &mut [u8], pdu: &mut [u8], log: &mut
     outcome_of(RECEIVED, header::difference(before, after), 0, pdu.len(), r)
 }
 
-// The control word of a PDU, after its header is corrected in place; where it cannot be, the PDU stays as it is, and so do its own bytes.
+// The control word of a PDU whose header is corrected in place; where it cannot be corrected, the PDU is left as it came.
 pub fn control_of(pdu: &mut [u8]) -> ControlWord
-    ensures { λ c. ⌜ c ≡ controlAt (correctedPdu (now (pdu .entry))) ⌝ }
+    ensures { λ c. ⌜ c ≡ controlAt (now (pdu .exit)) ⌝ }
     ensures { λ _. ⌜ now (pdu .exit) ≡ correctedPdu (now (pdu .entry)) ⌝ }
 {
     correction::correct(pdu);

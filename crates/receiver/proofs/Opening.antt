@@ -3,8 +3,19 @@ use mathlib.Core.Path.{_≡_, sym, ap, _∙_}
 use Prim.Native.Nat.{ℕ}
 use Rattle.modes.specs.Modes.{listing}
 use Rattle.modes.specs.declared.Listing.{Listing}
-use Rattle.receiver.specs.Receiving.{openedAs, opened}
+use mathlib.Core.Path.{refl}
+use mathlib.Core.List.{List}
+use Rattle.receiver.specs.Receiving.{noReceiver, openedAs, opened, receiveNumber, lostNumber}
 
 pub opened-by : (l k : Listing) (mode stream : ℕ) → l ≡ listing mode stream → l ≡ k → openedAs k mode stream ≡ opened mode stream
 unfolding opened
 opened-by l k mode stream e f = ap (λ (x : Listing). openedAs x mode stream) (sym f ∙ e)
+
+-- what a refused opening hands back is of no use: every call turns it down with 1, whatever it is lent
+pub none-received : (carry pdu log : List ℕ) → receiveNumber carry pdu log noReceiver ≡ 1
+unfolding receiveNumber listing
+none-received carry pdu log = refl
+
+pub none-lost : (log : List ℕ) → lostNumber log noReceiver ≡ 1
+unfolding lostNumber listing
+none-lost log = refl

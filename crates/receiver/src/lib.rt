@@ -34,7 +34,7 @@ pub struct Receiver {
     pub number: u8,
 }
 
-// The refusal number, 0 where there is none, and the receiver, all 0 if refused.
+// The refusal number, 0 where there is none, and the receiver: if refused, one that every call turns down with 1.
 #[repr(C)]
 pub struct Opened {
     pub refusal: u32,
@@ -50,6 +50,9 @@ pub struct Received {
     pub words: u32,
     pub receiver: Receiver,
 }
+
+// A mode that the table has not.
+const NO_MODE: u8 = 255;
 
 // Opens a receiver for a mode and stream, or refuses with 5.
 pub fn open(mode: u8, stream: u8) -> Opened
@@ -70,7 +73,7 @@ pub fn open(mode: u8, stream: u8) -> Opened
         Listing::Refused(n) => Opened {
             refusal: n,
             receiver: Receiver {
-                mode: 0,
+                mode: NO_MODE,
                 stream: 0,
                 known: false,
                 sequence: 0,

@@ -5,10 +5,17 @@ use Rattle.modes.specs.Modes.{listing}
 use Rattle.modes.specs.declared.Mode.{Mode}
 use Rattle.modes.specs.declared.Listing.{Listing}
 use Rattle.modes.specs.declared.Listing.the-variants.{Listed, Refused}
-use Rattle.writer.specs.Writing.{noWriter, openedAs, opened}
+use mathlib.Core.List.{List}
+use Rattle.settings.specs.declared.Settings.{Settings}
+use Rattle.writer.specs.Writing.{noWriter, openedAs, opened, writeAnswer}
 use Rattle.writer.specs.declared.Writer.{Writer}
 use Rattle.writer.specs.declared.Opened.{Opened}
 
 pub opened-by : (l k : Listing) (mode stream : ℕ) → l ≡ listing mode stream → l ≡ k → openedAs k mode stream ≡ opened mode stream
 unfolding opened
 opened-by l k mode stream e f = ap (λ (x : Listing). openedAs x mode stream) (sym f ∙ e)
+
+-- what a refused opening hands back is of no use: every call turns it down with 1, whatever it is lent
+pub none-written : (settings : Settings) (psd lengths bytes : List ℕ) (size : ℕ) → writeAnswer settings psd lengths bytes size noWriter .refusal ≡ 1
+unfolding writeAnswer listing
+none-written settings psd lengths bytes size = refl

@@ -30,7 +30,7 @@ pub struct Writer {
     pub sent: u16,
 }
 
-// The refusal number, 0 where there is none, and the writer, all 0 if refused.
+// The refusal number, 0 where there is none, and the writer: if refused, one that every call turns down with 1.
 #[repr(C)]
 pub struct Opened {
     pub refusal: u32,
@@ -44,6 +44,9 @@ pub struct Written {
     pub ended: u32,
     pub writer: Writer,
 }
+
+// A mode that the table has not.
+const NO_MODE: u8 = 255;
 
 // Opens a writer for a mode and stream, or refuses with 5.
 pub fn open(mode: u8, stream: u8) -> Opened
@@ -63,7 +66,7 @@ pub fn open(mode: u8, stream: u8) -> Opened
         Listing::Refused(n) => Opened {
             refusal: n,
             writer: Writer {
-                mode: 0,
+                mode: NO_MODE,
                 stream: 0,
                 sequence: 0,
                 number: 0,
