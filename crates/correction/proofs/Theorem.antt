@@ -14,21 +14,11 @@ use Rattle.header.specs.Header.{lengthRefusal, distance}
 use Rattle.header.proofs.Unique.{all-take}
 use Rattle.header.proofs.Lengths.{length-allowed}
 use Rattle.correction.specs.Correction.{Near, corrected, answerFor, headerAfter, correctionOf, correctedPdu}
+use Rattle.correction.specs.Corrects.{Corrects}
 use Rattle.correction.specs.declared.Correction.{Correction}
 use Rattle.correction.specs.declared.Correction.the-variants.{Corrected, Refused}
 use Rattle.correction.proofs.Decoding.{corrected-some, corrected-near, corrected-only, corrected-none}
 use Rattle.correction.proofs.Answers.{refused-unchanged}
-
-pub record Corrects (p : List ℕ) : Type 0 where
-  -- the code word within four bytes: the answer is how many bytes differ, and the PDU has it for its header
-  pub answer : (c : List ℕ) → Near 4 (take 96 p) c → correctionOf p ≡ Corrected (distance (take 96 p) c)
-  pub header : (c : List ℕ) → Near 4 (take 96 p) c → correctedPdu p ≡ c ++ drop 96 p
-  -- there is at most one
-  pub only : (b c : List ℕ) → Near 4 (take 96 p) b → Near 4 (take 96 p) c → b ≡ c
-  -- refused exactly when there is none, and left as it was
-  pub beyond : ((c : List ℕ) → ¬ Near 4 (take 96 p) c) → correctionOf p ≡ Refused 4
-  pub refused : (n : ℕ) → correctionOf p ≡ Refused n → (c : List ℕ) → ¬ Near 4 (take 96 p) c
-  pub unchanged : (n : ℕ) → correctionOf p ≡ Refused n → correctedPdu p ≡ p
 
 isCorrected : Correction → Bool
 isCorrected (Corrected n) = true

@@ -1,4 +1,5 @@
 pub mod Correction
+pub mod Corrects
 pub mod Elimination
 pub mod ErrorPlaces
 pub mod ErrorValues

@@ -11,9 +11,10 @@ use lib.ListN.{length, take, drop, length-take, length-drop}
 use lib.Seq.{take-add, drop-drop}
 use Rattle.pieces.specs.Pieces.{total}
 use Rattle.runs.specs.Model.{cut, Fits, sentAfter, Sized}
+use Rattle.runs.specs.Spans.{bytesIn}
 use Rattle.runs.proofs.Theorem.{cut-none, Unfinished, unfinished-next, unfinished-zero, sized-drop}
 use Rattle.delivery.specs.Delivery.{unfinished, alreadySent}
-use Rattle.delivery.proofs.Marks.{bytesIn}
+use Rattle.delivery.proofs.Examples.{six-sent}
 
 pub bytes-total : (bs : List (List ℕ)) → total (map length bs) ≡ bytesIn bs
 unfolding total

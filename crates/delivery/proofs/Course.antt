@@ -17,26 +17,27 @@ use Rattle.pieces.specs.Pieces.{total}
 use Rattle.reassembly.specs.Reassembly.{following}
 use Rattle.writer.specs.Writing.{writerTests, placed, endedOf, partOf, pduOf, nextOf}
 use Rattle.writer.specs.declared.Writer.{Writer}
-use Rattle.runs.specs.Model.{cut, Fits, sentAfter, Plan, saidOf, Sized}
-use Rattle.delivery.specs.Delivery.{Packets, joined, Writing, answerTo, bufferAfter, pdusFrom, unfinished, alreadySent, Offers, Span, either, told, refusedAt, placedAt, spansFrom, InOrder}
-use Rattle.delivery.proofs.Marks.{bytesIn}
+use Rattle.runs.specs.Model.{cut, Fits, sentAfter, saidOf, Sized}
+use Rattle.runs.specs.Spans.{Span, bytesIn}
+use Rattle.runs.specs.Calls.{Load}
+use Rattle.delivery.specs.Delivery.{Packets, joined, Writing, answerTo, bufferAfter, pdusFrom, unfinished, alreadySent, Offers, either, told, refusedAt, placedAt, spansFrom, InOrder}
 use Rattle.delivery.proofs.Counting.{Stands, stands-index, stands-sent, stands-next}
 use Rattle.delivery.proofs.Calling.{stateAt, next-in-range, numberAt, same-number, refusal-is, refused-writer, accepted-writer, accepted-pdu}
-use Rattle.delivery.proofs.Made.{Says, sized-of, loadOf, Made, made}
+use Rattle.delivery.proofs.Made.{Says, sized-of, loadOf, planFor, Made, made}
 
 -- the PDUs, their bytes and their loads, from PDU sequence q and G at g on, with packet i unfinished and s of its bytes sent
-pub data Course (mode stream : ℕ) (m : Mode) (ps : List (List ℕ)) : ℕ → ℕ → ℕ → ℕ → List (List ℕ) → List Span → List Plan → Type 0 where
+pub data Course (mode stream : ℕ) (m : Mode) (ps : List (List ℕ)) : ℕ → ℕ → ℕ → ℕ → List (List ℕ) → List Span → List Load → Type 0 where
   done : {q g i s : ℕ} → Course mode stream m ps q g i s [] [] []
-  next : {q g i s e t : ℕ} {psd p : List ℕ} {pdus : List (List ℕ)} {spans : List Span} {loads : List Plan}
+  next : {q g i s e t : ℕ} {psd p : List ℕ} {pdus : List (List ℕ)} {spans : List Span} {loads : List Load}
       → Fits s e t (drop i ps)
-      → Says mode stream (m .width) p (saidOf q i s (loadOf e t psd) (λ k. 0) (drop i ps))
+      → Says mode stream (m .width) p (saidOf q i s (planFor (loadOf e t psd)) false (λ k. 0) (drop i ps))
       → Course mode stream m ps (following (m .sequences) q) (g + bytesIn (cut s e t (drop i ps))) (i + e) (sentAfter s e t) pdus spans loads
       → Course mode stream m ps q g i s (p ∷ pdus) (record { from = g; count = bytesIn (cut s e t (drop i ps)) } ∷ spans) (loadOf e t psd ∷ loads)
 
 module _ (mode stream : ℕ) (m : Mode) (l : listing mode stream ≡ Listed m) (ps : List (List ℕ)) (y : Packets ps) where
   -- a course with some loads
   abbrev pub Runs : ℕ → ℕ → ℕ → ℕ → List (List ℕ) → List Span → Type 0
-  Runs q g i s pdus spans = (loads : List Plan) × Course mode stream m ps q g i s pdus spans loads
+  Runs q g i s pdus spans = (loads : List Load) × Course mode stream m ps q g i s pdus spans loads
 
   module _ (q g i s : ℕ) (a : Writing) (al : List Writing) (hq : q < m .sequences) (v : Stands ps g i s) where
     abbrev w : Writer

@@ -31,14 +31,20 @@ use Rattle.writer.specs.Writing.{noRoom, wrongUnfinished, writerTests, extraOf,
 use Rattle.writer.specs.declared.Writer.{Writer}
 use Rattle.writer.proofs.Accepted.{Fine, fine, few}
 use Rattle.writer.proofs.Sending.{one-piece}
-use Rattle.writer.proofs.RoundTrip.{pdu-bytes}
+use Rattle.writer.proofs.RoundTrip.{pdu-bytes, pdu-length, code-word}
+use Rattle.header.specs.Header.{isCodeWord}
 use Rattle.runs.specs.Model.{cut, Fits, sentAfter, Plan, lose, later, readPieces, saidOf, Sized}
+use Rattle.runs.specs.Transmissions.{gone, planOf}
+use Rattle.runs.specs.Spans.{bytesIn}
+use Rattle.runs.specs.Calls.{Load, transmissionOf}
 use Rattle.runs.proofs.Theorem.{Unfinished, unfinished-zero}
-use Rattle.delivery.specs.Delivery.{Bytes, Packets, joined, Altered}
-use Rattle.delivery.proofs.Marks.{bytesIn}
+use Rattle.writer.specs.RoundTrip.{Bytes, Altered}
+use Rattle.delivery.specs.Delivery.{Packets, joined}
+use Rattle.delivery.specs.Copies.{bytesAt, crcAt}
+use Rattle.crc.specs.Crc.{crcFrom}
 use Rattle.delivery.proofs.Counting.{bytes-total, fits-more, cut-more}
 use Rattle.delivery.proofs.Packed.{RoomFor, placed-fits, placed-lengths, cut-joined}
-use Rattle.delivery.proofs.ReadBack.{taken, sent, read-number, corrected-back, control-back, said-back}
+use Rattle.delivery.proofs.ReadBack.{taken, unaltered, crcs-right, sent, read-number, corrected-back, control-back, said-back}
 use Rattle.delivery.proofs.Calling.{stateAt, next-sequence}
 
 -- q, handed to a receiver of this mode and stream, says d
@@ -51,6 +57,10 @@ pub record Heard (mode stream width : ℕ) (q : List ℕ) (d : Said) : Type 0 wh
 -- p says d with at most four of its first 96 bytes altered
 pub record Says (mode stream width : ℕ) (p : List ℕ) (d : Said) : Type 0 where
   pub bytes : Bytes p
+  pub code : isCodeWord (take 96 p) ≡ true
+  pub least : 96 ≤ length p
+  pub most : length p ≤ 20480
+  pub crcs : (k : ℕ) → k < controlAt p .nop → crcFrom 0 (bytesAt width p p k) ≡ crcAt width p p k
   pub heard : (q : List ℕ) → Altered p q → Heard mode stream width q d
   pub sane : SaneSaid d
 
@@ -61,16 +71,16 @@ taken-read (b ∷ bs) = ap (λ (l : List Piece). record { cause = 0; bytes = b }
 
 -- ---- bytes
 
-bytes-of : (b : List ℕ) → Bytes b → logBytes b
+pub bytes-of : (b : List ℕ) → Bytes b → logBytes b
 bytes-of [] h = tt
 bytes-of (x ∷ b) h = (h .0, bytes-of b (h .1))
 
-bytes-drop : (n : ℕ) (b : List ℕ) → Bytes b → Bytes (drop n b)
+pub bytes-drop : (n : ℕ) (b : List ℕ) → Bytes b → Bytes (drop n b)
 bytes-drop zero b h = h
 bytes-drop (suc n) [] h = tt
 bytes-drop (suc n) (x ∷ b) h = bytes-drop n b (h .1)
 
-bytes-take : (n : ℕ) (b : List ℕ) → Bytes b → Bytes (take n b)
+pub bytes-take : (n : ℕ) (b : List ℕ) → Bytes b → Bytes (take n b)
 bytes-take zero b h = tt
 bytes-take (suc n) [] h = tt
 bytes-take (suc n) (x ∷ b) h = (h .0, bytes-take n b (h .1))
@@ -115,8 +125,11 @@ read-count f [] = refl
 read-count f (b ∷ bs) = ap suc (read-count (later f) bs)
 
 -- a PDU that ends e packets, carries t bytes of the next, and this PSD
-abbrev pub loadOf : ℕ → ℕ → List ℕ → Plan
-loadOf e t psd = record { whole = e; over = t; psdBytes = psd; fate = lose }
+abbrev pub loadOf : ℕ → ℕ → List ℕ → Load
+loadOf e t psd = record { whole = e; over = t; psdBytes = psd; label = record { program = 0; services = 0 } }
+
+abbrev pub planFor : Load → Plan
+planFor c = planOf (transmissionOf c gone) lose
 
 -- with an unfinished packet, one is offered, and a byte of it has room
 offered-room : (m : Mode) (extra size s : ℕ) (ns : List ℕ) → wrongUnfinished s ns ≡ false → noRoom m extra size ns ≡ false → RoomFor (m .width) extra size 0 0 s
@@ -145,7 +158,7 @@ module _ (mode stream : ℕ) (m : Mode) (l : listing mode stream ≡ Listed m) (
     pub counts : total (placed settings psd lengths bytes size m (stateAt mode stream q i s))
         ≡ bytesIn (cut s (endedOf settings psd lengths bytes size m (stateAt mode stream q i s)) (partOf settings psd lengths bytes size m (stateAt mode stream q i s)) (drop i ps))
     pub says : Says mode stream (m .width) (pduOf settings psd lengths bytes size m (stateAt mode stream q i s))
-        (saidOf q i s (loadOf (endedOf settings psd lengths bytes size m (stateAt mode stream q i s)) (partOf settings psd lengths bytes size m (stateAt mode stream q i s)) psd) (λ k. 0) (drop i ps))
+        (saidOf q i s (planFor (loadOf (endedOf settings psd lengths bytes size m (stateAt mode stream q i s)) (partOf settings psd lengths bytes size m (stateAt mode stream q i s)) psd)) false (λ k. 0) (drop i ps))
     pub next : nextOf settings psd lengths bytes size m (stateAt mode stream q i s)
         ≡ stateAt mode stream (following (m .sequences) q) (i + endedOf settings psd lengths bytes size m (stateAt mode stream q i s)) (sentAfter s (endedOf settings psd lengths bytes size m (stateAt mode stream q i s)) (partOf settings psd lengths bytes size m (stateAt mode stream q i s)))
 
@@ -187,9 +200,9 @@ module _ (mode stream : ℕ) (m : Mode) (l : listing mode stream ≡ Listed m) (
     pieces-are : piecesOf settings psd (map length os) (joined os) size m w ≡ cut s ended over (drop i ps)
     pieces-are = ap (λ (ns : List ℕ). cutBy ns (drop s (joined os))) lengths-are ∙ cut-joined s ended over os fo (sized-of os yo) uo ∙ more
 
-    said-is : sent settings psd (map length os) (joined os) size m w l t hp (joined-bytes os yo) ≡ saidOf q i s (loadOf ended over psd) (λ k. 0) (drop i ps)
+    said-is : sent settings psd (map length os) (joined os) size m w l t hp (joined-bytes os yo) ≡ saidOf q i s (planFor (loadOf ended over psd)) false (λ k. 0) (drop i ps)
     said-is =
-        ap₂ (λ (n : ℕ) (b : List Piece). record { sequence = q; pfirst = ltb 0 s; plast = ltb 0 over; start = n; psdBytes = psd; pieces = b }) (same-start i (ltb 0 s))
+        ap₂ (λ (n : ℕ) (b : List Piece). record { sequence = q; pfirst = ltb 0 s; plast = ltb 0 over; start = n; psdBytes = psd; pieces = b; withheld = false }) (same-start i (ltb 0 s))
         (taken-read (piecesOf settings psd (map length os) (joined os) size m w) ∙ ap (readPieces (λ k. 0)) pieces-are)
 
     counted : length (cut s ended over (drop i ps)) ≡ length (placed settings psd (map length os) (joined os) size m w)
@@ -203,6 +216,12 @@ module _ (mode stream : ℕ) (m : Mode) (l : listing mode stream ≡ Listed m) (
           counts = ap total lengths-are ∙ bytes-total (cut s ended over os) ∙ ap bytesIn more;
           says = record {
             bytes = pdu-bytes settings psd (map length os) (joined os) size m w l t hp (joined-bytes os yo);
+            code = code-word settings psd (map length os) (joined os) size m w l t hp (joined-bytes os yo);
+            least = (let e = pdu-length settings psd (map length os) (joined os) size m w l t hp (joined-bytes os yo) in let b = f .long in omega (arith, e, b));
+            most = (let e = pdu-length settings psd (map length os) (joined os) size m w l t hp (joined-bytes os yo) in let b = f .short in omega (arith, e, b));
+            crcs = (
+                let b = pdu-bytes settings psd (map length os) (joined os) size m w l t hp (joined-bytes os yo) in
+                crcs-right settings psd (map length os) (joined os) size m w l t hp (joined-bytes os yo) (pduOf settings psd (map length os) (joined os) size m w) (unaltered _ b));
             heard = λ r a. record {
               number = read-number settings psd (map length os) (joined os) size m w l t hp (joined-bytes os yo) r a;
               sameMode = ap (λ (c : ControlWord). c .mode) (control-back settings psd (map length os) (joined os) size m w l t hp (joined-bytes os yo) r a);

@@ -12,7 +12,7 @@ use Rattle.refusal.specs.Refusal.{firstOf}
 use Rattle.modes.specs.Modes.{listing}
 use Rattle.modes.specs.declared.Mode.{Mode}
 use Rattle.modes.specs.declared.Listing.the-variants.{Listed}
-use Rattle.header.proofs.Unique.{all-bytes}
+use Rattle.header.specs.Header.{distance}
 use Rattle.crc.specs.Crc.{crcFrom}
 use Rattle.layout.specs.Control.{bit, controlAt}
 use Rattle.layout.specs.Locators.{locatorAt}
@@ -23,15 +23,14 @@ use Rattle.contents.proofs.Putting.{cut-count}
 use Rattle.pdu.specs.Reading.{startAt, lengthAt, psdOf, accepted, widthOf, readNumber, readingWith, readPdu, refused}
 use Rattle.pdu.specs.declared.Part.{Part}
 use Rattle.pdu.specs.declared.Reading.{Reading}
-use Rattle.pdu.proofs.ReadBack.{PieceRead}
+use Rattle.pdu.specs.PieceRead.{PieceRead}
 use Rattle.reassembly.specs.Reassembly.{Piece, Said}
 use Rattle.receiver.specs.Receiving.{pieceIn, piecesIn, saidBy}
 use Rattle.writer.specs.Writing.{writerTests, piecesOf, partOf, placed, controlFor, pduOf}
 use Rattle.writer.specs.declared.Writer.{Writer}
 use Rattle.writer.proofs.Bytes.{Byte}
-use Rattle.writer.proofs.RoundTrip.{ReadBack, read-back}
-use Rattle.writer.proofs.RoundTrip as trip
-use Rattle.delivery.specs.Delivery.{Altered}
+use Rattle.writer.specs.RoundTrip.{Bytes, Altered, ReadBack}
+use Rattle.writer.proofs.RoundTrip.{read-back}
 
 -- pieces that are taken
 abbrev pub taken : List (List ℕ) → List Piece
@@ -74,6 +73,17 @@ answer-is q k z =
     let t : eqb (readNumber q) 0 ≡ true = eq-eqb (readNumber q) 0 z in
     ap (λ (b : Bool). cond b (accepted (widthOf (correctedPdu q)) (controlAt (correctedPdu q)) (correctedPdu q)) (refused (readNumber q) k)) t
 
+none-differ : (l : List ℕ) → distance l l ≡ 0
+unfolding distance
+none-differ [] = refl
+none-differ (x ∷ l) = let e : eqb x x ≡ true = eq-eqb x x refl in rw e (none-differ l)
+
+pub near-itself : (l : List ℕ) → distance l l ≤ 4
+near-itself l = let e = none-differ l in omega (arith, e)
+
+pub unaltered : (p : List ℕ) → Bytes p → Altered p p
+unaltered p b = record { bytes = b; long = refl; few = (let e = none-differ (take 96 p) in omega (arith, e)); rest = refl }
+
 module _ (settings : Settings) (psd lengths bytes : List ℕ) (size : ℕ) (m : Mode) (w : Writer) (l : listing (w .mode) (w .stream) ≡ Listed m)
     (t : firstOf (writerTests settings psd lengths bytes size m w) ≡ 0) (hp : All Byte psd) (hb : All Byte bytes) where
   abbrev p : List ℕ
@@ -94,11 +104,12 @@ module _ (settings : Settings) (psd lengths bytes : List ℕ) (size : ℕ) (m : 
     start = (w .number + bit (ltb 0 (w .sent))) % 64;
     psdBytes = psd;
     pieces = taken ps;
+    withheld = false;
   }
 
   module _ (q : List ℕ) (a : Altered p q) where
-    back : ReadBack settings psd lengths bytes size m w p q
-    back = read-back settings psd lengths bytes size m w l t hp hb q (record { long = a .long; rest = a .rest; few = a .few; bytes = all-bytes q (a .bytes) })
+    back : ReadBack settings psd lengths bytes size w m p q
+    back = read-back settings psd lengths bytes size m w l t hp hb q a
 
     pub read-number : readNumber q ≡ 0
     read-number = back .number
@@ -119,9 +130,16 @@ module _ (settings : Settings) (psd lengths bytes : List ℕ) (size : ℕ) (m : 
     nop-is : c .nop ≡ length ps
     nop-is = sym (cut-count (placed settings psd lengths bytes size m w) (drop (w .sent) bytes))
 
+    -- the CRC of each piece stands at its locator
+    pub crcs-right : (k : ℕ) → k < controlAt p .nop → crcFrom 0 (take (lengthAt (m .width) (controlAt p) p k) (drop (startAt (m .width) (controlAt p) p k) p)) ≡ getD p (locatorAt (m .width) p k) 0
+    crcs-right =
+        let e : c ≡ controlAt p = sym (sym (ap controlAt corrected-back) ∙ control-back) in
+        subst (λ (r : ControlWord). (k : ℕ) → k < r .nop → crcFrom 0 (take (lengthAt (m .width) r p k) (drop (startAt (m .width) r p k) p)) ≡ getD p (locatorAt (m .width) p k) 0) e
+        (λ k h. let r = back .pieces k (let n = nop-is in omega (arith, n, h)) in ap (crcFrom 0) (r .bytes) ∙ sym (r .crc))
+
     pub said-back : saidBy (m .width) c p ≡ sent
     unfolding saidBy
-    said-back = ap₂ (λ (s : List ℕ) (l : List Piece). record { sequence = c .sequence; pfirst = c .pfirst; plast = c .plast; start = c .start; psdBytes = s; pieces = l }) psd-back
+    said-back = ap₂ (λ (s : List ℕ) (l : List Piece). record { sequence = c .sequence; pfirst = c .pfirst; plast = c .plast; start = c .start; psdBytes = s; pieces = l; withheld = false }) psd-back
         (ap (piecesIn (m .width) c p 0) nop-is ∙ pieces-back (m .width) c p ps 0 (λ j h. subst (λ (n : ℕ). PieceRead (m .width) c p n (getD ps j [])) (zero-plus j) (back .pieces j h)))
       where
         zero-plus : (j : ℕ) → j ≡ 0 + j

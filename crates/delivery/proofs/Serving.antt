@@ -28,7 +28,7 @@ use Rattle.receiver.specs.declared.Receiver.{Receiver}
 use Rattle.receiver.specs.declared.Received.{Received}
 use Rattle.refusal.proofs.Rows.{past, row-off, rest-off}
 use Rattle.receiver.proofs.Enough.{firstTwelve, most}
-use Rattle.delivery.specs.Delivery.{Station, Call, receive, markLost, answerOf, carryOf, logOf, stationAfter, loggedBy}
+use Rattle.delivery.specs.Delivery.{Station, Call, receive, markLost, answerOf, carryOf, logOf, stationAfter, loggedBy, defined}
 use Rattle.delivery.proofs.Made.{Heard}
 
 -- ---- what is remembered is what is put down
@@ -165,17 +165,17 @@ module _ (mode stream : ℕ) (m : Mode) (l : listing mode stream ≡ Listed m) (
         let t : eqb (receiveNumber carry q log r) 0 ≡ true = eq-eqb (receiveNumber carry q log r) 0 accepts in
         ap (λ (b : Bool). cond b (putAt carry 0 (bytesOf (outcome carry q log r .partial))) carry) t
 
-    pub receive-logged : loggedBy x (receive k q log) ≡ logWords (received (m .sequences) y d .entries)
+    pub receive-logged : loggedBy defined x (receive k q log) ≡ logWords (received (m .sequences) y d .entries)
     receive-logged =
         ap₂ (λ (a : Received) (w : List ℕ). cond (eqb (a .refusal) 0) (take (a .words) w) []) answer-is log-is
         ∙ take-put log (receivedWords carry q log r)
         ∙ words-are
 
-    pub receive-shows : Shows (stationAfter x (receive k q log)) (remembered (m .sequences) y d)
+    pub receive-shows : Shows (stationAfter defined x (receive k q log)) (remembered (m .sequences) y d)
     unfolding remembered
     receive-shows =
         let z = remembered (m .sequences) y d in
-        let e : stationAfter x (receive k q log) ≡ put r carry z =
+        let e : stationAfter defined x (receive k q log) ≡ put r carry z =
         ap₂ (λ (a : Received) (c : List ℕ). record { receiver = a .receiver; carry = c }) answer-is carry-is
         ∙ ap₂ (λ (n : Memory) (o : Outcome). record { receiver = remembering r n; carry = putAt carry 0 (bytesOf (o .partial)) }) after-is outcome-is in
         subst (λ (t : Station). Shows t z) (sym e) (shows-put r carry z (v .sameMode) (v .sameStream) (v .room) below (fit-received (m .sequences) y d (v .sane) s .1))
@@ -205,13 +205,13 @@ module _ (mode stream : ℕ) (m : Mode) (l : listing mode stream ≡ Listed m) (
     pub lost-accepted : answerOf x (markLost log) .refusal ≡ 0
     lost-accepted = ap (λ (a : Received). a .refusal) lost-answer
 
-    pub lost-logged : loggedBy x (markLost log) ≡ logWords lostEntries
+    pub lost-logged : loggedBy defined x (markLost log) ≡ logWords lostEntries
     lost-logged =
         ap₂ (λ (a : Received) (w : List ℕ). cond (eqb (a .refusal) 0) (take (a .words) w) []) lost-answer lost-log
         ∙ take-put log (logWords lostEntries)
 
-    pub lost-shows : Shows (stationAfter x (markLost log)) forgotten
+    pub lost-shows : Shows (stationAfter defined x (markLost log)) forgotten
     lost-shows =
-        let e : stationAfter x (markLost log) ≡ record { receiver = remembering r′ forgotten; carry = x .carry } = ap (λ (a : Received). record { receiver = a .receiver; carry = x .carry }) lost-answer in
+        let e : stationAfter defined x (markLost log) ≡ record { receiver = remembering r′ forgotten; carry = x .carry } = ap (λ (a : Received). record { receiver = a .receiver; carry = x .carry }) lost-answer in
         let p : put r′ (x .carry) forgotten ≡ record { receiver = remembering r′ forgotten; carry = x .carry } = ap (λ (c : List ℕ). record { receiver = remembering r′ forgotten; carry = c }) (put-nil (x .carry) 0) in
         subst (λ (t : Station). Shows t forgotten) (p ∙ sym e) (shows-put r′ (x .carry) forgotten (v .sameMode) (v .sameStream) (v .room) tt tt)

@@ -1,19 +1,20 @@
--- Document 00, demand 3, by document 01, "Demand 3 is a single claim about whole lists of calls". The claim is of opening, writing, receiving
--- and marking lost as writer/specs/Writing.antt and receiver/specs/Receiving.antt define them; the contracts say that the code does these.
+-- Document 00, demand 3, by document 01, "Demand 3 is a single claim about whole lists of calls". The claim is of a receiver (`Demand3For`), with
+-- opening and writing as writer/specs/Writing.antt defines them. `Demand3` is its case at the receiver of receiver/specs/Receiving.antt: the
+-- contracts say that the code does what these two define.
 use mathlib.Core.Path.{_≡_}
 use mathlib.Core.Bool.{Bool, true, false, not, _&&_, _||_, cond}
 use mathlib.Core.List.{List, [], _∷_, _++_, map}
 use Prim.Native.Nat.{ℕ, zero, suc, _+_, _-_, _%_, _<_, _≤_}
 use lib.Dec.{eqb, ltb, leb}
 use lib.ListN.{length, take, drop}
-use Rattle.algebra.specs.Places.{All}
-use Rattle.header.specs.Header.{distance}
 use Rattle.modes.specs.Modes.{listing}
 use Rattle.pdu.specs.Reading.{modeIn}
 use Rattle.pieces.specs.Pieces.{total}
 use Rattle.settings.specs.declared.Settings.{Settings}
 use Rattle.log.specs.Log.{Entry, packet, logWords, packetWords}
+use Rattle.runs.specs.Spans.{Span}
 use Rattle.writer.specs.Writing.{opened as writerOpened, placed, writeAnswer, writtenPdu}
+use Rattle.writer.specs.RoundTrip.{Bytes, Altered}
 use Rattle.writer.specs.declared.Writer.{Writer}
 use Rattle.writer.specs.declared.Written.{Written}
 use Rattle.receiver.specs.Receiving.{opened as receiverOpened, receiveAnswer, carryAfter, logAfter, lostAnswer, logAfterLost}
@@ -21,9 +22,6 @@ use Rattle.receiver.specs.declared.Receiver.{Receiver}
 use Rattle.receiver.specs.declared.Received.{Received}
 
 -- ---- one list of packets
-
-abbrev pub Bytes : List ℕ → Type 0
-Bytes = All (λ x. x < 256)
 
 -- 1 to 4,096 bytes each
 abbrev pub Packets : List (List ℕ) → Type 0
@@ -72,11 +70,6 @@ alreadySent (p ∷ ps) g = cond (leb (length p) g) (alreadySent ps (g - length p
 abbrev pub Offers : List (List ℕ) → Writing → Type 0
 Offers ps a = (k : ℕ) × (a .lengths ≡ map length (take k ps)) × (a .bytes ≡ joined (take k ps))
 
--- the bytes of the joined packets in a PDU: so many from a place on
-pub record Span : Type 0 where
-  pub from : ℕ
-  pub count : ℕ
-
 abbrev pub either : Bool → Type 0 → Type 0 → Type 0
 either true A B = A
 either false A B = B
@@ -118,6 +111,14 @@ pub data Call : Type 0 where
   receive : (k : ℕ) (pdu log : List ℕ) → Call
   markLost : (log : List ℕ) → Call
 
+-- a receiver as its calls show it: what opening hands back, what a call answers, and the carry and the log after it
+pub record Behaviour : Type 0 where
+  pub opening : (mode stream : ℕ) → Receiver
+  pub answer : Station → Call → Received
+  pub carry : Station → Call → List ℕ
+  pub log : Station → Call → List ℕ
+
+-- the receiver of document 01
 abbrev pub answerOf : Station → Call → Received
 answerOf x (receive k pdu log) = receiveAnswer (x .carry) pdu log (x .receiver) k
 answerOf x (markLost log) = lostAnswer log (x .receiver)
@@ -130,22 +131,10 @@ abbrev pub logOf : Station → Call → List ℕ
 logOf x (receive k pdu log) = logAfter (x .carry) pdu log (x .receiver)
 logOf x (markLost log) = logAfterLost log (x .receiver)
 
--- the next call gets receiver and carry as this one left them
-abbrev pub stationAfter : Station → Call → Station
-stationAfter x c = record { receiver = answerOf x c .receiver; carry = carryOf x c }
-
--- an accepted call's log, as far as its answer counts
-abbrev pub loggedBy : Station → Call → List ℕ
-loggedBy x c = cond (eqb (answerOf x c .refusal) 0) (take (answerOf x c .words) (logOf x c)) []
+abbrev pub defined : Behaviour
+defined = record { opening = λ mode stream. receiverOpened mode stream .receiver; answer = answerOf; carry = carryOf; log = logOf }
 
 -- ---- going through a run
-
--- q is p with at most four of the first 96 bytes altered, to anything
-pub record Altered (p q : List ℕ) : Type 0 where
-  pub bytes : Bytes q
-  pub long : length q ≡ length p
-  pub few : distance (take 96 q) (take 96 p) ≤ 4
-  pub rest : drop 96 q ≡ drop 96 p
 
 -- a call of the list: for the next PDU of the run, received or marked lost; or another, a refused one
 pub data Step : Type 0 where
@@ -158,23 +147,47 @@ callOf (receives k pdu log) = receive k pdu log
 callOf (loses log) = markLost log
 callOf (refuses c) = c
 
--- the calls go through these PDUs in order: each PDU has one call, with a log that suffices
-abbrev pub Through : Station → List (List ℕ) → List Step → Type 0
-Through x [] [] = Unit {0}
-Through x (p ∷ ps) [] = ⊥
-Through x [] (receives k q log ∷ ss) = ⊥
-Through x (p ∷ ps) (receives k q log ∷ ss) = Altered p q × (8400 ≤ length log) × Through (stationAfter x (receive k q log)) ps ss
-Through x [] (loses log ∷ ss) = ⊥
-Through x (p ∷ ps) (loses log ∷ ss) = (8400 ≤ length log) × Through (stationAfter x (markLost log)) ps ss
-Through x [] (refuses c ∷ ss) = (¬ (answerOf x c .refusal ≡ 0)) × Through (stationAfter x c) [] ss
-Through x (p ∷ ps) (refuses c ∷ ss) = (¬ (answerOf x c .refusal ≡ 0)) × Through (stationAfter x c) (p ∷ ps) ss
-
 -- which PDUs of the run are received
 abbrev pub receptions : List Step → List Bool
 receptions [] = []
 receptions (receives k pdu log ∷ ss) = true ∷ receptions ss
 receptions (loses log ∷ ss) = false ∷ receptions ss
 receptions (refuses c ∷ ss) = receptions ss
+
+module _ (b : Behaviour) where
+  abbrev pub freshStation : (mode stream : ℕ) (carry : List ℕ) → Station
+  freshStation mode stream carry = record { receiver = b .opening mode stream; carry = carry }
+
+  -- the next call gets receiver and carry as this one left them
+  abbrev pub stationAfter : Station → Call → Station
+  stationAfter x c = record { receiver = b .answer x c .receiver; carry = b .carry x c }
+
+  -- the calls go through these PDUs in order: each PDU has one call, with a log that suffices
+  abbrev pub Through : Station → List (List ℕ) → List Step → Type 0
+  Through x [] [] = Unit {0}
+  Through x (p ∷ ps) [] = ⊥
+  Through x [] (receives k q log ∷ ss) = ⊥
+  Through x (p ∷ ps) (receives k q log ∷ ss) = Altered p q × (8400 ≤ length log) × Through (stationAfter x (receive k q log)) ps ss
+  Through x [] (loses log ∷ ss) = ⊥
+  Through x (p ∷ ps) (loses log ∷ ss) = (8400 ≤ length log) × Through (stationAfter x (markLost log)) ps ss
+  Through x [] (refuses c ∷ ss) = (¬ (b .answer x c .refusal ≡ 0)) × Through (stationAfter x c) [] ss
+  Through x (p ∷ ps) (refuses c ∷ ss) = (¬ (b .answer x c .refusal ≡ 0)) × Through (stationAfter x c) (p ∷ ps) ss
+
+  -- no call for a PDU of the run is refused
+  abbrev pub NoneRefused : Station → List Step → Type 0
+  NoneRefused x [] = Unit {0}
+  NoneRefused x (receives k q log ∷ ss) = (b .answer x (receive k q log) .refusal ≡ 0) × NoneRefused (stationAfter x (receive k q log)) ss
+  NoneRefused x (loses log ∷ ss) = (b .answer x (markLost log) .refusal ≡ 0) × NoneRefused (stationAfter x (markLost log)) ss
+  NoneRefused x (refuses c ∷ ss) = NoneRefused (stationAfter x c) ss
+
+  -- an accepted call's log, as far as its answer counts
+  abbrev pub loggedBy : Station → Call → List ℕ
+  loggedBy x c = cond (eqb (b .answer x c .refusal) 0) (take (b .answer x c .words) (b .log x c)) []
+
+  -- the accepted calls' logs, joined
+  abbrev pub logsFrom : Station → List Step → List ℕ
+  logsFrom x [] = []
+  logsFrom x (s ∷ ss) = loggedBy x (callOf s) ++ logsFrom (stationAfter x (callOf s)) ss
 
 -- ---- what the log must hold
 
@@ -195,51 +208,46 @@ unfoldable pub wholePackets : (ℕ → Bool) → ℕ → ℕ → List (List ℕ)
 wholePackets f o i [] = []
 wholePackets f o i (p ∷ ps) = cond (every f o (length p)) (packet (i % 64) p ∷ []) [] ++ wholePackets f (o + length p) (suc i) ps
 
--- the accepted calls' logs, joined
-abbrev pub logsFrom : Station → List Step → List ℕ
-logsFrom x [] = []
-logsFrom x (s ∷ ss) = loggedBy x (callOf s) ++ logsFrom (stationAfter x (callOf s)) ss
-
--- no call for a PDU of the run is refused
-abbrev pub NoneRefused : Station → List Step → Type 0
-NoneRefused x [] = Unit {0}
-NoneRefused x (receives k q log ∷ ss) = (answerOf x (receive k q log) .refusal ≡ 0) × NoneRefused (stationAfter x (receive k q log)) ss
-NoneRefused x (loses log ∷ ss) = (answerOf x (markLost log) .refusal ≡ 0) × NoneRefused (stationAfter x (markLost log)) ss
-NoneRefused x (refuses c ∷ ss) = NoneRefused (stationAfter x c) ss
-
 -- ---- the claim
 
 -- a run: so many consecutive PDUs from one on, none included
 abbrev pub runOf : {A : Type 0} → ℕ → ℕ → List A → List A
 runOf first count l = take count (drop first l)
 
-module _ (mode stream : ℕ) (packets : List (List ℕ)) (writings : List Writing) (first count : ℕ) (carry : List ℕ) (steps : List Step) where
-  abbrev pub freshStation : Station
-  freshStation = record { receiver = receiverOpened mode stream .receiver; carry = carry }
+-- the PDUs that a fresh writer makes
+abbrev pub made : (mode stream : ℕ) → List Writing → List (List ℕ)
+made mode stream writings = pdusFrom (writerOpened mode stream .writer) writings
 
-  abbrev pub theRun : List (List ℕ)
-  theRun = runOf first count (pdusFrom (writerOpened mode stream .writer) writings)
+module _ (mode stream : ℕ) (packets : List (List ℕ)) (writings : List Writing) where
+  -- the bytes in each of them
+  abbrev pub spans : List Span
+  spans = spansFrom mode stream packets 0 writings
 
   -- the packets all of whose bytes lie in PDUs of the run that were received
-  abbrev pub arrived : List Entry
-  arrived = wholePackets (inReceived (runOf first count (spansFrom mode stream packets 0 writings)) (receptions steps)) 0 0 packets
+  abbrev pub arrived : (first count : ℕ) (received : List Bool) → List Entry
+  arrived first count received = wholePackets (inReceived (runOf first count spans) received) 0 0 packets
 
+module _ (b : Behaviour) (mode stream : ℕ) (packets : List (List ℕ)) (writings : List Writing) (first count : ℕ) (carry : List ℕ) (steps : List Step) where
   -- what is asked of the calls
-  pub record Drive : Type 0 where
+  pub record Asked : Type 0 where
     pub opens : writerOpened mode stream .refusal ≡ 0
     pub sized : Packets packets
     pub offered : InOrder mode stream packets 0 writings
     pub room : 4096 ≤ length carry
-    pub through : Through freshStation theRun steps
+    pub through : Through b (freshStation b mode stream carry) (runOf first count (made mode stream writings)) steps
 
-  -- what is promised of them
+  -- what is promised of them: each PDU made has its span, none of the run is refused, and the joined logs hold exactly these packets
   pub record Delivered : Type 0 where
-    pub accepted : NoneRefused freshStation steps
-    pub log : packetWords (logsFrom freshStation steps) ≡ logWords arrived
+    pub as-many : length (spans mode stream packets writings) ≡ length (made mode stream writings)
+    pub accepted : NoneRefused b (freshStation b mode stream carry) steps
+    pub log : packetWords (logsFrom b (freshStation b mode stream carry) steps) ≡ logWords (arrived mode stream packets writings first count (receptions steps))
+
+abbrev pub Demand3For : Behaviour → Type 0
+Demand3For b =
+    (mode stream : ℕ) (packets : List (List ℕ)) (writings : List Writing) (first count : ℕ) (carry : List ℕ) (steps : List Step)
+    → Asked b mode stream packets writings first count carry steps
+    → Delivered b mode stream packets writings first count carry steps
 
 -- demand 3
 abbrev pub Demand3 : Type 0
-Demand3 =
-    (mode stream : ℕ) (packets : List (List ℕ)) (writings : List Writing) (first count : ℕ) (carry : List ℕ) (steps : List Step)
-    → Drive mode stream packets writings first count carry steps
-    → Delivered mode stream packets writings first count carry steps
+Demand3 = Demand3For defined

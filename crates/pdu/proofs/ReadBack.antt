@@ -27,6 +27,7 @@ use Rattle.correction.specs.Correction.{correctedPdu}
 use Rattle.crc.specs.Crc.{crcFrom}
 use Rattle.contents.specs.Contents.{firstPiece, locatorsOf, contents}
 use Rattle.pdu.specs.Reading.{afterLocators, expansionBytes as expansionCount, fieldsOf, markAt, startAt, lengthAt, wrongLocator, anyBelow, wrongPieces, wrongLa, wrongDisplacement, readerTests, listingOf, modeIn, correctedTests, judged, widthOf, psdOf, answered, accepted, refused, readNumber, readingWith, readPdu}
+use Rattle.pdu.specs.PieceRead.{PieceRead}
 use Rattle.pdu.specs.declared.Part.{Part}
 use Rattle.pdu.proofs.ContentsLaw.{locators-back, locators-below, written-length, expansion-back, psd-back, pieces-back}
 
@@ -44,13 +45,6 @@ pub record Sendable (m : Mode) (c : ControlWord) (x : Fields) (psd : List ℕ) (
   pub bytes : (k : ℕ) → k < length ps → 0 < length (getD ps k [])
   pub displaced : interpretedOf x .displaced ≡ true → interpretedOf x .displacement + 1 ≡ size
   pub short : size ≤ roof (m .width)
-
--- piece k of a PDU is read as it was written, and the byte after it, at its locator, is its CRC
-pub record PieceRead (width : ℕ) (c : ControlWord) (y : List ℕ) (k : ℕ) (piece : List ℕ) : Type 0 where
-  pub size : lengthAt width c y k ≡ length piece
-  pub bytes : take (lengthAt width c y k) (drop (startAt width c y k) y) ≡ piece
-  pub ends : locatorAt width y k ≡ startAt width c y k + lengthAt width c y k
-  pub crc : getD y (locatorAt width y k) 0 ≡ crcFrom 0 piece
 
 module _ (m : Mode) (c : ControlWord) (x : Fields) (psd : List ℕ) (ps : List (List ℕ)) (parity rest : List ℕ) (long : length parity ≡ 8) where
   -- the PDU: parity, control word, contents, and whatever follows

@@ -1,1 +1,2 @@
+pub mod PieceRead
 pub mod Reading

@@ -7,7 +7,7 @@ use lib.Dec.{ltb, eqb}
 use lib.ListN.{length, length-append}
 use Rattle.log.specs.Log.{packet, psd, note, logWords}
 use Rattle.log.proofs.Words.{entry-length}
-use Rattle.reassembly.specs.Reassembly.{Piece, Said, Partial, nothing, beginning, Memory, Outcome, dropped, kept, inSequence, sequenceStep, beginningStep, psdEntries, finished, joined, pieceStep, numberAt, endsHere, piecesStep, received}
+use Rattle.reassembly.specs.Reassembly.{Piece, Said, Partial, nothing, beginning, Memory, Outcome, dropped, kept, inSequence, sequenceStep, beginningStep, psdEntries, finished, joined, pieceStep, numberAt, endsHere, piecesStep, continuingStep, contentsStep, received}
 use Rattle.reassembly.specs.Run.{bytesOf}
 use Rattle.reassembly.proofs.Laws.{delivered, one-entry}
 use Rattle.reassembly.proofs.Runs.{andThen, both-words}
@@ -86,6 +86,28 @@ cost-pieces number k cont plast h (p ∷ ps) =
     let e = both-words o u in
     omega arith
 
+cost-continuing : (n : ℕ) (plast : Bool) (h : Partial) (ps : List Piece) → cost (continuingStep n plast h ps) ≤ length (bytesOf h) + pieceBytes ps + 5
+unfolding continuingStep
+cost-continuing n plast nothing ps = let a = cost-kept nothing in omega arith
+cost-continuing n plast (beginning m b) [] = let a = cost-kept (beginning m b) in omega arith
+cost-continuing n plast (beginning m b) (p ∷ ps) = let a = cost-piece n 0 true (endsHere plast ps) (beginning m b) p in omega arith
+
+cost-contents : (w : Bool) (d : Said) (h : Partial) → cost (contentsStep w d h) ≤ length (bytesOf h) + length (d .psdBytes) + pieceBytes (d .pieces) + 5 * length (d .pieces) + 8
+unfolding contentsStep
+cost-contents false d h =
+    let c = piecesStep (numberAt (d .pfirst) (d .start)) 0 (d .pfirst) (d .plast) h (d .pieces) in
+    let e : Outcome = record { entries = psdEntries (d .psdBytes); partial = h } in
+    let ct = cost-pieces (numberAt (d .pfirst) (d .start)) 0 (d .pfirst) (d .plast) h (d .pieces) in
+    let ce = psd-cost (d .psdBytes) in
+    let j = both-words e c in
+    omega arith
+cost-contents true d h =
+    let c = continuingStep (numberAt (d .pfirst) (d .start) 0) (d .plast) h (d .pieces) in
+    let ct = cost-continuing (numberAt (d .pfirst) (d .start) 0) (d .plast) h (d .pieces) in
+    let ce = cost-dropped 8 0 in
+    let j = both-words (dropped 8 0) c in
+    omega arith
+
 -- ---- a call
 
 -- at most 4,096 bytes held, 63 pieces, and 20,480 bytes of PSD and pieces
@@ -95,13 +117,10 @@ unfolding received
 bound range x d held few size =
     let a = sequenceStep range (x .last) (d .sequence) (x .partial) in
     let b = beginningStep (d .pfirst) (d .start) (a .partial) in
-    let c = piecesStep (numberAt (d .pfirst) (d .start)) 0 (d .pfirst) (d .plast) (b .partial) (d .pieces) in
-    let e : Outcome = record { entries = psdEntries (d .psdBytes); partial = b .partial } in
+    let c = contentsStep (d .withheld) d (b .partial) in
     let ca = cost-sequence range x (d .sequence) in
     let cb = cost-beginning (d .pfirst) (d .start) (a .partial) in
-    let ct = cost-pieces (numberAt (d .pfirst) (d .start)) 0 (d .pfirst) (d .plast) (b .partial) (d .pieces) in
-    let ce = psd-cost (d .psdBytes) in
-    let j₂ = both-words e c in
-    let j₁ = both-words b (andThen e c) in
-    let j₀ = both-words a (andThen b (andThen e c)) in
+    let ct = cost-contents (d .withheld) d (b .partial) in
+    let j₁ = both-words b c in
+    let j₀ = both-words a (andThen b c) in
     omega arith

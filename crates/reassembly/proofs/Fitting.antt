@@ -9,7 +9,7 @@ use lib.Dec.{ltb, eqb}
 use lib.ListN.{length, length-append}
 use Rattle.log.specs.Log.{Entry}
 use Rattle.log.proofs.Packets.{Bytes, FitAll, fit-append}
-use Rattle.reassembly.specs.Reassembly.{Piece, Said, Partial, nothing, beginning, Memory, Outcome, dropped, kept, inSequence, sequenceStep, beginningStep, psdEntries, finished, joined, pieceStep, numberAt, endsHere, piecesStep, received}
+use Rattle.reassembly.specs.Reassembly.{Piece, Said, Partial, nothing, beginning, Memory, Outcome, dropped, kept, inSequence, sequenceStep, beginningStep, psdEntries, finished, joined, pieceStep, numberAt, endsHere, piecesStep, continuingStep, contentsStep, received}
 use Rattle.reassembly.proofs.Laws.{delivered}
 
 -- ---- what is held and what a PDU says, within their bounds
@@ -90,6 +90,22 @@ sane-pieces number k cont plast h (p ∷ ps) l u s t =
     let b = sane-pieces number (suc k) false plast (o .partial) ps l (omega arith) (a .1) (t .1) in
     (fit-append (o .entries) (piecesStep number (suc k) false plast (o .partial) ps .entries) (a .0) (b .0), b .1)
 
+sane-continuing : (n : ℕ) (plast : Bool) (h : Partial) (ps : List Piece) → n < 64 → SanePartial h → SanePieces ps → Sane (continuingStep n plast h ps)
+unfolding continuingStep
+sane-continuing n plast nothing ps l s t = (tt, tt)
+sane-continuing n plast (beginning m b) [] l s t = (tt, s)
+sane-continuing n plast (beginning m b) (p ∷ ps) l s t = sane-piece n 0 true (endsHere plast ps) (beginning m b) p l (omega arith) s (t .0)
+
+sane-contents : (w : Bool) (d : Said) (h : Partial) → SanePartial h → SaneSaid d → Sane (contentsStep w d h)
+unfolding contentsStep
+sane-contents false d h s t =
+    let c = piecesStep (numberAt (d .pfirst) (d .start)) 0 (d .pfirst) (d .plast) h (d .pieces) in
+    let v = sane-pieces (numberAt (d .pfirst) (d .start)) 0 (d .pfirst) (d .plast) h (d .pieces) (λ j. omega arith) (omega (arith, t .few)) s (t .pieces) in
+    (fit-append (psdEntries (d .psdBytes)) (c .entries) (fit-psd (d .psdBytes) (t .psd .0) (t .psd .1)) (v .0), v .1)
+sane-contents true d h s t =
+    let v = sane-continuing (numberAt (d .pfirst) (d .start) 0) (d .plast) h (d .pieces) (omega arith) s (t .pieces) in
+    (((omega arith, omega arith), v .0), v .1)
+
 -- ---- a call
 
 -- all that it logs fits, and what it holds stays within its bounds
@@ -98,10 +114,8 @@ unfolding received
 fit-received range x d s t =
     let a = sequenceStep range (x .last) (d .sequence) (x .partial) in
     let b = beginningStep (d .pfirst) (d .start) (a .partial) in
-    let c = piecesStep (numberAt (d .pfirst) (d .start)) 0 (d .pfirst) (d .plast) (b .partial) (d .pieces) in
-    let e : List Entry = psdEntries (d .psdBytes) in
+    let c = contentsStep (d .withheld) d (b .partial) in
     let sa = sane-sequence range x (d .sequence) s in
     let sb = sane-beginning (d .pfirst) (d .start) (a .partial) (sa .1) in
-    let sc = sane-pieces (numberAt (d .pfirst) (d .start)) 0 (d .pfirst) (d .plast) (b .partial) (d .pieces) (λ j. omega arith) (omega (arith, t .few)) (sb .1) (t .pieces) in
-    let f = fit-append e (c .entries) (fit-psd (d .psdBytes) (t .psd .0) (t .psd .1)) (sc .0) in
-    (fit-append (a .entries) (b .entries ++ (e ++ c .entries)) (sa .0) (fit-append (b .entries) (e ++ c .entries) (sb .0) f), sc .1)
+    let sc = sane-contents (d .withheld) d (b .partial) (sb .1) t in
+    (fit-append (a .entries) (b .entries ++ c .entries) (sa .0) (fit-append (b .entries) (c .entries) (sb .0) (sc .0)), sc .1)

@@ -1,3 +1,4 @@
+pub mod Blind
 pub mod Bound
 pub mod Counts
 pub mod Examples
@@ -5,3 +6,4 @@ pub mod Fitting
 pub mod Laws
 pub mod Runs
 pub mod Whole
+pub mod Withheld

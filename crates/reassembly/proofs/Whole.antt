@@ -8,7 +8,7 @@ use lib.Dec.{eqb, eqb·suc-zero}
 use lib.ListN.{length, take, drop, getD, length-drop, length-take}
 use Rattle.buffer.specs.Buffer.{putAt}
 use Rattle.log.specs.Log.{psd, note, entryWords, logWords}
-use Rattle.reassembly.specs.Reassembly.{Partial, nothing, beginning, Outcome, dropped, kept, inSequence, sequenceStep, beginningStep, psdEntries, piecesStep, numberAt, received}
+use Rattle.reassembly.specs.Reassembly.{Partial, nothing, beginning, Outcome, dropped, kept, inSequence, sequenceStep, beginningStep, psdEntries, piecesStep, numberAt, contentsStep, received}
 use Rattle.reassembly.specs.Run.{bytesOf, numberOf, partialOf, runAfter, keeps, writes, Did, Room, placeAt, piecesFrom, psdOf, Parsed, saidOf, lastOf, memoryOf, continuedBy, firstCause, begun}
 use Rattle.reassembly.specs.declared.Run.{Run}
 use Rattle.reassembly.specs.declared.Head.{Head}
@@ -100,7 +100,7 @@ module _ (s : State) (range : ℕ) (head : Head) (m g d c : List ℕ) where
   tail-is h = refl
 
   pub total-is : received range (memoryOf s c) (saidOf head m g d) ≡ andThen begins (andThen (extras (begins .partial)) (tail (begins .partial)))
-  unfolding received sequenceStep memoryOf saidOf begins extras tail firstCause
+  unfolding received contentsStep sequenceStep memoryOf saidOf begins extras tail firstCause
   total-is =
       let e = first-is (inSequence range (lastOf (s .known) (s .last)) (head .sequence)) (s .held) (s .number) c (head .pfirst) (head .start) in
       rw (← e, append-assoc) refl

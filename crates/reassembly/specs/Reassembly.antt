@@ -1,4 +1,5 @@
--- Document 01, "Receiver": the steps 1 to 4, on what a PDU says. A held beginning, the paper's word, is a partial packet here.
+-- Document 01, "Receiver": the steps 1 to 4, on what a PDU says; document 02, Ask 10: a withheld PDU. A held beginning, the paper's word, is a
+-- partial packet here.
 use mathlib.Core.Bool.{Bool, true, false, not, _&&_, cond}
 use mathlib.Core.List.{List, [], _∷_, _++_}
 use mathlib.Core.Option.{Option, none, some}
@@ -9,7 +10,7 @@ use Rattle.log.specs.Log.{Entry, packet, psd, note}
 
 -- ---- what a PDU says, and what a receiver remembers
 
--- a piece: cause 0 where it is taken, else the note's cause (2: wrong CRC), and its bytes
+-- a piece: cause 0 where it is taken, else the note's cause (2: wrong CRC; 7: two copies with right CRCs that differ), and its bytes
 pub record Piece : Type 0 where
   pub cause : ℕ
   pub bytes : List ℕ
@@ -21,6 +22,7 @@ pub record Said : Type 0 where
   pub start : ℕ
   pub psdBytes : List ℕ
   pub pieces : List Piece
+  pub withheld : Bool
 
 pub data Partial : Type 0 where
   nothing : Partial
@@ -99,6 +101,23 @@ piecesStep number k continues plast h (p ∷ ps) =
     let u = piecesStep number (suc k) false plast (o .partial) ps in
     record { entries = o .entries ++ u .entries; partial = u .partial }
 
+-- ---- 3 and 4 of a PDU that is withheld, or not
+
+-- no piece is looked at but one that continues a held beginning; n is its packet's number
+unfoldable pub continuingStep : ℕ → Bool → Partial → List Piece → Outcome
+continuingStep n plast nothing ps = kept nothing
+continuingStep n plast (beginning m held) [] = kept (beginning m held)
+continuingStep n plast (beginning m held) (p ∷ ps) = pieceStep n 0 true (endsHere plast ps) (beginning m held) p
+
+-- note 8 in place of step 3
+unfoldable pub contentsStep : Bool → Said → Partial → Outcome
+contentsStep false d h =
+    let c = piecesStep (numberAt (d .pfirst) (d .start)) 0 (d .pfirst) (d .plast) h (d .pieces) in
+    record { entries = psdEntries (d .psdBytes) ++ c .entries; partial = c .partial }
+contentsStep true d h =
+    let c = continuingStep (numberAt (d .pfirst) (d .start) 0) (d .plast) h (d .pieces) in
+    record { entries = note 8 0 ∷ c .entries; partial = c .partial }
+
 -- ---- a call
 
 -- receiving a PDU: what is logged, in log order, and what is remembered
@@ -106,8 +125,8 @@ unfoldable pub received : ℕ → Memory → Said → Outcome
 received range x d =
     let a = sequenceStep range (x .last) (d .sequence) (x .partial) in
     let b = beginningStep (d .pfirst) (d .start) (a .partial) in
-    let c = piecesStep (numberAt (d .pfirst) (d .start)) 0 (d .pfirst) (d .plast) (b .partial) (d .pieces) in
-    record { entries = a .entries ++ (b .entries ++ (psdEntries (d .psdBytes) ++ c .entries)); partial = c .partial }
+    let c = contentsStep (d .withheld) d (b .partial) in
+    record { entries = a .entries ++ (b .entries ++ c .entries); partial = c .partial }
 
 unfoldable pub remembered : ℕ → Memory → Said → Memory
 remembered range x d = record { last = some (d .sequence); partial = received range x d .partial }

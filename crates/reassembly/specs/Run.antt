@@ -1,5 +1,5 @@
 -- What a step of document 01, "Receiver", leaves: its entries stand in the log from a place on, and what is held stands first in the carry buffer.
-use mathlib.Core.Bool.{Bool, true, not, _&&_, _||_, cond}
+use mathlib.Core.Bool.{Bool, true, false, not, _&&_, _||_, cond}
 use mathlib.Core.List.{List, [], _∷_}
 use mathlib.Core.Option.{Option, none, some}
 use mathlib.Core.Path.{_≡_}
@@ -93,7 +93,7 @@ pub record Parsed (h : Head) (pdu marks : List ℕ) : Type 0 where
 
 unfoldable pub saidOf : Head → List ℕ → List ℕ → List ℕ → Said
 saidOf h marks causes pdu =
-    record { sequence = h .sequence; pfirst = h .pfirst; plast = h .plast; start = h .start; psdBytes = psdOf h marks pdu; pieces = piecesFrom pdu marks causes 0 (h .nop) }
+    record { sequence = h .sequence; pfirst = h .pfirst; plast = h .plast; start = h .start; psdBytes = psdOf h marks pdu; pieces = piecesFrom pdu marks causes 0 (h .nop); withheld = false }
 
 abbrev pub lastOf : Bool → ℕ → Option ℕ
 lastOf known last = cond known (some last) none

@@ -1,6 +1,6 @@
 -- What a PDU says by its control word is what reassembly takes from its marks and causes.
 use mathlib.Core.Path.{_≡_, refl, ap, ap₂, _∙_}
-use mathlib.Core.Bool.{cond}
+use mathlib.Core.Bool.{false, cond}
 use mathlib.Core.List.{List, _∷_}
 use Prim.Native.Nat.{ℕ, zero, suc, _+_, _-_, _<_, _≤_}
 use native.Mathlib.Numerals.{add-one}
@@ -49,4 +49,4 @@ module _ (width : ℕ) (c : ControlWord) (y marks causes : List ℕ) (em : Marks
   unfolding saidOf saidBy
   same-said =
       let p : piecesFrom y marks causes 0 (c .nop) ≡ piecesIn width c y 0 (c .nop) = pieces-same 0 (c .nop) (omega arith) in
-      λ i. record { sequence = c .sequence; pfirst = c .pfirst; plast = c .plast; start = c .start; psdBytes = psd-same i; pieces = p i }
+      λ i. record { sequence = c .sequence; pfirst = c .pfirst; plast = c .plast; start = c .start; psdBytes = psd-same i; pieces = p i; withheld = false }

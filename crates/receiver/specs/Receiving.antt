@@ -26,8 +26,9 @@ use Rattle.receiver.specs.declared.Received.{Received}
 
 -- ---- opening
 
+-- what a refused opening hands back: a mode that the table has not, so that number 1 turns it down
 abbrev pub noReceiver : Receiver
-noReceiver = record { mode = 0; stream = 0; known = false; sequence = 0; held = 0; number = 0 }
+noReceiver = record { mode = 255; stream = 0; known = false; sequence = 0; held = 0; number = 0 }
 
 abbrev pub openedAs : Listing → ℕ → ℕ → Opened
 openedAs (Refused n) mode stream = record { refusal = n; receiver = noReceiver }
@@ -58,6 +59,7 @@ saidBy width c y = record {
   start = c .start;
   psdBytes = take (psdOf width c y .length) (drop (psdOf width c y .start) y);
   pieces = piecesIn width c y 0 (c .nop);
+  withheld = false;
 }
 
 -- ---- what a receiver remembers; the held bytes are the first ones of the carry

@@ -1,3 +1,11 @@
+pub mod Bridges
+pub mod Complete
+pub mod Counts
+pub mod Entitled
+pub mod General
 pub mod Pieces
+pub mod Promised
+pub mod Secret
+pub mod Spans
 pub mod Theorem
 pub mod Wrong

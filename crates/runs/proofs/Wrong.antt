@@ -1,17 +1,22 @@
--- Small runs, computed; and wrong receivers, each with a run on which it does not log the packets that arrived whole.
+-- Small runs, computed, at which a wrong definition is refused first; and wrong receivers, each with a run on which it does not log the packets that arrived whole.
 use mathlib.Core.Path.{_≡_, refl, ap}
-use mathlib.Core.Bool.{Bool, true, false}
+use mathlib.Core.Bool.{Bool, true, false, cond}
 use mathlib.Core.List.{List, [], _∷_, _++_}
 use mathlib.Core.Option.{Option, none, some}
 use Prim.Native.Nat.{ℕ, zero, suc}
 use native.Mathlib.Omega.{arith}
+use lib.Dec.{eqb}
 use lib.ListN.{length}
 use Rattle.log.specs.Log.{Entry, packet, psd, note, packetsOf}
-use Rattle.reassembly.specs.Reassembly.{Memory, sequenceStep, beginningStep, psdEntries, finished, joined, pieceStep, piecesStep, received, remembered}
+use Rattle.reassembly.specs.Reassembly.{Memory, sequenceStep, beginningStep, psdEntries, finished, joined, pieceStep, piecesStep, continuingStep, contentsStep, received, remembered}
+use Rattle.reassembly.specs.Rights.{Rights, Label}
+use Rattle.runs.specs.Transmissions.{gone, here}
+use Rattle.runs.specs.Spans.{Span, lies, wholePackets}
+use Rattle.runs.specs.Calls.{fatesAlong}
 use Rattle.runs.specs.Model.{Event, lost, came, entriesFor, memoryFor, logged, fresh, cut, Fate, lose, read, Plan, readPieces, events, marks, arrived, wanted}
 
 abbrev taken : Fate
-taken = read (λ k. 0)
+taken = read false (λ k. 0)
 
 -- packets of 5, 2 and 3 bytes in four PDUs: 3 bytes; 2 and 1; 1 and 2; 1
 abbrev three : List (List ℕ)
@@ -40,28 +45,88 @@ long b c =
 -- ---- the receiver, with a sequence of one bit
 
 all-arrive : logged 2 fresh (events 2 0 0 0 three (four taken taken taken taken)) ≡ packet 0 (1 ∷ 2 ∷ 3 ∷ 4 ∷ 5 ∷ []) ∷ packet 1 (6 ∷ 7 ∷ []) ∷ packet 2 (8 ∷ 9 ∷ 10 ∷ []) ∷ []
-unfolding logged events readPieces cut received remembered sequenceStep beginningStep psdEntries piecesStep pieceStep joined finished
+unfolding logged events readPieces cut received contentsStep remembered sequenceStep beginningStep psdEntries piecesStep pieceStep joined finished
 all-arrive = refl
 
 -- the second lost: its packets are gone, and the third's first piece continues nothing
 second-lost : logged 2 fresh (events 2 0 0 0 three (four taken lose taken taken)) ≡ note 6 0 ∷ note 3 0 ∷ packet 2 (8 ∷ 9 ∷ 10 ∷ []) ∷ []
-unfolding logged events readPieces cut received remembered sequenceStep beginningStep psdEntries piecesStep pieceStep joined finished
+unfolding logged events readPieces cut received contentsStep remembered sequenceStep beginningStep psdEntries piecesStep pieceStep joined finished
 second-lost = refl
 
 -- a piece with a wrong CRC
-second-bad : logged 2 fresh (events 2 0 0 0 three (four taken (read (λ k. 2)) taken taken)) ≡ note 2 0 ∷ note 2 1 ∷ note 3 0 ∷ packet 2 (8 ∷ 9 ∷ 10 ∷ []) ∷ []
-unfolding logged events readPieces cut received remembered sequenceStep beginningStep psdEntries piecesStep pieceStep joined finished
+second-bad : logged 2 fresh (events 2 0 0 0 three (four taken (read false (λ k. 2)) taken taken)) ≡ note 2 0 ∷ note 2 1 ∷ note 3 0 ∷ packet 2 (8 ∷ 9 ∷ 10 ∷ []) ∷ []
+unfolding logged events readPieces cut received contentsStep remembered sequenceStep beginningStep psdEntries piecesStep pieceStep joined finished
 second-bad = refl
 
 -- a wrong CRC comes before nothing held
-bad-and-nothing-held : logged 2 fresh (events 2 0 0 0 three (four lose (read (λ k. 2)) taken taken)) ≡ note 6 0 ∷ note 2 0 ∷ note 2 1 ∷ note 3 0 ∷ packet 2 (8 ∷ 9 ∷ 10 ∷ []) ∷ []
-unfolding logged events readPieces cut received remembered sequenceStep beginningStep psdEntries piecesStep pieceStep joined finished
+bad-and-nothing-held : logged 2 fresh (events 2 0 0 0 three (four lose (read false (λ k. 2)) taken taken)) ≡ note 6 0 ∷ note 2 0 ∷ note 2 1 ∷ note 3 0 ∷ packet 2 (8 ∷ 9 ∷ 10 ∷ []) ∷ []
+unfolding logged events readPieces cut received contentsStep remembered sequenceStep beginningStep psdEntries piecesStep pieceStep joined finished
 bad-and-nothing-held = refl
 
 -- two lost: the fourth PDU's sequence follows the first's, and nothing is joined
 two-lost : logged 2 fresh (events 2 0 0 0 one (long lose lose)) ≡ note 6 0 ∷ note 6 0 ∷ note 3 0 ∷ []
-unfolding logged events readPieces cut received remembered sequenceStep beginningStep psdEntries piecesStep pieceStep joined finished
+unfolding logged events readPieces cut received contentsStep remembered sequenceStep beginningStep psdEntries piecesStep pieceStep joined finished
 two-lost = refl
+
+-- ---- withheld PDUs
+
+abbrev kept-back : Fate
+kept-back = read true (λ k. 0)
+
+-- the second withheld: the packet that it continues is delivered, the one that it begins is not, and the third's first piece continues nothing
+second-withheld : logged 2 fresh (events 2 0 0 0 three (four taken kept-back taken taken)) ≡ note 8 0 ∷ packet 0 (1 ∷ 2 ∷ 3 ∷ 4 ∷ 5 ∷ []) ∷ note 3 0 ∷ packet 2 (8 ∷ 9 ∷ 10 ∷ []) ∷ []
+unfolding logged events readPieces cut received contentsStep continuingStep remembered sequenceStep beginningStep psdEntries piecesStep pieceStep joined finished
+second-withheld = refl
+
+-- a packet through two withheld PDUs follows the right of the PDU in which it began
+held-through : logged 2 fresh (events 2 0 0 0 one (long kept-back kept-back)) ≡ note 8 0 ∷ note 8 0 ∷ packet 0 (1 ∷ 2 ∷ 3 ∷ 4 ∷ 5 ∷ 6 ∷ 7 ∷ 8 ∷ []) ∷ []
+unfolding logged events readPieces cut received contentsStep continuingStep remembered sequenceStep beginningStep psdEntries piecesStep pieceStep joined finished
+held-through = refl
+
+-- ---- what is asked for
+
+-- the second lost, or withheld
+asked-lost : wanted 0 three (arrived 0 three (four taken lose taken taken)) ≡ packet 2 (8 ∷ 9 ∷ 10 ∷ []) ∷ []
+unfolding wanted arrived marks cut
+asked-lost = refl
+
+asked-withheld : wanted 0 three (arrived 0 three (four taken kept-back taken taken)) ≡ packet 0 (1 ∷ 2 ∷ 3 ∷ 4 ∷ 5 ∷ []) ∷ packet 2 (8 ∷ 9 ∷ 10 ∷ []) ∷ []
+unfolding wanted arrived marks cut
+asked-withheld = refl
+
+asked-number : wanted 64 ((1 ∷ []) ∷ []) (record { taken = true; free = true } ∷ []) ≡ packet 0 (1 ∷ []) ∷ []
+unfolding wanted
+asked-number = refl
+
+-- the same by bytes: the second withheld; its second piece wrong
+abbrev fourSpans : List Span
+fourSpans = record { from = 0; count = 3 } ∷ record { from = 3; count = 3 } ∷ record { from = 6; count = 3 } ∷ record { from = 9; count = 1 } ∷ []
+
+whole-withheld : wholePackets (lies three fourSpans (taken ∷ kept-back ∷ taken ∷ taken ∷ [])) 0 0 three ≡ packet 0 (1 ∷ 2 ∷ 3 ∷ 4 ∷ 5 ∷ []) ∷ packet 2 (8 ∷ 9 ∷ 10 ∷ []) ∷ []
+unfolding wholePackets
+whole-withheld = refl
+
+whole-wrong : wholePackets (lies three fourSpans (taken ∷ read false (λ k. cond (eqb k 1) 2 0) ∷ taken ∷ taken ∷ [])) 0 0 three ≡ packet 0 (1 ∷ 2 ∷ 3 ∷ 4 ∷ 5 ∷ []) ∷ packet 2 (8 ∷ 9 ∷ 10 ∷ []) ∷ []
+unfolding wholePackets
+whole-wrong = refl
+
+-- ---- which are withheld, for core of sequence range 0-7 and a program that is not entitled
+
+abbrev noRights : Rights
+noRights = record { entitled = λ p. false; keeps = true }
+
+abbrev with-services : ℕ → Label
+with-services v = record { program = 1; services = v }
+
+-- the value sent with sequence 0 is in force, and marking lost forgets it
+value-forgotten : fatesAlong noRights 8 0 none (here (λ k. 0) ∷ gone ∷ here (λ k. 0) ∷ []) (with-services 0 ∷ with-services 0 ∷ with-services 0 ∷ []) ≡ taken ∷ lose ∷ kept-back ∷ []
+unfolding fatesAlong
+value-forgotten = refl
+
+-- one sent with sequence 1 is not taken
+pub value-stays : fatesAlong noRights 8 0 none (here (λ k. 0) ∷ here (λ k. 0) ∷ []) (with-services 0 ∷ with-services 1 ∷ []) ≡ taken ∷ taken ∷ []
+unfolding fatesAlong
+value-stays = refl
 
 -- ---- wrong receivers
 
@@ -107,14 +172,14 @@ unfolding loggedBy events packetsOf wanted arrived marks cut
 fixed-wrong e = let h : _≡_ {A = ℕ} 4 3 = ap length e in absurd (omega (arith, h))
 
 idle-wrong : ¬ (packetsOf (loggedBy idle fresh (events 2 0 0 0 three (four taken taken taken taken))) ≡ wanted 0 three (arrived 0 three (four taken taken taken taken)))
-unfolding loggedBy events readPieces cut received remembered sequenceStep beginningStep psdEntries piecesStep pieceStep joined finished packetsOf wanted arrived marks
+unfolding loggedBy events readPieces cut received contentsStep remembered sequenceStep beginningStep psdEntries piecesStep pieceStep joined finished packetsOf wanted arrived marks
 idle-wrong e = let h : _≡_ {A = ℕ} 0 3 = ap length e in absurd (omega (arith, h))
 
 -- a packet glued from the ends of one that did not arrive
 glued : packetsOf (loggedBy joining fresh (events 2 0 0 0 one (long lose lose))) ≡ packet 0 (1 ∷ 2 ∷ 7 ∷ 8 ∷ []) ∷ []
-unfolding loggedBy events readPieces cut received remembered sequenceStep beginningStep psdEntries piecesStep pieceStep joined finished packetsOf
+unfolding loggedBy events readPieces cut received contentsStep remembered sequenceStep beginningStep psdEntries piecesStep pieceStep joined finished packetsOf
 glued = refl
 
 joining-wrong : ¬ (packetsOf (loggedBy joining fresh (events 2 0 0 0 one (long lose lose))) ≡ wanted 0 one (arrived 0 one (long lose lose)))
-unfolding loggedBy events readPieces cut received remembered sequenceStep beginningStep psdEntries piecesStep pieceStep joined finished packetsOf wanted arrived marks
+unfolding loggedBy events readPieces cut received contentsStep remembered sequenceStep beginningStep psdEntries piecesStep pieceStep joined finished packetsOf wanted arrived marks
 joining-wrong e = let h : _≡_ {A = ℕ} 1 0 = ap length e in absurd (omega (arith, h))

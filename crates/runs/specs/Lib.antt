@@ -1,1 +1,5 @@
+pub mod Calls
 pub mod Model
+pub mod Promise
+pub mod Spans
+pub mod Transmissions

@@ -2,7 +2,7 @@
 -- it should deliver. Bytes are numbers; nothing of a PDU's byte layout stands here.
 use Prim.Native.Nat.{ℕ, zero, suc, _+_, _%_, _≤_, _<_}
 use mathlib.Core.Path.{_≡_}
-use mathlib.Core.Bool.{Bool, true, false, cond}
+use mathlib.Core.Bool.{Bool, true, false, not, cond}
 use mathlib.Core.List.{List, [], _∷_, _++_}
 use lib.Dec.{eqb, ltb}
 use lib.ListN.{length, take, drop, replicate}
@@ -59,10 +59,10 @@ sentAfter sent (suc whole) over = over
 
 -- ---- a run
 
--- how a PDU comes to the receiver: lost, or with a cause for each of its pieces, 0 where the piece is taken
+-- how a PDU comes to the receiver: lost, or withheld or not, with a cause for each of its pieces, 0 where the piece is taken
 pub data Fate : Type 0 where
   lose : Fate
-  read : (ℕ → ℕ) → Fate
+  read : (withheld : Bool) (causes : ℕ → ℕ) → Fate
 
 pub record Plan : Type 0 where
   pub whole : ℕ
@@ -70,8 +70,8 @@ pub record Plan : Type 0 where
   pub psdBytes : List ℕ
   pub fate : Fate
 
--- the causes from the next piece on
-abbrev pub later : (ℕ → ℕ) → ℕ → ℕ
+-- the causes, or marks, from the next piece on
+abbrev pub later : {A : Type 0} → (ℕ → A) → ℕ → A
 later f k = f (suc k)
 
 -- pieces with their causes
@@ -80,13 +80,20 @@ readPieces f [] = []
 readPieces f (b ∷ bs) = record { cause = f 0; bytes = b } ∷ readPieces (later f) bs
 
 -- what the PDU of sequence q says, after i ended packets
-abbrev pub saidOf : ℕ → ℕ → ℕ → Plan → (ℕ → ℕ) → List (List ℕ) → Said
-saidOf q i sent c f rest =
-    record { sequence = q; pfirst = ltb 0 sent; plast = ltb 0 (c .over); start = (i + cond (ltb 0 sent) 1 0) % 64; psdBytes = c .psdBytes; pieces = readPieces f (cut sent (c .whole) (c .over) rest) }
+abbrev pub saidOf : ℕ → ℕ → ℕ → Plan → Bool → (ℕ → ℕ) → List (List ℕ) → Said
+saidOf q i sent c w f rest = record {
+  sequence = q;
+  pfirst = ltb 0 sent;
+  plast = ltb 0 (c .over);
+  start = (i + cond (ltb 0 sent) 1 0) % 64;
+  psdBytes = c .psdBytes;
+  pieces = readPieces f (cut sent (c .whole) (c .over) rest);
+  withheld = w;
+}
 
 abbrev pub eventOf : ℕ → ℕ → ℕ → Plan → Fate → List (List ℕ) → Event
 eventOf q i sent c lose rest = lost
-eventOf q i sent c (read f) rest = came (saidOf q i sent c f rest)
+eventOf q i sent c (read w f) rest = came (saidOf q i sent c w f rest)
 
 -- the events of a run: sequence q comes next, i packets are ended, `sent` bytes of the first packet of `rest` are gone
 unfoldable pub events : ℕ → ℕ → ℕ → ℕ → List (List ℕ) → List Plan → List Event
@@ -96,34 +103,45 @@ events range q i sent rest (c ∷ cs) =
 
 -- ---- what should be delivered
 
--- a mark for each byte of the pieces: whether it was taken
-unfoldable pub marks : (ℕ → ℕ) → List (List ℕ) → List Bool
-marks f [] = []
-marks f (b ∷ bs) = replicate (length b) (eqb (f 0) 0) ++ marks (later f) bs
+-- what came of a byte
+pub record Mark : Type 0 where
+  pub taken : Bool  -- it lies in a piece that is taken, of a PDU that came
+  pub free : Bool  -- its PDU is not withheld
+
+-- a mark for each byte of the pieces
+unfoldable pub marks : (ℕ → Mark) → List (List ℕ) → List Mark
+marks v [] = []
+marks v (b ∷ bs) = replicate (length b) (v 0) ++ marks (later v) bs
 
 -- of a lost PDU no piece is taken
-abbrev pub verdicts : Fate → ℕ → ℕ
-verdicts lose k = 1
-verdicts (read f) k = f k
+abbrev pub verdicts : Fate → ℕ → Mark
+verdicts lose k = record { taken = false; free = false }
+verdicts (read w f) k = record { taken = eqb (f k) 0; free = not w }
 
 -- the marks of all bytes that the PDUs of a run carry
-unfoldable pub arrived : ℕ → List (List ℕ) → List Plan → List Bool
+unfoldable pub arrived : ℕ → List (List ℕ) → List Plan → List Mark
 arrived sent rest [] = []
 arrived sent rest (c ∷ cs) =
     marks (verdicts (c .fate)) (cut sent (c .whole) (c .over) rest) ++ arrived (sentAfter sent (c .whole) (c .over)) (drop (c .whole) rest) cs
 
--- the first n marks are there and true
-abbrev pub allOf : ℕ → List Bool → Bool
-allOf zero m = true
-allOf (suc n) [] = false
-allOf (suc n) (b ∷ m) = cond b (allOf n m) false
+-- the first n bytes are taken
+abbrev pub allTaken : ℕ → List Mark → Bool
+allTaken zero m = true
+allTaken (suc n) [] = false
+allTaken (suc n) (b ∷ m) = cond (b .taken) (allTaken n m) false
 
--- the packets, from number i on, with every byte marked
-unfoldable pub wanted : ℕ → List (List ℕ) → List Bool → List Entry
+-- they are taken, and begin in a PDU that is not withheld
+abbrev pub due : ℕ → List Mark → Bool
+due zero m = true
+due (suc n) [] = false
+due (suc n) (b ∷ m) = cond (b .free) (allTaken (suc n) (b ∷ m)) false
+
+-- the packets, from number i on, that are due
+unfoldable pub wanted : ℕ → List (List ℕ) → List Mark → List Entry
 wanted i [] m = []
 wanted i (p ∷ ps) m =
     let w = wanted (suc i) ps (drop (length p) m) in
-    cond (allOf (length p) m) (packet (i % 64) p ∷ w) w
+    cond (due (length p) m) (packet (i % 64) p ∷ w) w
 
 -- ---- premises
 

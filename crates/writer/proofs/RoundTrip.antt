@@ -23,7 +23,7 @@ use Rattle.header.proofs.Division.{parity-length, remainder-bytes}
 use Rattle.header.proofs.Lengths.{length-allowed, parity-written}
 use Rattle.correction.specs.Correction.{Near, correctionOf, correctedPdu}
 use Rattle.correction.specs.declared.Correction.the-variants.{Corrected}
-use Rattle.correction.proofs.Theorem.{Corrects, corrects}
+use Rattle.correction.proofs.Theorem.{corrects}
 use Rattle.layout.specs.Control.{controlAt, controlBytes}
 use Rattle.layout.specs.declared.ControlWord.{ControlWord}
 use Rattle.layout.specs.Locators.{locatorSize}
@@ -35,32 +35,16 @@ use Rattle.contents.specs.Contents.{contents}
 use Rattle.pdu.specs.Reading.{fieldsOf, psdOf, judged, widthOf, accepted, readNumber, readingWith, readPdu, answered}
 use Rattle.pdu.specs.declared.Reading.{Reading}
 use Rattle.pdu.proofs.Restoring.{corrected-number}
-use Rattle.pdu.proofs.ReadBack.{Sendable, PieceRead, control-back, accepted-back, width-back, fields-back, psd-place, psd-bytes, pieces-read, read-accepted, answer-fields, answer-psd}
+use Rattle.pdu.specs.PieceRead.{PieceRead}
+use Rattle.pdu.proofs.ReadBack.{Sendable, control-back, accepted-back, width-back, fields-back, psd-place, psd-bytes, pieces-read, read-accepted, answer-fields, answer-psd}
 use Rattle.writer.specs.Writing.{expansionOf, extraOf, writerTests, placed, piecesOf, controlFor, written, pduOf, acceptedAnswer, refusedAnswer, answerIn, pduIn, writeAnswer, writtenPdu}
+use Rattle.writer.specs.RoundTrip.{Bytes, Altered, ReadBack, RoundTrip, Demand2}
 use Rattle.writer.specs.declared.Writer.{Writer}
 use Rattle.writer.proofs.Accepted.{Fine, fine, fits, la-fits}
 use Rattle.writer.proofs.Composed.{whole-length, first-place}
 use Rattle.writer.proofs.Bytes.{Byte, all-contents, all-zeros}
 use Rattle.writer.proofs.Sending.{sendable}
-
--- q is p, but for at most four of its first 96 bytes
-pub record Altered (p q : List ℕ) : Type 0 where
-  pub long : length q ≡ length p
-  pub rest : drop 96 q ≡ drop 96 p
-  pub few : distance (take 96 q) (take 96 p) ≤ 4
-  pub bytes : (i : ℕ) → getD q i 0 < 256
-
--- p, the PDU that a call wrote, is read from q as it was written
-pub record ReadBack (settings : Settings) (psd lengths bytes : List ℕ) (size : ℕ) (m : Mode) (w : Writer) (p q : List ℕ) : Type 0 where
-  pub number : readNumber q ≡ 0
-  pub pdu : readPdu q ≡ p
-  pub answer : (k : ℕ) → readingWith k q ≡ accepted (m .width) (controlFor settings psd lengths bytes size m w) p
-  pub fields : accepted (m .width) (controlFor settings psd lengths bytes size m w) p .fields ≡ answered (interpretedOf (fieldsFor settings size))
-  pub place : accepted (m .width) (controlFor settings psd lengths bytes size m w) p .psd
-      ≡ record { start = 14 + locatorSize (m .width) (length (piecesOf settings psd lengths bytes size m w)) + length (expansionOf settings psd lengths bytes size); length = length psd }
-  pub psd-read : take (length psd) (drop (14 + locatorSize (m .width) (length (piecesOf settings psd lengths bytes size m w)) + length (expansionOf settings psd lengths bytes size)) p) ≡ psd
-  pub pieces : (k : ℕ) → k < length (piecesOf settings psd lengths bytes size m w)
-      → PieceRead (m .width) (controlFor settings psd lengths bytes size m w) p k (getD (piecesOf settings psd lengths bytes size m w) k [])
+use Rattle.writer.proofs.Advancing.{byte-sent}
 
 module _ (settings : Settings) (psd lengths bytes : List ℕ) (size : ℕ) (m : Mode) (w : Writer) (l : listing (w .mode) (w .stream) ≡ Listed m)
     (t : firstOf (writerTests settings psd lengths bytes size m w) ≡ 0) (hp : All Byte psd) (hb : All Byte bytes) where
@@ -146,20 +130,19 @@ module _ (settings : Settings) (psd lengths bytes : List ℕ) (size : ℕ) (m : 
     near =
         let n : length (take 96 p) ≡ 96 = length-take-le 96 p (omega (arith, pdu-length, f .long)) in
         let k : length (take 96 q) ≡ 96 = length-take-le 96 q (omega (arith, pdu-length, a .long, f .long)) in
-        record { right = code-word; close = a .few; long = n ∙ sym k; bytes = all-take 96 p (all-bytes p pdu-bytes) }
+        record { right = code-word; close = (let f = a .few in omega (arith, f)); long = n ∙ sym k; bytes = all-take 96 p (all-bytes p pdu-bytes) }
 
     corrected-back : correctedPdu q ≡ p
     corrected-back =
-        corrects q (omega (arith, pdu-length, a .long, f .long)) (omega (arith, pdu-length, a .long, f .short)) (a .bytes) .header (take 96 p) near
+        corrects q (omega (arith, pdu-length, a .long, f .long)) (omega (arith, pdu-length, a .long, f .short)) (all-bytes q (a .bytes)) .header (take 96 p) near
         ∙ ap (λ (r : List ℕ). take 96 p ++ r) (a .rest)
         ∙ take-append-drop 96 p
 
-    -- demand 2: read back
-    pub read-back : ReadBack settings psd lengths bytes size m w p q
+    pub read-back : ReadBack settings psd lengths bytes size w m p q
     read-back =
         let ps = piecesOf settings psd lengths bytes size m w in
         let x = fieldsFor settings size in
-        let e = corrects q (omega (arith, pdu-length, a .long, f .long)) (omega (arith, pdu-length, a .long, f .short)) (a .bytes) .answer (take 96 p) near in
+        let e = corrects q (omega (arith, pdu-length, a .long, f .long)) (omega (arith, pdu-length, a .long, f .short)) (all-bytes q (a .bytes)) .answer (take 96 p) near in
         let z : judged p ≡ 0 = ap judged parts ∙ accepted-back m c x psd ps parity zeros (parity-length base) able in
         let k : readNumber q ≡ 0 = corrected-number q _ e ∙ ap judged corrected-back ∙ z in
         let o : controlAt p ≡ c = ap controlAt parts ∙ control-back m c x psd ps parity zeros (parity-length base) able in
@@ -175,15 +158,8 @@ module _ (settings : Settings) (psd lengths bytes : List ℕ) (size : ℕ) (m : 
           pieces = λ i h. subst (λ (y : List ℕ). PieceRead (m .width) c y i (getD ps i [])) (sym parts) (pieces-read m c x psd ps parity zeros (parity-length base) able i h);
         }
 
--- demand 2's round trip, for every accepted call
-pub record RoundTrip (settings : Settings) (psd lengths bytes : List ℕ) (size : ℕ) (w : Writer) (p : List ℕ) : Type 0 where
-  pub mode : Mode
-  pub listed : listing (w .mode) (w .stream) ≡ Listed mode
-  pub long : length p ≡ size
-  pub header : isCodeWord (take 96 p) ≡ true
-  pub back : (q : List ℕ) → Altered p q → ReadBack settings psd lengths bytes size mode w p q
-
-pub round-trip : (settings : Settings) (psd lengths bytes : List ℕ) (size : ℕ) (w : Writer) (before : List ℕ) → All Byte psd → All Byte bytes
+-- the round trip of every accepted call
+pub round-trip : (settings : Settings) (psd lengths bytes : List ℕ) (size : ℕ) (w : Writer) (before : List ℕ) → Bytes psd → Bytes bytes
     → writeAnswer settings psd lengths bytes size w .refusal ≡ 0 → RoundTrip settings psd lengths bytes size w (writtenPdu settings psd lengths bytes size w before)
 unfolding writeAnswer writtenPdu
 round-trip settings psd lengths bytes size w before hp hb = go (listing (w .mode) (w .stream)) refl
@@ -206,3 +182,19 @@ round-trip settings psd lengths bytes size w before hp hb = go (listing (w .mode
     go : (k : Listing) → listing (w .mode) (w .stream) ≡ k → answerIn settings psd lengths bytes size k w .refusal ≡ 0 → RoundTrip settings psd lengths bytes size w (pduIn settings psd lengths bytes size k w before)
     go (Refused n) e h = absurd (omega (arith, h))
     go (Listed m) e h = by m e (eqb (firstOf (writerTests settings psd lengths bytes size m w)) 0) refl h
+
+-- a call that no row of the table refuses is accepted
+accepts : (settings : Settings) (psd lengths bytes : List ℕ) (size : ℕ) (w : Writer) (m : Mode) → listing (w .mode) (w .stream) ≡ Listed m
+    → firstOf (writerTests settings psd lengths bytes size m w) ≡ 0 → writeAnswer settings psd lengths bytes size w .refusal ≡ 0
+unfolding writeAnswer
+accepts settings psd lengths bytes size w m l t =
+    ap (λ (k : Listing). answerIn settings psd lengths bytes size k w .refusal) l
+    ∙ ap (λ (n : ℕ). cond (eqb n 0) (acceptedAnswer settings psd lengths bytes size m w) (refusedAnswer w n) .refusal) t
+
+pub demand2 : Demand2
+demand2 = record {
+  corrects = λ p lo hi b. corrects p lo hi (all-bytes p b);
+  accepts = accepts;
+  sends = λ settings psd lengths bytes size w m l h. byte-sent settings psd lengths bytes size w m l h;
+  reads = round-trip;
+}

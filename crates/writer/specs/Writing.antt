@@ -24,8 +24,9 @@ use Rattle.writer.specs.declared.Written.{Written}
 
 -- ---- opening
 
+-- what a refused opening hands back: a mode that the table has not, so that number 1 turns it down
 abbrev pub noWriter : Writer
-noWriter = record { mode = 0; stream = 0; sequence = 0; number = 0; sent = 0 }
+noWriter = record { mode = 255; stream = 0; sequence = 0; number = 0; sent = 0 }
 
 abbrev pub openedAs : Listing → ℕ → ℕ → Opened
 openedAs (Refused n) mode stream = record { refusal = n; writer = noWriter }

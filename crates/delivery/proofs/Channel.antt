@@ -1,0 +1,305 @@
+-- Delivery over a channel, from the general theorem of runs.
+use mathlib.Core.Path.{_≡_, refl, sym, ap, ap₂, subst, _∙_, fun-ext}
+use mathlib.Core.Bool.{Bool, true, false, _&&_, _||_, cond}
+use mathlib.Core.List.{List, [], _∷_, _++_, map}
+use mathlib.Core.Option.{Option, none, some}
+use Prim.Native.Nat.{ℕ, zero, suc, _+_, _-_, _%_, _<_, _≤_}
+use native.Mathlib.Omega.{arith}
+use lib.Dec.{eqb, ltb, leb}
+use borrow.Author.Tests.{lt-leb}
+use lib.ListN.{length, getD, take, drop, replicate, length-take}
+use lib.Seq.{drop-drop}
+use Rattle.algebra.specs.Places.{All}
+use Rattle.refusal.specs.Refusal.{anyOf}
+use Rattle.modes.specs.Modes.{listing, numberOf}
+use Rattle.modes.specs.declared.Mode.{Mode}
+use Rattle.modes.specs.declared.Listing.{Listing}
+use Rattle.modes.specs.declared.Listing.the-variants.{Listed, Refused}
+use Rattle.modes.proofs.Lines.{refusal-five}
+use Rattle.modes.proofs.Listable.{listable}
+use Rattle.log.specs.Log.{Entry, logWords, packetWords}
+use Rattle.pdu.specs.Reading.{modeIn}
+use Rattle.reassembly.specs.Reassembly.{Piece, following}
+use Rattle.reassembly.specs.Tally.{Countable, noTally, tallied}
+use Rattle.reassembly.specs.Holder.{opened}
+use Rattle.writer.specs.Writing.{opened as writerOpened, openedAs as writerOpenedAs}
+use Rattle.writer.specs.RoundTrip.{Bytes}
+use Rattle.writer.specs.declared.Writer.{Writer}
+use Rattle.receiver.specs.Receiving.{opened as receiverOpened, openedAs as receiverOpenedAs, memoryOf, wrongState}
+use Rattle.receiver.specs.declared.Receiver.{Receiver}
+use Rattle.runs.specs.Model.{cut, sentAfter, Fate, lose, read, Mark, verdicts, Sized, fresh}
+use Rattle.runs.specs.Transmissions.{Way, gone, here, keptOf, plansFrom}
+use Rattle.runs.specs.Spans.{packetAt, Span, within, lies, bytesIn, fatesOf, wholePackets as wholeByMarks}
+use Rattle.runs.specs.Calls.{Load, transmissionsOf, LoadsFit, spansFrom as spansOfLoads, speechesFrom, fatesFrom, Matching, Step as Part, handed, waysOf, Through as Goes, logsFrom as logsOf, AllGood}
+use Rattle.runs.proofs.General.{Delivered as RunDelivered, general}
+use Rattle.delivery.specs.Delivery.{Packets, Writing, pdusFrom, spansFrom, InOrder, Station, Call, receive, markLost, answerOf, defined, freshStation, stationAfter, loggedBy, runOf, made as madeBy, spans as spansOf}
+use Rattle.delivery.specs.Copies.{causesFor}
+use Rattle.delivery.specs.Channel.{Step, receives, loses, refuses, callOf, Through, fates, logsFrom, NoneRefused, Asked, Delivered, ChannelDelivery}
+use Rattle.delivery.proofs.Counting.{stands-first}
+use Rattle.delivery.proofs.Calling.{stateAt, next-in-range}
+use Rattle.delivery.proofs.Made.{sized-of}
+use Rattle.delivery.proofs.Course.{Course, done, next, Runs, course}
+use Rattle.delivery.proofs.Serving.{Shows}
+use Rattle.delivery.proofs.Bridge.{stations, everything, copied, losing, refusing, Speaks, bridge}
+use Rattle.delivery.proofs.Copies.{struck-read}
+use Rattle.delivery.proofs.Lies.{Following}
+use Rattle.delivery.proofs.Examples.{second-missing}
+
+-- a PDU that can be received
+abbrev pub Usable : List ℕ → Type 0
+Usable p = Bytes p × (96 ≤ length p)
+
+-- ---- what holds along a course
+
+module _ (mode stream : ℕ) (m : Mode) (ps : List (List ℕ)) where
+  loads-fit : {q g i s : ℕ} {pdus : List (List ℕ)} {spans : List Span} {cs : List Load} → Course mode stream m ps q g i s pdus spans cs → LoadsFit s (drop i ps) cs
+  loads-fit done = tt
+  loads-fit (next {i = i} {s = s} {e = e} {t = t} {loads = cs} f h r) = (f, subst (λ (l : List (List ℕ)). LoadsFit (sentAfter s e t) l cs) (sym (drop-drop e i ps)) (loads-fit r))
+
+  spans-are : {q g i s : ℕ} {pdus : List (List ℕ)} {spans : List Span} {cs : List Load} → Course mode stream m ps q g i s pdus spans cs → spans ≡ spansOfLoads g s (drop i ps) cs
+  unfolding spansOfLoads
+  spans-are done = refl
+  spans-are (next {g = g} {i = i} {s = s} {e = e} {t = t} {loads = cs} f h r) =
+      ap (λ (l : List Span). record { from = g; count = bytesIn (cut s e t (drop i ps)) } ∷ l)
+      (spans-are r ∙ ap (λ (l : List (List ℕ)). spansOfLoads (g + bytesIn (cut s e t (drop i ps))) (sentAfter s e t) l cs) (sym (drop-drop e i ps)))
+
+  spans-follow : {q g i s : ℕ} {pdus : List (List ℕ)} {spans : List Span} {cs : List Load} → Course mode stream m ps q g i s pdus spans cs → Following g spans
+  spans-follow done = tt
+  spans-follow (next f h r) = (refl, spans-follow r)
+
+  speaking : (l : listing mode stream ≡ Listed m) (range : 0 < m .sequences) {q g i s : ℕ} {pdus : List (List ℕ)} {spans : List Span} {cs : List Load} → q < m .sequences → Course mode stream m ps q g i s pdus spans cs
+      → Matching (Speaks mode stream m l range) pdus (speechesFrom (m .sequences) q i s (drop i ps) cs)
+  unfolding speechesFrom
+  speaking l range h done = tt
+  speaking l range h (next {q = q} {i = i} {s = s} {e = e} {t = t} {psd = psd} {pdus = pdus} {loads = cs} f d r) = (
+    record {
+      says = d;
+      below = h;
+      struck = λ v. ap (λ (b : List Piece). record { sequence = q; pfirst = ltb 0 s; plast = ltb 0 t; start = (i + cond (ltb 0 s) 1 0) % 64; psdBytes = psd; pieces = b; withheld = false }) (struck-read v (cut s e t (drop i ps)));
+    },
+    subst (λ (rest : List (List ℕ)). Matching (Speaks mode stream m l range) pdus (speechesFrom (m .sequences) (following (m .sequences) q) (i + e) (sentAfter s e t) rest cs)) (sym (drop-drop e i ps)) (speaking l range (next-in-range (m .sequences) q h) r),
+  )
+
+-- ---- a receiver that withholds nothing
+
+abbrev plainFate : Way → Fate
+plainFate gone = lose
+plainFate (here f) = read false f
+
+abbrev plainFates : List Way → List Fate
+plainFates [] = []
+plainFates (w ∷ ws) = plainFate w ∷ plainFates ws
+
+plain-lies : (range : ℕ) (cs : List Load) (ws : List Way) (q g s : ℕ) (kept : Option ℕ) (ps rest : List (List ℕ)) (j : ℕ)
+    → lies ps (spansOfLoads g s rest cs) (fatesOf (plansFrom everything range q kept (transmissionsOf ws cs))) j ≡ lies ps (spansOfLoads g s rest cs) (plainFates ws) j
+unfolding spansOfLoads plansFrom transmissionsOf
+plain-lies range [] ws q g s kept ps rest j = refl
+plain-lies range (c ∷ cs) [] q g s kept ps rest j = refl
+plain-lies range (c ∷ cs) (gone ∷ ws) q g s kept ps rest j =
+    let n : ℕ = bytesIn (cut s (c .whole) (c .over) rest) in
+    ap (λ (x : Mark). cond (within (record { from = g; count = n }) j) (verdicts lose (packetAt ps j - packetAt ps g)) x)
+    (plain-lies range cs ws (following range q) (g + n) (sentAfter s (c .whole) (c .over)) (keptOf everything range q kept (c .label) gone) ps (drop (c .whole) rest) j)
+plain-lies range (c ∷ cs) (here f ∷ ws) q g s kept ps rest j =
+    let n : ℕ = bytesIn (cut s (c .whole) (c .over) rest) in
+    ap (λ (x : Mark). cond (within (record { from = g; count = n }) j) (verdicts (read false f) (packetAt ps j - packetAt ps g)) x)
+    (plain-lies range cs ws (following range q) (g + n) (sentAfter s (c .whole) (c .over)) (keptOf everything range q kept (c .label) (here f)) ps (drop (c .whole) rest) j)
+
+-- the ways of a list of calls
+abbrev waysBy : List Step → List Way
+waysBy [] = []
+waysBy (receives k q log v ∷ ss) = here (causesFor v) ∷ waysBy ss
+waysBy (loses log ∷ ss) = gone ∷ waysBy ss
+waysBy (refuses c ∷ ss) = waysBy ss
+
+fates-are : (ss : List Step) → plainFates (waysBy ss) ≡ fates ss
+fates-are [] = refl
+fates-are (receives k q log v ∷ ss) = ap (λ (l : List Fate). read false (causesFor v) ∷ l) (fates-are ss)
+fates-are (loses log ∷ ss) = ap (λ (l : List Fate). lose ∷ l) (fates-are ss)
+fates-are (refuses c ∷ ss) = fates-are ss
+
+fates-by : (first : ℕ) (ss : List Step) → plainFates (replicate first gone ++ waysBy ss) ≡ replicate first lose ++ fates ss
+fates-by zero ss = fates-are ss
+fates-by (suc first) ss = ap (λ (l : List Fate). lose ∷ l) (fates-by first ss)
+
+-- ---- the calls, with the PDUs that they are for
+
+module _ (mode stream : ℕ) (m : Mode) (l : listing mode stream ≡ Listed m) (range : 0 < m .sequences) where
+  abbrev Parts : Type 0
+  Parts = List (Part (bridge mode stream m l range))
+
+  parts : List Step → List (List ℕ) → Parts
+  parts [] pdus = []
+  parts (receives k q log v ∷ ss) [] = []
+  parts (receives k q log v ∷ ss) (p ∷ pdus) = record { call = receive k q log; pdus = p ∷ []; ways = here (causesFor v) ∷ [] } ∷ parts ss pdus
+  parts (loses log ∷ ss) [] = []
+  parts (loses log ∷ ss) (p ∷ pdus) = record { call = markLost log; pdus = p ∷ []; ways = gone ∷ [] } ∷ parts ss pdus
+  parts (refuses c ∷ ss) pdus = record { call = c; pdus = []; ways = [] } ∷ parts ss pdus
+
+  record Parted (x : Station) (steps : List Step) (pdus : List (List ℕ)) (gs : Parts) : Type 0 where
+    through : Goes (bridge mode stream m l range) x gs
+    pdus′ : handed (bridge mode stream m l range) gs ≡ pdus
+    ways : waysOf (bridge mode stream m l range) gs ≡ waysBy steps
+    logs : logsOf (bridge mode stream m l range) x gs ≡ logsFrom x steps
+    good : AllGood (bridge mode stream m l range) x gs → NoneRefused x steps
+
+  parted : (steps : List Step) (x : Station) (pdus : List (List ℕ)) → Through (m .width) x pdus steps → Parted x steps pdus (parts steps pdus)
+  unfolding parts
+  parted [] x [] t = record { through = tt; pdus′ = refl; ways = refl; logs = refl; good = λ g. tt }
+  parted [] x (p ∷ pdus) t = absurd t
+  parted (receives k q log v ∷ ss) x [] t = absurd t
+  parted (receives k q log v ∷ ss) x (p ∷ pdus) t =
+      let r = parted ss (stationAfter defined x (receive k q log)) pdus (t .2) in
+      record {
+        through = (copied (t .0) (t .1), r .through);
+        pdus′ = ap (λ (l : List (List ℕ)). p ∷ l) (r .pdus′);
+        ways = ap (λ (l : List Way). here (causesFor v) ∷ l) (r .ways);
+        logs = ap (λ (w : List ℕ). loggedBy defined x (receive k q log) ++ w) (r .logs);
+        good = λ g. (g .0, r .good (g .1));
+      }
+  parted (loses log ∷ ss) x [] t = absurd t
+  parted (loses log ∷ ss) x (p ∷ pdus) t =
+      let r = parted ss (stationAfter defined x (markLost log)) pdus (t .1) in
+      record {
+        through = (losing (t .0), r .through);
+        pdus′ = ap (λ (l : List (List ℕ)). p ∷ l) (r .pdus′);
+        ways = ap (λ (l : List Way). gone ∷ l) (r .ways);
+        logs = ap (λ (w : List ℕ). loggedBy defined x (markLost log) ++ w) (r .logs);
+        good = λ g. (g .0, r .good (g .1));
+      }
+  parted (refuses c ∷ ss) x [] t =
+      let r = parted ss (stationAfter defined x c) [] (t .1) in
+      record { through = (refusing (t .0), r .through); pdus′ = r .pdus′; ways = r .ways; logs = ap (λ (w : List ℕ). loggedBy defined x c ++ w) (r .logs); good = λ g. r .good (g .1) }
+  parted (refuses c ∷ ss) x (p ∷ pdus) t =
+      let r = parted ss (stationAfter defined x c) (p ∷ pdus) (t .1) in
+      record { through = (refusing (t .0), r .through); pdus′ = r .pdus′; ways = r .ways; logs = ap (λ (w : List ℕ). loggedBy defined x c ++ w) (r .logs); good = λ g. r .good (g .1) }
+
+-- ---- a fresh writer and a fresh receiver
+
+pub record Fresh (mode stream : ℕ) : Type 0 where
+  pub line : Mode
+  pub listed : listing mode stream ≡ Listed line
+  pub writer : writerOpened mode stream .writer ≡ stateAt mode stream 0 0 0
+  pub receiver : receiverOpened mode stream .receiver ≡ record { mode = mode; stream = stream; known = false; sequence = 0; held = 0; number = 0 }
+
+pub some-range : (mode stream : ℕ) (x : Fresh mode stream) → 0 < x .line .sequences
+some-range mode stream x = let h = listable mode stream (x .line) (x .listed) .least in omega (arith, h)
+
+pub fresh-both : (mode stream : ℕ) → writerOpened mode stream .refusal ≡ 0 → Fresh mode stream
+unfolding writerOpened receiverOpened
+fresh-both mode stream e = go (listing mode stream) refl e
+  where
+    go : (k : Listing) → listing mode stream ≡ k → writerOpenedAs k mode stream .refusal ≡ 0 → Fresh mode stream
+    go (Refused n) h z = absurd (omega (arith, refusal-five mode stream n h, z))
+    go (Listed m) h z = record {
+      line = m;
+      listed = h;
+      writer = ap (λ (k : Listing). writerOpenedAs k mode stream .writer) h;
+      receiver = ap (λ (k : Listing). receiverOpenedAs k mode stream .receiver) h;
+    }
+
+shows-fresh : (mode stream : ℕ) (m : Mode) (l : listing mode stream ≡ Listed m) (range : 0 < m .sequences) (carry : List ℕ) → 4096 ≤ length carry
+    → Shows mode stream m l range (record { receiver = record { mode = mode; stream = stream; known = false; sequence = 0; held = 0; number = 0 }; carry = carry }) fresh
+unfolding memoryOf
+shows-fresh mode stream m l range carry big =
+    let q : leb (m .sequences) 0 ≡ false = lt-leb (m .sequences) 0 range in
+    record { sameMode = refl; sameStream = refl; right = rw (l, q); room = big; memory = refl; sane = tt }
+
+-- ---- the calls of a run
+
+module _ (mode stream : ℕ) (packets : List (List ℕ)) (writings : List Writing) (first count : ℕ) (carry : List ℕ) (steps : List Step)
+    (d : Asked mode stream packets writings first count carry steps) (x : Fresh mode stream) where
+  abbrev m : Mode
+  m = x .line
+
+  range : 0 < m .sequences
+  range = some-range mode stream x
+
+  sized : Sized packets
+  sized = sized-of packets (d .sized)
+
+  abbrev made : List (List ℕ)
+  made = pdusFrom (stateAt mode stream 0 0 0) writings
+
+  abbrev spans : List Span
+  spans = spansFrom mode stream packets 0 writings
+
+  whole : Runs mode stream m (x .listed) packets (d .sized) 0 0 0 0 made spans
+  whole = course mode stream m (x .listed) packets (d .sized) writings 0 0 0 0 range (stands-first packets sized) (d .offered)
+
+  abbrev cs : List Load
+  cs = whole .0
+
+  abbrev station : Station
+  station = record { receiver = record { mode = mode; stream = stream; known = false; sequence = 0; held = 0; number = 0 }; carry = carry }
+
+  station-is : freshStation defined mode stream carry ≡ station
+  station-is = ap (λ (r : Receiver). record { receiver = r; carry = carry }) (x .receiver)
+
+  through : Through (m .width) station (runOf first count made) steps
+  through =
+      subst (λ (k : Listing). Through (modeIn k .width) station (runOf first count made) steps) (x .listed)
+      (subst (λ (s : Station). Through (modeIn (listing mode stream) .width) s (runOf first count made) steps) station-is
+      (subst (λ (ps : List (List ℕ)). Through (modeIn (listing mode stream) .width) (freshStation defined mode stream carry) (runOf first count ps) steps) (ap (λ (w : Writer). pdusFrom w writings) (x .writer)) (d .through)))
+
+  abbrev gs : Parts mode stream m (x .listed) range
+  gs = parts mode stream m (x .listed) range steps (runOf first count made)
+
+  split : Parted mode stream m (x .listed) range station steps (runOf first count made) gs
+  split = parted mode stream m (x .listed) range steps station (runOf first count made) through
+
+  run : RunDelivered everything (m .sequences) stations (bridge mode stream m (x .listed) range) packets cs made first count station gs
+  run = general everything (m .sequences) stations (bridge mode stream m (x .listed) range) packets cs made first count station gs (record {
+    sized = sized;
+    fits = loads-fit mode stream m packets (whole .1);
+    says = speaking mode stream m packets (x .listed) range range (whole .1);
+    run = split .pdus′;
+    fresh = shows-fresh mode stream m (x .listed) range carry (d .room);
+    through = split .through;
+    countable = tt;
+  })
+
+  marks-are : lies packets (spansOfLoads 0 0 packets cs) (fatesFrom everything (m .sequences) first (waysOf (bridge mode stream m (x .listed) range) gs) cs) ≡ lies packets spans (replicate first lose ++ fates steps)
+  marks-are = fun-ext (λ j.
+      ap (λ (ws : List Way). lies packets (spansOfLoads 0 0 packets cs) (fatesFrom everything (m .sequences) first ws cs) j) (split .ways)
+      ∙ plain-lies (m .sequences) cs (replicate first gone ++ waysBy steps) 0 0 0 none packets packets j
+      ∙ ap₂ (λ (ss : List Span) (ws : List Fate). lies packets ss ws j) (sym (spans-are mode stream m packets (whole .1))) (fates-by first steps))
+
+  delivered : Delivered mode stream packets writings first count carry steps
+  delivered = record {
+    accepted = subst (λ (s : Station). NoneRefused s steps) (sym station-is) (split .good (run .good));
+    log = ap (λ (s : Station). packetWords (logsFrom s steps)) station-is
+        ∙ ap packetWords (sym (split .logs))
+        ∙ run .log
+        ∙ ap logWords (ap (λ (f : ℕ → Mark). wholeByMarks f 0 0 packets) marks-are);
+  }
+
+-- no call for a PDU of the run is refused, and the packet log holds exactly the packets that arrived whole in sound pieces
+pub channel-delivers : ChannelDelivery
+channel-delivers mode stream packets writings first count carry steps d = delivered mode stream packets writings first count carry steps d (fresh-both mode stream (d .opens))
+
+-- ---- the PDUs that a fresh writer makes
+
+module _ (mode stream : ℕ) (m : Mode) (ps : List (List ℕ)) where
+  course-usable : {q g i s : ℕ} {pdus : List (List ℕ)} {spans : List Span} {cs : List Load} → Course mode stream m ps q g i s pdus spans cs → All Usable pdus
+  course-usable done = tt
+  course-usable (next f h r) = ((h .bytes, h .least), course-usable r)
+
+  course-count : {q g i s : ℕ} {pdus : List (List ℕ)} {spans : List Span} {cs : List Load} → Course mode stream m ps q g i s pdus spans cs → length spans ≡ length pdus
+  course-count done = refl
+  course-count (next f h r) = ap suc (course-count r)
+
+-- they are bytes, at least 96; each has its span, and the spans follow one another
+pub record MadeRight (mode stream : ℕ) (packets : List (List ℕ)) (writings : List Writing) : Type 0 where
+  pub usable : All Usable (madeBy mode stream writings)
+  pub as-many : length (spansOf mode stream packets writings) ≡ length (madeBy mode stream writings)
+  pub follow : Following 0 (spansOf mode stream packets writings)
+
+pub made-right : (mode stream : ℕ) (packets : List (List ℕ)) (writings : List Writing) → writerOpened mode stream .refusal ≡ 0 → Packets packets → InOrder mode stream packets 0 writings → MadeRight mode stream packets writings
+made-right mode stream packets writings o z h =
+    let x = fresh-both mode stream o in
+    let c = course mode stream (x .line) (x .listed) packets z writings 0 0 0 0 (some-range mode stream x) (stands-first packets (sized-of packets z)) h .1 in
+    record {
+      usable = subst (λ (w : Writer). All Usable (pdusFrom w writings)) (sym (x .writer)) (course-usable mode stream (x .line) packets c);
+      as-many = subst (λ (w : Writer). length (spansFrom mode stream packets 0 writings) ≡ length (pdusFrom w writings)) (sym (x .writer)) (course-count mode stream (x .line) packets c);
+      follow = spans-follow mode stream (x .line) packets c;
+    }

@@ -1,0 +1,146 @@
+-- Two copies of a PDU say together what the PDU says, with a wrong CRC for each piece that is sound in neither.
+use mathlib.Core.Path.{_≡_, refl, sym, ap, ap₂, subst, _∙_, fun-ext}
+use mathlib.Core.Bool.{Bool, true, false, _&&_, _||_, cond}
+use mathlib.Core.List.{List, [], _∷_, _++_}
+use Prim.Native.Nat.{ℕ, zero, suc, _+_, _<_, _≤_}
+use native.Mathlib.Omega.{arith}
+use native.Mathlib.Nat.{zero-add}
+use lib.Dec.{eqb}
+use borrow.Author.Tests.{eq-eqb}
+use lib.ListN.{length, take, drop}
+use Rattle.layout.specs.Control.{controlAt}
+use Rattle.layout.specs.declared.ControlWord.{ControlWord}
+use Rattle.log.proofs.Packets.{Bytes as logBytes}
+use Rattle.correction.specs.Correction.{correctedPdu}
+use Rattle.pdu.specs.Reading.{psdOf}
+use Rattle.reassembly.specs.Reassembly.{Piece, Said}
+use Rattle.reassembly.proofs.Fitting.{SanePiece, SanePieces, SaneSaid}
+use Rattle.reassembly.proofs.Blind.{blank, blanks, blankSaid}
+use Rattle.receiver.specs.Receiving.{pieceIn, piecesIn, saidBy}
+use Rattle.runs.specs.Model.{later}
+use Rattle.delivery.specs.Copies.{restored, Copy}
+use Rattle.delivery.specs.Pairs.{sameBytes, pairPiece, pairPieces, pairSaid}
+use Rattle.delivery.proofs.Copies.{struck, stricken, blank-two, Plain, sound-piece, unsound-piece, own-right, sane-piece, count-pieces, copy-corrected, copy-control-is, copy-psd}
+
+same-itself : (l : List ℕ) → sameBytes l l ≡ true
+unfolding sameBytes
+same-itself [] = refl
+same-itself (a ∷ l) = let e : eqb a a ≡ true = eq-eqb a a refl in rw e (same-itself l)
+
+-- either of two like pieces
+pair-both : (a : Piece) → a .cause ≡ 0 → pairPiece a a ≡ a
+pair-both a e =
+    let z : eqb (a .cause) 0 ≡ true = eq-eqb (a .cause) 0 e in
+    ap (λ (b : Bool). cond b (cond b (cond (sameBytes (a .bytes) (a .bytes)) a (record { cause = 7; bytes = a .bytes })) a) a) z
+    ∙ ap (λ (b : Bool). cond b a (record { cause = 7; bytes = a .bytes })) (same-itself (a .bytes))
+
+pair-first : (a b : Piece) → a .cause ≡ 0 → b .cause ≡ 2 → pairPiece a b ≡ a
+pair-first a b e f =
+    let z : eqb (a .cause) 0 ≡ true = eq-eqb (a .cause) 0 e in
+    let u : eqb (b .cause) 0 ≡ false = ap (λ (n : ℕ). eqb n 0) f in
+    ap₂ (λ (s t : Bool). cond s (cond t (cond (sameBytes (a .bytes) (b .bytes)) a (record { cause = 7; bytes = a .bytes })) a) b) z u
+
+pair-second : (a b : Piece) → a .cause ≡ 2 → pairPiece a b ≡ b
+pair-second a b e =
+    let z : eqb (a .cause) 0 ≡ false = ap (λ (n : ℕ). eqb n 0) e in
+    ap (λ (s : Bool). cond s (cond (eqb (b .cause) 0) (cond (sameBytes (a .bytes) (b .bytes)) a (record { cause = 7; bytes = a .bytes })) a) b) z
+
+sane-pair : (a b : Piece) → SanePiece a → SanePiece b → SanePiece (pairPiece a b)
+sane-pair a b s t = go (eqb (a .cause) 0) (eqb (b .cause) 0) (sameBytes (a .bytes) (b .bytes))
+  where
+    go : (u v w : Bool) → SanePiece (cond u (cond v (cond w a (record { cause = 7; bytes = a .bytes })) a) b)
+    go true true true = s
+    go true true false = record { bytes = s .bytes; some = s .some; cause = omega arith }
+    go true false w = s
+    go false v w = t
+
+count-pairs : (width : ℕ) (c : ControlWord) (y z : List ℕ) (k n : ℕ) → length (pairPieces width c y z k n) ≡ n
+unfolding pairPieces
+count-pairs width c y z k zero = refl
+count-pairs width c y z k (suc n) = ap suc (count-pairs width c y z (suc k) n)
+
+module _ (width : ℕ) (p q r : List ℕ) (s t : ℕ → Bool) (w : Plain width p) (x : Copy width p q s) (v : Copy width p r t) where
+  abbrev c : ControlWord
+  c = controlAt p
+
+  -- the two as they are read
+  abbrev y : List ℕ
+  y = restored p q
+
+  abbrev z : List ℕ
+  z = restored p r
+
+  -- sound in one copy at least
+  abbrev either : ℕ → Bool
+  either k = s k || t k
+
+  pair-blank : (k : ℕ) → k < c .nop
+      → blank (pairPiece (pieceIn width c y k) (pieceIn width c z k)) ≡ blank (record { cause = cond (either k) (pieceIn width c p k .cause) 2; bytes = pieceIn width c p k .bytes })
+  pair-blank k h = go (s k) (t k) refl refl
+    where
+      a : Piece
+      a = pieceIn width c y k
+
+      o : Piece
+      o = pieceIn width c p k
+
+      go : (b d : Bool) → s k ≡ b → t k ≡ d → blank (pairPiece (pieceIn width c y k) (pieceIn width c z k)) ≡ blank (record { cause = cond (b || d) (pieceIn width c p k .cause) 2; bytes = pieceIn width c p k .bytes })
+      go true true e f =
+          ap₂ (λ (a b : Piece). blank (pairPiece a b)) (sound-piece width p q s w x k h e) (sound-piece width p r t w v k h f)
+          ∙ ap blank (pair-both (pieceIn width c p k) (own-right width p q s w x k h))
+      go true false e f =
+          ap (λ (a : Piece). blank (pairPiece a (pieceIn width c z k))) (sound-piece width p q s w x k h e)
+          ∙ ap blank (pair-first (pieceIn width c p k) (pieceIn width c z k) (own-right width p q s w x k h) (unsound-piece width p r t w v k h f))
+      go false true e f = ap blank (pair-second (pieceIn width c y k) (pieceIn width c z k) (unsound-piece width p q s w x k h e) ∙ sound-piece width p r t w v k h f)
+      go false false e f =
+          ap blank (pair-second (pieceIn width c y k) (pieceIn width c z k) (unsound-piece width p q s w x k h e))
+          ∙ blank-two (pieceIn width c z k) (pieceIn width c p k .bytes) (unsound-piece width p r t w v k h f)
+
+  pairs-blank : (n k : ℕ) → k + n ≤ c .nop → blanks (pairPieces width c y z k n) ≡ blanks (struck (λ j. either (k + j)) (piecesIn width c p k n))
+  unfolding piecesIn pairPieces blanks struck
+  pairs-blank zero k h = refl
+  pairs-blank (suc n) k h =
+      let i : k ≡ k + 0 = omega arith in
+      let f : (λ j. either (suc k + j)) ≡ later (λ j. either (k + j)) = fun-ext (λ j. let e : suc k + j ≡ k + suc j = omega arith in ap either e) in
+      ap₂ (λ (a : Piece) (l : List Piece). a ∷ l)
+      (pair-blank k (omega arith) ∙ ap (λ (i : ℕ). blank (record { cause = cond (either i) (pieceIn width c p k .cause) 2; bytes = pieceIn width c p k .bytes })) i)
+      (pairs-blank n (suc k) (omega arith) ∙ ap (λ (s : ℕ → Bool). blanks (struck s (piecesIn width c p (suc k) n))) f)
+
+  -- what the pair says, with the first's control word and PSD
+  pub pair-says : blankSaid (pairSaid width (controlAt y) y z) ≡ blankSaid (stricken either (saidBy width c p))
+  unfolding saidBy pairSaid
+  pair-says =
+      let f : (λ j. either (0 + j)) ≡ either = fun-ext (λ j. ap either (zero-add j)) in
+      let e : blanks (pairPieces width c y z 0 (c .nop)) ≡ blanks (struck either (piecesIn width c p 0 (c .nop))) = pairs-blank (c .nop) 0 (omega arith) ∙ ap (λ (s : ℕ → Bool). blanks (struck s (piecesIn width c p 0 (c .nop)))) f in
+      let g = copy-psd width p q s w x in
+      ap (λ (r : ControlWord). blankSaid (pairSaid width r y z)) (copy-control-is width p q s w x)
+      ∙ (λ i. record { sequence = c .sequence; pfirst = c .pfirst; plast = c .plast; start = c .start; psdBytes = g i; pieces = e i; withheld = false })
+
+  -- ---- all that a receiver needs of a pair
+
+  -- number 20 does not apply
+  pub pair-agrees : take (c .la + 1) (correctedPdu q) ≡ take (c .la + 1) (correctedPdu r)
+  pair-agrees = ap (take (c .la + 1)) (copy-corrected width p q s w x) ∙ x .front ∙ sym (v .front) ∙ sym (ap (take (c .la + 1)) (copy-corrected width p r t w v))
+
+  pairs-sane : (n k : ℕ) → k + n ≤ c .nop → SanePieces (piecesIn width c p k n) → SanePieces (pairPieces width c y z k n)
+  unfolding piecesIn pairPieces
+  pairs-sane zero k h o = tt
+  pairs-sane (suc n) k h o =
+      (sane-pair (pieceIn width c y k) (pieceIn width c z k) (sane-piece width p q s w x k (omega arith) (o .0)) (sane-piece width p r t w v k (omega arith) (o .0)), pairs-sane n (suc k) (omega arith) (o .1))
+
+  said-sane : SaneSaid (saidBy width c p) → SaneSaid (pairSaid width c y z)
+  unfolding saidBy pairSaid
+  said-sane o = record {
+    psd = subst (λ (l : List ℕ). (length l < 65536) × logBytes l) (sym (copy-psd width p q s w x)) (o .psd);
+    pieces = pairs-sane (c .nop) 0 (omega arith) (o .pieces);
+    few = (let a = count-pairs width c y z 0 (c .nop) in let b = count-pieces width c p 0 (c .nop) in let f = o .few in omega (arith, a, b, f));
+  }
+
+  pub pair-sane : SaneSaid (saidBy width c p) → SaneSaid (pairSaid width (controlAt (correctedPdu q)) (correctedPdu q) (correctedPdu r))
+  pair-sane o =
+      subst (λ (l : List ℕ). SaneSaid (pairSaid width (controlAt l) l (correctedPdu r))) (sym (copy-corrected width p q s w x))
+      (subst (λ (l : List ℕ). SaneSaid (pairSaid width (controlAt y) y l)) (sym (copy-corrected width p r t w v))
+      (subst (λ (k : ControlWord). SaneSaid (pairSaid width k y z)) (sym (copy-control-is width p q s w x)) (said-sane o)))
+
+  pub pair-heard : blankSaid (pairSaid width (controlAt (correctedPdu q)) (correctedPdu q) (correctedPdu r)) ≡ blankSaid (stricken either (saidBy width c p))
+  pair-heard = ap₂ (λ (a b : List ℕ). blankSaid (pairSaid width (controlAt a) a b)) (copy-corrected width p q s w x) (copy-corrected width p r t w v) ∙ pair-says

@@ -1,0 +1,54 @@
+-- How a copy of a PDU may come: at most four of its first 96 bytes altered, bytes 96 to La as sent, and each piece with its CRC byte either as sent
+-- or damaged. One notion for demand 3, for two copies of a PDU (document 02, Ask 5) and for bursts (Ask 12).
+use mathlib.Core.Path.{_≡_}
+use mathlib.Core.Bool.{Bool, true, false, not, cond}
+use mathlib.Core.List.{List, [], _∷_, _++_}
+use Prim.Native.Nat.{ℕ, zero, suc, _+_, _-_, _<_, _≤_}
+use lib.Dec.{eqb}
+use lib.ListN.{length, getD, take, drop}
+use Rattle.crc.specs.Crc.{crcFrom}
+use Rattle.burst.specs.Burst.{Burst}
+use Rattle.header.specs.Header.{distance}
+use Rattle.layout.specs.Control.{controlAt}
+use Rattle.layout.specs.Locators.{locatorAt}
+use Rattle.pdu.specs.Reading.{startAt, lengthAt}
+use Rattle.writer.specs.RoundTrip.{Bytes}
+
+-- what a receiver reads of a PDU p that came as q: the header is p's again
+abbrev pub restored : List ℕ → List ℕ → List ℕ
+restored p q = take 96 p ++ drop 96 q
+
+-- how many bytes are before the first piece of p
+abbrev pub frontLength : List ℕ → ℕ
+frontLength p = controlAt p .la + 1
+
+module _ (width : ℕ) (p : List ℕ) where
+  -- piece k of y, by the control word and the locators of p, and the byte where its CRC stands
+  abbrev pub bytesAt : List ℕ → ℕ → List ℕ
+  bytesAt y k = take (lengthAt width (controlAt p) p k) (drop (startAt width (controlAt p) p k) y)
+
+  abbrev pub crcAt : List ℕ → ℕ → ℕ
+  crcAt y k = getD y (locatorAt width p k) 0
+
+  -- piece k with its CRC byte
+  abbrev pub pieceAt : List ℕ → ℕ → List ℕ
+  pieceAt y k = bytesAt y k ++ (crcAt y k ∷ [])
+
+  -- what may have become of a piece that is not as sent: its CRC is wrong, or its altered bits, one at least, lie inside eight consecutive bits
+  pub data Damage (y : List ℕ) (k : ℕ) : Type 0 where
+    wrong : ¬ (crcFrom 0 (bytesAt y k) ≡ crcAt y k) → Damage y k
+    burst : Burst (pieceAt p k) (pieceAt y k) → Damage y k
+
+  -- q is p with at most four of its first 96 bytes altered, to anything; bytes 96 to La are as sent, and so is each piece with its CRC byte where
+  -- `sound` says so; any other is damaged. Bytes after the last locator may be any
+  pub record Copy (q : List ℕ) (sound : ℕ → Bool) : Type 0 where
+    pub bytes : Bytes q
+    pub long : length q ≡ length p
+    pub few : distance (take 96 q) (take 96 p) ≤ 4
+    pub front : take (frontLength p) (restored p q) ≡ take (frontLength p) p
+    pub whole : (k : ℕ) → k < controlAt p .nop → sound k ≡ true → (bytesAt (restored p q) k ≡ bytesAt p k) × (crcAt (restored p q) k ≡ crcAt p k)
+    pub found : (k : ℕ) → k < controlAt p .nop → sound k ≡ false → Damage (restored p q) k
+
+-- the causes of its pieces
+abbrev pub causesFor : (ℕ → Bool) → ℕ → ℕ
+causesFor sound k = cond (sound k) 0 2

@@ -1,0 +1,63 @@
+-- The receivers that document 01 wants thrown out by demand 3, and one that joins across a lost PDU. Each is the receiver of document 01 but for what its
+-- line says; proofs/WrongReceivers.antt shows that demand 3 is false of each.
+use mathlib.Core.Bool.{Bool, true, false, cond}
+use mathlib.Core.List.{List, [], _∷_}
+use Prim.Native.Nat.{ℕ}
+use lib.ListN.{length}
+use Rattle.buffer.specs.Buffer.{putAt}
+use Rattle.log.specs.Log.{packet, logWords}
+use Rattle.receiver.specs.declared.Receiver.{Receiver}
+use Rattle.receiver.specs.declared.Received.{Received}
+use Rattle.delivery.specs.Delivery.{Behaviour, Station, Call, receive, markLost, answerOf, carryOf, logOf, defined}
+
+-- an answer with another count of words, or with another receiver
+abbrev pub withWords : ℕ → Received → Received
+withWords n a = record { refusal = a .refusal; wrong = a .wrong; words = n; receiver = a .receiver }
+
+abbrev pub withReceiver : Receiver → Received → Received
+withReceiver r a = record { refusal = a .refusal; wrong = a .wrong; words = a .words; receiver = r }
+
+-- the log as it was lent
+abbrev pub lentLog : Call → List ℕ
+lentLog (receive k pdu log) = log
+lentLog (markLost log) = log
+
+-- an empty log for everything
+abbrev pub silent : Behaviour
+silent = record { opening = defined .opening; answer = λ x c. withWords 0 (answerOf x c); carry = carryOf; log = λ x c. lentLog c }
+
+-- it leaves the log untouched
+abbrev pub untouched : Behaviour
+untouched = record { opening = defined .opening; answer = answerOf; carry = carryOf; log = λ x c. lentLog c }
+
+-- it delivers one fixed packet for every PDU handed to it, also for one that it refuses
+module _ (number : ℕ) (bytes : List ℕ) where
+  abbrev pub fixedWords : List ℕ
+  fixedWords = logWords (packet number bytes ∷ [])
+
+  abbrev pub fixedAnswer : Station → Call → Received
+  fixedAnswer x (receive k pdu log) = withWords (length fixedWords) (answerOf x (receive k pdu log))
+  fixedAnswer x (markLost log) = answerOf x (markLost log)
+
+  abbrev pub fixedLog : Station → Call → List ℕ
+  fixedLog x (receive k pdu log) = putAt log 0 fixedWords
+  fixedLog x (markLost log) = logOf x (markLost log)
+
+  abbrev pub fixed : Behaviour
+  fixed = record { opening = defined .opening; answer = fixedAnswer; carry = carryOf; log = fixedLog }
+
+-- it joins in the first PDU, and then only advances
+abbrev pub advancingAnswer : Station → Call → Received
+advancingAnswer x (receive k pdu log) = cond (x .receiver .known) (withWords 0 (answerOf x (receive k pdu log))) (answerOf x (receive k pdu log))
+advancingAnswer x (markLost log) = answerOf x (markLost log)
+
+abbrev pub advancing : Behaviour
+advancing = record { opening = defined .opening; answer = advancingAnswer; carry = carryOf; log = logOf }
+
+-- marking lost leaves it as it was, so that the one-bit sequence may fit again
+abbrev pub joiningAnswer : Station → Call → Received
+joiningAnswer x (receive k pdu log) = answerOf x (receive k pdu log)
+joiningAnswer x (markLost log) = withReceiver (x .receiver) (answerOf x (markLost log))
+
+abbrev pub joining : Behaviour
+joining = record { opening = defined .opening; answer = joiningAnswer; carry = carryOf; log = logOf }

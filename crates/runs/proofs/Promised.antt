@@ -1,0 +1,28 @@
+-- The general theorem in the words of the papers.
+use Prim.Native.Nat.{ℕ}
+use mathlib.Core.Path.{_≡_, refl, sym, ap, ap₂, subst, _∙_}
+use mathlib.Core.List.{List, [], _∷_, _++_}
+use mathlib.Core.Option.{none}
+use lib.ListN.{replicate}
+use Rattle.log.specs.Log.{logWords, packetWords}
+use Rattle.reassembly.specs.Rights.{Rights}
+use Rattle.reassembly.specs.Tally.{Tally, noTally, tallied}
+use Rattle.runs.specs.Model.{Fate}
+use Rattle.runs.specs.Transmissions.{gone, Close, AddsUp}
+use Rattle.runs.specs.Spans.{lies, wholePackets, wholeIndices}
+use Rattle.runs.specs.Calls.{Load, spansFrom, labelsOf, Machine, Bridge, Step, waysOf, logsFrom}
+use Rattle.runs.specs.Promise.{Promise}
+use Rattle.runs.proofs.General.{Asked, Delivered, general}
+use Rattle.runs.proofs.Bridges.{fates-along}
+
+module _ (rights : Rights) (range : ℕ) (M : Machine) (B : Bridge rights range M) (ps : List (List ℕ)) (loads : List Load) (made : List (B .Pdu)) (first count : ℕ) (x : M .State) (ss : List (Step B)) where
+  pub promised : (d : Asked rights range M B ps loads made first count x ss)
+      → Promise rights range first ps (spansFrom 0 0 ps loads) (labelsOf loads) (waysOf B ss) (logsFrom B x ss) (general rights range M B ps loads made first count x ss d .last .tally)
+  promised d =
+      let g = general rights range M B ps loads made first count x ss d in
+      let e = fates-along rights range loads (replicate first gone ++ waysOf B ss) 0 none in
+      record {
+        holds = g .log ∙ ap (λ (w : List Fate). logWords (wholePackets (lies ps (spansFrom 0 0 ps loads) w) 0 0 ps)) e;
+        counted = g .tally ∙ ap (λ (w : List Fate). tallied noTally (wholePackets (lies ps (spansFrom 0 0 ps loads) w) 0 0 ps)) e;
+        adds-up = subst (λ (w : List Fate). Close (wholeIndices (lies ps (spansFrom 0 0 ps loads) w) 0 0 ps) → AddsUp (wholeIndices (lies ps (spansFrom 0 0 ps loads) w) 0 0 ps) (g .last .tally)) e (g .adds-up);
+      }
