@@ -1,5 +1,6 @@
 /*
- * How fast the header code and the CRC-8 are, beside libfec and a table CRC.
+ * How fast the header code and the CRC-8 are, beside libfec and a table CRC; and
+ * the eight sums beside the same with a power of a worked out for each byte.
  *
  * Before anything is timed, the library and its peers are compared on random
  * inputs; if they disagree, the program stops with a message and status 1.
@@ -30,6 +31,12 @@ struct piece {
 };
 
 static int with_fec;
+
+/* The eight sums with a power for each byte: crates/power_sums. */
+typedef struct {
+    uint8_t values[PARITY];
+} power_sums_answer;
+power_sums_answer power_sums(const uint8_t *header);
 
 /* Stops: the library and a peer disagree. */
 static void disagree(const char *what)
@@ -135,6 +142,20 @@ static void compare_correction(const uint8_t *header)
         disagree("corrected header (libfec)");
 }
 
+static void compare_sums(void)
+{
+    uint8_t header[HEADER];
+    unsigned wrong, n;
+    for (wrong = 0; wrong <= HEADER; wrong += 4)
+        for (n = 0; n < COMPARED; n++) {
+            barzhilup_syndromes_answer sums;
+            draw_header(header, wrong);
+            sums = barzhilup_syndromes(header);
+            if (memcmp(sums.values, power_sums(header).values, sizeof sums.values) != 0)
+                disagree("the eight sums (a power for each byte)");
+        }
+}
+
 static void compare_headers(void)
 {
     uint8_t header[HEADER];
@@ -168,6 +189,15 @@ static void our_syndromes(const void *inputs, size_t passes)
     while (passes-- > 0)
         for (i = 0; i < POOL; i++)
             sink = barzhilup_syndromes(h->ours[i]).values[0];
+}
+
+static void power_syndromes(const void *inputs, size_t passes)
+{
+    const struct headers *h = inputs;
+    size_t i;
+    while (passes-- > 0)
+        for (i = 0; i < POOL; i++)
+            sink = power_sums(h->ours[i]).values[0];
 }
 
 static void our_parity(const void *inputs, size_t passes)
@@ -238,12 +268,16 @@ static void peer_bit_crc(const void *inputs, size_t passes)
 
 /* ---- Rows and tables ----------------------------------------------------- */
 
-#define HEADER_ROWS 7
+#define SUM_ROWS 2
+#define HEADER_ROWS 6
 #define CRC_ROWS 3
+#define FIRST_HEADER SUM_ROWS
+#define FIRST_CRC (FIRST_HEADER + HEADER_ROWS)
+#define ROWS (FIRST_CRC + CRC_ROWS)
 
-static struct headers headers[HEADER_ROWS];
+static struct headers headers[SUM_ROWS + HEADER_ROWS];
 static struct piece pieces[CRC_ROWS];
-static struct row rows[HEADER_ROWS + CRC_ROWS];
+static struct row rows[ROWS];
 
 static void header_row(size_t i, const char *name, unsigned wrong, timed_work ours,
                        timed_work peer)
@@ -251,14 +285,14 @@ static void header_row(size_t i, const char *name, unsigned wrong, timed_work ou
     draw_headers(&headers[i], wrong);
     rows[i].name = name;
     rows[i].work[0] = ours;
-    rows[i].work[1] = with_fec ? peer : NULL;
+    rows[i].work[1] = peer;
     rows[i].inputs = &headers[i];
     rows[i].units = POOL;
 }
 
 static void crc_row(size_t i, const char *name, const uint8_t *bytes, size_t length)
 {
-    struct row *row = &rows[HEADER_ROWS + i];
+    struct row *row = &rows[FIRST_CRC + i];
     pieces[i].bytes = bytes;
     pieces[i].length = length;
     row->name = name;
@@ -271,13 +305,16 @@ static void crc_row(size_t i, const char *name, const uint8_t *bytes, size_t len
 
 static void make_rows(const uint8_t *bytes)
 {
-    header_row(0, "syndromes", 0, our_syndromes, NULL);
-    header_row(1, "parity", 0, our_parity, peer_parity);
-    header_row(2, "correct, 0 wrong bytes", 0, our_correction, peer_correction);
-    header_row(3, "correct, 1 wrong byte", 1, our_correction, peer_correction);
-    header_row(4, "correct, 2 wrong bytes", 2, our_correction, peer_correction);
-    header_row(5, "correct, 4 wrong bytes", 4, our_correction, peer_correction);
-    header_row(6, "uncorrectable, 5 altered", 5, our_correction, peer_correction);
+    timed_work parity = with_fec ? peer_parity : NULL;
+    timed_work correction = with_fec ? peer_correction : NULL;
+    header_row(0, "sums of a code word", 0, our_syndromes, power_syndromes);
+    header_row(1, "sums, 4 wrong bytes", 4, our_syndromes, power_syndromes);
+    header_row(2, "parity", 0, our_parity, parity);
+    header_row(3, "correct, 0 wrong bytes", 0, our_correction, correction);
+    header_row(4, "correct, 1 wrong byte", 1, our_correction, correction);
+    header_row(5, "correct, 2 wrong bytes", 2, our_correction, correction);
+    header_row(6, "correct, 4 wrong bytes", 4, our_correction, correction);
+    header_row(7, "uncorrectable, 5 altered", 5, our_correction, correction);
     crc_row(0, "CRC-8, 64 bytes", bytes, 64);
     crc_row(1, "CRC-8, 1,024 bytes", bytes, 1024);
     crc_row(2, "CRC-8, 4,096 bytes", bytes, 4096);
@@ -301,13 +338,17 @@ static void print_row(const struct row *row)
 static void print_tables(void)
 {
     size_t i;
+    printf("\n%-26s %10s %10s %8s   %15s\n", "the eight sums, ns", "ours", "by powers", "ratio",
+           "middle half");
+    for (i = 0; i < FIRST_HEADER; i++)
+        print_row(&rows[i]);
     printf("\n%-26s %10s %10s %8s   %15s\n", "ns per header", "ours", "libfec", "ratio",
            "middle half");
-    for (i = 0; i < HEADER_ROWS; i++)
+    for (i = FIRST_HEADER; i < FIRST_CRC; i++)
         print_row(&rows[i]);
     printf("\n%-26s %10s %10s %8s   %15s %10s\n", "ns per byte", "ours", "C table", "ratio",
            "middle half", "C bitwise");
-    for (i = HEADER_ROWS; i < HEADER_ROWS + CRC_ROWS; i++)
+    for (i = FIRST_CRC; i < ROWS; i++)
         print_row(&rows[i]);
 }
 
@@ -338,9 +379,10 @@ int main(void)
         compare_headers();
     else
         printf("libfec is not installed: the header code's numbers stand alone.\n");
+    compare_sums();
     compare_crc(bytes, sizeof bytes);
     make_rows(bytes);
-    time_rows(rows, HEADER_ROWS + CRC_ROWS);
+    time_rows(rows, ROWS);
     print_tables();
     print_notes();
     return 0;

@@ -12,6 +12,7 @@
  *                      in the order of `once`
  */
 #include "agree.h"
+#include "limits.h"
 #include "peers.h"
 #include "plain.h"
 #include "timing.h"
@@ -109,6 +110,24 @@ static const timed_work writing[RIVALS] = {library_writes, PLAIN(plain_writes),
 static const timed_work receiving[RIVALS] = {library_receives, PLAIN(plain_receives),
                                              REFEREE(referee_receives)};
 
+static void copies(const void *drive, size_t passes)
+{
+    const struct drive *d = drive;
+    size_t i;
+    while (passes-- > 0)
+        for (i = 0; i < PDUS; i++)
+            copy_bytes(d->pdus + i * d->pdu_length, d->pdu_length);
+}
+
+static void packs(const void *drive, size_t passes)
+{
+    const struct drive *d = drive;
+    size_t i;
+    while (passes-- > 0)
+        for (i = 0; i < PDUS; i++)
+            pack_bytes(d->pdus + i * d->pdu_length, d->pdu_length);
+}
+
 /* ---- Drives and rows ----------------------------------------------------- */
 
 #define LENGTHS 4
@@ -127,6 +146,8 @@ static const size_t piece_points[PIECE_POINTS] = {1, 2, 4, 8, 16, 24, 32, 41};
 
 static struct drive clean[LENGTHS], damaged[LENGTHS], longer[LENGTH_POINTS], more[PIECE_POINTS];
 static struct row rows[ROWS];
+static struct row pairs[MAIN_ROWS];  /* the first rows, without the referee in the rounds */
+static struct row limits[MAIN_ROWS]; /* the least that each of them has to do */
 static char names[ROWS][40];
 
 static void make_row(size_t i, const char *job, size_t number, const char *unit,
@@ -165,10 +186,23 @@ static void make_main_rows(void)
     }
 }
 
+static void make_pairs_and_limits(void)
+{
+    size_t i;
+    for (i = 0; i < MAIN_ROWS; i++) {
+        pairs[i] = rows[i];
+        pairs[i].work[2] = NULL;
+        limits[i] = rows[i];
+        memset(limits[i].work, 0, sizeof limits[i].work);
+        limits[i].work[0] = i < LENGTHS ? copies : packs;
+    }
+}
+
 static void make_all(void)
 {
     size_t i;
     make_main_rows();
+    make_pairs_and_limits();
     for (i = 0; i < LENGTH_POINTS; i++) {
         make_even_drive(&longer[i], length_points[i], PIECES);
         make_rows(FIRST_LENGTH + i, LENGTH_POINTS, length_points[i], "bytes", &longer[i]);
@@ -302,6 +336,33 @@ static void print_tables(void)
     print_fits("piece", FIRST_PIECE, PIECE_POINTS, piece_points);
 }
 
+static void print_ratio(double ours, const struct row *row, size_t rival)
+{
+    if (row->work[rival] == NULL)
+        printf(" %10s", "-");
+    else
+        printf(" %10.2f", ours / least_ns(row, rival));
+}
+
+/* Every ratio of the first rows in one place. */
+static void print_ratios(void)
+{
+    size_t i;
+    printf("\nRatios of times, PDUs of packets that run on: the library by the plain C program, with the referee in\n"
+           "the rounds and without, and by the referee; and by the limit, copying (writing) or packing (receiving) the PDU\n"
+           "%-30s %10s %10s %10s %10s %10s\n",
+           "per PDU", "L/C", "L/C alone", "L/R", "limit, ns", "L/limit");
+    for (i = 0; i < MAIN_ROWS; i++) {
+        printf("%-30s", rows[i].name);
+        print_ratio(cost(i, 0), &rows[i], 1);
+        print_ratio(least_ns(&pairs[i], 0), &pairs[i], 1);
+        print_ratio(cost(i, 0), &rows[i], 2);
+        printf(" %10.0f", least_ns(&limits[i], 0));
+        print_ratio(cost(i, 0), &limits[i], 0);
+        printf("\n");
+    }
+}
+
 /* ---- Counts of instructions ---------------------------------------------- */
 
 static const char *const rivals[RIVALS] = {"library", "plain C", "referee"};
@@ -359,6 +420,9 @@ int main(int argc, char **argv)
     } else {
         agree();
         time_rows(rows, ROWS);
+        time_rows(pairs, MAIN_ROWS);
+        time_rows(limits, MAIN_ROWS);
+        print_ratios();
     }
     print_tables();
     return 0;

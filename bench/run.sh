@@ -1,12 +1,12 @@
 #!/usr/bin/env bash
 # How fast the library is, and how much stack it uses; docs/PERFORMANCE.md says what came of it.
-# - the header code beside libfec, and the CRC-8 beside plain C (header.c);
+# - the eight sums beside the same with a power of a for each byte, the header code beside libfec, the CRC-8 beside plain C (header.c);
 # - writing and receiving PDUs beside the same job in plain C with libfec (plain.c) and beside the referee, as times and as counts of
-#   instructions, with how they grow (pdus.c), and which functions have how much of it;
+#   instructions, with how they grow (pdus.c), how far each is from copying and packing its bytes, and which functions have how much of it;
 # - the stack of each exported function (stack.c).
 # It measures and judges nothing but that all of them answer the same, and is no part of the gate. It takes about a minute, on one core;
 # other load on the machine shows in the times, and not in the counts.
-# Needs gcc and built libcapi.a and libpanel.a: in target/staticlib under the project's root, or in the directory that BARZHILUP_LIB names.
+# Needs gcc and built libcapi.a, libpanel.a and libpower_sums.a: in target/staticlib under the project's root, or in the directory that BARZHILUP_LIB names.
 # Used where they are installed, else what they are for is left out: libfec (Debian: apt-get install libfec-dev), cargo, valgrind.
 set -euo pipefail
 
@@ -15,7 +15,8 @@ bench=$root/bench
 libraries=${BARZHILUP_LIB:-$root/target/staticlib}
 library=$libraries/libcapi.a
 panel=$libraries/libpanel.a
-for built in "$library" "$panel"; do
+sums=$libraries/libpower_sums.a
+for built in "$library" "$panel" "$sums"; do
     if [ ! -f "$built" ]; then
         echo "bench: no $built; build the libraries first, or name their directory in BARZHILUP_LIB" >&2
         exit 1
@@ -54,8 +55,8 @@ compile() {
     gcc -std=c99 -Wall -Wextra -Wpedantic -Werror -O3 -I "$root/include" "${defined[@]}" -Wl,-z,now -o "$build/$name" "$bench/$name.c" "$bench/peers.c" "$@"
 }
 
-compile header "$bench/timing.c" "$library" "${linked[@]}"
-compile pdus "$bench/agree.c" "$bench/drives.c" "$bench/plain.c" "$bench/timing.c" "$library" "${beside[@]}" "${linked[@]}"
+compile header "$bench/timing.c" "$library" "$sums" "${linked[@]}"
+compile pdus "$bench/agree.c" "$bench/drives.c" "$bench/limits.c" "$bench/plain.c" "$bench/timing.c" "$library" "${beside[@]}" "${linked[@]}"
 compile stack "$bench/drives.c" "$bench/plain.c" "$panel" "$library" "${linked[@]}" -lpthread
 
 # ---- Counts of instructions --------------------------------------------------

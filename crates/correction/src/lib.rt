@@ -18,7 +18,7 @@ pub enum Correction {
 }
 
 // The row times the inverse of b.
-fn scaled(powers: &[u8; 255], logarithms: &[u8; 256], row: [u8; 4], b: u8) -> [u8; 4]
+fn scaled(powers: &[u8; 510], logarithms: &[u8; 256], row: [u8; 4], b: u8) -> [u8; 4]
     requires { ⌜ Powers (now powers) ⌝ }
     requires { ⌜ Logarithms (now logarithms) ⌝ }
     ensures { λ r. ⌜ Row 4 (scaledBy row b) r 4 ⌝ }
@@ -33,7 +33,7 @@ fn scaled(powers: &[u8; 255], logarithms: &[u8; 256], row: [u8; 4], b: u8) -> [u
 
 // The row plus its entry at k times the pivot row.
 fn cleared(
-    powers: &[u8; 255],
+    powers: &[u8; 510],
     logarithms: &[u8; 256],
     row: [u8; 4],
     p: [u8; 4],
@@ -70,7 +70,7 @@ fn pivot(m: [[u8; 4]; 4], k: usize) -> usize
 
 // Row p scaled to a 1 in column k and moved to row k, and column k cleared in every other row.
 fn reduce(
-    powers: &[u8; 255],
+    powers: &[u8; 510],
     logarithms: &[u8; 256],
     m: [[u8; 4]; 4],
     k: usize,
@@ -100,7 +100,7 @@ fn reduce(
 
 // The right side after the same step: the entry of row p scaled and moved to row k, and the others changed as their rows are cleared.
 fn reduce_right(
-    powers: &[u8; 255],
+    powers: &[u8; 510],
     logarithms: &[u8; 256],
     m: [[u8; 4]; 4],
     right: [u8; 4],
@@ -151,7 +151,7 @@ fn column(rows: [[u8; 4]; 4], k: usize) -> [u8; 4]
 }
 
 // Elimination of the system m with its right side, as far as the first column with no pivot.
-fn eliminate(powers: &[u8; 255], logarithms: &[u8; 256], m: [[u8; 4]; 4], t: [u8; 4]) -> Locator
+fn eliminate(powers: &[u8; 510], logarithms: &[u8; 256], m: [[u8; 4]; 4], t: [u8; 4]) -> Locator
     requires { ⌜ Powers (now powers) ⌝ }
     requires { ⌜ Logarithms (now logarithms) ⌝ }
     ensures { λ r. ⌜ Solved (beside m t) (r .degree) (r .coefficients) ⌝ }
@@ -181,7 +181,7 @@ fn eliminate(powers: &[u8; 255], logarithms: &[u8; 256], m: [[u8; 4]; 4], t: [u8
 }
 
 // One filter: entry j becomes t[j + 1] + x t[j]. The last entry is of no use after it.
-fn filtered(powers: &[u8; 255], logarithms: &[u8; 256], t: [u8; 8], x: u8) -> [u8; 8]
+fn filtered(powers: &[u8; 510], logarithms: &[u8; 256], t: [u8; 8], x: u8) -> [u8; 8]
     requires { ⌜ Powers (now powers) ⌝ }
     requires { ⌜ Logarithms (now logarithms) ⌝ }
     ensures { λ r. ⌜ Filtered t x r 7 ⌝ }
@@ -195,7 +195,7 @@ fn filtered(powers: &[u8; 255], logarithms: &[u8; 256], t: [u8; 8], x: u8) -> [u
 
 // The error value at the point z[k], one of the first m points of z, from the syndromes s.
 fn error_value(
-    powers: &[u8; 255],
+    powers: &[u8; 510],
     logarithms: &[u8; 256],
     s: [u8; 8],
     z: [u8; 8],
@@ -225,7 +225,7 @@ fn error_value(
 
 // The locator at x.
 fn evaluate(
-    powers: &[u8; 255],
+    powers: &[u8; 510],
     logarithms: &[u8; 256],
     coefficients: [u8; 4],
     degree: usize,
@@ -253,7 +253,7 @@ struct Places {
 
 // The places at which the locator is zero, the last first.
 fn error_places(
-    powers: &[u8; 255],
+    powers: &[u8; 510],
     logarithms: &[u8; 256],
     coefficients: [u8; 4],
     degree: usize,
@@ -310,14 +310,15 @@ fn right_side(s: [u8; 8]) -> [u8; 4]
 }
 
 // The points of four places, filled up with zeros.
-fn points(places: [usize; 4]) -> [u8; 8]
+fn points(powers: &[u8; 510], places: [usize; 4]) -> [u8; 8]
+    requires { ⌜ Powers (now powers) ⌝ }
     ensures { λ z. ⌜ z ≡ pointsOf places ⌝ }
 {
     [
-        field::power(places[0]),
-        field::power(places[1]),
-        field::power(places[2]),
-        field::power(places[3]),
+        field::power_by(powers, places[0]),
+        field::power_by(powers, places[1]),
+        field::power_by(powers, places[2]),
+        field::power_by(powers, places[3]),
         0,
         0,
         0,
@@ -327,7 +328,7 @@ fn points(places: [usize; 4]) -> [u8; 8]
 
 // The header with the error values added at the first m places.
 fn repaired(
-    powers: &[u8; 255],
+    powers: &[u8; 510],
     logarithms: &[u8; 256],
     header: [u8; 96],
     s: [u8; 8],
@@ -340,7 +341,7 @@ fn repaired(
     requires { ⌜ Logarithms (now logarithms) ⌝ }
     ensures { λ r. ⌜ Repaired header s places m m r ⌝ }
 {
-    let z = points(places);
+    let z = points(powers, places);
     let mut out = header;
     for k in 0..m {
         let at = places[k];
@@ -350,20 +351,20 @@ fn repaired(
 }
 
 // The only code word within four bytes of a header with these syndromes, if there is one.
-fn candidate(header: [u8; 96], s: [u8; 8]) -> [u8; 96]
+fn candidate(powers: &[u8; 510], logarithms: &[u8; 256], header: [u8; 96], s: [u8; 8]) -> [u8; 96]
     requires { ⌜ All (λ x. x < 256) header ⌝ }
     requires { ⌜ s ≡ syndromes header ⌝ }
+    requires { ⌜ Powers (now powers) ⌝ }
+    requires { ⌜ Logarithms (now logarithms) ⌝ }
     ensures { λ r. ⌜ Candidate header r ⌝ }
 {
-    let powers = field::powers();
-    let logarithms = field::logarithms();
-    let locator = eliminate(&powers, &logarithms, system(s), right_side(s));
+    let locator = eliminate(powers, logarithms, system(s), right_side(s));
     let degree = locator.degree;
     let coefficients = locator.coefficients;
-    let found = error_places(&powers, &logarithms, coefficients, degree);
+    let found = error_places(powers, logarithms, coefficients, degree);
     let places = found.places;
     let m = found.count;
-    repaired(&powers, &logarithms, header, s, places, m)
+    repaired(powers, logarithms, header, s, places, m)
 }
 
 // A header after correction, and the answer.
@@ -388,19 +389,21 @@ fn decode(header: [u8; 96]) -> Decoded
     ensures { λ r. ⌜ r .answer ≡ answerFor header (corrected header) ⌝ }
     ensures { λ r. ⌜ r .header ≡ headerAfter header (corrected header) ⌝ }
 {
-    let s = header::syndromes(&header);
+    let powers = field::powers();
+    let logarithms = field::logarithms();
+    let s = header::syndromes_by(&powers, &logarithms, &header);
     if header::all_zero(s) {
         return Decoded {
             header: header,
             answer: Correction::Corrected(0),
         };
     }
-    let fixed = candidate(header, s);
+    let fixed = candidate(&powers, &logarithms, header, s);
     let n = header::difference(header, fixed);
     if 4 < n {
         return refused(header);
     }
-    if header::is_code_word(&fixed) {
+    if header::is_code_word_by(&powers, &logarithms, &fixed) {
         return Decoded {
             header: fixed,
             answer: Correction::Corrected(n),

@@ -1,3 +1,5 @@
 pub mod Examples
-pub mod Table
+pub mod Byte
 pub mod Below
+pub mod Ring
+pub mod Folding

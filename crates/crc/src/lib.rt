@@ -1,288 +1,137 @@
 // CRC-8 with the divisor x^8 + x^5 + x^4 + 1, top bit of each byte first (document 01, "Expansion, PSD, pieces").
 ghost use mathlib.Core.Path.{_≡_};
-ghost use Prim.Native.Nat.{_<_};
-ghost use lib.Bits.{bitXor};
+ghost use Prim.Native.Nat.{_+_, _<_, _≤_};
+ghost use lib.ListN.{length};
 ghost use Rattle.crc.specs.Crc.{crcFrom};
+ghost use Rattle.crc.specs.Ring.{wordAt, pushHigh, pushLow, nextHigh, nextLow, shifts, val, folded};
 
-// Entry k: the register k after eight bits of zero.
-const TABLE: [u8; 256] = [
-    0,
-    49,
-    98,
-    83,
-    196,
-    245,
-    166,
-    151,
-    185,
-    136,
-    219,
-    234,
-    125,
-    76,
-    31,
-    46,
-    67,
-    114,
-    33,
-    16,
-    135,
-    182,
-    229,
-    212,
-    250,
-    203,
-    152,
-    169,
-    62,
-    15,
-    92,
-    109,
-    134,
-    183,
-    228,
-    213,
-    66,
-    115,
-    32,
-    17,
-    63,
-    14,
-    93,
-    108,
-    251,
-    202,
-    153,
-    168,
-    197,
-    244,
-    167,
-    150,
-    1,
-    48,
-    99,
-    82,
-    124,
-    77,
-    30,
-    47,
-    184,
-    137,
-    218,
-    235,
-    61,
-    12,
-    95,
-    110,
-    249,
-    200,
-    155,
-    170,
-    132,
-    181,
-    230,
-    215,
-    64,
-    113,
-    34,
-    19,
-    126,
-    79,
-    28,
-    45,
-    186,
-    139,
-    216,
-    233,
-    199,
-    246,
-    165,
-    148,
-    3,
-    50,
-    97,
-    80,
-    187,
-    138,
-    217,
-    232,
-    127,
-    78,
-    29,
-    44,
-    2,
-    51,
-    96,
-    81,
-    198,
-    247,
-    164,
-    149,
-    248,
-    201,
-    154,
-    171,
-    60,
-    13,
-    94,
-    111,
-    65,
-    112,
-    35,
-    18,
-    133,
-    180,
-    231,
-    214,
-    122,
-    75,
-    24,
-    41,
-    190,
-    143,
-    220,
-    237,
-    195,
-    242,
-    161,
-    144,
-    7,
-    54,
-    101,
-    84,
-    57,
-    8,
-    91,
-    106,
-    253,
-    204,
-    159,
-    174,
-    128,
-    177,
-    226,
-    211,
-    68,
-    117,
-    38,
-    23,
-    252,
-    205,
-    158,
-    175,
-    56,
-    9,
-    90,
-    107,
-    69,
-    116,
-    39,
-    22,
-    129,
-    176,
-    227,
-    210,
-    191,
-    142,
-    221,
-    236,
-    123,
-    74,
-    25,
-    40,
-    6,
-    55,
-    100,
-    85,
-    194,
-    243,
-    160,
-    145,
-    71,
-    118,
-    37,
-    20,
-    131,
-    178,
-    225,
-    208,
-    254,
-    207,
-    156,
-    173,
-    58,
-    11,
-    88,
-    105,
-    4,
-    53,
-    102,
-    87,
-    192,
-    241,
-    162,
-    147,
-    189,
-    140,
-    223,
-    238,
-    121,
-    72,
-    27,
-    42,
-    193,
-    240,
-    163,
-    146,
-    5,
-    52,
-    103,
-    86,
-    120,
-    73,
-    26,
-    43,
-    188,
-    141,
-    222,
-    239,
-    130,
-    179,
-    224,
-    209,
-    70,
-    119,
-    36,
-    21,
-    59,
-    10,
-    89,
-    104,
-    255,
-    206,
-    157,
-    172,
-];
-
-// The table's entry that the next register is: the register with a byte added.
-fn entry(register: u8, byte: u8) -> usize
-    ensures { λ r. ⌜ (r < 256) × (r ≡ bitXor register byte) ⌝ }
+fn wide(b: u8) -> u64
+    ensures { λ r. ⌜ (r ≡ b) × (r < 256) ⌝ }
 {
-    (register ^ byte) as usize
+    b as u64
 }
 
-// The register after all bytes, from any start.
+// Eight bytes from a place on, the first highest.
+fn word(bytes: &[u8], i: usize) -> u64
+    requires { ⌜ i + 8 ≤ length (now bytes) ⌝ }
+    ensures { λ r. ⌜ r ≡ wordAt (now (bytes .entry)) i ⌝ }
+{
+    let a = wide(bytes[i + 7]) | (wide(bytes[i + 6]) * 256);
+    let b = a | (wide(bytes[i + 5]) * 65536);
+    let c = b | (wide(bytes[i + 4]) * 16777216);
+    let d = c | (wide(bytes[i + 3]) * 4294967296);
+    let e = d | (wide(bytes[i + 2]) * 1099511627776);
+    let f = e | (wide(bytes[i + 1]) * 281474976710656);
+    f | (wide(bytes[i]) * 72057594037927936)
+}
+
+fn push_high(h: u64, l: u64) -> u64
+    ensures { λ r. ⌜ (r ≡ pushHigh h l) × (r < 18446744073709551616) ⌝ }
+{
+    h % 72057594037927936 * 256 + l / 72057594037927936
+}
+
+fn push_low(h: u64, l: u64, b: u8) -> u64
+    ensures { λ r. ⌜ (r ≡ pushLow h l b) × (r < 18446744073709551616) ⌝ }
+{
+    (l % 72057594037927936 * 256 + b as u64) ^ (h / 72057594037927936 * 2)
+}
+
+fn next_high(h: u64, l: u64, a: u64) -> u64
+    ensures { λ r. ⌜ (r ≡ nextHigh h l a) × (r < 18446744073709551616) ⌝ }
+{
+    (h % 9223372036854775808 * 2 + l / 9223372036854775808) ^ a
+}
+
+fn next_low(h: u64, l: u64, b: u64) -> u64
+    ensures { λ r. ⌜ (r ≡ nextLow h l b) × (r < 18446744073709551616) ⌝ }
+{
+    (l % 9223372036854775808 * 2) ^ (h / 9223372036854775808 * 2) ^ b
+}
+
+// 128 bits as 64: x^64 is x^40 + x^32 + 1, and what passes x^64 by that is folded again.
+fn fold64(h: u64, l: u64) -> u64
+    ensures { λ r. ⌜ (r ≡ folded 32 32 24 40 h l) × (r < 18446744073709551616) ⌝ }
+{
+    let a = (h / 16777216) ^ (h / 4294967296);
+    let b = (a / 16777216) ^ (a / 4294967296);
+    let g = h ^ a ^ b;
+    l ^ (g ^ (g % 4294967296 * 4294967296) ^ (g % 16777216 * 1099511627776))
+}
+
+// 64 bits as 32: x^32 is x^20 + x^16 + 1.
+fn fold32(h: u64, l: u64) -> u64
+    requires { ⌜ (h < 4294967296) × (l < 4294967296) ⌝ }
+    ensures { λ r. ⌜ (r ≡ folded 16 16 12 20 h l) × (r < 4294967296) ⌝ }
+{
+    let a = (h / 4096) ^ (h / 65536);
+    let b = (a / 4096) ^ (a / 65536);
+    let g = h ^ a ^ b;
+    l ^ (g ^ (g % 65536 * 65536) ^ (g % 4096 * 1048576))
+}
+
+// 32 bits as 16: x^16 is x^10 + x^8 + 1.
+fn fold16(h: u64, l: u64) -> u64
+    requires { ⌜ (h < 65536) × (l < 65536) ⌝ }
+    ensures { λ r. ⌜ (r ≡ folded 8 8 6 10 h l) × (r < 65536) ⌝ }
+{
+    let a = (h / 64) ^ (h / 256);
+    let b = (a / 64) ^ (a / 256);
+    let g = h ^ a ^ b;
+    l ^ (g ^ (g % 256 * 256) ^ (g % 64 * 1024))
+}
+
+// 16 bits as 8: x^8 is x^5 + x^4 + 1.
+fn fold8(h: u64, l: u64) -> u64
+    requires { ⌜ (h < 256) × (l < 256) ⌝ }
+    ensures { λ r. ⌜ (r ≡ folded 4 4 3 5 h l) × (r < 256) ⌝ }
+{
+    let a = (h / 8) ^ (h / 16);
+    let b = (a / 8) ^ (a / 16);
+    let g = h ^ a ^ b;
+    l ^ (g ^ (g % 16 * 16) ^ (g % 8 * 32))
+}
+
+// 128 bits modulo the divisor.
+fn reduced(h: u64, l: u64) -> u8
+    ensures { λ r. ⌜ r ≡ val h l ⌝ }
+{
+    let w = fold64(h, l);
+    let d = fold32(w / 4294967296, w % 4294967296);
+    let s = fold16(d / 65536, d % 65536);
+    fold8(s / 256, s % 256) as u8
+}
+
+// The CRC of the sixteen bytes of 128 bits: those times x^8, modulo the divisor.
+fn finish(h: u64, l: u64) -> u8
+    ensures { λ r. ⌜ r ≡ shifts 8 (val h l) ⌝ }
+{
+    reduced(push_high(h, l), push_low(h, l, 0))
+}
+
+// The register after all bytes, from any start: bits that stand for x^119 times the start have it as their CRC, as x^127 is 1.
 fn crc8_from(start: u8, bytes: &[u8]) -> u8
     ensures { λ r. ⌜ r ≡ crcFrom start (now (bytes .entry)) ⌝ }
 {
-    let table = TABLE;
-    let mut register = start;
+    let head = bytes.len() % 16;
+    let mut h: u64 = wide(start) * 36028797018963968;
+    let mut l: u64 = 0;
     let mut i: usize = 0;
-    while i < bytes.len() {
-        register = table[entry(register, bytes[i])];
+    while i < head {
+        let x = push_high(h, l);
+        l = push_low(h, l, bytes[i]);
+        h = x;
         i += 1;
     }
-    register
+    while i < bytes.len() {
+        let a = word(bytes, i);
+        let b = word(bytes, i + 8);
+        let x = next_high(h, l, a);
+        l = next_low(h, l, b);
+        h = x;
+        i += 16;
+    }
+    finish(h, l)
 }
 
 // The CRC-8 of the bytes: the register starts at 0.

@@ -28,7 +28,8 @@ use Rattle.log.proofs.Examples as log
 use Rattle.header.specs.Header.{sumUp, term, syndrome, isCodeWord, distance, exponents, lengthRefusal}
 use Rattle.header.proofs.CodeWords.{Bytes, zero-code-word}
 use Rattle.header.proofs.Distances.{count, count-le, distance-self}
-use Rattle.header.proofs.Division.{value, syndrome-value}
+use Rattle.header.specs.Horner.{value}
+use Rattle.header.proofs.Division.{syndrome-value}
 use Rattle.header.proofs.Unique.{bytes-all}
 use Rattle.correction.specs.Correction.{corrected, Near}
 use Rattle.correction.proofs.Decoding.{corrected-some}

@@ -43,9 +43,9 @@ lastBelow t (suc n) = cond (t n) n (lastBelow t n)
 unfoldable pub inverse : ℕ → ℕ
 inverse x = lastBelow (λ y. eqb (mul x y) 1) 256
 
--- a table of a^0 to a^254
+-- a table of a^0 to a^509
 pub record Powers (t : List ℕ) : Type 0 where
-  pub entry : (k : ℕ) → k < 255 → getD t k 0 ≡ pow k
+  pub entry : (k : ℕ) → k < 510 → getD t k 0 ≡ pow k
 
 -- a table of the power of a that each nonzero byte is
 pub record Logarithms (t : List ℕ) : Type 0 where

@@ -3,8 +3,263 @@ ghost use mathlib.Core.Path.{_≡_};
 ghost use Prim.Native.Nat.{_+_, _<_};
 ghost use Rattle.field.specs.Field.{mul, pow, inverse as inverseOf, Powers, Logarithms};
 
-// a to the powers 0 to 254: all 255 nonzero bytes.
-const POWERS: [u8; 255] = [
+// a to the powers 0 to 509: all 255 nonzero bytes, twice, so that the sum of two logarithms is a place in it.
+const POWERS: [u8; 510] = [
+    1,
+    2,
+    4,
+    8,
+    16,
+    32,
+    64,
+    128,
+    29,
+    58,
+    116,
+    232,
+    205,
+    135,
+    19,
+    38,
+    76,
+    152,
+    45,
+    90,
+    180,
+    117,
+    234,
+    201,
+    143,
+    3,
+    6,
+    12,
+    24,
+    48,
+    96,
+    192,
+    157,
+    39,
+    78,
+    156,
+    37,
+    74,
+    148,
+    53,
+    106,
+    212,
+    181,
+    119,
+    238,
+    193,
+    159,
+    35,
+    70,
+    140,
+    5,
+    10,
+    20,
+    40,
+    80,
+    160,
+    93,
+    186,
+    105,
+    210,
+    185,
+    111,
+    222,
+    161,
+    95,
+    190,
+    97,
+    194,
+    153,
+    47,
+    94,
+    188,
+    101,
+    202,
+    137,
+    15,
+    30,
+    60,
+    120,
+    240,
+    253,
+    231,
+    211,
+    187,
+    107,
+    214,
+    177,
+    127,
+    254,
+    225,
+    223,
+    163,
+    91,
+    182,
+    113,
+    226,
+    217,
+    175,
+    67,
+    134,
+    17,
+    34,
+    68,
+    136,
+    13,
+    26,
+    52,
+    104,
+    208,
+    189,
+    103,
+    206,
+    129,
+    31,
+    62,
+    124,
+    248,
+    237,
+    199,
+    147,
+    59,
+    118,
+    236,
+    197,
+    151,
+    51,
+    102,
+    204,
+    133,
+    23,
+    46,
+    92,
+    184,
+    109,
+    218,
+    169,
+    79,
+    158,
+    33,
+    66,
+    132,
+    21,
+    42,
+    84,
+    168,
+    77,
+    154,
+    41,
+    82,
+    164,
+    85,
+    170,
+    73,
+    146,
+    57,
+    114,
+    228,
+    213,
+    183,
+    115,
+    230,
+    209,
+    191,
+    99,
+    198,
+    145,
+    63,
+    126,
+    252,
+    229,
+    215,
+    179,
+    123,
+    246,
+    241,
+    255,
+    227,
+    219,
+    171,
+    75,
+    150,
+    49,
+    98,
+    196,
+    149,
+    55,
+    110,
+    220,
+    165,
+    87,
+    174,
+    65,
+    130,
+    25,
+    50,
+    100,
+    200,
+    141,
+    7,
+    14,
+    28,
+    56,
+    112,
+    224,
+    221,
+    167,
+    83,
+    166,
+    81,
+    162,
+    89,
+    178,
+    121,
+    242,
+    249,
+    239,
+    195,
+    155,
+    43,
+    86,
+    172,
+    69,
+    138,
+    9,
+    18,
+    36,
+    72,
+    144,
+    61,
+    122,
+    244,
+    245,
+    247,
+    243,
+    251,
+    235,
+    203,
+    139,
+    11,
+    22,
+    44,
+    88,
+    176,
+    125,
+    250,
+    233,
+    207,
+    131,
+    27,
+    54,
+    108,
+    216,
+    173,
+    71,
+    142,
     1,
     2,
     4,
@@ -523,7 +778,7 @@ const LOGARITHMS: [u8; 256] = [
 ];
 
 // The table of powers. Code with many lookups takes it once and lends it to each.
-pub fn powers() -> [u8; 255]
+pub fn powers() -> [u8; 510]
     ensures { λ r. ⌜ Powers r ⌝ }
 {
     POWERS
@@ -537,7 +792,7 @@ pub fn logarithms() -> [u8; 256]
 }
 
 // a to the power k, from the lent table.
-pub fn power_by(powers: &[u8; 255], k: usize) -> u8
+pub fn power_by(powers: &[u8; 510], k: usize) -> u8
     requires { ⌜ Powers (now powers) ⌝ }
     ensures { λ r. ⌜ r ≡ pow k ⌝ }
 {
@@ -553,19 +808,8 @@ fn logarithm_by(logarithms: &[u8; 256], x: u8) -> usize
     logarithms[x as usize] as usize
 }
 
-// The same power of a below 255, for the sum of two logarithms: a^255 is 1.
-fn reduced(k: usize) -> usize
-    requires { ⌜ k < 510 ⌝ }
-    ensures { λ r. ⌜ (r < 255) × (pow r ≡ pow k) ⌝ }
-{
-    if k < 255 {
-        return k;
-    }
-    k - 255
-}
-
 // The product of two bytes, from the lent tables.
-pub fn product_by(powers: &[u8; 255], logarithms: &[u8; 256], x: u8, y: u8) -> u8
+pub fn product_by(powers: &[u8; 510], logarithms: &[u8; 256], x: u8, y: u8) -> u8
     requires { ⌜ Powers (now powers) ⌝ }
     requires { ⌜ Logarithms (now logarithms) ⌝ }
     ensures { λ r. ⌜ r ≡ mul x y ⌝ }
@@ -576,7 +820,7 @@ pub fn product_by(powers: &[u8; 255], logarithms: &[u8; 256], x: u8, y: u8) -> u
     if y == 0 {
         return 0;
     }
-    powers[reduced(logarithm_by(logarithms, x) + logarithm_by(logarithms, y))]
+    powers[logarithm_by(logarithms, x) + logarithm_by(logarithms, y)]
 }
 
 // The power of a that is the inverse of a^k: a^255 is 1.
@@ -588,7 +832,7 @@ fn complement(k: usize) -> usize
 }
 
 // The inverse of a byte, from the lent tables; 0 for 0, which has none.
-pub fn inverse_by(powers: &[u8; 255], logarithms: &[u8; 256], x: u8) -> u8
+pub fn inverse_by(powers: &[u8; 510], logarithms: &[u8; 256], x: u8) -> u8
     requires { ⌜ Powers (now powers) ⌝ }
     requires { ⌜ Logarithms (now logarithms) ⌝ }
     ensures { λ r. ⌜ r ≡ inverseOf x ⌝ }

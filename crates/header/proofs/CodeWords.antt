@@ -22,7 +22,7 @@ and-right : (a b : Bool) → (a && b) ≡ true → b ≡ true
 and-right true b e = e
 and-right false b e = absurd (true≢false (sym e))
 
-all-zero-at : (l : List ℕ) → allZero l ≡ true → (k : ℕ) → k < length l → getD l k 0 ≡ 0
+pub all-zero-at : (l : List ℕ) → allZero l ≡ true → (k : ℕ) → k < length l → getD l k 0 ≡ 0
 all-zero-at [] e k h = absurd (omega arith)
 all-zero-at (x ∷ l) e zero h = eqb-true x 0 (and-left (eqb x 0) (allZero l) e)
 all-zero-at (x ∷ l) e (suc k) h = all-zero-at l (and-right (eqb x 0) (allZero l) e) k (omega arith)
@@ -31,7 +31,7 @@ at-all-zero : (l : List ℕ) → ((k : ℕ) → k < length l → getD l k 0 ≡ 
 at-all-zero [] h = refl
 at-all-zero (x ∷ l) h = ap₂ _&&_ (eq-eqb x 0 (h 0 (omega arith))) (at-all-zero l (λ k b. h (suc k) (omega arith)))
 
-map-at : (f : ℕ → ℕ) (l : List ℕ) (k : ℕ) → k < length l → getD (map f l) k 0 ≡ f (getD l k 0)
+pub map-at : (f : ℕ → ℕ) (l : List ℕ) (k : ℕ) → k < length l → getD (map f l) k 0 ≡ f (getD l k 0)
 map-at f [] k h = absurd (omega arith)
 map-at f (x ∷ l) zero h = refl
 map-at f (x ∷ l) (suc k) h = map-at f l k (omega arith)

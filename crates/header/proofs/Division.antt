@@ -15,6 +15,7 @@ use Rattle.field.proofs.Linear.{mul-add-l}
 use Rattle.bits.proofs.Xor.{xor-assoc, xor-swap}
 use Rattle.field.proofs.Laws.{shift-xor, shift-zero, shift-add, shift-lt, mul-shift, mul-comm, mul-pow, mul-lt, mul-zero-l, mul-one-l, pow-lt}
 use Rattle.header.specs.Header.{sumUp, term, syndrome, isCodeWord, exponents, tap, divideStep, remainder, parityOf}
+use Rattle.header.specs.Horner.{value}
 use Rattle.header.proofs.CodeWords.{Bytes, zero-code-word}
 
 -- ---- sums
@@ -36,10 +37,6 @@ sumUp-shift k f zero = sym (shift-zero k)
 sumUp-shift k f (suc n) = ap (λ (x : ℕ). bitXor x (shift k (f n))) (sumUp-shift k f n) ∙ sym (shift-xor k (sumUp f n) (f n))
 
 -- ---- the value of a polynomial at a^j
-
-unfoldable pub value : ℕ → List ℕ → ℕ
-value j [] = 0
-value j (b ∷ w) = bitXor b (shift j (value j w))
 
 sum-value : (j : ℕ) (w : List ℕ) → sumUp (λ i. shift (i * j) (getD w i 0)) (length w) ≡ value j w
 unfolding value sumUp shift
@@ -160,7 +157,7 @@ module _ (j : ℕ) (h : j < 8) (b r₀ r₁ r₂ r₃ r₄ r₅ r₆ r₇ : ℕ)
 
 -- ---- the register has eight bytes
 
-eight : (r : List ℕ) → length r ≡ 8
+pub eight : (r : List ℕ) → length r ≡ 8
     → r ≡ getD r 0 0 ∷ getD r 1 0 ∷ getD r 2 0 ∷ getD r 3 0 ∷ getD r 4 0 ∷ getD r 5 0 ∷ getD r 6 0 ∷ getD r 7 0 ∷ []
 eight r l = ext-getD 0 r _ l (λ i h. at i (subst (λ (n : ℕ). i < n) l h))
   where
@@ -195,7 +192,7 @@ tap-lt r f k hr hf =
     xor-lt 8 (getD (0 ∷ r) k 0) (mul (pow (getD exponents k 0)) f) (bytes-cons 0 r (lit< tt) hr k)
     (mul-lt (pow (getD exponents k 0)) f (pow-lt (getD exponents k 0)) hf)
 
-map-bytes : (g : ℕ → ℕ) (ks : List ℕ) → ((k : ℕ) → g k < 256) → Bytes (map g ks)
+pub map-bytes : (g : ℕ → ℕ) (ks : List ℕ) → ((k : ℕ) → g k < 256) → Bytes (map g ks)
 map-bytes g [] h = bytes-nil
 map-bytes g (k ∷ ks) h = bytes-cons (g k) (map g ks) (h k) (map-bytes g ks h)
 
@@ -219,7 +216,7 @@ divideStep-value-at j h r b l hr hb =
     ∙ ap (λ (x : List ℕ). bitXor (shift (8 * suc j) b) (shift (suc j) (value (suc j) x))) (sym (eight r l))
 
 -- the remainder has the value of X^8 times the message
-remainder-value : (j : ℕ) → j < 8 → (m : List ℕ) → Bytes m → value (suc j) (remainder m) ≡ shift (8 * suc j) (value (suc j) m)
+pub remainder-value : (j : ℕ) → j < 8 → (m : List ℕ) → Bytes m → value (suc j) (remainder m) ≡ shift (8 * suc j) (value (suc j) m)
 unfolding remainder value
 remainder-value j h [] hm = simp shift-zero
 remainder-value j h (b ∷ m) hm =

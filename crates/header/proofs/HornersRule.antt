@@ -1,4 +1,4 @@
--- Horner's rule gives the syndromes: each is the value of the header's polynomial at a power of a.
+-- Horner's rule gives the values of a polynomial at a to a^8.
 use mathlib.Core.Path.{_≡_, refl, sym, ap, ap₂, _∙_}
 use mathlib.Core.List.{List, [], _∷_, map}
 use Prim.Native.Nat.{ℕ, suc, _+_, _-_, _<_, _≤_}
@@ -9,10 +9,8 @@ use lib.ListN.{length, getD, drop, replicate}
 use lib.Seq.{drop-cons, drop-length, getD-drop}
 use Rattle.field.specs.Field.{mul, shift, pow}
 use Rattle.field.proofs.Laws.{shift-lt, mul-comm, mul-pow, pow-lt}
-use Rattle.header.specs.Header.{syndrome, syndromes}
-use Rattle.header.specs.Horner.{points, horner, hornerStep}
 use Rattle.header.proofs.CodeWords.{Bytes}
-use Rattle.header.proofs.Division.{value, syndrome-value}
+use Rattle.header.specs.Horner.{points, horner, hornerStep, value, values}
 
 value-lt : (j : ℕ) (w : List ℕ) → Bytes w → value j w < 256
 unfolding value
@@ -22,10 +20,6 @@ value-lt j (b ∷ w) h = xor-lt 8 b (shift j (value j w)) (h 0) (shift-lt j (val
 map-ext : (f g : ℕ → ℕ) (l : List ℕ) → ((j : ℕ) → f j ≡ g j) → map f l ≡ map g l
 map-ext f g [] e = refl
 map-ext f g (j ∷ l) e = ap₂ _∷_ (e j) (map-ext f g l e)
-
--- the values of a polynomial at a to a^8
-values : List ℕ → List ℕ
-values w = map (λ j. value j w) (1 ∷ 2 ∷ 3 ∷ 4 ∷ 5 ∷ 6 ∷ 7 ∷ 8 ∷ [])
 
 values-below : (w : List ℕ) (b : ℕ) → Bytes w → hornerStep (values w) b ≡ values (b ∷ w)
 unfolding values hornerStep horner points value
@@ -53,8 +47,6 @@ sums-next w s i h l m e =
     ∙ sym (ap values (drop-cons w (i - 1) 0 (omega arith)))
 
 -- all bytes
-pub sums-all : (w : List ℕ) (i : ℕ) → length w ≡ 96 → Bytes w → i ≡ 0 → sumsFrom i w ≡ syndromes w
-unfolding sumsFrom values syndromes
-sums-all w i l h z =
-    ap (λ (k : ℕ). values (drop k w)) z
-    ∙ map-ext (λ j. value j w) (λ j. syndrome j w) (1 ∷ 2 ∷ 3 ∷ 4 ∷ 5 ∷ 6 ∷ 7 ∷ 8 ∷ []) (λ j. sym (syndrome-value j w l h))
+pub sums-all : (w : List ℕ) (i : ℕ) → i ≡ 0 → sumsFrom i w ≡ values w
+unfolding sumsFrom
+sums-all w i z = ap (λ (k : ℕ). values (drop k w)) z

@@ -4,7 +4,7 @@ use mathlib.Core.List.{List, [], _∷_, map}
 use Prim.Native.Nat.{ℕ}
 use lib.Bits.{bitXor}
 use lib.ListN.{getD}
-use Rattle.field.specs.Field.{mul, pow}
+use Rattle.field.specs.Field.{mul, shift, pow}
 
 -- the points of S1 to S8: a to the powers 1 to 8
 unfoldable pub points : List ℕ
@@ -17,3 +17,12 @@ horner s b k = bitXor b (mul (getD s k 0) (getD points k 0))
 -- the eight sums with byte b below
 unfoldable pub hornerStep : List ℕ → ℕ → List ℕ
 hornerStep s b = map (horner s b) (0 ∷ 1 ∷ 2 ∷ 3 ∷ 4 ∷ 5 ∷ 6 ∷ 7 ∷ [])
+
+-- the value of a polynomial at a^j
+unfoldable pub value : ℕ → List ℕ → ℕ
+value j [] = 0
+value j (b ∷ w) = bitXor b (shift j (value j w))
+
+-- the values of a polynomial at a to a^8
+unfoldable pub values : List ℕ → List ℕ
+values w = map (λ j. value j w) (1 ∷ 2 ∷ 3 ∷ 4 ∷ 5 ∷ 6 ∷ 7 ∷ 8 ∷ [])

@@ -1,8 +1,10 @@
 -- Document 01, "Receiver": log words have 32 bits; bits 31-30 are the kind.
+use mathlib.Core.Path.{_≡_}
 use mathlib.Core.Bool.{Bool, true, false, cond}
 use mathlib.Core.List.{List, [], _∷_, _++_}
 use Prim.Native.Nat.{ℕ, zero, suc, _+_, _-_, _*_, _/_, min}
-use lib.ListN.{length, getD}
+use lib.ListN.{length, getD, drop}
+use Rattle.buffer.specs.Buffer.{putAt}
 
 pub data Entry : Type 0 where
   packet : ℕ → List ℕ → Entry  -- number, bytes
@@ -27,6 +29,12 @@ dataWords (a ∷ b ∷ c ∷ rest) = dataWord 3 a b c ∷ dataWords rest
 -- the data word of the bytes from a place on, three at most
 abbrev pub dataWordAt : List ℕ → ℕ → ℕ
 dataWordAt bytes i = dataWord (min 3 (length bytes - i)) (getD bytes i 0) (getD bytes (i + 1) 0) (getD bytes (i + 2) 0)
+
+-- a log in which the first words of the bytes from a place on stand from `at` on, in number r: the others come behind them, whatever follows
+-- the bytes
+abbrev pub Leaves : List ℕ → ℕ → List ℕ → ℕ → List ℕ → ℕ → Type 0
+Leaves log at bytes i after r =
+    (rest : List ℕ) → putAt after (at + r) (dataWords (drop (i + 3 * r) (bytes ++ rest))) ≡ putAt log at (dataWords (drop i (bytes ++ rest)))
 
 -- kind 0, packet: bits 21-16 number, 15-0 length; kind 2, PSD: 15-0 length; kind 3, note: 29-16 cause, 15-0 piece.
 -- Data words follow kinds 0 and 2.

@@ -1,10 +1,10 @@
 // Words of the packet log (document 01, "Receiver").
 ghost use mathlib.Core.Path.{_≡_};
 ghost use mathlib.Core.List.{_++_};
-ghost use Prim.Native.Nat.{_+_, _<_, _≤_, min};
-ghost use lib.ListN.{length, getD};
+ghost use Prim.Native.Nat.{_+_, _-_, _*_, _/_, _<_, _≤_, min};
+ghost use lib.ListN.{length, getD, drop};
 ghost use Rattle.buffer.specs.Buffer.{putAt};
-ghost use Rattle.log.specs.Log.{packet, psd, note, word, dataWordAt, dataWords, entryWords};
+ghost use Rattle.log.specs.Log.{packet, psd, note, word, dataWord, dataWordAt, dataWords, entryWords, Leaves};
 
 fn wide(x: u8) -> u32
     ensures { λ r. ⌜ (r ≡ x) × (r < 256) ⌝ }
@@ -56,22 +56,62 @@ fn data_word(first: &[u8], second: &[u8], i: usize) -> u32
     word_of(1, high, low)
 }
 
-// Writes the data words of the bytes of two slices from a place on. Answers how many.
+// The data word of three bytes of a slice from byte i on.
+fn full_word(bytes: &[u8], i: usize) -> u32
+    requires { ⌜ i + 3 ≤ length (now bytes) ⌝ }
+    ensures { λ r. ⌜ r ≡ dataWord 3 (getD (now (bytes .entry)) i 0) (getD (now (bytes .entry)) (i + 1) 0) (getD (now (bytes .entry)) (i + 2) 0) ⌝ }
+{
+    0x43000000 + wide(bytes[i]) * 0x10000 + (wide(bytes[i + 1]) * 0x100 + wide(bytes[i + 2]))
+}
+
+// Writes the full data words that a slice has from a byte on, whatever follows its bytes. Answers how many.
+fn put_full(log: &mut [u32], at: usize, bytes: &[u8], from: usize) -> usize
+    requires { ⌜ from ≤ length (now bytes) ⌝ }
+    requires { ⌜ length (now bytes) ≤ 65535 ⌝ }
+    requires { ⌜ at + (length (now bytes) - from) / 3 ≤ length (now log) ⌝ }
+    ensures { λ r. ⌜ r ≡ (length (now (bytes .entry)) - from) / 3 ⌝ }
+    ensures { λ r. ⌜ Leaves (now (log .entry)) at (now (bytes .entry)) from (now (log .exit)) r ⌝ }
+{
+    let mut i: usize = from;
+    let mut j: usize = 0;
+    while i + 3 <= bytes.len() {
+        log[at + j] = full_word(bytes, i);
+        i += 3;
+        j += 1;
+    }
+    j
+}
+
+// Writes the data word of the bytes of two slices from byte i on, if there is any. Answers how many.
+fn put_one(log: &mut [u32], at: usize, first: &[u8], second: &[u8], i: usize) -> usize
+    requires { ⌜ length (now first) + length (now second) ≤ 65535 ⌝ }
+    requires { ⌜ at + length (dataWords (drop i (now first ++ now second))) ≤ length (now log) ⌝ }
+    ensures { λ r. ⌜ r ≡ min 1 (length (now (first .entry)) + length (now (second .entry)) - i) ⌝ }
+    ensures { λ r. ⌜ putAt (now (log .exit)) (at + r) (dataWords (drop (i + 3 * r) (now (first .entry) ++ now (second .entry)))) ≡ putAt (now (log .entry)) at (dataWords (drop i (now (first .entry) ++ now (second .entry)))) ⌝ }
+{
+    if first.len() + second.len() <= i {
+        return 0;
+    }
+    log[at] = data_word(first, second, i);
+    1
+}
+
+// Writes the data words of the bytes of two slices from a place on: the full ones of the first, one more there, the full ones of the second, and
+// one more. Answers how many.
 fn put_data(log: &mut [u32], at: usize, first: &[u8], second: &[u8]) -> usize
     requires { ⌜ length (now first) + length (now second) ≤ 65535 ⌝ }
     requires { ⌜ at + length (dataWords (now first ++ now second)) ≤ length (now log) ⌝ }
     ensures { λ r. ⌜ r ≡ length (dataWords (now (first .entry) ++ now (second .entry))) ⌝ }
     ensures { λ _. ⌜ now (log .exit) ≡ putAt (now (log .entry)) at (dataWords (now (first .entry) ++ now (second .entry))) ⌝ }
 {
-    let n = first.len() + second.len();
-    let mut i: usize = 0;
-    let mut j: usize = 0;
-    while i < n {
-        log[at + j] = data_word(first, second, i);
-        i += 3;
-        j += 1;
+    let a = put_full(&mut *log, at, first, 0);
+    let b = a + put_one(&mut *log, at + a, first, second, 3 * a);
+    let i = 3 * b;
+    if first.len() + second.len() <= i {
+        return b;
     }
-    j
+    let c = b + put_full(&mut *log, at + b, second, i - first.len());
+    c + put_one(&mut *log, at + c, first, second, 3 * c)
 }
 
 // Writes a packet's entry from a place on; its bytes are those of two slices, one after the other. Answers how many words.

@@ -17,12 +17,6 @@ use Rattle.correction.proofs.repaired.Reads as repaired-reads
 use Rattle.correction.proofs.right_side.Reads as right-side-reads
 use Rattle.correction.proofs.system.Reads as system-reads
 
-powers-requires : tie.Need-powers-requires
-powers-requires c κs = search needs
-
-logarithms-requires : tie.Need-logarithms-requires
-logarithms-requires c κs = search needs
-
 system-requires : tie.Need-system-requires
 system-requires c κs = search needs
 
@@ -34,10 +28,10 @@ eliminate-requires c κs = search needs
 
 -- where the function begins, seen from the elimination
 abbrev start : tie.After-eliminate → tie.Start
-start c = c .before .before .before .before .before .before .before
+start c = c .before .before .before
 
 long : (c : tie.After-eliminate) → length (start c .args .header) ≡ 96
-long c = start c .good .0 .1 .0 .1
+long c = start c .good .1 .1 .0 .1 .0 .1
 
 -- what the elimination of the syndromes' system found
 solution : (c : tie.After-eliminate) → Solved (systemOf (start c .args .s)) (c .eliminate .result .degree) (c .eliminate .result .coefficients)
@@ -47,29 +41,27 @@ solution c =
 
 error-places-requires : tie.Need-error-places-requires
 error-places-requires c κs =
-    let e = c .before .before .before in
-    (solution e .small, (few-places _ _ _ _ (long e) (start e .pre .0) (start e .pre .1) (solution e), search needs))
+    let e = c .before in
+    (solution e .small, (few-places _ _ _ _ (long e) (start e .pre .0) (start e .pre .1 .0) (solution e), search needs))
 
 repaired-requires : tie.Need-repaired-requires
 repaired-requires c κs =
-    let p = c .before .before .before in
-    let e = p .before .before .before .before in (
+    let p = c .before in
+    let e = p .before .before in (
       p .error-places .ensures .few,
-      (distinct-places _ _ _ _ (long e) (start e .pre .0) (start e .pre .1) (solution e) _ _ (p .error-places .ensures), search needs),
+      (distinct-places _ _ _ _ (long e) (start e .pre .0) (start e .pre .1 .0) (solution e) _ _ (p .error-places .ensures), search needs),
     )
 
 returns : tie.Need-returns
 returns c =
-    let p = c .before .before .before .before in
-    let e = p .before .before .before .before in
-    candidate-word _ _ _ _ (long e) (start e .pre .0) (start e .pre .1) (solution e) _ _ (p .error-places .ensures) _ (c .repaired .ensures)
+    let p = c .before .before in
+    let e = p .before .before in
+    candidate-word _ _ _ _ (long e) (start e .pre .0) (start e .pre .1 .0) (solution e) _ _ (p .error-places .ensures) _ (c .repaired .ensures)
 
 pub candidate-spec : {M : Type 1} → statement M
 candidate-spec =
     tie.close
     (tie.spec
-    powers-requires
-    logarithms-requires
     system-requires
     right-side-requires
     eliminate-requires

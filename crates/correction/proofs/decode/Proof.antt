@@ -10,14 +10,32 @@ use Rattle.correction.proofs.decode.Statement.{statement}
 use Rattle.correction.proofs.decode.Tie as tie
 use Rattle.correction.proofs.decode.Reads as reads
 use Rattle.correction.proofs.decode.Lts as lts
+use Rattle.field.proofs.logarithms.Reads as logarithms-reads
+use Rattle.field.proofs.powers.Reads as powers-reads
 use Rattle.correction.proofs.candidate.Reads as candidate-reads
 use Rattle.correction.proofs.refused.Reads as refused-reads
 use Rattle.header.proofs.all_zero.Reads as all-zero-reads
-use Rattle.header.proofs.is_code_word.Reads as is-code-word-reads
-use Rattle.header.proofs.syndromes.Reads as syndromes-reads
+use Rattle.header.proofs.is_code_word_by.Reads as is-code-word-by-reads
+use Rattle.header.proofs.syndromes_by.Reads as syndromes-by-reads
 
-syndromes-requires : tie.Need-syndromes-requires
-syndromes-requires c κs = search needs
+-- where the function begins, seen from the syndromes and from the candidate
+abbrev begin : tie.After-syndromes-by → tie.Start
+begin c = c .before .before .before .before .before .before
+
+abbrev start : tie.After-candidate → tie.Start
+start c = begin (c .before .before .before .before .before)
+
+long : (c : tie.Start) → length (c .args .t1) ≡ 96
+long c = c .good .0 .1 .0 .1
+
+powers-requires : tie.Need-powers-requires
+powers-requires c κs = search needs
+
+logarithms-requires : tie.Need-logarithms-requires
+logarithms-requires c κs = search needs
+
+syndromes-by-requires : tie.Need-syndromes-by-requires
+syndromes-by-requires c κs = search needs
 
 all-zero-requires : tie.Need-all-zero-requires
 all-zero-requires c κs = search needs
@@ -26,10 +44,10 @@ returns : tie.Need-returns
 unfolding isCodeWord
 returns c =
     let s = c .before .before in
-    answer-clean _ (omega arith) (s .before .before .pre) (ap allZero (sym (s .syndromes .ensures)) ∙ sym (c .before .all-zero .ensures) ∙ c .if1 .taken)
+    answer-clean _ (omega arith) (begin s .pre) (ap allZero (sym (s .syndromes-by .ensures)) ∙ sym (c .before .all-zero .ensures) ∙ c .if1 .taken)
 
 candidate-requires : tie.Need-candidate-requires
-candidate-requires c κs = (c .before .before .before .before .pre, c .before .before .syndromes .ensures)
+candidate-requires c κs = (let s = c .before .before .before .before in (begin s .pre, (s .syndromes-by .ensures, search needs)))
 
 difference-requires : tie.Need-difference-requires
 difference-requires c κs = search needs
@@ -40,17 +58,17 @@ refused-requires c κs = search needs
 returns-2 : tie.Need-returns-2
 returns-2 c =
     let d = c .before .before in
-    let r = answer-far _ (omega arith) (d .before .before .before .before .before .before .pre) _ (d .before .candidate .ensures) _ (d .difference .ensures) (omega arith) in
+    let r = answer-far _ (long (start (d .before))) (start (d .before) .pre) _ (d .before .candidate .ensures) _ (d .difference .ensures) (omega arith) in
     (c .refused .ensures .0 ∙ r .0, c .refused .ensures .1 ∙ r .1)
 
-is-code-word-requires : tie.Need-is-code-word-requires
-is-code-word-requires c κs = search needs
+is-code-word-by-requires : tie.Need-is-code-word-by-requires
+is-code-word-by-requires c κs = search needs
 
 returns-3 : tie.Need-returns-3
 returns-3 c =
-    let d = c .before .before .before .before in
-    answer-corrected _ (omega arith) (d .before .before .before .before .before .before .pre) _ (d .before .candidate .ensures) _ (d .difference .ensures)
-    (omega arith) (sym (c .before .is-code-word .ensures) ∙ c .if3 .taken)
+    let d = c .before .before .before .before .before .before in
+    answer-corrected _ (long (start (d .before))) (start (d .before) .pre) _ (d .before .candidate .ensures) _ (d .difference .ensures)
+    (omega arith) (sym (c .before .is-code-word-by .ensures) ∙ c .if3 .taken)
 
 refused-requires-2 : tie.Need-refused-requires-2
 refused-requires-2 c κs = search needs
@@ -58,23 +76,25 @@ refused-requires-2 c κs = search needs
 returns-4 : tie.Need-returns-4
 returns-4 c =
     let e = c .before in
-    let d = e .before .before .before .before in
-    let r = answer-wrong _ (omega arith) (d .before .before .before .before .before .before .pre) _ (d .before .candidate .ensures) _ (d .difference .ensures)
-    (sym (e .before .is-code-word .ensures) ∙ e .if3 .left) in
+    let d = e .before .before .before .before .before .before in
+    let r = answer-wrong _ (long (start (d .before))) (start (d .before) .pre) _ (d .before .candidate .ensures) _ (d .difference .ensures)
+    (sym (e .before .is-code-word-by .ensures) ∙ e .if3 .left) in
     (c .refused2 .ensures .0 ∙ r .0, c .refused2 .ensures .1 ∙ r .1)
 
 pub decode-spec : {M : Type 1} → statement M
 decode-spec =
     tie.close
     (tie.spec
-    syndromes-requires
+    powers-requires
+    logarithms-requires
+    syndromes-by-requires
     all-zero-requires
     returns
     candidate-requires
     difference-requires
     refused-requires
     returns-2
-    is-code-word-requires
+    is-code-word-by-requires
     returns-3
     refused-requires-2
     returns-4)

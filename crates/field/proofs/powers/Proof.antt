@@ -1,13 +1,13 @@
 -- `field::powers` meets its contract, by the table's rule.
-use Rattle.field.proofs.Tables.{powTable, pow-rule}
+use Rattle.field.proofs.Tables.{longTable, long-rule}
 use Rattle.field.proofs.powers.Statement.{statement}
 use Rattle.field.proofs.powers.Tie as tie
 use Rattle.field.proofs.powers.Reads as reads
 use Rattle.field.proofs.powers.Lts as lts
 
 returns : tie.Need-returns
-unfolding powTable
-returns c = record { entry = pow-rule }
+unfolding longTable
+returns c = record { entry = long-rule }
 
 pub powers-spec : {M : Type 1} → statement M
 powers-spec = tie.close (tie.spec returns)

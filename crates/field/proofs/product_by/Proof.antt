@@ -1,6 +1,7 @@
 -- `field::product_by` meets its contract: a product of powers is the power of the sum.
 use mathlib.Core.Path.{_∙_, ap, ap₂, sym}
-use Prim.Native.Nat.{ℕ}
+use Prim.Native.Nat.{ℕ, _+_}
+use native.Mathlib.Omega.{arith}
 use Rattle.field.specs.Field.{mul}
 use Rattle.field.proofs.Laws.{pow-add, mul-zero-l, mul-zero-r}
 use borrow.Author.Needs.{needs}
@@ -9,7 +10,6 @@ use Rattle.field.proofs.product_by.Tie as tie
 use Rattle.field.proofs.product_by.Reads as reads
 use Rattle.field.proofs.product_by.Lts as lts
 use Rattle.field.proofs.logarithm_by.Reads as logarithm-by-reads
-use Rattle.field.proofs.reduced.Reads as reduced-reads
 
 returns : tie.Need-returns
 returns c = sym (ap (λ (x : ℕ). mul x (c .before .args .y)) (c .if1 .taken) ∙ mul-zero-l (c .before .args .y))
@@ -23,20 +23,18 @@ logarithm-by-requires c κs = search needs
 logarithm-by-requires-2 : tie.Need-logarithm-by-requires-2
 logarithm-by-requires-2 c κs = search needs
 
-add-reduced : tie.Need-add-reduced
-add-reduced c = search needs
-
-reduced-requires : tie.Need-reduced-requires
-reduced-requires c κs = search needs
+add-result : tie.Need-add-result
+add-result c = search needs
 
 element-copy-out-result : tie.Need-element-copy-out-result
 element-copy-out-result c = search needs
 
 returns-3 : tie.Need-returns-3
 returns-3 c =
-    let l = c .before .before in
-    l .before .before .before .before .pre .0 .entry (c .before .reduced .result) (c .before .reduced .ensures .0)
-    ∙ c .before .reduced .ensures .1 ∙ pow-add (l .before .logarithm-by .result) (l .logarithm-by2 .result)
+    let l = c .before in
+    l .before .before .before .before .pre .0 .entry (l .before .logarithm-by .result + l .logarithm-by2 .result)
+    (omega (arith, l .before .logarithm-by .ensures .0, l .logarithm-by2 .ensures .0))
+    ∙ pow-add (l .before .logarithm-by .result) (l .logarithm-by2 .result)
     ∙ ap₂ mul (l .before .logarithm-by .ensures .1) (l .logarithm-by2 .ensures .1)
 
 pub product-by-spec : {M : Type 1} → statement M
@@ -47,7 +45,6 @@ product-by-spec =
     returns-2
     logarithm-by-requires
     logarithm-by-requires-2
-    add-reduced
-    reduced-requires
+    add-result
     element-copy-out-result
     returns-3)

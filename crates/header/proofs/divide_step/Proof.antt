@@ -1,63 +1,35 @@
-use Rattle.header.specs.Header.{divideStep}
+-- `header::divide_step` meets its contract.
+use mathlib.Core.Path.{_∙_, ap}
+use Prim.Native.Nat.{ℕ, _*_, _%_}
+use lib.Bits.{bitXor}
+use Rattle.header.specs.Packed.{pack, multipleOf, packedStep}
 use borrow.Author.Needs.{needs}
 use Rattle.header.proofs.divide_step.Statement.{statement}
 use Rattle.header.proofs.divide_step.Tie as tie
 use Rattle.header.proofs.divide_step.Reads as reads
 use Rattle.header.proofs.divide_step.Lts as lts
-use Rattle.header.proofs.tap.Reads as tap-reads
+use Rattle.header.proofs.multiple.Reads as multiple-reads
+use Rattle.header.proofs.top.Reads as top-reads
 
-array-read-f : tie.Need-array-read-f
-array-read-f c = search needs
+-- src/lib.rt:142:17
+top-requires : tie.Need-top-requires
+top-requires c κs = search needs
 
-tap-requires : tie.Need-tap-requires
-tap-requires c κs = search needs
+-- src/lib.rt:143:6
+mul-result : tie.Need-mul-result
+mul-result c = search needs
 
-tap-requires-2 : tie.Need-tap-requires-2
-tap-requires-2 c κs = search needs
+-- src/lib.rt:143:37
+multiple-requires : tie.Need-multiple-requires
+multiple-requires c κs = search needs
 
-tap-requires-3 : tie.Need-tap-requires-3
-tap-requires-3 c κs = search needs
-
-tap-requires-4 : tie.Need-tap-requires-4
-tap-requires-4 c κs = search needs
-
-tap-requires-5 : tie.Need-tap-requires-5
-tap-requires-5 c κs = search needs
-
-tap-requires-6 : tie.Need-tap-requires-6
-tap-requires-6 c κs = search needs
-
-tap-requires-7 : tie.Need-tap-requires-7
-tap-requires-7 c κs = search needs
-
-tap-requires-8 : tie.Need-tap-requires-8
-tap-requires-8 c κs = search needs
-
+-- src/lib.rt:138:1
 returns : tie.Need-returns
-unfolding divideStep
+unfolding packedStep
 returns c =
-    simp (
-      c .before .before .before .before .before .before .before .tap .ensures,
-      c .before .before .before .before .before .before .tap2 .ensures,
-      c .before .before .before .before .before .tap3 .ensures,
-      c .before .before .before .before .tap4 .ensures,
-      c .before .before .before .tap5 .ensures,
-      c .before .before .tap6 .ensures,
-      c .before .tap7 .ensures,
-      c .tap8 .ensures,
-    )
+    let a = c .before .before .args in
+    ap (bitXor (a .r % 72057594037927936 * 256))
+    (c .multiple .ensures ∙ ap (λ (x : ℕ). pack (multipleOf (bitXor (a .b) x))) (c .before .top .ensures))
 
 pub divide-step-spec : {M : Type 1} → statement M
-divide-step-spec =
-    tie.close
-    (tie.spec
-    array-read-f
-    tap-requires
-    tap-requires-2
-    tap-requires-3
-    tap-requires-4
-    tap-requires-5
-    tap-requires-6
-    tap-requires-7
-    tap-requires-8
-    returns)
+divide-step-spec = tie.close (tie.spec top-requires mul-result multiple-requires returns)

@@ -11,10 +11,10 @@ use Rattle.header.proofs.sums.Lts as lts
 use Rattle.header.proofs.horner_step.Reads as horner-step-reads
 
 abbrev Inv-loop : tie.InvT-loop
-Inv-loop powers logarithms header s₀ i₀ s i = (i ≤ 96) × (s ≡ sumsFrom i header)
+Inv-loop powers logarithms bytes s₀ i₀ s i = (i ≤ 8) × (s ≡ sumsFrom i bytes)
 
 abbrev μ-loop : tie.MeasureT-loop
-μ-loop powers logarithms header s₀ i₀ s i = i
+μ-loop powers logarithms bytes s₀ i₀ s i = i
 
 loop-holds : tie.Need-loop-holds Inv-loop μ-loop
 loop-holds c = (omega arith, sums-start _ _ (omega arith))
@@ -36,14 +36,14 @@ loop-again c =
     let l = c .before .before .before in (
       omega arith,
       c .horner-step .ensures
-          ∙ sums-next (l .before .before .args .header .now) (l .loop .s) (l .loop .i) (λ k. l .before .shared-slice-known .given k .fits) (omega arith) (omega arith) (l .loop .inv .1),
+          ∙ sums-next (l .before .before .args .bytes .now) (l .loop .s) (l .loop .i) (λ k. l .before .shared-slice-known .given k .fits) (omega arith) (omega arith) (l .loop .inv .1),
     )
 
 returns : tie.Need-returns Inv-loop μ-loop
 returns c =
     let l = c .before in
     l .loop .inv .1
-    ∙ sums-all (l .before .before .args .header .now) (l .loop .i) (omega arith) (λ k. l .before .shared-slice-known .given k .fits) (omega arith)
+    ∙ sums-all (l .before .before .args .bytes .now) (l .loop .i) (omega arith)
 
 pub sums-spec : {M : Type 1} → statement M
 sums-spec =

@@ -12,7 +12,7 @@ use Rattle.header.proofs.write_parity.Statement.{statement}
 use Rattle.header.proofs.write_parity.Tie as tie
 use Rattle.header.proofs.write_parity.Reads as reads
 use Rattle.header.proofs.write_parity.Lts as lts
-use Rattle.header.proofs.divide.Reads as divide-reads
+use Rattle.header.proofs.parity.Reads as parity-reads
 use Rattle.header.proofs.header_of.Reads as header-of-reads
 use Rattle.header.proofs.put_front.Reads as put-front-reads
 
@@ -34,8 +34,8 @@ returns-2 c =
 header-of-requires : tie.Need-header-of-requires
 header-of-requires c κs = search needs
 
-divide-requires : tie.Need-divide-requires
-divide-requires c κs = search needs
+parity-requires : tie.Need-parity-requires
+parity-requires c κs = search needs
 
 slice-aggregate-put-front : tie.Need-slice-aggregate-put-front
 slice-aggregate-put-front c = search needs
@@ -50,11 +50,11 @@ returns-3 : tie.Need-returns-3
 returns-3 c =
     let f = c .before .before in
     let d = f .before .before .before in
-    let w : List ℕ = now (d .before .before .before .before .before .before .args .pdu) in
+    let w : List ℕ = now (d .before .before .before .before .before .before .before .args .pdu) in
     let e : lengthRefusal (length w) ≡ 0 = length-allowed _ (omega arith) (omega arith) in
-    let q : d .divide .result ≡ parityOf w = d .divide .ensures ∙ ap parityOf (d .before .header-of .ensures) ∙ parity-of-header w (omega arith) in
+    let q : d .parity .result ≡ parityOf w = d .parity .ensures ∙ ap parityOf (d .before .before .header-of .ensures) ∙ parity-of-header w (omega arith) in
     let n : length (parityOf w) ≡ 8 = parity-length w in
-    (sym e, written w (f .put-front .last .0) (d .divide .result) q (omega arith) (f .put-front .ensures) e)
+    (sym e, written w (f .put-front .last .0) (d .parity .result) q (omega arith) (f .put-front .ensures) e)
 
 pub write-parity-spec : {M : Type 1} → statement M
 write-parity-spec =
@@ -63,7 +63,7 @@ write-parity-spec =
     returns
     returns-2
     header-of-requires
-    divide-requires
+    parity-requires
     slice-aggregate-put-front
     put-front-requires
     same-length

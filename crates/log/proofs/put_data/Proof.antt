@@ -1,102 +1,204 @@
-use denote.Ref.{now}
-use native.Mathlib.Nat.{add-zero}
-use lib.ListN.{length-append, drop-of-length-le, length, drop, length-set}
-use borrow.Author.Needs.{needs}
+-- `log::put_data` meets its contract: each call leaves the words that are still to come.
 use native.Mathlib.Omega.{arith}
-use mathlib.Core.Path.{_≡_, refl}
-use Prim.Native.Nat.{ℕ, _+_, _-_, _≤_, _<_}
-use mathlib.Core.List.{List, [], _++_}
+use mathlib.Core.Path.{_≡_, refl, ap, sym, _∙_}
+use Prim.Native.Nat.{ℕ, _+_, _-_, _*_, _≤_, _<_}
+use lib.ListN.{length, take, drop, getD, set, length-set, length-append}
+use mathlib.Core.List.{List, [], _∷_, _++_}
+use borrow.Author.Needs.{needs}
+use denote.Ref.{now}
+use Prim.Native.Nat.{_/_}
 use Rattle.buffer.specs.Buffer.{putAt}
 use Rattle.log.specs.Log.{dataWords}
-use Rattle.log.proofs.Filling.{turn, counted, none-left}
+use Rattle.log.proofs.Filling.{none-left, behind, begun, in-second-list, both-length, left-length, first-fits, first-count, past-first, left-in-second, second-fits, rest-fits, last-count}
 use Rattle.log.proofs.put_data.Statement.{statement}
 use Rattle.log.proofs.put_data.Tie as tie
 use Rattle.log.proofs.put_data.Reads as reads
 use Rattle.log.proofs.put_data.Lts as lts
-use Rattle.log.proofs.data_word.Reads as data-word-reads
+use Rattle.log.proofs.put_full.Reads as put-full-reads
+use Rattle.log.proofs.put_one.Reads as put-one-reads
 
-abbrev Inv-loop : tie.InvT-loop
-Inv-loop log₀ at first second n i₀ j₀ log i j = (j + length (dataWords (drop i (first ++ second))) ≡ length (dataWords (first ++ second))) × (putAt log (at + j) (dataWords (drop i (first ++ second))) ≡ putAt log₀ at (dataWords (first ++ second))) × (length log ≡ length log₀)
+-- where the function begins
+abbrev one : tie.After-put-full-arg → tie.Start
+one c = c .before .before .before .before
 
-abbrev μ-loop : tie.MeasureT-loop
-μ-loop log₀ at first second n i₀ j₀ log i j = n - i
+abbrev two : tie.After-put-one-arg → tie.Start
+two c = one (c .before .before .before .before)
 
--- the bytes of both slices
-abbrev bytes : tie.After-data-word Inv-loop μ-loop → List ℕ
-bytes c = let a = c .before .before .before .before .before .before .args in now (a .first) ++ now (a .second)
+abbrev three : tie.After-slice-known3 → tie.Start
+three c = two (c .before .before .before)
 
-some-left : (c : tie.After-data-word Inv-loop μ-loop) → c .before .before .loop .i < length (bytes c)
-some-left c = let a = c .before .before .before .before .before .before .args in omega (arith, length-append (now (a .first)) (now (a .second)), c .before .loop-test .taken)
+abbrev four : tie.After-put-full-arg2 → tie.Start
+four c = three (c .before .before)
 
--- a word more is to come
-more : (c : tie.After-data-word Inv-loop μ-loop) → c .before .before .loop .j + 1 + length (dataWords (drop (c .before .before .loop .i + 3) (bytes c))) ≡ length (dataWords (bytes c))
-more c = omega (arith, counted (bytes c) (c .before .before .loop .i) (some-left c), c .before .before .loop .inv .0)
+abbrev five : tie.After-put-one-arg2 → tie.Start
+five c = four (c .before .before .before .before)
 
--- it has a place in the log
-room : (c : tie.After-data-word Inv-loop μ-loop) → c .before .before .before .before .before .before .args .at + c .before .before .loop .j < length (c .before .before .loop .log)
-room c = omega (arith, more c, c .before .before .before .before .before .before .pre .1, c .before .before .loop .inv .2)
+abbrev six : tie.After-slice-known5 → tie.Start
+six c = five (c .before .before .before)
 
-add-n : tie.Need-add-n Inv-loop μ-loop
-add-n c = search needs
+-- room for all words
+room : (c : tie.Start) → c .args .at + (length (now (c .args .first)) + length (now (c .args .second)) + 2) / 3 ≤ length (now (c .args .log))
+room c = omega (arith, c .pre .1, both-length (now (c .args .first)) (now (c .args .second)))
 
-loop-holds : tie.Need-loop-holds Inv-loop μ-loop
-loop-holds c = (omega arith, rw add-zero refl, refl)
+put-full-requires : tie.Need-put-full-requires
+put-full-requires c κs = (omega arith, (omega arith, omega (arith, room (one c))))
 
-data-word-requires : tie.Need-data-word-requires Inv-loop μ-loop
-data-word-requires c κs = search needs
+add-put-one : tie.Need-add-put-one
+add-put-one c = search needs
 
-add-log : tie.Need-add-log Inv-loop μ-loop
-add-log c = omega (arith, room c)
+mul-put-one : tie.Need-mul-put-one
+mul-put-one c = search needs
 
-mul-log : tie.Need-mul-log Inv-loop μ-loop
-mul-log c = omega (arith, room c)
+put-one-requires : tie.Need-put-one-requires
+put-one-requires c κs =
+    let q = c .before .before .before .put-full in
+    let s = two c .args in
+    (omega arith, omega (arith, room (two c), q .kept .0, left-length (now (s .first)) (now (s .second)) (3 * q .result), first-fits (length (now (s .first))) (length (now (s .second))) (q .result) _ (q .ensures .0) refl))
 
-slice-write-log : tie.Need-slice-write-log Inv-loop μ-loop
-slice-write-log c = omega (arith, room c)
+add-b : tie.Need-add-b
+add-b c = search needs
 
-add-i : tie.Need-add-i Inv-loop μ-loop
-add-i c = search needs
+mul-i : tie.Need-mul-i
+mul-i c = search needs
 
-add-j : tie.Need-add-j Inv-loop μ-loop
-add-j c = omega (arith, room c)
+add-if1 : tie.Need-add-if1
+add-if1 c = search needs
 
-loop-less : tie.Need-loop-less Inv-loop μ-loop
-loop-less c = search needs
-
-loop-again : tie.Need-loop-again Inv-loop μ-loop
-loop-again c =
-    let p = c .before .before in
-    let a = p .before .before .before .before .args in
-    (omega (arith, more c), turn (p .loop .log) (bytes c) (putAt (now (a .log)) (a .at) (dataWords (bytes c))) (a .at) (p .loop .i) (p .loop .j) (c .data-word .result) (some-left c) (room c) (c .data-word .ensures) (p .loop .inv .1), simp length-set (p .loop .inv .2))
-
-same-length : tie.Need-same-length Inv-loop μ-loop
+same-length : tie.Need-same-length
 same-length c = search needs
 
-returns : tie.Need-returns Inv-loop μ-loop
+returns : tie.Need-returns
 returns c =
-    let p = c .before in
-    let a = p .before .before .before .before .args in
-    let s : List ℕ = now (a .first) ++ now (a .second) in
-    let h : length s ≤ p .loop .i = omega (arith, length-append (now (a .first)) (now (a .second)), c .loop-test .left) in
-    let q : p .loop .j + length (dataWords []) ≡ length (dataWords s) = rw (drop-of-length-le s {i = p .loop .i} h) at (p .loop .inv .0) in
-    let z : length (dataWords []) ≡ 0 = unfold dataWords in refl in
-    (omega arith, none-left (p .loop .log) s (putAt (now (a .log)) (a .at) (dataWords s)) (a .at + p .loop .j) (p .loop .i) h (p .loop .inv .1))
+    let t = three (c .before) .args in
+    let f : List ℕ = now (t .first) in
+    let g : List ℕ = now (t .second) in
+    let q = c .before .before .before .before .before .before .before .put-full in
+    let o = c .before .before .before .put-one in
+    let b : ℕ = q .result + o .result in
+    let n : length (f ++ g) ≤ 3 * b = omega (arith, length-append f g, c .if1 .taken) in (
+      first-count (length f) (length g) (q .result) (o .result) (q .ensures .0) (o .ensures .0) (c .if1 .taken) ∙ sym (both-length f g),
+      none-left _ (f ++ g) _ (t .at + b) (3 * b) n
+          (behind _ _ (f ++ g) _ (t .at) (q .result) (o .result) (begun _ _ (f ++ g) (t .at) (q .result) (q .ensures .1 g)) (o .ensures .1)),
+    )
+
+add-put-full : tie.Need-add-put-full
+add-put-full c = search needs
+
+-- the first slice is written
+past : (c : tie.After-put-full-arg2) → length (now (four c .args .first)) ≤ 3 * (c .before .before .before .before .before .before .before .before .put-full .result + c .before .before .before .before .put-one .result)
+past c =
+    let q = c .before .before .before .before .before .before .before .before .put-full in
+    let o = c .before .before .before .before .put-one in
+    let t = four c .args in
+    past-first (length (now (t .first))) (length (now (t .second))) (q .result) (o .result) (q .ensures .0) (o .ensures .0) (c .before .if1 .left)
+
+sub-put-full : tie.Need-sub-put-full
+sub-put-full c = omega (arith, past c)
+
+put-full-requires-2 : tie.Need-put-full-requires-2
+put-full-requires-2 c κs =
+    let q = c .before .before .before .before .before .before .before .before .put-full in
+    let o = c .before .before .before .before .put-one in
+    let t = four c .args in (
+      omega (arith, past c, c .before .if1 .left),
+      (
+        omega (arith, four c .pre .0),
+        omega (arith, room (four c), q .kept .0, o .kept .0, second-fits (length (now (t .first))) (length (now (t .second))) (q .result) (o .result) (q .ensures .0) (o .ensures .0) (c .before .if1 .left)),
+      ),
+    )
+
+-- how many full words the second slice has
+full : (c : tie.After-put-one-arg2) → c .before .before .before .put-full2 .result ≡ (length (now (five c .args .first)) + length (now (five c .args .second)) - 3 * (c .before .before .before .before .before .before .before .before .before .before .before .before .put-full .result + c .before .before .before .before .before .before .before .before .put-one .result)) / 3
+full c =
+    let u = c .before .before .before .before in
+    let q = u .before .before .before .before .before .before .before .before .put-full in
+    let o = u .before .before .before .before .put-one in
+    let t = five c .args in
+    c .before .before .before .put-full2 .ensures .0
+    ∙ ap (λ (k : ℕ). k / 3) (left-in-second (length (now (t .first))) (length (now (t .second))) (q .result) (o .result) (q .ensures .0) (o .ensures .0) (u .before .if1 .left))
+
+below-all : (c : tie.After-put-one-arg2) → 3 * (c .before .before .before .before .before .before .before .before .before .before .before .before .put-full .result + c .before .before .before .before .before .before .before .before .put-one .result + c .before .before .before .put-full2 .result) ≤ length (now (five c .args .first)) + length (now (five c .args .second))
+below-all c = omega (arith, full c, c .before .before .before .before .before .if1 .left)
+
+add-c : tie.Need-add-c
+add-c c = search needs
+
+add-put-one-2 : tie.Need-add-put-one-2
+add-put-one-2 c = search needs
+
+mul-put-one-2 : tie.Need-mul-put-one-2
+mul-put-one-2 c = search needs
+
+put-one-requires-2 : tie.Need-put-one-requires-2
+put-one-requires-2 c κs =
+    let d = c .before .before .before .put-full2 in
+    let u = c .before .before .before .before in
+    let q = u .before .before .before .before .before .before .before .before .put-full in
+    let o = u .before .before .before .before .put-one in
+    let t = five c .args in
+    let b : ℕ = q .result + o .result in
+    let n : ℕ = length (now (t .first)) + length (now (t .second)) in (
+      omega (arith, five c .pre .0),
+      omega (arith, room (five c), q .kept .0, o .kept .0, d .kept .0, left-length (now (t .first)) (now (t .second)) (3 * (b + d .result)), rest-fits n (b + d .result) (below-all c)),
+    )
+
+-- all words are written
+all : (c : tie.After-slice-known5) → c .before .before .before .before .before .before .before .before .before .before .before .before .before .before .before .put-full .result + c .before .before .before .before .before .before .before .before .before .before .before .put-one .result + c .before .before .before .before .before .before .put-full2 .result + c .before .before .put-one2 .result ≡ (length (now (six c .args .first)) + length (now (six c .args .second)) + 2) / 3
+all c =
+    let v = c .before .before .before in
+    let t = six c .args in
+    let b : ℕ = c .before .before .before .before .before .before .before .before .before .before .before .before .before .before .before .put-full .result + c .before .before .before .before .before .before .before .before .before .before .before .put-one .result in
+    last-count (length (now (t .first)) + length (now (t .second))) b (c .before .before .before .before .before .before .put-full2 .result) (c .before .before .put-one2 .result)
+    (v .before .before .before .before .before .if1 .left) (full v) (c .before .before .put-one2 .ensures .0)
+
+add-result : tie.Need-add-result
+add-result c = omega (arith, all c, six c .pre .0)
+
+same-length-2 : tie.Need-same-length-2
+same-length-2 c = search needs
+
+returns-2 : tie.Need-returns-2
+returns-2 c =
+    let t = six c .args in
+    let f : List ℕ = now (t .first) in
+    let g : List ℕ = now (t .second) in
+    let e = c .before .before .put-one2 in
+    let u = c .before .before .before .before .before .before .before in
+    let d = c .before .before .before .before .before .before .put-full2 in
+    let q = u .before .before .before .before .before .before .before .before .put-full in
+    let o = u .before .before .before .before .put-one in
+    let b : ℕ = q .result + o .result in
+    let w : ℕ = b + d .result + e .result in
+    let n : length (f ++ g) ≤ 3 * w = omega (arith, length-append f g, all c) in (
+      all c ∙ sym (both-length f g),
+      none-left _ (f ++ g) _ (t .at + w) (3 * w) n
+          (behind _ _ (f ++ g) _ (t .at) (b + d .result) (e .result)
+          (behind _ _ (f ++ g) _ (t .at) b (d .result)
+          (behind _ _ (f ++ g) _ (t .at) (q .result) (o .result) (begun _ _ (f ++ g) (t .at) (q .result) (q .ensures .1 g)) (o .ensures .1))
+          (in-second-list _ _ f g (t .at + b) (3 * b) (d .result) (past u) (d .ensures .1 [])))
+          (e .ensures .1)),
+    )
 
 pub put-data-spec : {M : Type 1} → statement M
 put-data-spec =
     tie.close
     (tie.spec
-    Inv-loop
-    μ-loop
-    add-n
-    loop-holds
-    data-word-requires
-    add-log
-    mul-log
-    slice-write-log
-    add-i
-    add-j
-    loop-less
-    loop-again
+    put-full-requires
+    add-put-one
+    mul-put-one
+    put-one-requires
+    add-b
+    mul-i
+    add-if1
     same-length
-    returns)
+    returns
+    add-put-full
+    sub-put-full
+    put-full-requires-2
+    add-c
+    add-put-one-2
+    mul-put-one-2
+    put-one-requires-2
+    add-result
+    same-length-2
+    returns-2)

@@ -1,0 +1,26 @@
+use mathlib.Core.Path.{_≡_, refl, ap, sym, _∙_}
+use native.Mathlib.Omega.{arith}
+use lib.Bits.{xor-lt}
+use Rattle.crc.specs.Ring.{nextHigh}
+use Rattle.crc.proofs.Ring.{next-fits}
+use borrow.Author.Needs.{needs}
+use Rattle.crc.proofs.next_high.Statement.{statement}
+use Rattle.crc.proofs.next_high.Tie as tie
+use Rattle.crc.proofs.next_high.Reads as reads
+use Rattle.crc.proofs.next_high.Lts as lts
+
+-- src/lib.rt:325:6
+mul-result : tie.Need-mul-result
+mul-result c = search needs
+
+-- src/lib.rt:325:6
+add-result : tie.Need-add-result
+add-result c = record { fits = next-fits (c .args .h) (c .args .l) (c .fits .l .fits) }
+
+-- src/lib.rt:322:1
+returns : tie.Need-returns
+unfolding nextHigh
+returns c = (refl, xor-lt 64 _ (c .args .a) (next-fits (c .args .h) (c .args .l) (c .fits .l .fits)) (c .fits .a .fits))
+
+pub next-high-spec : {M : Type 1} → statement M
+next-high-spec = tie.close (tie.spec mul-result add-result returns)

@@ -1,0 +1,69 @@
+-- `power_sums::same` meets its contract: no two sums differ.
+use borrow.Author.Needs.{needs}
+use native.Mathlib.Omega.{arith}
+use mathlib.Core.Path.{_≡_, refl, ap, sym, _∙_}
+use Prim.Native.Nat.{ℕ, _+_, _-_, _*_, _≤_, _<_}
+use lib.ListN.{length, take, drop, getD, set, length-set}
+use mathlib.Core.List.{List, [], _∷_, _++_}
+use Rattle.power_sums.proofs.Theorem.{same-sums}
+use Rattle.power_sums.proofs.same.Statement.{statement}
+use Rattle.power_sums.proofs.same.Tie as tie
+use Rattle.power_sums.proofs.same.Reads as reads
+use Rattle.power_sums.proofs.same.Lts as lts
+use Rattle.header.proofs.syndromes.Reads as syndromes-reads
+use Rattle.power_sums.proofs.sums.Reads as sums-reads
+
+abbrev Inv-loop : tie.InvT-loop
+Inv-loop header one other k₀ k = (k ≤ 8) × (one ≡ other)
+
+abbrev μ-loop : tie.MeasureT-loop
+μ-loop header one other k₀ k = 8 - k
+
+sums-requires : tie.Need-sums-requires Inv-loop μ-loop
+sums-requires c κs = search needs
+
+syndromes-requires : tie.Need-syndromes-requires Inv-loop μ-loop
+syndromes-requires c κs = search needs
+
+loop-holds : tie.Need-loop-holds Inv-loop μ-loop
+loop-holds c = (omega arith, same-sums (c .before .before .args .header .now) (c .before .sums .result) (c .syndromes .result) (c .before .sums .ensures) (c .syndromes .ensures))
+
+array-read-if1 : tie.Need-array-read-if1 Inv-loop μ-loop
+array-read-if1 c = search needs
+
+array-read-if1-2 : tie.Need-array-read-if1-2 Inv-loop μ-loop
+array-read-if1-2 c = search needs
+
+returns : tie.Need-returns Inv-loop μ-loop
+returns c =
+    let l = c .before .before in
+    absurd (c .if1 .taken (ap (λ (s : List ℕ). getD s (l .loop .k) 0) (l .loop .inv .1)))
+
+add-k : tie.Need-add-k Inv-loop μ-loop
+add-k c = search needs
+
+loop-less : tie.Need-loop-less Inv-loop μ-loop
+loop-less c = search needs
+
+loop-again : tie.Need-loop-again Inv-loop μ-loop
+loop-again c = search needs
+
+returns-2 : tie.Need-returns-2 Inv-loop μ-loop
+returns-2 c = search needs
+
+pub same-spec : {M : Type 1} → statement M
+same-spec =
+    tie.close
+    (tie.spec
+    Inv-loop
+    μ-loop
+    sums-requires
+    syndromes-requires
+    loop-holds
+    array-read-if1
+    array-read-if1-2
+    returns
+    add-k
+    loop-less
+    loop-again
+    returns-2)
