@@ -67,7 +67,7 @@ fn with_input(columns: u32, title: &[u8], from: &[u8], input: i32, start: i64) -
     with_shape(shape, title, from, input, &mut buf)
 }
 
-// Makes the picture's file, and draws.
+// Makes the picture's file.
 fn with_shape(shape: Shape, title: &[u8], from: &[u8], input: i32, buf: &mut [u8]) -> bool {
     let mut onto = files::label_buffer();
     let n = files::put_output_label(&mut onto, &NAME, &KNOWN);
@@ -75,15 +75,26 @@ fn with_shape(shape: Shape, title: &[u8], from: &[u8], input: i32, buf: &mut [u8
     if output < 0 {
         return false;
     }
-    let task = Task {
-        input: input,
-        drawing: true,
-        output: output,
-        shape: shape,
-    };
+    with_output(
+        Task {
+            input: input,
+            drawing: true,
+            output: output,
+            shape: shape,
+        },
+        title,
+        from,
+        &onto[..n],
+        buf,
+    )
+}
+
+// Draws, and closes the picture's file.
+fn with_output(task: Task, title: &[u8], from: &[u8], onto: &[u8], buf: &mut [u8]) -> bool {
     let run = drawing::draw(task, title, buf);
-    let done = report::is_read(run, from, &onto[..n]);
-    let closed = files::close(output, &onto[..n]);
+    let done = report::is_read(run, from, onto);
+    let closed = files::close(task.output, onto);
+    let shape = task.shape;
     said(run, shape.pdus, from) & done & closed
 }
 
@@ -94,7 +105,7 @@ fn said(run: Run, counted: u32, from: &[u8]) -> bool {
     if run.state == drawing::READ {
         said_of_log(d.whole, same, from);
     }
-    tally::say(d);
+    picture::tally::say(d);
     same
 }
 

@@ -9,7 +9,7 @@ fn say(line: &[u8]) {
 
 // Whether a text may be the picture's title; says so where it may not.
 pub fn is_fit(text: &[u8]) -> bool {
-    if title::is_fit(text) {
+    if page::title::is_fit(text) {
         return true;
     }
     say(b"barzhilup coverage: --title: over 200 bytes, or not UTF-8\n");

@@ -222,7 +222,7 @@ pub fn count(input: i32, columns: u32, buf: &mut [u8]) -> Run {
 pub fn draw(task: Task, title: &[u8], buf: &mut [u8]) -> Run {
     let shape = task.shape;
     let mut block = io::large_buffer();
-    let n = picture::put_head(&mut block, shape, title);
+    let n = picture::frame::put_head(&mut block, shape, title);
     let run = all_lines(task, buf, &mut block, begin(task.input, n));
     if run.state != READ {
         return run;
@@ -238,7 +238,7 @@ fn closed(task: Task, run: Run, block: &mut [u8]) -> Run {
     if !rows.ok {
         return stopped(run, NOT_WRITTEN, 0);
     }
-    let n = picture::put_legend(block, shape, d);
+    let n = picture::legend::put_legend(block, shape, d);
     let last = written(task.output, block, n);
     stopped(run, state_of(last.ok, READ), 0)
 }

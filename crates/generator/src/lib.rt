@@ -4,6 +4,7 @@ mod report;
 use packets::Source;
 use sending::Run;
 use sending::Task;
+use sending::trial;
 use transmission::Transmission;
 use writer::Writer;
 

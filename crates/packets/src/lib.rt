@@ -1,5 +1,7 @@
 // Packets from a file: a file of records, or an ADTS dump, as open HD Radio receivers write. In a dump each frame is a header of 7 bytes, or of
 // 9 with its check, and then a packet.
+pub mod window;
+
 use records::Record;
 ghost use mathlib.Core.Path.{_≡_};
 ghost use Rattle.io.specs.Counts.{Counts};

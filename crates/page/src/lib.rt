@@ -1,5 +1,6 @@
 // The picture's measures, in its own units. PDUs stand in rows of cells from left to right; under each row of cells stands a strip of bars.
 pub mod share;
+pub mod title;
 
 ghost use Prim.Native.Nat.{_≤_, _<_};
 

@@ -1,5 +1,6 @@
 // What stands above the rows: the picture's first tag, its colours, its title and the numbers of its columns.
 use page::Shape;
+use page::title;
 ghost use Prim.Native.Nat.{_<_};
 
 // From the first tag to the picture's name.

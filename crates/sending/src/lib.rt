@@ -1,7 +1,10 @@
 // A run of the writer: packets are read ahead, and each turn sends a PDU.
+pub mod trial;
+
 use packets::Source;
+use packets::window;
+use packets::window::Window;
 use settings::Settings;
-use window::Window;
 use writer::Writer;
 use writer::Written;
 

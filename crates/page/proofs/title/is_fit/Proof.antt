@@ -1,8 +1,8 @@
 use borrow.Author.Needs.{needs}
 use Prim.Native.Nat.{_-_}
 use lib.ListN.{length}
-use Rattle.title.proofs.is_fit.Statement.{statement}
-use Rattle.title.proofs.is_fit.Tie as tie
+use Rattle.page.proofs.title.is_fit.Statement.{statement}
+use Rattle.page.proofs.title.is_fit.Tie as tie
 
 abbrev Inv-loop : tie.InvT-loop
 Inv-loop text e₀ i₀ e i = Unit {0}

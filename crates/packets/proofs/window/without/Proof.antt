@@ -1,6 +1,6 @@
 use borrow.Author.Needs.{needs}
-use Rattle.window.proofs.without.Statement.{statement}
-use Rattle.window.proofs.without.Tie as tie
+use Rattle.packets.proofs.window.without.Statement.{statement}
+use Rattle.packets.proofs.window.without.Tie as tie
 
 abbrev Inv-loop : tie.InvT-loop
 Inv-loop w lengths ended first₀ from₀ left₀ first from left = Unit {0}

@@ -1,5 +1,5 @@
 // The packets that are read ahead: a row of their lengths, and a row of their bytes joined.
-use packets::Source;
+use crate::Source;
 ghost use Prim.Native.Nat.{_<_};
 
 // The longest packet.
@@ -129,9 +129,9 @@ fn taken(s: Source, label: &[u8], w: Window, lengths: &mut [u16], bytes: &mut [u
     if bytes.len() - to < MOST {
         return w;
     }
-    let r = packets::read(s, &mut bytes[to..to + MOST]);
+    let r = crate::read(s, &mut bytes[to..to + MOST]);
     if (r.status != records::WHOLE) | (r.length == 0) {
-        packets::say_end(label, r.status, w.read);
+        crate::say_end(label, r.status, w.read);
         return closed(w, r.status != records::END);
     }
     lengths[end] = r.length as u16;

@@ -2,8 +2,8 @@ use borrow.Author.Needs.{needs}
 use mathlib.Core.Path.{_≡_}
 use Prim.Native.Nat.{_-_}
 use lib.ListN.{length}
-use Rattle.title.proofs.put.Statement.{statement}
-use Rattle.title.proofs.put.Tie as tie
+use Rattle.page.proofs.title.put.Statement.{statement}
+use Rattle.page.proofs.title.put.Tie as tie
 
 abbrev Inv-loop : tie.InvT-loop
 Inv-loop out₀ at text n₀ i₀ out n i = length out ≡ length out₀

@@ -1,8 +1,8 @@
 use borrow.Author.Needs.{needs}
 use mathlib.Core.Path.{_≡_}
 use lib.ListN.{length}
-use Rattle.window.proofs.filled.Statement.{statement}
-use Rattle.window.proofs.filled.Tie as tie
+use Rattle.packets.proofs.window.filled.Statement.{statement}
+use Rattle.packets.proofs.window.filled.Tie as tie
 
 abbrev Inv-loop : tie.InvT-loop
 Inv-loop s label lengths₀ bytes₀ now₀ turns₀ lengths bytes now turns = (length lengths ≡ length lengths₀) × (length bytes ≡ length bytes₀)

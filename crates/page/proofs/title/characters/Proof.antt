@@ -1,8 +1,8 @@
 use borrow.Author.Needs.{needs}
 use Prim.Native.Nat.{_-_, _≤_}
 use lib.ListN.{length}
-use Rattle.title.proofs.characters.Statement.{statement}
-use Rattle.title.proofs.characters.Tie as tie
+use Rattle.page.proofs.title.characters.Statement.{statement}
+use Rattle.page.proofs.title.characters.Tie as tie
 
 abbrev Inv-loop : tie.InvT-loop
 Inv-loop text count₀ i₀ count i = (count ≤ i) × (i ≤ length text)
