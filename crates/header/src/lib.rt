@@ -261,8 +261,9 @@ pub fn syndromes_by(powers: &[u8; 510], logarithms: &[u8; 256], header: &[u8; 96
     requires { ⌜ Logarithms (now logarithms) ⌝ }
     ensures { λ r. ⌜ r ≡ syndromesOf (now (header .entry)) ⌝ }
 {
-    let low = multiples(powers, 0);
-    let high = multiples(powers, 4);
+    let own = field::powers();
+    let low = multiples(&own, 0);
+    let high = multiples(&own, 4);
     let e = rest(&low, &high, header);
     if all_zero(e) {
         return [0; 8];

@@ -6,6 +6,9 @@ use borrow.Author.Needs.{needs}
 use Rattle.header.proofs.syndromes_by.Statement.{statement}
 use Rattle.header.proofs.syndromes_by.Tie as tie
 
+powers-requires : tie.Need-powers-requires
+powers-requires c κs = search needs
+
 multiples-requires : tie.Need-multiples-requires
 multiples-requires c κs = search needs
 
@@ -36,6 +39,7 @@ pub syndromes-by-spec : {M : Type 1} → statement M
 syndromes-by-spec =
     tie.close
     (tie.spec
+    powers-requires
     multiples-requires
     multiples-requires-2
     rest-requires
