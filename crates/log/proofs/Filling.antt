@@ -41,7 +41,7 @@ first-word (a ∷ b ∷ c ∷ rest) h =
     rw e
 
 -- the next word of the bytes that are left
-next-word : (s : List ℕ) (i : ℕ) → i < length s → dataWords (drop i s) ≡ dataWordAt s i ∷ dataWords (drop (i + 3) s)
+pub next-word : (s : List ℕ) (i : ℕ) → i < length s → dataWords (drop i s) ≡ dataWordAt s i ∷ dataWords (drop (i + 3) s)
 next-word s i h =
     let n : length (drop i s) ≡ length s - i = length-drop i s in
     let a : getD (drop i s) 0 0 ≡ getD s i 0 = rw (add-zero i) at (getD-drop i s 0 0) in

@@ -1,3 +1,4 @@
+pub mod Blocks
 pub mod Examples
 pub mod Filling
 pub mod Packets

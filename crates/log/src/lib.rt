@@ -4,6 +4,7 @@ ghost use mathlib.Core.List.{_++_};
 ghost use Prim.Native.Nat.{_+_, _-_, _*_, _/_, _<_, _≤_, min};
 ghost use lib.ListN.{length, getD, drop};
 ghost use Rattle.buffer.specs.Buffer.{putAt};
+ghost use Rattle.log.specs.Blocks.{fourAt, eightAt, blockWords};
 ghost use Rattle.log.specs.Log.{packet, psd, note, word, dataWord, dataWordAt, dataWords, entryWords, Leaves};
 
 fn wide(x: u8) -> u32
@@ -64,8 +65,81 @@ fn full_word(bytes: &[u8], i: usize) -> u32
     0x43000000 + wide(bytes[i]) * 0x10000 + (wide(bytes[i + 1]) * 0x100 + wide(bytes[i + 2]))
 }
 
-// Writes the full data words that a slice has from a byte on, whatever follows its bytes. Answers how many.
-fn put_full(log: &mut [u32], at: usize, bytes: &[u8], from: usize) -> usize
+fn wider(x: u8) -> u64
+    ensures { λ r. ⌜ (r ≡ x) × (r < 256) ⌝ }
+{
+    x as u64
+}
+
+// Four bytes of a slice from byte i on as a number, the first highest.
+fn four(bytes: &[u8], i: usize) -> u64
+    requires { ⌜ i + 4 ≤ length (now bytes) ⌝ }
+    ensures { λ r. ⌜ (r ≡ fourAt (now (bytes .entry)) i) × (r < 4294967296) ⌝ }
+{
+    let a = wider(bytes[i + 3]) | (wider(bytes[i + 2]) * 256);
+    let b = a | (wider(bytes[i + 1]) * 65536);
+    b | (wider(bytes[i]) * 16777216)
+}
+
+// Eight bytes of a slice from byte i on as a number, the first highest.
+fn eight(bytes: &[u8], i: usize) -> u64
+    requires { ⌜ i + 8 ≤ length (now bytes) ⌝ }
+    ensures { λ r. ⌜ r ≡ eightAt (now (bytes .entry)) i ⌝ }
+{
+    let a = four(bytes, i + 4) | (wider(bytes[i + 3]) * 4294967296);
+    let b = a | (wider(bytes[i + 2]) * 1099511627776);
+    let c = b | (wider(bytes[i + 1]) * 281474976710656);
+    c | (wider(bytes[i]) * 72057594037927936)
+}
+
+// The data word of three bytes, given as a number.
+fn full(v: u64) -> u32
+    requires { ⌜ v < 16777216 ⌝ }
+    ensures { λ r. ⌜ r ≡ 0x43000000 + v ⌝ }
+{
+    (0x43000000 + v) as u32
+}
+
+// Writes the four data words of twelve bytes, given as eight and four.
+fn put_block(log: &mut [u32], at: usize, x: u64, y: u64)
+    requires { ⌜ at + 4 ≤ length (now log) ⌝ }
+    requires { ⌜ y < 4294967296 ⌝ }
+    ensures { λ _. ⌜ now (log .exit) ≡ putAt (now (log .entry)) at (blockWords x y) ⌝ }
+{
+    log[at] = full(x / 1099511627776);
+    log[at + 1] = full(x / 65536 % 16777216);
+    log[at + 2] = full(x % 65536 * 256 + y / 16777216);
+    log[at + 3] = full(y % 16777216);
+}
+
+// Writes the full data words that a slice has from a byte on, four at a time. Answers how many.
+fn put_blocks(log: &mut [u32], at: usize, bytes: &[u8], from: usize) -> usize
+    requires { ⌜ from ≤ length (now bytes) ⌝ }
+    requires { ⌜ length (now bytes) ≤ 65535 ⌝ }
+    requires { ⌜ at + (length (now bytes) - from) / 3 ≤ length (now log) ⌝ }
+    ensures { λ r. ⌜ from + 3 * r ≤ length (now (bytes .entry)) ⌝ }
+    ensures { λ r. ⌜ Leaves (now (log .entry)) at (now (bytes .entry)) from (now (log .exit)) r ⌝ }
+{
+    if bytes.len() < from + 12 {
+        return 0;
+    }
+    let mut i: usize = from;
+    let mut j: usize = 0;
+    let mut x = eight(bytes, i);
+    let mut y = four(bytes, i + 8);
+    while i + 24 <= bytes.len() {
+        put_block(&mut *log, at + j, x, y);
+        i += 12;
+        j += 4;
+        x = eight(bytes, i);
+        y = four(bytes, i + 8);
+    }
+    put_block(&mut *log, at + j, x, y);
+    j + 4
+}
+
+// Writes the full data words that a slice has from a byte on, one at a time. Answers how many.
+fn put_words(log: &mut [u32], at: usize, bytes: &[u8], from: usize) -> usize
     requires { ⌜ from ≤ length (now bytes) ⌝ }
     requires { ⌜ length (now bytes) ≤ 65535 ⌝ }
     requires { ⌜ at + (length (now bytes) - from) / 3 ≤ length (now log) ⌝ }
@@ -80,6 +154,18 @@ fn put_full(log: &mut [u32], at: usize, bytes: &[u8], from: usize) -> usize
         j += 1;
     }
     j
+}
+
+// Writes the full data words that a slice has from a byte on, whatever follows its bytes. Answers how many.
+fn put_full(log: &mut [u32], at: usize, bytes: &[u8], from: usize) -> usize
+    requires { ⌜ from ≤ length (now bytes) ⌝ }
+    requires { ⌜ length (now bytes) ≤ 65535 ⌝ }
+    requires { ⌜ at + (length (now bytes) - from) / 3 ≤ length (now log) ⌝ }
+    ensures { λ r. ⌜ r ≡ (length (now (bytes .entry)) - from) / 3 ⌝ }
+    ensures { λ r. ⌜ Leaves (now (log .entry)) at (now (bytes .entry)) from (now (log .exit)) r ⌝ }
+{
+    let blocks = put_blocks(&mut *log, at, bytes, from);
+    blocks + put_words(&mut *log, at + blocks, bytes, from + 3 * blocks)
 }
 
 // Writes the data word of the bytes of two slices from byte i on, if there is any. Answers how many.

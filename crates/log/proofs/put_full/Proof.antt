@@ -1,99 +1,57 @@
--- `log::put_full` meets its contract: before each turn the words that are left come behind those written.
-use denote.Ref.{now}
-use native.Mathlib.Nat.{add-zero}
+-- `log::put_full` meets its contract: words one at a time behind those of blocks.
 use native.Mathlib.Omega.{arith}
 use mathlib.Core.Path.{_≡_, refl, ap, sym, _∙_}
-use mathlib.Core.List.{List, [], _++_}
-use Prim.Native.Nat.{ℕ, _+_, _-_, _*_, _/_, _≤_, _<_}
-use lib.ListN.{length, drop, getD, length-set, length-append}
+use Prim.Native.Nat.{ℕ, _+_, _-_, _*_, _≤_, _<_}
+use lib.ListN.{length, take, drop, getD, set, length-set}
+use mathlib.Core.List.{List, [], _∷_, _++_}
 use borrow.Author.Needs.{needs}
-use Rattle.buffer.specs.Buffer.{putAt}
-use Rattle.log.specs.Log.{dataWords}
-use Rattle.log.proofs.Filling.{turn, word-in-first}
+use Rattle.log.proofs.Blocks.{onward}
 use Rattle.log.proofs.put_full.Statement.{statement}
 use Rattle.log.proofs.put_full.Tie as tie
 use Rattle.log.proofs.put_full.Reads as reads
 use Rattle.log.proofs.put_full.Lts as lts
+use Rattle.log.proofs.put_blocks.Reads as put-blocks-reads
+use Rattle.log.proofs.put_words.Reads as put-words-reads
 
-abbrev Inv-loop : tie.InvT-loop
-Inv-loop log₀ at bytes from i₀ j₀ log i j =
-    (i ≡ from + 3 * j) × (i ≤ length bytes) × ((rest : List ℕ) → putAt log (at + j) (dataWords (drop i (bytes ++ rest))) ≡ putAt log₀ at (dataWords (drop from (bytes ++ rest)))) × (length log ≡ length log₀)
+put-blocks-requires : tie.Need-put-blocks-requires
+put-blocks-requires c κs = search needs
 
-abbrev μ-loop : tie.MeasureT-loop
-μ-loop log₀ at bytes from i₀ j₀ log i j = length bytes - i
+add-put-words : tie.Need-add-put-words
+add-put-words c = search needs
 
--- a word more has a place in the log
-room : (c : tie.After-full-word Inv-loop μ-loop) → c .before .before .before .before .before .args .at + c .before .before .loop .j < length (c .before .before .loop .log)
-room c =
-    let p = c .before .before in
-    omega (arith, p .before .before .before .pre .1 .1, p .loop .inv .0, p .loop .inv .3, c .before .loop-test .taken)
+mul-put-words : tie.Need-mul-put-words
+mul-put-words c = search needs
 
-loop-holds : tie.Need-loop-holds Inv-loop μ-loop
-loop-holds c = (omega arith, omega arith, (λ rest. rw add-zero refl), refl)
+add-put-words-2 : tie.Need-add-put-words-2
+add-put-words-2 c = search needs
 
-add-loop : tie.Need-add-loop Inv-loop μ-loop
-add-loop c = search needs
+put-words-requires : tie.Need-put-words-requires
+put-words-requires c κs = search needs
 
-full-word-requires : tie.Need-full-word-requires Inv-loop μ-loop
-full-word-requires c κs = search needs
+add-result : tie.Need-add-result
+add-result c = search needs
 
-add-log : tie.Need-add-log Inv-loop μ-loop
-add-log c = omega (arith, room c)
-
-mul-log : tie.Need-mul-log Inv-loop μ-loop
-mul-log c = omega (arith, room c)
-
-slice-write-log : tie.Need-slice-write-log Inv-loop μ-loop
-slice-write-log c = omega (arith, room c)
-
-add-i : tie.Need-add-i Inv-loop μ-loop
-add-i c = search needs
-
-add-j : tie.Need-add-j Inv-loop μ-loop
-add-j c = omega (arith, room c)
-
-loop-less : tie.Need-loop-less Inv-loop μ-loop
-loop-less c = search needs
-
-loop-again : tie.Need-loop-again Inv-loop μ-loop
-loop-again c =
-    let p = c .before .before in
-    let a = p .before .before .before .args in
-    let b : List ℕ = a .bytes .now in (
-      omega arith,
-      omega arith,
-      (λ rest. turn (p .loop .log) (b ++ rest) (putAt (a .log .now) (a .at) (dataWords (drop (a .from) (b ++ rest)))) (a .at) (p .loop .i) (p .loop .j) (c .full-word .result)
-          (omega (arith, length-append b rest, c .before .loop-test .taken)) (room c)
-          (c .full-word .ensures ∙ word-in-first b rest (p .loop .i) (omega arith)) (p .loop .inv .2 rest)),
-      simp length-set (p .loop .inv .3),
-    )
-
-same-length : tie.Need-same-length Inv-loop μ-loop
+same-length : tie.Need-same-length
 same-length c = search needs
 
-returns : tie.Need-returns Inv-loop μ-loop
+returns : tie.Need-returns
 returns c =
-    let p = c .before in
-    let a = p .before .before .before .args in (
-      omega arith,
-      (λ rest. ap (λ (n : ℕ). putAt (p .loop .log) (a .at + p .loop .j) (dataWords (drop n (a .bytes .now ++ rest)))) (sym (p .loop .inv .0)) ∙ p .loop .inv .2 rest),
+    let a = c .before .before .before .before .before .before .put-blocks in
+    let b = c .before .before .put-words in
+    let s = c .before .before .before .before .before .before .before .before .before .before .args in (
+      omega (arith, a .ensures .0, b .ensures .0),
+      (λ rest. onward _ _ _ _ (s .at) (s .from) (a .result) (b .result) (a .ensures .1 rest) (b .ensures .1 rest)),
     )
 
 pub put-full-spec : {M : Type 1} → statement M
 put-full-spec =
     tie.close
     (tie.spec
-    Inv-loop
-    μ-loop
-    loop-holds
-    add-loop
-    full-word-requires
-    add-log
-    mul-log
-    slice-write-log
-    add-i
-    add-j
-    loop-less
-    loop-again
+    put-blocks-requires
+    add-put-words
+    mul-put-words
+    add-put-words-2
+    put-words-requires
+    add-result
     same-length
     returns)
