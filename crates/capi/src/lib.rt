@@ -8,13 +8,15 @@ use writer::Opened;
 use writer::Writer;
 use writer::Written;
 ghost use mathlib.Core.Path.{_≡_};
+ghost use mathlib.Core.List.{[]};
 ghost use lib.ListN.{length};
 ghost use Rattle.field.specs.Field.{mul};
 ghost use Rattle.crc.specs.Crc.{crcFrom};
 ghost use Rattle.header.specs.Header.{syndromes, parityOf, lengthRefusal, withParity};
 ghost use Rattle.pdu.specs.Reading.{readingWith, WrongOne, readPdu};
 ghost use Rattle.writer.specs.Writing.{opened, writeAnswer, writtenPdu};
-ghost use Rattle.receiver.specs.Receiving.{opened as receiverOpened, receiveAnswer, carryAfter, pduAfter, logAfter, lostAnswer, logAfterLost};
+ghost use Rattle.receiver.specs.Receiving.{opened as receiverOpened, WrongOneWith, receiveAnswer, carryAfter, pduAfter, logAfter, lostAnswer, logAfterLost};
+ghost use Rattle.correction.specs.Marks.{correctionWith, correctedPduWith};
 ghost use Rattle.correction.specs.Correction.{correctionOf, correctedPdu, numberOf, countOf};
 
 // S1 to S8.
@@ -71,14 +73,11 @@ pub extern "C" fn barzhilup_write_parity(pdu: &mut [u8]) -> u32
     header::write_parity(pdu)
 }
 
-// Corrects the header of a PDU in place, or refuses with 3 or 4 and leaves it as it was.
-#[no_mangle]
-pub extern "C" fn barzhilup_correct_header(pdu: &mut [u8]) -> CorrectionAnswer
-    ensures { λ r. ⌜ r .refusal ≡ numberOf (correctionOf (now (pdu .entry))) ⌝ }
-    ensures { λ r. ⌜ r .corrected ≡ countOf (correctionOf (now (pdu .entry))) ⌝ }
-    ensures { λ _. ⌜ now (pdu .exit) ≡ correctedPdu (now (pdu .entry)) ⌝ }
+// What came of a correction, as two numbers.
+fn in_numbers(answer: Correction) -> CorrectionAnswer
+    ensures { λ r. ⌜ r .refusal ≡ numberOf answer ⌝ }
+    ensures { λ r. ⌜ r .corrected ≡ countOf answer ⌝ }
 {
-    let answer = correction::correct(pdu);
     match answer {
         Correction::Corrected(n) => CorrectionAnswer {
             refusal: 0,
@@ -89,6 +88,28 @@ pub extern "C" fn barzhilup_correct_header(pdu: &mut [u8]) -> CorrectionAnswer
             corrected: 0,
         },
     }
+}
+
+// Corrects the header of a PDU in place, or refuses with 3 or 4 and leaves it as it was.
+#[no_mangle]
+pub extern "C" fn barzhilup_correct_header(pdu: &mut [u8]) -> CorrectionAnswer
+    ensures { λ r. ⌜ r .refusal ≡ numberOf (correctionOf (now (pdu .entry))) ⌝ }
+    ensures { λ r. ⌜ r .corrected ≡ countOf (correctionOf (now (pdu .entry))) ⌝ }
+    ensures { λ _. ⌜ now (pdu .exit) ≡ correctedPdu (now (pdu .entry)) ⌝ }
+{
+    let answer = correction::correct(pdu);
+    in_numbers(answer)
+}
+
+// Corrects the header of a PDU in place with a list of marked places, or refuses with 3, 19 or 4 and leaves it as it was.
+#[no_mangle]
+pub extern "C" fn barzhilup_correct_header_marked(pdu: &mut [u8], marks: &[u8]) -> CorrectionAnswer
+    ensures { λ r. ⌜ r .refusal ≡ numberOf (correctionWith (now (marks .entry)) (now (pdu .entry))) ⌝ }
+    ensures { λ r. ⌜ r .corrected ≡ countOf (correctionWith (now (marks .entry)) (now (pdu .entry))) ⌝ }
+    ensures { λ _. ⌜ now (pdu .exit) ≡ correctedPduWith (now (marks .entry)) (now (pdu .entry)) ⌝ }
+{
+    let answer = correction::correct_marked(pdu, marks);
+    in_numbers(answer)
 }
 
 // The CRC-8 of the bytes.
@@ -151,13 +172,31 @@ pub extern "C" fn barzhilup_receive(
     pdu: &mut [u8],
     log: &mut [u32],
 ) -> Received
-    ensures { λ r. ⌜ r ≡ receiveAnswer (now (carry .entry)) (now (pdu .entry)) (now (log .entry)) receiver (r .wrong) ⌝ }
+    ensures { λ r. ⌜ r ≡ receiveAnswer [] (now (carry .entry)) (now (pdu .entry)) (now (log .entry)) receiver (r .wrong) ⌝ }
     ensures { λ r. ⌜ WrongOne (now (pdu .entry)) (r .refusal) (r .wrong) ⌝ }
-    ensures { λ _. ⌜ now (carry .exit) ≡ carryAfter (now (carry .entry)) (now (pdu .entry)) (now (log .entry)) receiver ⌝ }
-    ensures { λ _. ⌜ now (pdu .exit) ≡ pduAfter (now (carry .entry)) (now (pdu .entry)) (now (log .entry)) receiver ⌝ }
-    ensures { λ _. ⌜ now (log .exit) ≡ logAfter (now (carry .entry)) (now (pdu .entry)) (now (log .entry)) receiver ⌝ }
+    ensures { λ _. ⌜ now (carry .exit) ≡ carryAfter [] (now (carry .entry)) (now (pdu .entry)) (now (log .entry)) receiver ⌝ }
+    ensures { λ _. ⌜ now (pdu .exit) ≡ pduAfter [] (now (carry .entry)) (now (pdu .entry)) (now (log .entry)) receiver ⌝ }
+    ensures { λ _. ⌜ now (log .exit) ≡ logAfter [] (now (carry .entry)) (now (pdu .entry)) (now (log .entry)) receiver ⌝ }
 {
     receiver.receive(carry, pdu, log)
+}
+
+// Receives a PDU with a list of marked header places; or it is refused with 1 to 13 or 19, and nothing is changed.
+#[no_mangle]
+pub extern "C" fn barzhilup_receive_marked(
+    receiver: Receiver,
+    carry: &mut [u8],
+    pdu: &mut [u8],
+    marks: &[u8],
+    log: &mut [u32],
+) -> Received
+    ensures { λ r. ⌜ r ≡ receiveAnswer (now (marks .entry)) (now (carry .entry)) (now (pdu .entry)) (now (log .entry)) receiver (r .wrong) ⌝ }
+    ensures { λ r. ⌜ WrongOneWith (now (marks .entry)) (now (pdu .entry)) (r .refusal) (r .wrong) ⌝ }
+    ensures { λ _. ⌜ now (carry .exit) ≡ carryAfter (now (marks .entry)) (now (carry .entry)) (now (pdu .entry)) (now (log .entry)) receiver ⌝ }
+    ensures { λ _. ⌜ now (pdu .exit) ≡ pduAfter (now (marks .entry)) (now (carry .entry)) (now (pdu .entry)) (now (log .entry)) receiver ⌝ }
+    ensures { λ _. ⌜ now (log .exit) ≡ logAfter (now (marks .entry)) (now (carry .entry)) (now (pdu .entry)) (now (log .entry)) receiver ⌝ }
+{
+    receiver.receive_marked(carry, pdu, marks, log)
 }
 
 // Marks a PDU lost: note 6, and the receiver forgets; or it is refused with 1 or 13, and nothing is changed.

@@ -1,18 +1,20 @@
 -- The error value, turn by turn of its loops.
-use mathlib.Core.Path.{_≡_, refl, sym, _∙_, ap, ap₂}
+use mathlib.Core.Path.{_≡_, refl, sym, _∙_, ap, ap₂, subst}
 use mathlib.Core.List.{List, [], _∷_, _++_, map, append-nil, map-append}
 use Prim.Native.Nat.{ℕ, zero, suc, _+_, _-_, _<_, _≤_}
 use native.Mathlib.Omega.{arith}
 use native.Mathlib.Numerals.{add-one}
 use native.Mathlib.Decide.{ℕ-discrete, decLt}
-use lib.ListN.{length, getD, set, take, length-set, length-append}
-use lib.Seq.{getD-set-same, getD-set-other, take-suc, length-take-le}
-use lib.Bits.{bitXor}
+use lib.ListN.{length, getD, set, take, length-set, length-append, List·getD-eq-default}
+use lib.Seq.{getD-set-same, getD-set-other, take-suc, take-length, length-take-le}
+use lib.Bits.{bitXor, xor-lt}
+use lib.Dec.{lit<}
 use Rattle.field.specs.Field.{mul, inverse, pow}
-use Rattle.correction.specs.ErrorValues.{entries, stripped, product, unlessSame, others, Filtered}
+use Rattle.field.proofs.Laws.{mul-lt, pow-lt}
+use Rattle.correction.specs.ErrorValues.{entries, stripped, product, unlessSame, others, Filtered, Stripped}
 
 pub filtered-next : (t : List ℕ) (x : ℕ) (r : List ℕ) (n y : ℕ) → n < 7 → Filtered t x r n → y ≡ bitXor (getD t (n + 1) 0) (mul x (getD t n 0)) → Filtered t x (set r n y) (n + 1)
-filtered-next t x r n y l g e = record { long = length-set r n y ∙ g .long; entry = λ i b. go i b (ℕ-discrete i n) }
+filtered-next t x r n y l g e = record { long = length-set r n y ∙ g .long; last = getD-set-other r n 7 y 0 (λ q. omega arith) ∙ g .last; entry = λ i b. go i b (ℕ-discrete i n) }
   where
     go : (i : ℕ) → i < n + 1 → Dec (i ≡ n) → getD (set r n y) i 0 ≡ bitXor (getD t (suc i) 0) (mul x (getD t i 0))
     go i b (yes p) = let q : length r ≡ 8 = g .long in rw p (rw (getD-set-same r n y 0 (omega arith)) (rw add-one at e))
@@ -28,6 +30,38 @@ strip-last (y ∷ xs) x t j = strip-last xs x (λ i. bitXor (t (suc i)) (mul y (
 pub product-last : (xs : List ℕ) (x p f : ℕ) → product (xs ++ (x ∷ [])) p f ≡ mul (product xs p f) (bitXor p x)
 product-last [] x p f = refl
 product-last (y ∷ xs) x p f = product-last xs x p (mul f (bitXor p y))
+
+-- ---- the syndromes filtered by the marks
+
+filtered-byte : (t : List ℕ) (x : ℕ) (r : List ℕ) → Filtered t x r 7 → x < 256 → ((j : ℕ) → getD t j 0 < 256) → (j : ℕ) → getD r j 0 < 256
+filtered-byte t x r g h b j = go (decLt j 7) (ℕ-discrete j 7)
+  where
+    go : Dec (j < 7) → Dec (j ≡ 7) → getD r j 0 < 256
+    go (yes p) d = subst (λ (y : ℕ). y < 256) (sym (g .entry j p)) (xor-lt 8 (getD t (suc j) 0) (mul x (getD t j 0)) (b (suc j)) (mul-lt x (getD t j 0) h (b j)))
+    go (no p) (yes q) = subst (λ (y : ℕ). y < 256) (sym (ap (λ (k : ℕ). getD r k 0) q ∙ g .last)) (lit< tt)
+    go (no p) (no q) = subst (λ (y : ℕ). y < 256) (sym (List·getD-eq-default r 0 (omega (arith, g .long)))) (lit< tt)
+
+pub stripped-start : (s marks : List ℕ) → Stripped s marks 0 s
+stripped-start s marks = record { window = λ j l. refl; bytes = λ b. b }
+
+pub stripped-next : (s marks : List ℕ) (k x : ℕ) (t r : List ℕ) → k < length marks → Stripped s marks k t → x ≡ pow (getD marks k 0) → Filtered t x r 7 → Stripped s marks (k + 1) r
+stripped-next s marks k x t r l g e f = record {
+  window = λ j b.
+      (let p : getD t (suc j) 0 ≡ stripped (map pow (take k marks)) (entries s) (suc j) = g .window (suc j) (omega arith) in
+      let q : getD t j 0 ≡ stripped (map pow (take k marks)) (entries s) j = g .window j (omega arith) in
+      f .entry j (omega arith)
+      ∙ rw (p, q, e) (sym (strip-last (map pow (take k marks)) (pow (getD marks k 0)) (entries s) j))
+      ∙ ap (λ (ms : List ℕ). stripped ms (entries s) j) (sym more));
+  bytes = λ b. filtered-byte t x r f (subst (λ (y : ℕ). y < 256) (sym e) (pow-lt (getD marks k 0))) (g .bytes b);
+}
+  where
+    more : map pow (take (k + 1) marks) ≡ map pow (take k marks) ++ (pow (getD marks k 0) ∷ [])
+    more =
+        ap (λ (n : ℕ). map pow (take n marks)) (add-one k) ∙ ap (map pow) (take-suc marks k 0 l)
+        ∙ map-append pow (take k marks) (getD marks k 0 ∷ [])
+
+pub stripped-end : (s marks : List ℕ) (k : ℕ) (t : List ℕ) → k ≡ length marks → Stripped s marks k t → Stripped s marks (length marks) t
+stripped-end s marks k t e g = rw e at g
 
 -- After q of the points: the window that is left, and the product.
 pub record Working (s z : List ℕ) (k q : ℕ) (t : List ℕ) (f : ℕ) : Type 0 where

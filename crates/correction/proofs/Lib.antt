@@ -1,11 +1,16 @@
+pub mod Counting
 pub mod Steps
 pub mod Solving
 pub mod Searching
 pub mod Filtering
 pub mod Locating
 pub mod Nearest
+pub mod Marking
+pub mod MarkLists
 pub mod Repairing
 pub mod Candidates
+pub mod Filling
 pub mod Decoding
 pub mod Answers
 pub mod Theorem
+pub mod MarkExamples

@@ -1,25 +1,30 @@
 -- From bytes to the field: the locator kills the syndromes, its zeros are those found, and the error value is the formula's.
 use mathlib.Core.Path.{_≡_, refl, sym, _∙_, ap}
-use mathlib.Core.Bool.{Bool, true, false}
+use mathlib.Core.Bool.{Bool, true, false, not, _||_, true≢false}
 use mathlib.Core.List.{List, [], _∷_, _++_, map}
 use Prim.Native.Nat.{ℕ, zero, suc, _+_, _-_, _<_, _≤_}
 use native.Mathlib.Omega.{arith}
+use native.Mathlib.Decide.{decLt}
 use lib.ListN.{length, getD, set, length-append}
 use lib.Bits.{bitXor, xor-lt}
 use lib.Dec.{eqb, lit<}
 use borrow.Author.Tests.{eqb-true, eqb-false}
 use Rattle.field.specs.Field.{mul, inverse, pow}
 use Rattle.field.proofs.Laws.{mul-lt, inverse-lt, pow-lt}
-use Rattle.algebra.specs.Places.{below, keep}
-use Rattle.algebra.proofs.Field.{Field, ring, mul-one, law-mul-assoc}
+use Rattle.algebra.specs.Places.{All, below, keep}
+use Rattle.algebra.proofs.Places.{one}
+use Rattle.algebra.proofs.Field.{Field, ring, mul-one, mul-zero, mul-inv-cancel, law-add-self, law-mul-comm, law-mul-assoc}
 use Rattle.algebra.proofs.Polynomials.{combine, monic}
 use Rattle.algebra.proofs.Elimination.{Kills, column, length-column, combine-agree, combine-shift}
-use Rattle.algebra.proofs.ErrorValues.{strip, factor}
+use Rattle.algebra.proofs.ErrorValues.{strip, factor, factor-off, weigh, weigh-factor}
+use Rattle.algebra.proofs.Erasures.{withMarks, marks-monic}
 use Rattle.algebra.proofs.Codes.{zero?, zero-true, true-zero}
-use Rattle.algebra.proofs.Gf256.{GF, Byte, el, el-byte, el-zero, el-add, el-mul, el-inv, point, point-el}
+use Rattle.algebra.proofs.Gf256.{GF, Byte, el, el-byte, el-zero, el-add, el-mul, el-inv, point, point-el, point-apart}
 use Rattle.correction.specs.Elimination.{Solved, entry}
-use Rattle.correction.specs.ErrorPlaces.{valueFrom, root}
+use Rattle.correction.specs.Marks.{isMarked, unmarkedDistance}
+use Rattle.correction.specs.ErrorPlaces.{valueFrom, root, located}
 use Rattle.correction.specs.ErrorValues.{stripped, product}
+use Rattle.correction.proofs.Counting.{keep-same, keep-le}
 use Rattle.correction.proofs.Solving.{Bytes, solved, el-zero-only}
 
 infixl 65 _⊕_
@@ -43,16 +48,15 @@ pub locator-length : (cs : List ℕ) (k n : ℕ) → length (locatorFrom cs k n)
 locator-length cs k zero = refl
 locator-length cs k (suc n) = ap suc (locator-length cs (suc k) n)
 
--- with syndrome r + i + 1 in row r, column i of the system, the locator kills the syndromes from 1, 2, 3 and 4 on
-pub locator-kills : (S : ℕ → Byte) (m : List (List ℕ)) (degree : ℕ) (cs : List ℕ)
-    → Bytes m
-    → ((r i : ℕ) → r < 4 → i < 5 → el (entry m r i) ≡ S (suc (r + i)))
-    → Solved m degree cs → (j : ℕ) → j < 4 → combine GF (locatorFrom cs 0 degree) S (suc j) ≡ Field.𝟘 GF
-locator-kills S m degree cs by fill s j l =
+-- with entry r + i + 1 of S in row r, column i of the system for h errors, the locator kills h windows of S
+pub locator-kills : (S : ℕ → Byte) (m : List (List ℕ)) (h degree : ℕ) (cs : List ℕ)
+    → Bytes m → h ≤ 4 → degree ≤ h
+    → ((r i : ℕ) → r < h → i ≤ h → el (entry m r i) ≡ S (suc (r + i)))
+    → Solved m degree cs → (j : ℕ) → j < h → combine GF (locatorFrom cs 0 degree) S (suc j) ≡ Field.𝟘 GF
+locator-kills S m h degree cs by four d fill s j l =
     let e : locatorFrom cs 0 degree ≡ column GF (λ r i. el (entry (s .rows) r i)) degree 0 degree = same-column cs (s .rows) degree 0 degree (omega arith) (s .taken) in
-    let d : degree ≤ 4 = s .small in
     let n : length (locatorFrom cs 0 degree) ≡ degree = locator-length cs 0 degree in
-    let k : Kills GF (locatorFrom cs 0 degree) (λ i. el (entry m j i)) = rw e (solved m degree cs by s j l) in
+    let k : Kills GF (locatorFrom cs 0 degree) (λ i. el (entry m j i)) = rw e (solved m degree cs by s j (omega arith)) in
     let z : suc j + 0 ≡ suc j = omega arith in
     ap (λ (q : ℕ). combine GF (locatorFrom cs 0 degree) S q) (sym z)
     ∙ sym (combine-shift GF (locatorFrom cs 0 degree) S (suc j) 0)
@@ -129,14 +133,82 @@ root-test cs d i b = go (root cs d i) refl (zero? GF (monic GF (locatorFrom cs 0
     go false e true f =
         absurd (eqb-false _ _ e (el-zero-only _ (value-lt cs d b (pow i) 0 d (omega arith) (pow-lt i)) (same ∙ zero-true GF _ f)))
 
-keep-same : (t u : ℕ → Bool) (n : ℕ) → ((i : ℕ) → i < n → t i ≡ u i) → keep t (below n) ≡ keep u (below n)
-keep-same t u zero e = refl
-keep-same t u (suc n) e =
-    let h : t n ≡ u n = e n (omega arith) in
-    let r : keep t (below n) ≡ keep u (below n) = keep-same t u n (λ i l. e i (omega arith)) in
-    rw (h, r)
+-- a marked place makes the marks' factor zero
+marked-zero : (marks : List ℕ) (i : ℕ) → isMarked marks i ≡ true → factor GF point marks i ≡ Field.𝟘 GF
+marked-zero [] i e = absurd (true≢false (sym e))
+marked-zero (k ∷ marks) i e = go (eqb k i) refl (λ q. marked-zero marks i q) e
+  where
+    go : (b : Bool) → eqb k i ≡ b → (isMarked marks i ≡ true → factor GF point marks i ≡ Field.𝟘 GF) → (b || isMarked marks i) ≡ true
+        → (point i ⊕ point k) ⊗ factor GF point marks i ≡ Field.𝟘 GF
+    go true p r q = ap (λ (x : ℕ). (point i ⊕ point x) ⊗ factor GF point marks i) (eqb-true k i p)
+        ∙ ap (λ (u : Byte). u ⊗ factor GF point marks i) (law-add-self GF (point i)) ∙ Field.zero-mul GF _
+    go false p r q = ap (λ (u : Byte). (point i ⊕ point k) ⊗ u) (r q) ∙ mul-zero GF _
 
--- the places found are the zeros of the locator
-pub places-zeros : (cs : List ℕ) (d : ℕ) → ((i : ℕ) → i < d → getD cs i 0 < 256)
-    → keep (root cs d) (below 96) ≡ keep (λ i. zero? GF (monic GF (locatorFrom cs 0 d) (point i))) (below 96)
-places-zeros cs d b = keep-same (root cs d) (λ i. zero? GF (monic GF (locatorFrom cs 0 d) (point i))) 96 (λ i l. root-test cs d i b)
+-- an unmarked place is apart from every mark
+unmarked-apart : (marks : List ℕ) (i : ℕ) → i < 96 → All (λ k. k < 96) marks → isMarked marks i ≡ false → All (λ k. ¬ (point k ≡ point i)) marks
+unmarked-apart [] i l a e = tt
+unmarked-apart (k ∷ marks) i l a e = go (eqb k i) refl e (λ q. unmarked-apart marks i l (a .1) q)
+  where
+    apart-both : Dec (k < i) → ¬ (k ≡ i) → ¬ (point k ≡ point i)
+    apart-both (yes h) n q = point-apart i k (omega arith) h q
+    apart-both (no h) n q = let b : k < 96 = a .0 in point-apart k i (omega arith) (omega arith) (sym q)
+
+    go : (b : Bool) → eqb k i ≡ b → (b || isMarked marks i) ≡ false → (isMarked marks i ≡ false → All (λ k. ¬ (point k ≡ point i)) marks)
+        → (¬ (point k ≡ point i)) × All (λ k. ¬ (point k ≡ point i)) marks
+    go true p q r = absurd (true≢false q)
+    go false p q r = (apart-both (decLt k i) (eqb-false k i p), r q)
+
+zero-times : (f m : Byte) → ¬ (f ≡ Field.𝟘 GF) → zero? GF m ≡ zero? GF (f ⊗ m)
+zero-times f m n = go (zero? GF m) refl (zero? GF (f ⊗ m)) refl
+  where
+    go : (a : Bool) → zero? GF m ≡ a → (b : Bool) → zero? GF (f ⊗ m) ≡ b → a ≡ b
+    go true e true g = refl
+    go false e false g = refl
+    go true e false g = sym (true-zero GF _ (ap (λ (u : Byte). f ⊗ u) (zero-true GF _ e) ∙ mul-zero GF f)) ∙ g
+    go false e true g = sym e ∙ true-zero GF _ (mul-inv-cancel GF m f n (law-mul-comm GF m f ∙ zero-true GF _ g))
+
+-- the test of the search is the field's, of the locator with the marks
+located-test : (marks cs : List ℕ) (d i : ℕ) → i < 96 → All (λ k. k < 96) marks → ((i : ℕ) → i < d → getD cs i 0 < 256)
+    → located marks cs d i ≡ zero? GF (monic GF (withMarks GF point marks (locatorFrom cs 0 d)) (point i))
+located-test marks cs d i l a b = go (isMarked marks i) refl ∙ ap (zero? GF) (sym (marks-monic GF point marks (locatorFrom cs 0 d) i))
+  where
+    go : (m : Bool) → isMarked marks i ≡ m → (m || root cs d i) ≡ zero? GF (factor GF point marks i ⊗ monic GF (locatorFrom cs 0 d) (point i))
+    go true e = sym (true-zero GF _ (ap (λ (u : Byte). u ⊗ monic GF (locatorFrom cs 0 d) (point i)) (marked-zero marks i e) ∙ Field.zero-mul GF _))
+    go false e = root-test cs d i b ∙ zero-times _ _ (factor-off GF point marks i (unmarked-apart marks i l a e))
+
+-- the places found are the zeros of the locator with the marks
+pub places-zeros : (marks cs : List ℕ) (d : ℕ) → All (λ k. k < 96) marks → ((i : ℕ) → i < d → getD cs i 0 < 256)
+    → keep (located marks cs d) (below 96) ≡ keep (λ i. zero? GF (monic GF (withMarks GF point marks (locatorFrom cs 0 d)) (point i))) (below 96)
+places-zeros marks cs d a b =
+    keep-same (located marks cs d) (λ i. zero? GF (monic GF (withMarks GF point marks (locatorFrom cs 0 d)) (point i))) 96 (λ i l. located-test marks cs d i l a b)
+
+-- fewer weights than unmarked bytes that differ
+pub few-weights : (marks w v : List ℕ) (h : ℕ) → length w ≡ 96 → unmarkedDistance marks w v ≤ h
+    → length (keep (λ i. not (zero? GF (weigh GF point marks (λ i. el (getD w i 0) ⊕ el (getD v i 0)) i))) (below 96)) ≤ h
+unfolding unmarkedDistance
+few-weights marks w v h l d =
+    let u : length (keep (λ i. not (isMarked marks i || eqb (getD w i 0) (getD v i 0))) (below 96)) ≤ h = rw l at d in
+    let k : length (keep (λ i. not (zero? GF (weigh GF point marks (λ i. el (getD w i 0) ⊕ el (getD v i 0)) i))) (below 96))
+    ≤ length (keep (λ i. not (isMarked marks i || eqb (getD w i 0) (getD v i 0))) (below 96))
+    = keep-le (λ i. not (zero? GF (weigh GF point marks (λ i. el (getD w i 0) ⊕ el (getD v i 0)) i))) (λ i. not (isMarked marks i || eqb (getD w i 0) (getD v i 0))) 96
+    (λ i b. at i (isMarked marks i) refl (eqb (getD w i 0) (getD v i 0)) refl) in
+    omega arith
+  where
+    one-le : (b : Bool) → one b ≤ 1
+    one-le true = omega arith
+    one-le false = omega arith
+
+    none : (i : ℕ) → weigh GF point marks (λ i. el (getD w i 0) ⊕ el (getD v i 0)) i ≡ Field.𝟘 GF
+        → one (not (zero? GF (weigh GF point marks (λ i. el (getD w i 0) ⊕ el (getD v i 0)) i))) ≤ 0
+    none i e = let z : zero? GF (weigh GF point marks (λ i. el (getD w i 0) ⊕ el (getD v i 0)) i) ≡ true = true-zero GF _ e in rw z (omega arith)
+
+    whole : (i : ℕ) → weigh GF point marks (λ i. el (getD w i 0) ⊕ el (getD v i 0)) i ≡ (el (getD w i 0) ⊕ el (getD v i 0)) ⊗ factor GF point marks i
+    whole i = weigh-factor GF point marks (λ i. el (getD w i 0) ⊕ el (getD v i 0)) i
+
+    at : (i : ℕ) (m : Bool) → isMarked marks i ≡ m → (b : Bool) → eqb (getD w i 0) (getD v i 0) ≡ b
+        → one (not (zero? GF (weigh GF point marks (λ i. el (getD w i 0) ⊕ el (getD v i 0)) i))) ≤ one (not (m || b))
+    at i true e b f = none i (whole i ∙ ap (λ (u : Byte). (el (getD w i 0) ⊕ el (getD v i 0)) ⊗ u) (marked-zero marks i e) ∙ mul-zero GF _)
+    at i false e true f =
+        none i (whole i ∙ ap (λ (x : ℕ). (el x ⊕ el (getD v i 0)) ⊗ factor GF point marks i) (eqb-true _ _ f)
+        ∙ ap (λ (u : Byte). u ⊗ factor GF point marks i) (law-add-self GF (el (getD v i 0))) ∙ Field.zero-mul GF _)
+    at i false e false f = one-le (not (zero? GF (weigh GF point marks (λ i. el (getD w i 0) ⊕ el (getD v i 0)) i)))

@@ -9,7 +9,7 @@ use native.Mathlib.Decide.{ℕ-discrete}
 use lib.ListN.{length, getD, set, length-set}
 use Rattle.algebra.specs.Places.{All}
 use Rattle.header.specs.Header.{isCodeWord, distance}
-use Rattle.header.proofs.Distances.{distance-set, Nearer, nearer, distance-self, distance-zero, triangle, all-set, all-at}
+use Rattle.header.proofs.Distances.{distance-set, Nearer, nearer, distance-self, distance-zero, all-set, all-at}
 use Rattle.correction.specs.Correction.{orElse, onlyIf, atPlace, atPlaces, near, Near}
 
 -- A hit is what is looked for.
@@ -18,7 +18,7 @@ module _ (P : List ℕ → Type 0) (f : List ℕ → Option (List ℕ)) (w : Lis
   else-hit (some d) b p r c e = p c e
   else-hit none b p r c e = r c e
 
-  place-hit : (i v : ℕ) → ((u : ℕ) → u < v → (c : List ℕ) → f (set w i u) ≡ some c → P c) → (c : List ℕ) → atPlace f w i v ≡ some c → P c
+  pub place-hit : (i v : ℕ) → ((u : ℕ) → u < v → (c : List ℕ) → f (set w i u) ≡ some c → P c) → (c : List ℕ) → atPlace f w i v ≡ some c → P c
   place-hit i zero h c e = let z : _≡_ {A = ℕ} 0 1 = cc in absurd (omega arith)
   place-hit i (suc v) h c e = else-hit (atPlace f w i v) (f (set w i v)) (place-hit i v (λ u l. h u (omega arith))) (h v (omega arith)) c e
 
@@ -32,7 +32,7 @@ else-none (some d) b e = let z : _≡_ {A = ℕ} 0 1 = cc in absurd (omega arith
 else-none none b e = (refl, e)
 
 module _ (f : List ℕ → Option (List ℕ)) (w : List ℕ) where
-  place-none : (i v : ℕ) → atPlace f w i v ≡ none → (u : ℕ) → u < v → f (set w i u) ≡ none
+  pub place-none : (i v : ℕ) → atPlace f w i v ≡ none → (u : ℕ) → u < v → f (set w i u) ≡ none
   place-none i zero e u l = absurd (omega arith)
   place-none i (suc v) e u l = go (ℕ-discrete u v) (λ m. place-none i v (else-none _ _ e .0) u m)
     where
@@ -87,24 +87,3 @@ near-complete (suc k) w c e n = go (distance w c) refl (λ u. near-complete k u 
         rec (set w (m .place) (getD c (m .place) 0))
         (places-none (λ u. near k u) w (length w) (else-none (onlyIf (isCodeWord w) w) (atPlaces (λ u. near k u) w (length w)) e .1) (m .place) b (getD c (m .place) 0) (all-at 256 c (m .place) (omega arith) (n .bytes)))
         (record { right = n .right; close = omega arith; long = n .long ∙ sym (length-set w (m .place) (getD c (m .place) 0)); bytes = n .bytes })
-
--- With code words far enough apart, the search answers c exactly when c is a code word within k.
-module _ (k n : ℕ) (unique : (b c : List ℕ) → length b ≡ n → length c ≡ n → All (λ x. x < 256) b → All (λ x. x < 256) c → isCodeWord b ≡ true → isCodeWord c ≡ true → distance b c ≤ k + k → b ≡ c) where
-  pub near-some : (w c : List ℕ) → length w ≡ n → All (λ x. x < 256) w → Near k w c → near k w ≡ some c
-  near-some w c l a n′ = go (near k w) refl
-    where
-      go : (o : Option (List ℕ)) → near k w ≡ o → o ≡ some c
-      go none e = absurd (near-complete k w c e n′)
-      go (some b) e =
-          let m : Near k w b = near-sound k w b a e in
-          let t : distance b c ≤ distance w b + distance w c = triangle w b c (m .long) (n′ .long) in
-          let x : distance w b ≤ k = m .close in
-          let y : distance w c ≤ k = n′ .close in
-          ap some (unique b c (m .long ∙ l) (n′ .long ∙ l) (m .bytes) (n′ .bytes) (m .right) (n′ .right) (omega arith))
-
-  pub near-none : (w : List ℕ) → All (λ x. x < 256) w → ((c : List ℕ) → Near k w c → ⊥) → near k w ≡ none
-  near-none w a n = go (near k w) refl
-    where
-      go : (o : Option (List ℕ)) → near k w ≡ o → o ≡ none
-      go none e = refl
-      go (some b) e = absurd (n b (near-sound k w b a e))

@@ -4,13 +4,13 @@ use mathlib.Core.List.{List, [], _∷_}
 use Prim.Native.Nat.{ℕ, zero, suc, _+_, _-_, _<_, _≤_}
 use native.Mathlib.Omega.{arith}
 use native.Mathlib.Numerals.{add-one}
-use native.Mathlib.Decide.{ℕ-discrete}
+use native.Mathlib.Decide.{ℕ-discrete, decLt}
 use lib.ListN.{length, getD, set, length-set}
 use lib.Seq.{getD-set-same, getD-set-other}
-use lib.Bits.{bitXor, xor-lt}
+use lib.Bits.{bitXor, xor-lt, xor-zero-l}
 use lib.Dec.{lit<}
 use Rattle.field.specs.Field.{mul, inverse}
-use Rattle.field.proofs.Laws.{mul-lt, inverse-lt}
+use Rattle.field.proofs.Laws.{mul-lt, mul-zero-l, inverse-lt}
 use Rattle.correction.specs.Elimination.{Row, scaledBy, clearedBy, Pivot, Reduce, Column, entry, Chain, begun, next, Solved}
 use Rattle.algebra.proofs.Field.{Field}
 use Rattle.algebra.proofs.Polynomials.{combine}
@@ -160,3 +160,28 @@ solved m degree cs by s =
     let lc : length (column GF (matrix (s .rows)) degree 0 degree) ≡ degree = length-column GF (matrix (s .rows)) degree 0 degree in
     g .kills (column GF (matrix (s .rows)) degree 0 degree) (omega arith)
     (kills-end GF (matrix (s .rows)) 4 degree (g .reduced) (λ r a b. ap el (s .stop .zeros r a b) ∙ el-zero))
+
+-- Rows from h on that are zero stay so, and no pivot is found in them: the degree is at most h.
+pub record Low (h k : ℕ) (n : List (List ℕ)) : Type 0 where
+  pub small : k ≤ h
+  pub zeros : (r i : ℕ) → h ≤ r → r < 4 → i < 5 → entry n r i ≡ 0
+
+low-next : (h j p : ℕ) (o n′ : List (List ℕ)) → Low h j o → j < 4 → p < 4 → Pivot o j p → Reduce o j p n′ → Low h (suc j) n′
+low-next h j p o n′ g kb pb v e = record { small = (let b : p < h = inside (decLt p h) in let a : j ≤ p = v .low in omega arith); zeros = rest }
+  where
+    inside : Dec (p < h) → p < h
+    inside (yes b) = b
+    inside (no b) = absurd (v .here pb (g .zeros p j (omega arith) pb (omega arith)))
+
+    rest : (r i : ℕ) → h ≤ r → r < 4 → i < 5 → entry n′ r i ≡ 0
+    rest r i a b c =
+        let ph : p < h = inside (decLt p h) in
+        let jp : j ≤ p = v .low in
+        let row : getD (set o p (getD o j [])) r [] ≡ getD o r [] = getD-set-other o p r (getD o j []) [] (λ q. omega arith) in
+        let x : getD (getD o r []) i 0 ≡ 0 = g .zeros r i a b c in
+        let y : getD (getD o r []) j 0 ≡ 0 = g .zeros r j a b (omega arith) in
+        e .rows r b (λ q. omega arith) .entry i c ∙ rw (row, x, y) (rw (mul-zero-l (entry n′ j i)) (xor-zero-l 0))
+
+pub low : (m : List (List ℕ)) (h k : ℕ) (n : List (List ℕ)) → ((r i : ℕ) → h ≤ r → r < 4 → i < 5 → entry m r i ≡ 0) → Chain m k n → Low h k n
+low m h k n z begun = record { small = omega arith; zeros = z }
+low m h k n z (next {k = j} {n = o} p n′ ch kb pb l v e) = low-next h j p o n′ (low m h j o z ch) kb pb v e

@@ -45,12 +45,6 @@ pub record Near (k : ℕ) (w c : List ℕ) : Type 0 where
   pub long : length c ≡ length w
   pub bytes : All (λ x. x < 256) c
 
--- r has 96 bytes, and is the only code word within four bytes of w, if there is one
-pub record Candidate (w r : List ℕ) : Type 0 where
-  pub long : length r ≡ 96
-  pub bytes : All (λ x. x < 256) r
-  pub only : (c : List ℕ) → Near 4 w c → r ≡ c
-
 -- the answer for a header w: how many bytes differ, or refusal 4, the paper's beyond mending
 abbrev pub answerFor : List ℕ → Option (List ℕ) → Correction
 answerFor w (some c) = Corrected (distance w c)

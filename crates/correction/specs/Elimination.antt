@@ -1,19 +1,21 @@
--- The four by four system of the syndromes with its right side beside it as column 4, and its elimination as far as the
--- first column with no pivot: what each step does, entry by entry.
+-- The four by four system of the filtered syndromes for at most h errors with its right side beside it as column 4, and its elimination as far
+-- as the first column with no pivot: what each step does, entry by entry.
 -- What private steps of the decoder promise each other; the promise of `correct` is in Correction.antt alone.
 use mathlib.Core.Path.{_≡_}
+use mathlib.Core.Bool.{cond}
 use mathlib.Core.List.{List, [], _∷_, map}
 use Prim.Native.Nat.{ℕ, zero, suc, _+_, _<_, _≤_}
 use lib.ListN.{length, take, getD, set}
 use lib.Bits.{bitXor}
+use lib.Dec.{ltb}
 use Rattle.field.specs.Field.{mul, inverse}
 
--- row r of the system: syndromes r + 1 to r + 5
-abbrev pub systemRow : List ℕ → ℕ → List ℕ
-systemRow s r = getD s r 0 ∷ getD s (r + 1) 0 ∷ getD s (r + 2) 0 ∷ getD s (r + 3) 0 ∷ getD s (r + 4) 0 ∷ []
+-- row r of the system for h errors: entries r to r + 4 of the filtered syndromes, or zeros from row h on
+abbrev pub systemRow : List ℕ → ℕ → ℕ → List ℕ
+systemRow t h r = cond (ltb r h) (getD t r 0 ∷ getD t (r + 1) 0 ∷ getD t (r + 2) 0 ∷ getD t (r + 3) 0 ∷ getD t (r + 4) 0 ∷ []) (0 ∷ 0 ∷ 0 ∷ 0 ∷ 0 ∷ [])
 
-abbrev pub systemOf : List ℕ → List (List ℕ)
-systemOf s = map (systemRow s) (0 ∷ 1 ∷ 2 ∷ 3 ∷ [])
+abbrev pub systemOf : List ℕ → ℕ → List (List ℕ)
+systemOf t h = map (systemRow t h) (0 ∷ 1 ∷ 2 ∷ 3 ∷ [])
 
 -- the coefficients of the four unknowns, and the right side, of a system of four rows
 abbrev pub unknowns : List (List ℕ) → List (List ℕ)

@@ -1,10 +1,10 @@
 -- The error value at one of several places, from the syndromes filtered by the points of the others.
 -- What private steps of the decoder promise each other; the promise of `correct` is in Correction.antt alone.
 use mathlib.Core.Path.{_≡_}
-use mathlib.Core.List.{List, [], _∷_, _++_}
-use Prim.Native.Nat.{ℕ, zero, suc, _<_}
+use mathlib.Core.List.{List, [], _∷_, _++_, map}
+use Prim.Native.Nat.{ℕ, zero, suc, _+_, _<_}
 use native.Mathlib.Decide.{ℕ-discrete}
-use lib.ListN.{length, getD}
+use lib.ListN.{length, getD, take}
 use lib.Bits.{bitXor}
 use Rattle.field.specs.Field.{mul, inverse, pow}
 
@@ -33,11 +33,19 @@ others z k (suc q) = unlessSame (ℕ-discrete q k) (getD z q 0) (others z k q)
 
 pub record Filtered (t : List ℕ) (x : ℕ) (r : List ℕ) (n : ℕ) : Type 0 where
   pub long : length r ≡ 8
+  pub last : getD r 7 0 ≡ 0
   pub entry : (j : ℕ) → j < n → getD r j 0 ≡ bitXor (getD t (suc j) 0) (mul x (getD t j 0))
 
--- the points of four places, filled up with zeros
+-- t is the syndromes s filtered by the points of the first k marks, as far as they reach
+pub record Stripped (s marks : List ℕ) (k : ℕ) (t : List ℕ) : Type 0 where
+  pub window : (j : ℕ) → j + k < 8 → getD t j 0 ≡ stripped (map pow (take k marks)) (entries s) j
+  pub bytes : ((j : ℕ) → getD s j 0 < 256) → (j : ℕ) → getD t j 0 < 256
+
+-- the points of eight places
 abbrev pub pointsOf : List ℕ → List ℕ
-pointsOf places = pow (getD places 0 0) ∷ pow (getD places 1 0) ∷ pow (getD places 2 0) ∷ pow (getD places 3 0) ∷ 0 ∷ 0 ∷ 0 ∷ 0 ∷ []
+pointsOf places =
+    pow (getD places 0 0) ∷ pow (getD places 1 0) ∷ pow (getD places 2 0) ∷ pow (getD places 3 0)
+    ∷ pow (getD places 4 0) ∷ pow (getD places 5 0) ∷ pow (getD places 6 0) ∷ pow (getD places 7 0) ∷ []
 
 -- the error value at the kth of the first m points of z, from the syndromes s
 abbrev pub valueAt : List ℕ → List ℕ → ℕ → ℕ → ℕ

@@ -3,3 +3,4 @@ pub mod Corrects
 pub mod Elimination
 pub mod ErrorPlaces
 pub mod ErrorValues
+pub mod Marks

@@ -1,20 +1,73 @@
-// Error correction of the header code (document 01, "Header code").
+// Error correction of the header code (document 01, "Header code"; document 02, Ask 3).
 ghost use mathlib.Core.Path.{_≡_};
 ghost use Prim.Native.Nat.{_<_, _≤_};
 ghost use lib.ListN.{getD, length, take};
 ghost use Rattle.field.specs.Field.{Powers, Logarithms};
 ghost use Rattle.header.specs.Header.{syndromes};
+ghost use mathlib.Core.Bool.{true};
 ghost use Rattle.algebra.specs.Places.{All, keep, below};
-ghost use Rattle.correction.specs.Correction.{Candidate, corrected, answerFor, headerAfter, correctionOf, correctedPdu};
+ghost use Rattle.correction.specs.Correction.{answerFor, headerAfter, correctionOf, correctedPdu};
+ghost use Rattle.correction.specs.Marks.{isMarked, allowedMarks, marksRefusal, CandidateWith, adopted as adoptedFrom, spare as spareOf, correctedWith, correctionWith, correctedPduWith};
 ghost use Rattle.correction.specs.declared.Correction.the-variants.{Refused};
 ghost use Rattle.correction.specs.Elimination.{Row, scaledBy, clearedBy, Pivot, ReduceRows, ReduceRight, Column, Solved, systemRow, systemOf, unknowns, rightSide, beside};
-ghost use Rattle.correction.specs.ErrorPlaces.{valueFrom, root, Search};
-ghost use Rattle.correction.specs.ErrorValues.{Filtered, valueAt, pointsOf, DistinctPlaces, Repaired};
+ghost use Rattle.correction.specs.ErrorPlaces.{valueFrom, located, Search};
+ghost use Rattle.correction.specs.ErrorValues.{Filtered, Stripped, valueAt, pointsOf, DistinctPlaces, Repaired};
 
-// How many bytes of a header were corrected (0 to 4), or the refusal number (3 or 4).
+// How many bytes of a header were corrected (0 to 4; with marks, to 8), or the refusal number (3, 19 or 4).
 pub enum Correction {
     Corrected(u32),
     Refused(u32),
+}
+
+// A mark as a place.
+fn place(mark: u8) -> usize
+    ensures { λ r. ⌜ r ≡ mark ⌝ }
+{
+    mark as usize
+}
+
+// Whether place i is marked.
+fn is_marked(marks: &[u8], i: usize) -> bool
+    ensures { λ r. ⌜ r ≡ isMarked (now (marks .entry)) i ⌝ }
+{
+    let mut k: usize = 0;
+    while k < marks.len() {
+        if place(marks[k]) == i {
+            return true;
+        }
+        k += 1;
+    }
+    false
+}
+
+// Refusal 19 for more than eight marks, one over 95, or one repeated, else 0.
+fn marks_refusal(marks: &[u8]) -> u32
+    ensures { λ r. ⌜ r ≡ marksRefusal (now (marks .entry)) ⌝ }
+{
+    if 8 < marks.len() {
+        return 19;
+    }
+    let mut k: usize = 0;
+    while k < marks.len() {
+        let at = place(marks[k]);
+        if 95 < at {
+            return 19;
+        }
+        let next = k + 1;
+        if is_marked(&marks[next..], at) {
+            return 19;
+        }
+        k = next;
+    }
+    0
+}
+
+// How many unmarked bytes may differ.
+fn spare(marks: &[u8]) -> usize
+    requires { ⌜ length (now marks) ≤ 8 ⌝ }
+    ensures { λ r. ⌜ r ≡ spareOf (now (marks .entry)) ⌝ }
+{
+    (8 - marks.len()) / 2
 }
 
 // The row times the inverse of b.
@@ -193,6 +246,23 @@ fn filtered(powers: &[u8; 510], logarithms: &[u8; 256], t: [u8; 8], x: u8) -> [u
     out
 }
 
+// The syndromes filtered by the points of the marks. The last entries, as many as marks, are of no use after it.
+fn stripped(powers: &[u8; 510], logarithms: &[u8; 256], s: [u8; 8], marks: &[u8]) -> [u8; 8]
+    requires { ⌜ Powers (now powers) ⌝ }
+    requires { ⌜ Logarithms (now logarithms) ⌝ }
+    ensures { λ t. ⌜ Stripped s (now (marks .entry)) (length (now (marks .entry))) t ⌝ }
+{
+    let mut t = s;
+    let mut k: usize = 0;
+    while k < marks.len() {
+        let x = field::power_by(powers, place(marks[k]));
+        let next = filtered(powers, logarithms, t, x);
+        t = next;
+        k += 1;
+    }
+    t
+}
+
 // The error value at the point z[k], one of the first m points of z, from the syndromes s.
 fn error_value(
     powers: &[u8; 510],
@@ -248,30 +318,51 @@ fn evaluate(
 // The first `count` of these places.
 struct Places {
     pub count: usize,
-    pub places: [usize; 4],
+    pub places: [usize; 8],
 }
 
-// The places at which the locator is zero, the last first.
+// Whether place i is marked, or the locator is zero at it.
+fn is_located(
+    powers: &[u8; 510],
+    logarithms: &[u8; 256],
+    coefficients: [u8; 4],
+    degree: usize,
+    marks: &[u8],
+    i: usize,
+) -> bool
+    requires { ⌜ degree ≤ 4 ⌝ }
+    requires { ⌜ Powers (now powers) ⌝ }
+    requires { ⌜ Logarithms (now logarithms) ⌝ }
+    ensures { λ r. ⌜ r ≡ located (now (marks .entry)) coefficients degree i ⌝ }
+{
+    if is_marked(marks, i) {
+        return true;
+    }
+    let x = field::power_by(powers, i);
+    let v = evaluate(powers, logarithms, coefficients, degree, x);
+    v == 0
+}
+
+// The places that are marked or at which the locator is zero, the last first.
 fn error_places(
     powers: &[u8; 510],
     logarithms: &[u8; 256],
     coefficients: [u8; 4],
     degree: usize,
+    marks: &[u8],
 ) -> Places
     requires { ⌜ degree ≤ 4 ⌝ }
-    requires { ⌜ length (keep (root coefficients degree) (below 96)) ≤ 4 ⌝ }
+    requires { ⌜ length (keep (located (now marks) coefficients degree) (below 96)) ≤ 8 ⌝ }
     requires { ⌜ Powers (now powers) ⌝ }
     requires { ⌜ Logarithms (now logarithms) ⌝ }
-    ensures { λ r. ⌜ Search coefficients degree 0 (r .count) (r .places) ⌝ }
+    ensures { λ r. ⌜ Search (located (now (marks .entry)) coefficients degree) 0 (r .count) (r .places) ⌝ }
 {
     let mut count = 0;
-    let mut places = [0; 4];
+    let mut places = [0; 8];
     let mut m = 96;
     while 0 < m {
         m -= 1;
-        let x = field::power_by(powers, m);
-        let v = evaluate(powers, logarithms, coefficients, degree, x);
-        if v == 0 {
+        if is_located(powers, logarithms, coefficients, degree, marks, m) {
             places[count] = m;
             count += 1;
         }
@@ -282,35 +373,54 @@ fn error_places(
     }
 }
 
-// Row r of the system: syndromes r + 1 to r + 4.
-fn system_row(s: [u8; 8], r: usize) -> [u8; 4]
+// Row r of the system: entries r to r + 3 of t, or zeros from row h on.
+fn system_row(t: [u8; 8], h: usize, r: usize) -> [u8; 4]
     requires { ⌜ r < 4 ⌝ }
-    ensures { λ t. ⌜ t ≡ take 4 (systemRow s r) ⌝ }
+    ensures { λ q. ⌜ q ≡ take 4 (systemRow t h r) ⌝ }
 {
-    [s[r], s[r + 1], s[r + 2], s[r + 3]]
+    if r < h {
+        return [t[r], t[r + 1], t[r + 2], t[r + 3]];
+    }
+    [0, 0, 0, 0]
 }
 
-// The four by four system of the syndromes.
-fn system(s: [u8; 8]) -> [[u8; 4]; 4]
-    ensures { λ m. ⌜ m ≡ unknowns (systemOf s) ⌝ }
+// The four by four system of the filtered syndromes for at most h errors.
+fn system(t: [u8; 8], h: usize) -> [[u8; 4]; 4]
+    ensures { λ m. ⌜ m ≡ unknowns (systemOf t h) ⌝ }
 {
     [
-        system_row(s, 0),
-        system_row(s, 1),
-        system_row(s, 2),
-        system_row(s, 3),
+        system_row(t, h, 0),
+        system_row(t, h, 1),
+        system_row(t, h, 2),
+        system_row(t, h, 3),
     ]
 }
 
-// Its right side: syndromes 5 to 8.
-fn right_side(s: [u8; 8]) -> [u8; 4]
-    ensures { λ t. ⌜ t ≡ rightSide (systemOf s) ⌝ }
+// Entry r of its right side: entry r + 4 of t, or zero from row h on.
+fn right_entry(t: [u8; 8], h: usize, r: usize) -> u8
+    requires { ⌜ r < 4 ⌝ }
+    ensures { λ x. ⌜ x ≡ getD (systemRow t h r) 4 0 ⌝ }
 {
-    [s[4], s[5], s[6], s[7]]
+    if r < h {
+        return t[r + 4];
+    }
+    0
 }
 
-// The points of four places, filled up with zeros.
-fn points(powers: &[u8; 510], places: [usize; 4]) -> [u8; 8]
+// Its right side.
+fn right_side(t: [u8; 8], h: usize) -> [u8; 4]
+    ensures { λ v. ⌜ v ≡ rightSide (systemOf t h) ⌝ }
+{
+    [
+        right_entry(t, h, 0),
+        right_entry(t, h, 1),
+        right_entry(t, h, 2),
+        right_entry(t, h, 3),
+    ]
+}
+
+// The points of eight places.
+fn points(powers: &[u8; 510], places: [usize; 8]) -> [u8; 8]
     requires { ⌜ Powers (now powers) ⌝ }
     ensures { λ z. ⌜ z ≡ pointsOf places ⌝ }
 {
@@ -319,10 +429,10 @@ fn points(powers: &[u8; 510], places: [usize; 4]) -> [u8; 8]
         field::power_by(powers, places[1]),
         field::power_by(powers, places[2]),
         field::power_by(powers, places[3]),
-        0,
-        0,
-        0,
-        0,
+        field::power_by(powers, places[4]),
+        field::power_by(powers, places[5]),
+        field::power_by(powers, places[6]),
+        field::power_by(powers, places[7]),
     ]
 }
 
@@ -332,10 +442,10 @@ fn repaired(
     logarithms: &[u8; 256],
     header: [u8; 96],
     s: [u8; 8],
-    places: [usize; 4],
+    places: [usize; 8],
     m: usize,
 ) -> [u8; 96]
-    requires { ⌜ m ≤ 4 ⌝ }
+    requires { ⌜ m ≤ 8 ⌝ }
     requires { ⌜ DistinctPlaces places m ⌝ }
     requires { ⌜ Powers (now powers) ⌝ }
     requires { ⌜ Logarithms (now logarithms) ⌝ }
@@ -350,18 +460,28 @@ fn repaired(
     out
 }
 
-// The only code word within four bytes of a header with these syndromes, if there is one.
-fn candidate(powers: &[u8; 510], logarithms: &[u8; 256], header: [u8; 96], s: [u8; 8]) -> [u8; 96]
+// The only code word within reach of a header with these syndromes and marks, if there is one.
+fn candidate(
+    powers: &[u8; 510],
+    logarithms: &[u8; 256],
+    header: [u8; 96],
+    s: [u8; 8],
+    marks: &[u8],
+) -> [u8; 96]
     requires { ⌜ All (λ x. x < 256) header ⌝ }
     requires { ⌜ s ≡ syndromes header ⌝ }
+    requires { ⌜ length (now marks) ≤ 8 ⌝ }
+    requires { ⌜ allowedMarks (now marks) ≡ true ⌝ }
     requires { ⌜ Powers (now powers) ⌝ }
     requires { ⌜ Logarithms (now logarithms) ⌝ }
-    ensures { λ r. ⌜ Candidate header r ⌝ }
+    ensures { λ r. ⌜ CandidateWith (now (marks .entry)) header r ⌝ }
 {
-    let locator = eliminate(powers, logarithms, system(s), right_side(s));
+    let t = stripped(powers, logarithms, s, marks);
+    let h = spare(marks);
+    let locator = eliminate(powers, logarithms, system(t, h), right_side(t, h));
     let degree = locator.degree;
     let coefficients = locator.coefficients;
-    let found = error_places(powers, logarithms, coefficients, degree);
+    let found = error_places(powers, logarithms, coefficients, degree, marks);
     let places = found.places;
     let m = found.count;
     repaired(powers, logarithms, header, s, places, m)
@@ -383,11 +503,28 @@ fn refused(header: [u8; 96]) -> Decoded
     }
 }
 
-// The code word within four bytes of a header and how many differ, or the header itself and 4.
-fn decode(header: [u8; 96]) -> Decoded
+// A header with its marked bytes set to those of another.
+fn adopted(header: [u8; 96], other: [u8; 96], marks: &[u8]) -> [u8; 96]
+    requires { ⌜ allowedMarks (now marks) ≡ true ⌝ }
+    ensures { λ r. ⌜ r ≡ adoptedFrom (now (marks .entry)) header other ⌝ }
+{
+    let mut out = header;
+    let mut k: usize = 0;
+    while k < marks.len() {
+        let at = place(marks[k]);
+        out[at] = other[at];
+        k += 1;
+    }
+    out
+}
+
+// The code word within reach of a header with these marks and how many bytes differ, or the header itself and 4.
+fn decode(header: [u8; 96], marks: &[u8]) -> Decoded
     requires { ⌜ All (λ x. x < 256) header ⌝ }
-    ensures { λ r. ⌜ r .answer ≡ answerFor header (corrected header) ⌝ }
-    ensures { λ r. ⌜ r .header ≡ headerAfter header (corrected header) ⌝ }
+    requires { ⌜ length (now marks) ≤ 8 ⌝ }
+    requires { ⌜ allowedMarks (now marks) ≡ true ⌝ }
+    ensures { λ r. ⌜ r .answer ≡ answerFor header (correctedWith (now (marks .entry)) header) ⌝ }
+    ensures { λ r. ⌜ r .header ≡ headerAfter header (correctedWith (now (marks .entry)) header) ⌝ }
 {
     let powers = field::powers();
     let logarithms = field::logarithms();
@@ -398,12 +535,13 @@ fn decode(header: [u8; 96]) -> Decoded
             answer: Correction::Corrected(0),
         };
     }
-    let fixed = candidate(&powers, &logarithms, header, s);
-    let n = header::difference(header, fixed);
-    if 4 < n {
+    let fixed = candidate(&powers, &logarithms, header, s, marks);
+    let unmarked = header::difference(adopted(header, fixed, marks), fixed);
+    if spare(marks) < unmarked as usize {
         return refused(header);
     }
     if header::is_code_word_by(&powers, &logarithms, &fixed) {
+        let n = header::difference(header, fixed);
         return Decoded {
             header: fixed,
             answer: Correction::Corrected(n),
@@ -412,11 +550,12 @@ fn decode(header: [u8; 96]) -> Decoded
     refused(header)
 }
 
-// Corrects the header of a PDU in place: how many of its 96 bytes were wrong, or 3 for a length outside 96 to 20,480, or
-// 4 where no code word is within four bytes. A refused PDU is left as it was.
-pub fn correct(pdu: &mut [u8]) -> Correction
-    ensures { λ r. ⌜ r ≡ correctionOf (now (pdu .entry)) ⌝ }
-    ensures { λ _. ⌜ now (pdu .exit) ≡ correctedPdu (now (pdu .entry)) ⌝ }
+// Corrects the header of a PDU in place, with a list of marked places: how many of its 96 bytes were wrong, or 3 for a
+// length outside 96 to 20,480, or 19 for more than eight marks, one over 95 or one repeated, or 4 where for no code word
+// twice the differing unmarked bytes plus the marks is at most eight. A refused PDU is left as it was.
+pub fn correct_marked(pdu: &mut [u8], marks: &[u8]) -> Correction
+    ensures { λ r. ⌜ r ≡ correctionWith (now (marks .entry)) (now (pdu .entry)) ⌝ }
+    ensures { λ _. ⌜ now (pdu .exit) ≡ correctedPduWith (now (marks .entry)) (now (pdu .entry)) ⌝ }
 {
     if pdu.len() < 96 {
         return Correction::Refused(3);
@@ -424,8 +563,21 @@ pub fn correct(pdu: &mut [u8]) -> Correction
     if 20480 < pdu.len() {
         return Correction::Refused(3);
     }
-    let decoded = decode(header::header_of(pdu));
+    if marks_refusal(marks) != 0 {
+        return Correction::Refused(19);
+    }
+    let decoded = decode(header::header_of(pdu), marks);
     let header = decoded.header;
     header::put_front(pdu, &header);
     decoded.answer
+}
+
+// Corrects the header of a PDU in place: how many of its 96 bytes were wrong, or 3 for a length outside 96 to 20,480, or
+// 4 where no code word is within four bytes. A refused PDU is left as it was.
+pub fn correct(pdu: &mut [u8]) -> Correction
+    ensures { λ r. ⌜ r ≡ correctionOf (now (pdu .entry)) ⌝ }
+    ensures { λ _. ⌜ now (pdu .exit) ≡ correctedPdu (now (pdu .entry)) ⌝ }
+{
+    let marks = [0u8; 1];
+    correct_marked(pdu, &marks[..0])
 }

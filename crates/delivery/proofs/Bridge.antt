@@ -7,17 +7,15 @@ use native.Mathlib.Omega.{arith}
 use lib.Dec.{eqb}
 use borrow.Author.Tests.{eq-eqb, ne-eqb}
 use lib.ListN.{length, take, drop, take-append-drop}
-use Rattle.header.proofs.Unique.{all-bytes, all-take}
+use Rattle.header.proofs.Unique.{all-bytes}
 use Rattle.modes.specs.Modes.{listing}
 use Rattle.modes.specs.declared.Mode.{Mode}
 use Rattle.modes.specs.declared.Listing.{Listing}
 use Rattle.modes.specs.declared.Listing.the-variants.{Listed}
 use Rattle.layout.specs.Control.{controlAt}
 use Rattle.layout.specs.declared.ControlWord.{ControlWord}
-use Rattle.correction.specs.Correction.{correctedPdu}
-use Rattle.correction.proofs.Theorem.{corrects}
-use Rattle.pdu.specs.Reading.{modeIn, judged, widthOf}
-use Rattle.pdu.proofs.Restoring.{corrected-number}
+use Rattle.correction.specs.Marks.{correctedPduWith}
+use Rattle.pdu.specs.Reading.{modeIn, widthOf}
 use Rattle.log.specs.Log.{Entry, logWords}
 use Rattle.log.proofs.Packets.{FitAll}
 use Rattle.reassembly.specs.Reassembly.{Said, Memory, Outcome, received, remembered, lostEntries, forgotten}
@@ -31,13 +29,11 @@ use Rattle.receiver.specs.declared.Received.{Received}
 use Rattle.runs.specs.Transmissions.{Way, gone, here}
 use Rattle.runs.specs.Calls.{Speech, heard, Matching, Machine, Serves, Bridge}
 use Rattle.runs.proofs.Bridges.{serves-one, serves-none}
-use Rattle.writer.specs.RoundTrip.{Bytes, Altered}
-use Rattle.delivery.specs.Delivery.{Station, Call, receive, markLost, answerOf, carryOf, stationAfter, loggedBy, defined}
+use Rattle.delivery.specs.Delivery.{Station, Call, receive, markLost, answerOf, carryOf, stationAfter, loggedBy, defined, HeaderAltered}
 use Rattle.delivery.specs.Copies.{frontLength, restored, bytesAt, crcAt, Copy, causesFor}
 use Rattle.delivery.specs.Pairs.{pairSaid}
 use Rattle.delivery.proofs.Pairs.{pair-heard, pair-sane}
-use Rattle.delivery.proofs.Copies.{stricken, Plain, copy-number, copy-control, copy-says, copy-sane}
-use Rattle.delivery.proofs.ReadBack.{near-itself, unaltered}
+use Rattle.delivery.proofs.Copies.{stricken, Plain, copy-size, copy-correctable, copy-reads, copy-control, copy-says, copy-sane}
 use Rattle.delivery.proofs.Made.{Heard, Says}
 use Rattle.delivery.proofs.Serving.{Shows, receive-accepted, receive-logged, receive-shows, lost-accepted, lost-logged, lost-shows}
 
@@ -53,10 +49,10 @@ carry-by false n a r k c d e z h = refl
 
 station-kept : (x : Station) (c : Call) → ¬ (answerOf x c .refusal ≡ 0) → stationAfter defined x c ≡ x
 unfolding receiveAnswer carryAfter lostAnswer
-station-kept x (receive k q log) h =
+station-kept x (receive k n q log) h =
     ap₂ (λ (r : Receiver) (c : List ℕ). record { receiver = r; carry = c })
-    (kept-by (eqb (receiveNumber (x .carry) q log (x .receiver)) 0) (receiveNumber (x .carry) q log (x .receiver)) _ (x .receiver) k refl refl h)
-    (carry-by (eqb (receiveNumber (x .carry) q log (x .receiver)) 0) (receiveNumber (x .carry) q log (x .receiver)) _ (x .receiver) k _ (x .carry) refl refl h)
+    (kept-by (eqb (receiveNumber n (x .carry) q log (x .receiver)) 0) (receiveNumber n (x .carry) q log (x .receiver)) _ (x .receiver) k refl refl h)
+    (carry-by (eqb (receiveNumber n (x .carry) q log (x .receiver)) 0) (receiveNumber n (x .carry) q log (x .receiver)) _ (x .receiver) k _ (x .carry) refl refl h)
 station-kept x (markLost log) h =
     ap (λ (r : Receiver). record { receiver = r; carry = x .carry })
     (kept-by (eqb (lostNumber log (x .receiver)) 0) (lostNumber log (x .receiver)) _ (x .receiver) 0 refl refl h)
@@ -78,7 +74,7 @@ asSent k = 0
 
 -- How a call hands over PDUs of a run. A new kind of call is a new line here, and a case of `serves`.
 pub data Handing (width : ℕ) (x : Station) : Call → List (List ℕ) → List Way → Type 0 where
-  copied : {k : ℕ} {p q log : List ℕ} {sound : ℕ → Bool} → Copy width p q sound → 8400 ≤ length log → Handing width x (receive k q log) (p ∷ []) (here (causesFor sound) ∷ [])
+  copied : {k : ℕ} {marks p q log : List ℕ} {sound : ℕ → Bool} → Copy width p marks q sound → 8400 ≤ length log → Handing width x (receive k marks q log) (p ∷ []) (here (causesFor sound) ∷ [])
   losing : {p log : List ℕ} → 8400 ≤ length log → Handing width x (markLost log) (p ∷ []) (gone ∷ [])
   refusing : {c : Call} → ¬ (answerOf x c .refusal ≡ 0) → Handing width x c [] []
 
@@ -93,13 +89,11 @@ as-many width x c ps ws (refusing h) = refl
 
 -- ---- demand 3's alterations: a copy whose pieces are all sound
 
-pub altered-copy : (width : ℕ) (p q : List ℕ) → Altered p q → Copy width p q (λ k. true)
-altered-copy width p q a =
+pub altered-copy : (width : ℕ) (marks p q : List ℕ) → HeaderAltered marks p q → Copy width p marks q (λ k. true)
+altered-copy width marks p q a =
     let e : restored p q ≡ p = ap (λ (l : List ℕ). take 96 p ++ l) (a .rest) ∙ take-append-drop 96 p in
     record {
-      bytes = a .bytes;
-      long = a .long;
-      few = a .few;
+      header = a .header;
       front = ap (take (frontLength p)) e;
       whole = λ k h s. (ap (λ (y : List ℕ). bytesAt width p y k) e, ap (λ (y : List ℕ). crcAt width p y k) e);
       found = λ k h s. absurd (let z : _≡_ {A = ℕ} 0 1 = cc in omega arith);
@@ -113,60 +107,42 @@ module _ (mode stream : ℕ) (m : Mode) (l : listing mode stream ≡ Listed m) (
     pub struck : (s : ℕ → Bool) → stricken s (under false (d asSent .said)) ≡ under false (d (causesFor s) .said)
 
   module _ (p : List ℕ) (d : Speech) (g : Speaks p d) where
-    own : Heard mode stream (m .width) p (under false (d asSent .said))
-    own = g .says .heard p (unaltered p (g .says .bytes))
-
-    itself : correctedPdu p ≡ p
-    itself =
-        let n = all-bytes p (g .says .bytes) in
-        corrects p (g .says .least) (g .says .most) n .header (take 96 p) (record { right = g .says .code; close = near-itself (take 96 p); long = refl; bytes = all-take 96 p n })
-        ∙ take-append-drop 96 p
-
-    mode-is : controlAt p .mode ≡ mode
-    mode-is = sym (ap (λ (y : List ℕ). controlAt y .mode) itself) ∙ own .sameMode
-
-    stream-is : controlAt p .stream ≡ stream
-    stream-is = sym (ap (λ (y : List ℕ). controlAt y .stream) itself) ∙ own .sameStream
-
-    said-is : saidBy (m .width) (controlAt p) p ≡ under false (d asSent .said)
-    said-is = sym (ap (λ (y : List ℕ). saidBy (m .width) (controlAt y) y) itself) ∙ own .says
-
     plain : Plain (m .width) p
     plain = record {
       code = g .says .code;
       least = g .says .least;
       most = g .says .most;
       bytes = g .says .bytes;
-      accepted = (
-          let n = all-bytes p (g .says .bytes) in
-          let e = corrects p (g .says .least) (g .says .most) n .answer (take 96 p) (record { right = g .says .code; close = near-itself (take 96 p); long = refl; bytes = all-take 96 p n }) in
-          sym (ap judged itself) ∙ sym (corrected-number p _ e) ∙ own .number);
-      wide = unfold widthOf in ap₂ (λ (a b : ℕ). modeIn (listing a b) .width) mode-is stream-is ∙ ap (λ (k : Listing). modeIn k .width) l;
+      accepted = g .says .accepted;
+      wide = unfold widthOf in ap₂ (λ (a b : ℕ). modeIn (listing a b) .width) (g .says .sameMode) (g .says .sameStream) ∙ ap (λ (k : Listing). modeIn k .width) l;
       right = g .says .crcs;
     }
 
-    module _ (q : List ℕ) (sound : ℕ → Bool) (x : Copy (m .width) p q sound) where
+    module _ (n q : List ℕ) (sound : ℕ → Bool) (x : Copy (m .width) p n q sound) where
       -- what the receiver reads
       abbrev pub read : Said
-      read = saidBy (m .width) (controlAt (correctedPdu q)) (correctedPdu q)
+      read = saidBy (m .width) (controlAt (correctedPduWith n q)) (correctedPduWith n q)
 
       alike : blankSaid read ≡ blankSaid (under false (d (causesFor sound) .said))
-      alike = copy-says (m .width) p q sound plain x ∙ ap (λ (t : Said). blankSaid (stricken sound t)) said-is ∙ ap blankSaid (g .struck sound)
+      alike = copy-says (m .width) p n q sound plain x ∙ ap (λ (t : Said). blankSaid (stricken sound t)) (g .says .says) ∙ ap blankSaid (g .struck sound)
 
-      pub heard-copy : Heard mode stream (m .width) q read
+      pub heard-copy : Heard mode stream (m .width) n q read
       heard-copy = record {
-        number = copy-number (m .width) p q sound plain x;
-        sameMode = ap (λ (c : ControlWord). c .mode) (copy-control (m .width) p q sound plain x) ∙ mode-is;
-        sameStream = ap (λ (c : ControlWord). c .stream) (copy-control (m .width) p q sound plain x) ∙ stream-is;
+        size = copy-size (m .width) p n q sound plain x;
+        allowed = x .header .allowed;
+        correctable = copy-correctable (m .width) p n q sound plain x;
+        reads = copy-reads (m .width) p n q sound plain x;
+        sameMode = ap (λ (c : ControlWord). c .mode) (copy-control (m .width) p n q sound plain x) ∙ g .says .sameMode;
+        sameStream = ap (λ (c : ControlWord). c .stream) (copy-control (m .width) p n q sound plain x) ∙ g .says .sameStream;
         says = refl;
       }
 
       pub sane-copy : SaneSaid read
-      sane-copy = copy-sane (m .width) p q sound plain x (subst SaneSaid (sym said-is) (g .says .sane))
+      sane-copy = copy-sane (m .width) p n q sound plain x (subst SaneSaid (sym (g .says .says)) (g .says .sane))
 
       pub copy-below : read .sequence < m .sequences
       copy-below =
-          let e : read .sequence ≡ d asSent .said .sequence = ap (λ (t : Said). t .sequence) (copy-says (m .width) p q sound plain x) ∙ ap (λ (t : Said). t .sequence) said-is in
+          let e : read .sequence ≡ d asSent .said .sequence = ap (λ (t : Said). t .sequence) (copy-says (m .width) p n q sound plain x) ∙ ap (λ (t : Said). t .sequence) (g .says .says) in
           let b = g .below in
           omega (arith, e, b)
 
@@ -177,16 +153,16 @@ module _ (mode stream : ℕ) (m : Mode) (l : listing mode stream ≡ Listed m) (
       copy-remembered z = remembered-blind (m .sequences) z read (under false (d (causesFor sound) .said)) alike
 
     -- document 02, Ask 5: two copies
-    module _ (q r : List ℕ) (s t : ℕ → Bool) (x : Copy (m .width) p q s) (v : Copy (m .width) p r t) where
+    module _ (mq q mr r : List ℕ) (s t : ℕ → Bool) (x : Copy (m .width) p mq q s) (v : Copy (m .width) p mr r t) where
       -- what the receiver reads of the pair
       abbrev pub readPair : Said
-      readPair = pairSaid (m .width) (controlAt (correctedPdu q)) (correctedPdu q) (correctedPdu r)
+      readPair = pairSaid (m .width) (controlAt (correctedPduWith mq q)) (correctedPduWith mq q) (correctedPduWith mr r)
 
       together : blankSaid readPair ≡ blankSaid (under false (d (causesFor (λ k. s k || t k)) .said))
-      together = pair-heard (m .width) p q r s t plain x v ∙ ap (λ (u : Said). blankSaid (stricken (λ k. s k || t k) u)) said-is ∙ ap blankSaid (g .struck (λ k. s k || t k))
+      together = pair-heard (m .width) p mq q mr r s t plain x v ∙ ap (λ (u : Said). blankSaid (stricken (λ k. s k || t k) u)) (g .says .says) ∙ ap blankSaid (g .struck (λ k. s k || t k))
 
       pub sane-readPair : SaneSaid readPair
-      sane-readPair = pair-sane (m .width) p q r s t plain x v (subst SaneSaid (sym said-is) (g .says .sane))
+      sane-readPair = pair-sane (m .width) p mq q mr r s t plain x v (subst SaneSaid (sym (g .says .says)) (g .says .sane))
 
       pub pair-received : (z : Memory) → received (m .sequences) z readPair ≡ received (m .sequences) z (under false (d (causesFor (λ k. s k || t k)) .said))
       pair-received z = received-blind (m .sequences) z readPair (under false (d (causesFor (λ k. s k || t k)) .said)) together
@@ -202,18 +178,18 @@ module _ (mode stream : ℕ) (m : Mode) (l : listing mode stream ≡ Listed m) (
   unfolding heard
   serves x y c ps ws [] s (copied a b) g = absurd g
   serves x y c ps ws (d ∷ e ∷ ds) s (copied a b) g = absurd (g .1)
-  serves x y c ps ws (d ∷ []) s (copied {k = k} {p = p} {q = q} {log = log} {sound = sound} a big) g =
-      let u : Said = read p d (g .0) q sound a in
-      let b = all-bytes q (a .bytes) in
-      let hq = heard-copy p d (g .0) q sound a in
-      let sn = sane-copy p d (g .0) q sound a in
-      let lo = copy-below p d (g .0) q sound a in
-      let er = copy-received p d (g .0) q sound a (y .memory) in (
-        receive-accepted mode stream m l range x (y .memory) s k q log u hq sn lo b big,
-        serves-one everything (m .sequences) stations StandsFor x y (receive k q log) (came (d (causesFor sound)))
-            (receive-logged mode stream m l range x (y .memory) s k q log u hq sn lo b big ∙ ap (λ (o : Outcome). logWords (o .entries)) er)
+  serves x y c ps ws (d ∷ []) s (copied {k = k} {marks = n} {p = p} {q = q} {log = log} {sound = sound} a big) g =
+      let u : Said = read p d (g .0) n q sound a in
+      let b = all-bytes q (a .header .bytes) in
+      let hq = heard-copy p d (g .0) n q sound a in
+      let sn = sane-copy p d (g .0) n q sound a in
+      let lo = copy-below p d (g .0) n q sound a in
+      let er = copy-received p d (g .0) n q sound a (y .memory) in (
+        receive-accepted mode stream m l range x (y .memory) s k n q log u hq sn lo b big,
+        serves-one everything (m .sequences) stations StandsFor x y (receive k n q log) (came (d (causesFor sound)))
+            (receive-logged mode stream m l range x (y .memory) s k n q log u hq sn lo b big ∙ ap (λ (o : Outcome). logWords (o .entries)) er)
             (subst (λ (o : Outcome). FitAll (o .entries)) er (fit-received (m .sequences) (y .memory) u (s .sane) sn .0))
-            (subst (λ (z : Memory). Shows mode stream m l range (stationAfter defined x (receive k q log)) z) (copy-remembered p d (g .0) q sound a (y .memory)) (receive-shows mode stream m l range x (y .memory) s k q log u hq sn lo b big)),
+            (subst (λ (z : Memory). Shows mode stream m l range (stationAfter defined x (receive k n q log)) z) (copy-remembered p d (g .0) n q sound a (y .memory)) (receive-shows mode stream m l range x (y .memory) s k n q log u hq sn lo b big)),
       )
   serves x y c ps ws [] s (losing b) g = absurd g
   serves x y c ps ws (d ∷ e ∷ ds) s (losing b) g = absurd (g .1)

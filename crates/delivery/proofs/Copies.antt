@@ -7,7 +7,7 @@ use native.Mathlib.Omega.{arith}
 use native.Mathlib.Nat.{zero-add}
 use native.Mathlib.Decide.{ℕ-discrete, decLe}
 use lib.Dec.{eqb, ltb, leb}
-use borrow.Author.Tests.{eq-eqb, ne-eqb, ltb-false}
+use borrow.Author.Tests.{eq-eqb, ne-eqb, le-leb, ltb-false}
 use lib.ListN.{length, getD, take, drop, length-take, length-drop, length-append, take-append-drop}
 use lib.Seq.{take-take, getD-take, length-take-le}
 use Rattle.algebra.specs.Places.{All}
@@ -19,19 +19,20 @@ use Rattle.modes.specs.Modes.{listing, numberOf}
 use Rattle.modes.specs.declared.Mode.{Mode}
 use Rattle.crc.specs.Crc.{crcFrom}
 use Rattle.burst.proofs.Found.{burst-found}
-use Rattle.header.specs.Header.{distance, isCodeWord}
+use Rattle.header.specs.Header.{isCodeWord}
 use Rattle.header.proofs.Unique.{all-bytes, all-take, all-drop}
 use Rattle.layout.specs.Control.{controlOf, controlAt}
 use Rattle.layout.specs.declared.ControlWord.{ControlWord}
 use Rattle.layout.specs.Locators.{locatorSize, locator16, locator12, locatorAt}
 use Rattle.layout.proofs.LocatorLaw.{spare-bits-ignored}
-use Rattle.correction.specs.Correction.{Near, correctionOf, correctedPdu}
-use Rattle.correction.proofs.Theorem.{corrects}
+use Rattle.correction.specs.Marks.{Within, correctedWith, correctedPduWith}
+use Rattle.correction.proofs.MarkLists.{allowed-marks}
+use Rattle.correction.proofs.Marking.{with-some}
+use Rattle.correction.proofs.Theorem.{corrects-with}
 use Rattle.expansion.specs.Expansion.{chainLength, expansionLength}
-use Rattle.pdu.specs.Reading.{afterLocators, expansionBytes, markAt, startAt, lengthAt, psdOf, wrongLa, fieldsOf, correctedTests, listingOf, modeIn, answered, accepted, judged, widthOf, readNumber}
+use Rattle.pdu.specs.Reading.{afterLocators, expansionBytes, markAt, startAt, lengthAt, psdOf, wrongLa, fieldsOf, correctedTests, listingOf, modeIn, answered, accepted, judged, widthOf, uncorrectable}
 use Rattle.pdu.specs.declared.Reading.{Reading}
 use Rattle.pdu.proofs.Ignored.{reserved-ignored}
-use Rattle.pdu.proofs.Restoring.{corrected-number}
 use Rattle.reassembly.specs.Reassembly.{Piece, Said}
 use Rattle.reassembly.proofs.Fitting.{SanePiece, SanePieces, SaneSaid}
 use Rattle.reassembly.proofs.Blind.{blank, blanks, blankSaid}
@@ -136,29 +137,36 @@ pub record Plain (width : ℕ) (p : List ℕ) : Type 0 where
   pub wide : widthOf p ≡ width
   pub right : (k : ℕ) → k < controlAt p .nop → crcFrom 0 (bytesAt width p p k) ≡ crcAt width p p k
 
-module _ (width : ℕ) (p q : List ℕ) (sound : ℕ → Bool) (w : Plain width p) (x : Copy width p q sound) where
+module _ (width : ℕ) (p marks q : List ℕ) (sound : ℕ → Bool) (w : Plain width p) (x : Copy width p marks q sound) where
   abbrev c : ControlWord
   c = controlAt p
 
   abbrev y : List ℕ
   y = restored p q
 
-  near : Near 4 (take 96 q) (take 96 p)
-  near =
-      let n : length (take 96 p) ≡ 96 = length-take-le 96 p (w .least) in
-      let k : length (take 96 q) ≡ 96 = length-take-le 96 q (let e = x .long in let l = w .least in omega (arith, e, l)) in
-      record { right = w .code; close = (let f = x .few in omega (arith, f)); long = n ∙ sym k; bytes = all-take 96 p (all-bytes p (w .bytes)) }
+  low : 96 ≤ length q
+  low = let e = x .header .long in let l = w .least in omega (arith, e, l)
 
-  corrected-back : correctedPdu q ≡ y
-  corrected-back =
-      corrects q (let e = x .long in let l = w .least in omega (arith, e, l)) (let e = x .long in let l = w .most in omega (arith, e, l)) (all-bytes q (x .bytes)) .header (take 96 p) near
+  high : length q ≤ 20480
+  high = let e = x .header .long in let l = w .most in omega (arith, e, l)
+
+  within : Within marks (take 96 q) (take 96 p)
+  within = record {
+    right = w .code;
+    close = (let f = x .header .few in omega (arith, f));
+    long = length-take-le 96 p (w .least) ∙ sym (length-take-le 96 q low);
+    bytes = all-take 96 p (all-bytes p (w .bytes));
+  }
+
+  corrected-back : correctedPduWith marks q ≡ y
+  corrected-back = corrects-with q low high (all-bytes q (x .header .bytes)) marks (x .header .allowed) .header (take 96 p) within
 
   lengths-same : length y ≡ length p
   lengths-same =
       let n : length (take 96 p) ≡ 96 = length-take-le 96 p (w .least) in
       let d = length-drop 96 q in
       let a = length-append (take 96 p) (drop 96 q) in
-      let e = x .long in
+      let e = x .header .long in
       let l = w .least in
       omega (arith, n, d, a, e, l)
 
@@ -175,10 +183,8 @@ module _ (width : ℕ) (p q : List ℕ) (sound : ℕ → Bool) (w : Plain width 
       subst (λ (n : ℕ). afterLocators n c ≤ c .la + 1) (w .wide)
       (ltb-false (c .la + 1) (afterLocators (widthOf p) c) (none-at (ltb (c .la + 1) (afterLocators (widthOf p) c) ∷ leb (length p) (c .la) ∷ []) 0 row-nine))
 
-  number-is : readNumber q ≡ 0
-  number-is =
-      let e = corrects q (let e = x .long in let l = w .least in omega (arith, e, l)) (let e = x .long in let l = w .most in omega (arith, e, l)) (all-bytes q (x .bytes)) .answer (take 96 p) near in
-      corrected-number q _ e ∙ ap judged corrected-back ∙ sym (reserved-ignored p y (sym lengths-same) (sym (front)) row-nine .0) ∙ w .accepted
+  judged-is : judged y ≡ 0
+  judged-is = sym (reserved-ignored p y (sym lengths-same) (sym (front)) row-nine .0) ∙ w .accepted
 
   byte : (i : ℕ) → i < c .la + 1 → getD y i 0 ≡ getD p i 0
   byte i h = sym (getD-take (c .la + 1) y i 0 h) ∙ ap (λ (l : List ℕ). getD l i 0) (front) ∙ getD-take (c .la + 1) p i 0 h
@@ -266,7 +272,7 @@ module _ (width : ℕ) (p q : List ℕ) (sound : ℕ → Bool) (w : Plain width 
   -- ---- within its bounds
 
   y-bytes : Bytes y
-  y-bytes = all-join (λ n. n < 256) (take 96 p) (drop 96 q) (all-take 96 p (all-bytes p (w .bytes))) (all-drop 96 q (x .bytes))
+  y-bytes = all-join (λ n. n < 256) (take 96 p) (drop 96 q) (all-take 96 p (all-bytes p (w .bytes))) (all-drop 96 q (x .header .bytes))
 
   pub sane-piece : (k : ℕ) → k < c .nop → SanePiece (pieceIn width c p k) → SanePiece (pieceIn width c y k)
   sane-piece k h s = subst SanePiece (sym (piece-is k h)) (record {
@@ -299,7 +305,7 @@ module _ (width : ℕ) (p q : List ℕ) (sound : ℕ → Bool) (w : Plain width 
       ap (λ (n : ℕ). answered (fieldsOf n (controlAt y) y)) (sym e) ∙ sym (ap (λ (r : Reading). r .fields) a) ∙ ap (λ (n : ℕ). answered (fieldsOf n c p)) (w .wide)
 
   -- the parts of what a copy says
-  pub copy-corrected : correctedPdu q ≡ y
+  pub copy-corrected : correctedPduWith marks q ≡ y
   copy-corrected = corrected-back
 
   pub copy-control-is : controlAt y ≡ c
@@ -309,14 +315,22 @@ module _ (width : ℕ) (p q : List ℕ) (sound : ℕ → Bool) (w : Plain width 
   copy-psd = psd-is
 
   -- all that a receiver needs of the copy
-  pub copy-number : readNumber q ≡ 0
-  copy-number = number-is
+  pub copy-size : (leb 96 (length q) && leb (length q) 20480) ≡ true
+  copy-size = ap₂ _&&_ (le-leb 96 (length q) low) (le-leb (length q) 20480 high)
 
-  pub copy-control : controlAt (correctedPdu q) ≡ controlAt p
+  pub copy-correctable : uncorrectable (correctedWith marks (take 96 q)) ≡ false
+  copy-correctable =
+      ap uncorrectable
+      (with-some marks (allowed-marks marks (x .header .allowed) .0) (take 96 q) (length-take-le 96 q low) (all-take 96 q (all-bytes q (x .header .bytes))) (take 96 p) within)
+
+  pub copy-reads : judged (correctedPduWith marks q) ≡ 0
+  copy-reads = ap judged corrected-back ∙ judged-is
+
+  pub copy-control : controlAt (correctedPduWith marks q) ≡ controlAt p
   copy-control = ap controlAt corrected-back ∙ control-is
 
-  pub copy-says : blankSaid (saidBy width (controlAt (correctedPdu q)) (correctedPdu q)) ≡ blankSaid (stricken sound (saidBy width (controlAt p) p))
+  pub copy-says : blankSaid (saidBy width (controlAt (correctedPduWith marks q)) (correctedPduWith marks q)) ≡ blankSaid (stricken sound (saidBy width (controlAt p) p))
   copy-says = ap (λ (z : List ℕ). blankSaid (saidBy width (controlAt z) z)) corrected-back ∙ said-blank
 
-  pub copy-sane : SaneSaid (saidBy width (controlAt p) p) → SaneSaid (saidBy width (controlAt (correctedPdu q)) (correctedPdu q))
+  pub copy-sane : SaneSaid (saidBy width (controlAt p) p) → SaneSaid (saidBy width (controlAt (correctedPduWith marks q)) (correctedPduWith marks q))
   copy-sane s = subst (λ (z : List ℕ). SaneSaid (saidBy width (controlAt z) z)) (sym corrected-back) (sane-said s)

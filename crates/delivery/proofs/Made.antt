@@ -1,6 +1,6 @@
 -- What an accepted writing call makes of the packets offered: what its PDU carries, and what the PDU says to a receiver.
 use mathlib.Core.Path.{_≡_, refl, sym, ap, ap₂, subst, _∙_}
-use mathlib.Core.Bool.{Bool, true, false, cond}
+use mathlib.Core.Bool.{Bool, true, false, _&&_, cond}
 use mathlib.Core.List.{List, [], _∷_, _++_, map}
 use Prim.Native.Nat.{ℕ, zero, suc, _+_, _-_, _%_, _<_, _≤_}
 use native.Mathlib.Omega.{arith}
@@ -19,8 +19,8 @@ use Rattle.layout.specs.Control.{bit, controlAt}
 use Rattle.layout.specs.declared.ControlWord.{ControlWord}
 use Rattle.contents.proofs.Putting.{cut-count}
 use Rattle.settings.specs.declared.Settings.{Settings}
-use Rattle.correction.specs.Correction.{correctedPdu}
-use Rattle.pdu.specs.Reading.{readNumber}
+use Rattle.correction.specs.Marks.{marksRefusal, correctedWith, correctedPduWith}
+use Rattle.pdu.specs.Reading.{judged, uncorrectable}
 use Rattle.pieces.specs.Pieces.{cutBy, total}
 use Rattle.packing.specs.Packing.{overhead}
 use Rattle.packing.proofs.Fitting.{fit-within, most-small}
@@ -31,37 +31,43 @@ use Rattle.writer.specs.Writing.{noRoom, wrongUnfinished, writerTests, extraOf,
 use Rattle.writer.specs.declared.Writer.{Writer}
 use Rattle.writer.proofs.Accepted.{Fine, fine, few}
 use Rattle.writer.proofs.Sending.{one-piece}
-use Rattle.writer.proofs.RoundTrip.{pdu-bytes, pdu-length, code-word}
+use Rattle.writer.proofs.RoundTrip.{pdu-bytes, code-word}
 use Rattle.header.specs.Header.{isCodeWord}
 use Rattle.runs.specs.Model.{cut, Fits, sentAfter, Plan, lose, later, readPieces, saidOf, Sized}
 use Rattle.runs.specs.Transmissions.{gone, planOf}
 use Rattle.runs.specs.Spans.{bytesIn}
 use Rattle.runs.specs.Calls.{Load, transmissionOf}
 use Rattle.runs.proofs.Theorem.{Unfinished, unfinished-zero}
-use Rattle.writer.specs.RoundTrip.{Bytes, Altered}
+use Rattle.writer.specs.RoundTrip.{Bytes}
 use Rattle.delivery.specs.Delivery.{Packets, joined}
 use Rattle.delivery.specs.Copies.{bytesAt, crcAt}
 use Rattle.crc.specs.Crc.{crcFrom}
 use Rattle.delivery.proofs.Counting.{bytes-total, fits-more, cut-more}
 use Rattle.delivery.proofs.Packed.{RoomFor, placed-fits, placed-lengths, cut-joined}
-use Rattle.delivery.proofs.ReadBack.{taken, unaltered, crcs-right, sent, read-number, corrected-back, control-back, said-back}
+use Rattle.delivery.proofs.ReadBack.{taken, sent, reads-back, control-back, at-least, at-most, crcs-right, said-back}
 use Rattle.delivery.proofs.Calling.{stateAt, next-sequence}
 
--- q, handed to a receiver of this mode and stream, says d
-pub record Heard (mode stream width : ℕ) (q : List ℕ) (d : Said) : Type 0 where
-  pub number : readNumber q ≡ 0
-  pub sameMode : controlAt (correctedPdu q) .mode ≡ mode
-  pub sameStream : controlAt (correctedPdu q) .stream ≡ stream
-  pub says : saidBy width (controlAt (correctedPdu q)) (correctedPdu q) ≡ d
+-- q with these marks, handed to a receiver of this mode and stream, says d
+pub record Heard (mode stream width : ℕ) (marks q : List ℕ) (d : Said) : Type 0 where
+  pub size : (leb 96 (length q) && leb (length q) 20480) ≡ true
+  pub allowed : marksRefusal marks ≡ 0
+  pub correctable : uncorrectable (correctedWith marks (take 96 q)) ≡ false
+  pub reads : judged (correctedPduWith marks q) ≡ 0
+  pub sameMode : controlAt (correctedPduWith marks q) .mode ≡ mode
+  pub sameStream : controlAt (correctedPduWith marks q) .stream ≡ stream
+  pub says : saidBy width (controlAt (correctedPduWith marks q)) (correctedPduWith marks q) ≡ d
 
--- p says d with at most four of its first 96 bytes altered
+-- p, as it was written, says d
 pub record Says (mode stream width : ℕ) (p : List ℕ) (d : Said) : Type 0 where
   pub bytes : Bytes p
   pub code : isCodeWord (take 96 p) ≡ true
   pub least : 96 ≤ length p
   pub most : length p ≤ 20480
   pub crcs : (k : ℕ) → k < controlAt p .nop → crcFrom 0 (bytesAt width p p k) ≡ crcAt width p p k
-  pub heard : (q : List ℕ) → Altered p q → Heard mode stream width q d
+  pub accepted : judged p ≡ 0
+  pub sameMode : controlAt p .mode ≡ mode
+  pub sameStream : controlAt p .stream ≡ stream
+  pub says : saidBy width (controlAt p) p ≡ d
   pub sane : SaneSaid d
 
 taken-read : (bs : List (List ℕ)) → taken bs ≡ readPieces (λ k. 0) bs
@@ -217,19 +223,15 @@ module _ (mode stream : ℕ) (m : Mode) (l : listing mode stream ≡ Listed m) (
           says = record {
             bytes = pdu-bytes settings psd (map length os) (joined os) size m w l t hp (joined-bytes os yo);
             code = code-word settings psd (map length os) (joined os) size m w l t hp (joined-bytes os yo);
-            least = (let e = pdu-length settings psd (map length os) (joined os) size m w l t hp (joined-bytes os yo) in let b = f .long in omega (arith, e, b));
-            most = (let e = pdu-length settings psd (map length os) (joined os) size m w l t hp (joined-bytes os yo) in let b = f .short in omega (arith, e, b));
-            crcs = (
-                let b = pdu-bytes settings psd (map length os) (joined os) size m w l t hp (joined-bytes os yo) in
-                crcs-right settings psd (map length os) (joined os) size m w l t hp (joined-bytes os yo) (pduOf settings psd (map length os) (joined os) size m w) (unaltered _ b));
-            heard = λ r a. record {
-              number = read-number settings psd (map length os) (joined os) size m w l t hp (joined-bytes os yo) r a;
-              sameMode = ap (λ (c : ControlWord). c .mode) (control-back settings psd (map length os) (joined os) size m w l t hp (joined-bytes os yo) r a);
-              sameStream = ap (λ (c : ControlWord). c .stream) (control-back settings psd (map length os) (joined os) size m w l t hp (joined-bytes os yo) r a);
-              says = ap₂ (λ (c : ControlWord) (x : List ℕ). saidBy (m .width) c x) (control-back settings psd (map length os) (joined os) size m w l t hp (joined-bytes os yo) r a) (corrected-back settings psd (map length os) (joined os) size m w l t hp (joined-bytes os yo) r a)
-                  ∙ said-back settings psd (map length os) (joined os) size m w l t hp (joined-bytes os yo) r a
-                  ∙ said-is;
-            };
+            least = at-least settings psd (map length os) (joined os) size m w l t hp (joined-bytes os yo);
+            most = at-most settings psd (map length os) (joined os) size m w l t hp (joined-bytes os yo);
+            crcs = crcs-right settings psd (map length os) (joined os) size m w l t hp (joined-bytes os yo);
+            accepted = reads-back settings psd (map length os) (joined os) size m w l t hp (joined-bytes os yo);
+            sameMode = ap (λ (c : ControlWord). c .mode) (control-back settings psd (map length os) (joined os) size m w l t hp (joined-bytes os yo));
+            sameStream = ap (λ (c : ControlWord). c .stream) (control-back settings psd (map length os) (joined os) size m w l t hp (joined-bytes os yo));
+            says = ap (λ (c : ControlWord). saidBy (m .width) c (pduOf settings psd (map length os) (joined os) size m w)) (control-back settings psd (map length os) (joined os) size m w l t hp (joined-bytes os yo))
+                ∙ said-back settings psd (map length os) (joined os) size m w l t hp (joined-bytes os yo)
+                ∙ said-is;
             sane = record {
               psd = (let e = f .extra in let b = listable mode stream m l .limit in omega (arith, e, b), bytes-of psd hp);
               pieces = sane-cut s ended over (drop i ps) fs (packets-drop i ps y) u;

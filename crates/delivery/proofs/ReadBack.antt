@@ -1,26 +1,28 @@
--- A PDU that an accepted call wrote, with at most four of its first 96 bytes altered, says to a receiver what was sent.
+-- A PDU that an accepted call wrote says what was sent.
 use mathlib.Core.Path.{_≡_, refl, sym, ap, ap₂, subst, _∙_}
 use mathlib.Core.Bool.{Bool, true, false, cond}
 use mathlib.Core.List.{List, [], _∷_, _++_, map}
 use Prim.Native.Nat.{ℕ, zero, suc, _+_, _-_, _%_, _<_, _≤_}
 use native.Mathlib.Omega.{arith}
-use lib.Dec.{eqb, ltb, leb}
+use lib.Dec.{eqb, ltb}
 use borrow.Author.Tests.{eq-eqb}
 use lib.ListN.{length, getD, take, drop}
 use Rattle.algebra.specs.Places.{All}
 use Rattle.refusal.specs.Refusal.{firstOf}
+use Rattle.refusal.proofs.Rows.{rest-off}
 use Rattle.modes.specs.Modes.{listing}
 use Rattle.modes.specs.declared.Mode.{Mode}
 use Rattle.modes.specs.declared.Listing.the-variants.{Listed}
-use Rattle.header.specs.Header.{distance}
+use Rattle.header.proofs.Unique.{all-bytes}
 use Rattle.crc.specs.Crc.{crcFrom}
 use Rattle.layout.specs.Control.{bit, controlAt}
 use Rattle.layout.specs.Locators.{locatorAt}
 use Rattle.layout.specs.declared.ControlWord.{ControlWord}
 use Rattle.settings.specs.declared.Settings.{Settings}
 use Rattle.correction.specs.Correction.{correctedPdu}
+use Rattle.header.proofs.Distances.{distance-self}
 use Rattle.contents.proofs.Putting.{cut-count}
-use Rattle.pdu.specs.Reading.{startAt, lengthAt, psdOf, accepted, widthOf, readNumber, readingWith, readPdu, refused}
+use Rattle.pdu.specs.Reading.{startAt, lengthAt, psdOf, accepted, widthOf, correctedTests, judged, readTests, readNumber, readingWith, readPdu, refused}
 use Rattle.pdu.specs.declared.Part.{Part}
 use Rattle.pdu.specs.declared.Reading.{Reading}
 use Rattle.pdu.specs.PieceRead.{PieceRead}
@@ -30,7 +32,8 @@ use Rattle.writer.specs.Writing.{writerTests, piecesOf, partOf, placed, control
 use Rattle.writer.specs.declared.Writer.{Writer}
 use Rattle.writer.proofs.Bytes.{Byte}
 use Rattle.writer.specs.RoundTrip.{Bytes, Altered, ReadBack}
-use Rattle.writer.proofs.RoundTrip.{read-back}
+use Rattle.writer.proofs.Accepted.{fine}
+use Rattle.writer.proofs.RoundTrip.{read-back, pdu-length, pdu-bytes}
 
 -- pieces that are taken
 abbrev pub taken : List (List ℕ) → List Piece
@@ -63,26 +66,21 @@ psd-of : (width : ℕ) (c : ControlWord) (y : List ℕ) → accepted width c y .
 unfolding accepted
 psd-of width c y = refl
 
-corrected-is : (q p : List ℕ) → readNumber q ≡ 0 → readPdu q ≡ p → correctedPdu q ≡ p
+-- a PDU that is read as it is
+corrected-is : (p : List ℕ) → readNumber p ≡ 0 → readPdu p ≡ p → correctedPdu p ≡ p
 unfolding readPdu
-corrected-is q p z e = let t : eqb (readNumber q) 0 ≡ true = eq-eqb (readNumber q) 0 z in sym (ap (λ (b : Bool). cond b (correctedPdu q) q) t) ∙ e
+corrected-is p z e = let t : eqb (readNumber p) 0 ≡ true = eq-eqb (readNumber p) 0 z in sym (ap (λ (b : Bool). cond b (correctedPdu p) p) t) ∙ e
 
-answer-is : (q : List ℕ) (k : ℕ) → readNumber q ≡ 0 → readingWith k q ≡ accepted (widthOf (correctedPdu q)) (controlAt (correctedPdu q)) (correctedPdu q)
+answer-is : (p : List ℕ) (k : ℕ) → readNumber p ≡ 0 → correctedPdu p ≡ p → readingWith k p ≡ accepted (widthOf p) (controlAt p) p
 unfolding readingWith
-answer-is q k z =
-    let t : eqb (readNumber q) 0 ≡ true = eq-eqb (readNumber q) 0 z in
-    ap (λ (b : Bool). cond b (accepted (widthOf (correctedPdu q)) (controlAt (correctedPdu q)) (correctedPdu q)) (refused (readNumber q) k)) t
+answer-is p k z e =
+    let t : eqb (readNumber p) 0 ≡ true = eq-eqb (readNumber p) 0 z in
+    ap (λ (b : Bool). cond b (accepted (widthOf (correctedPdu p)) (controlAt (correctedPdu p)) (correctedPdu p)) (refused (readNumber p) k)) t
+    ∙ ap (λ (y : List ℕ). accepted (widthOf y) (controlAt y) y) e
 
-none-differ : (l : List ℕ) → distance l l ≡ 0
-unfolding distance
-none-differ [] = refl
-none-differ (x ∷ l) = let e : eqb x x ≡ true = eq-eqb x x refl in rw e (none-differ l)
-
-pub near-itself : (l : List ℕ) → distance l l ≤ 4
-near-itself l = let e = none-differ l in omega (arith, e)
-
-pub unaltered : (p : List ℕ) → Bytes p → Altered p p
-unaltered p b = record { bytes = b; long = refl; few = (let e = none-differ (take 96 p) in omega (arith, e)); rest = refl }
+reads-is : (p : List ℕ) → readNumber p ≡ 0 → correctedPdu p ≡ p → judged p ≡ 0
+unfolding readNumber judged
+reads-is p z e = ap (λ (y : List ℕ). firstOf (correctedTests (controlAt y) y)) (sym e) ∙ rest-off (readTests p) 2 refl z
 
 module _ (settings : Settings) (psd lengths bytes : List ℕ) (size : ℕ) (m : Mode) (w : Writer) (l : listing (w .mode) (w .stream) ≡ Listed m)
     (t : firstOf (writerTests settings psd lengths bytes size m w) ≡ 0) (hp : All Byte psd) (hb : All Byte bytes) where
@@ -107,40 +105,47 @@ module _ (settings : Settings) (psd lengths bytes : List ℕ) (size : ℕ) (m : 
     withheld = false;
   }
 
-  module _ (q : List ℕ) (a : Altered p q) where
-    back : ReadBack settings psd lengths bytes size w m p q
-    back = read-back settings psd lengths bytes size m w l t hp hb q a
+  -- p as it was written
+  back : ReadBack settings psd lengths bytes size w m p p
+  back =
+      read-back settings psd lengths bytes size m w l t hp hb p
+      (record { long = refl; rest = refl; few = omega (arith, distance-self (take 96 p)); bytes = pdu-bytes settings psd lengths bytes size m w l t hp hb })
 
-    pub read-number : readNumber q ≡ 0
-    read-number = back .number
+  itself : correctedPdu p ≡ p
+  itself = corrected-is p (back .number) (back .pdu)
 
-    pub corrected-back : correctedPdu q ≡ p
-    corrected-back = corrected-is q p (back .number) (back .pdu)
+  pub reads-back : judged p ≡ 0
+  reads-back = reads-is p (back .number) itself
 
-    pub control-back : controlAt (correctedPdu q) ≡ c
-    control-back =
-        sym (control-of (widthOf (correctedPdu q)) (controlAt (correctedPdu q)) (correctedPdu q))
-        ∙ ap (λ (r : Reading). r .control) (sym (answer-is q 0 (back .number)) ∙ back .answer 0)
-        ∙ control-of (m .width) c p
+  pub control-back : controlAt p ≡ c
+  control-back =
+      sym (control-of (widthOf p) (controlAt p) p)
+      ∙ ap (λ (r : Reading). r .control) (sym (answer-is p 0 (back .number) itself) ∙ back .answer 0)
+      ∙ control-of (m .width) c p
 
-    psd-back : take (psdOf (m .width) c p .length) (drop (psdOf (m .width) c p .start) p) ≡ psd
-    psd-back =
-        ap (λ (r : Part). take (r .length) (drop (r .start) p)) (sym (psd-of (m .width) c p) ∙ back .place) ∙ back .psd-read
+  pub at-least : 96 ≤ length p
+  at-least = let f = fine settings psd lengths bytes size m w t in omega (arith, pdu-length settings psd lengths bytes size m w l t hp hb, f .long)
 
-    nop-is : c .nop ≡ length ps
-    nop-is = sym (cut-count (placed settings psd lengths bytes size m w) (drop (w .sent) bytes))
+  pub at-most : length p ≤ 20480
+  at-most = let f = fine settings psd lengths bytes size m w t in omega (arith, pdu-length settings psd lengths bytes size m w l t hp hb, f .short)
 
-    -- the CRC of each piece stands at its locator
-    pub crcs-right : (k : ℕ) → k < controlAt p .nop → crcFrom 0 (take (lengthAt (m .width) (controlAt p) p k) (drop (startAt (m .width) (controlAt p) p k) p)) ≡ getD p (locatorAt (m .width) p k) 0
-    crcs-right =
-        let e : c ≡ controlAt p = sym (sym (ap controlAt corrected-back) ∙ control-back) in
-        subst (λ (r : ControlWord). (k : ℕ) → k < r .nop → crcFrom 0 (take (lengthAt (m .width) r p k) (drop (startAt (m .width) r p k) p)) ≡ getD p (locatorAt (m .width) p k) 0) e
-        (λ k h. let r = back .pieces k (let n = nop-is in omega (arith, n, h)) in ap (crcFrom 0) (r .bytes) ∙ sym (r .crc))
+  psd-back : take (psdOf (m .width) c p .length) (drop (psdOf (m .width) c p .start) p) ≡ psd
+  psd-back =
+      ap (λ (r : Part). take (r .length) (drop (r .start) p)) (sym (psd-of (m .width) c p) ∙ back .place) ∙ back .psd-read
 
-    pub said-back : saidBy (m .width) c p ≡ sent
-    unfolding saidBy
-    said-back = ap₂ (λ (s : List ℕ) (l : List Piece). record { sequence = c .sequence; pfirst = c .pfirst; plast = c .plast; start = c .start; psdBytes = s; pieces = l; withheld = false }) psd-back
-        (ap (piecesIn (m .width) c p 0) nop-is ∙ pieces-back (m .width) c p ps 0 (λ j h. subst (λ (n : ℕ). PieceRead (m .width) c p n (getD ps j [])) (zero-plus j) (back .pieces j h)))
-      where
-        zero-plus : (j : ℕ) → j ≡ 0 + j
-        zero-plus j = omega arith
+  nop-is : c .nop ≡ length ps
+  nop-is = sym (cut-count (placed settings psd lengths bytes size m w) (drop (w .sent) bytes))
+
+  -- the CRC of each piece stands at its locator
+  pub crcs-right : (k : ℕ) → k < controlAt p .nop → crcFrom 0 (take (lengthAt (m .width) (controlAt p) p k) (drop (startAt (m .width) (controlAt p) p k) p)) ≡ getD p (locatorAt (m .width) p k) 0
+  crcs-right =
+      subst (λ (r : ControlWord). (k : ℕ) → k < r .nop → crcFrom 0 (take (lengthAt (m .width) r p k) (drop (startAt (m .width) r p k) p)) ≡ getD p (locatorAt (m .width) p k) 0) (sym control-back)
+      (λ k h. let r = back .pieces k (let n = nop-is in omega (arith, n, h)) in ap (crcFrom 0) (r .bytes) ∙ sym (r .crc))
+
+  pub said-back : saidBy (m .width) c p ≡ sent
+  unfolding saidBy
+  said-back = ap₂ (λ (s : List ℕ) (l : List Piece). record { sequence = c .sequence; pfirst = c .pfirst; plast = c .plast; start = c .start; psdBytes = s; pieces = l; withheld = false }) psd-back
+      (ap (piecesIn (m .width) c p 0) nop-is ∙ pieces-back (m .width) c p ps 0 (λ j h. subst (λ (n : ℕ). PieceRead (m .width) c p n (getD ps j [])) (zero-plus j) (back .pieces j h)))
+    where
+      zero-plus : (j : ℕ) → j ≡ 0 + j
+      zero-plus j = omega arith

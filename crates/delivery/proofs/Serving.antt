@@ -17,8 +17,8 @@ use Rattle.buffer.specs.Buffer.{putAt}
 use Rattle.buffer.proofs.Laws.{put-length, put-nil, take-put}
 use Rattle.layout.specs.Control.{controlAt}
 use Rattle.log.specs.Log.{logWords, entryWords}
-use Rattle.correction.specs.Correction.{corrected, correctedPdu}
-use Rattle.pdu.specs.Reading.{modeIn, listingOf, readTests, readNumber, readerTests, uncorrectable}
+use Rattle.correction.specs.Marks.{marksRefusal, correctedWith, correctedPduWith}
+use Rattle.pdu.specs.Reading.{modeIn, listingOf, correctedTests, readerTests, judged, uncorrectable}
 use Rattle.reassembly.specs.Reassembly.{Said, Partial, nothing, beginning, Memory, Outcome, received, remembered, lostEntries, forgotten}
 use Rattle.reassembly.specs.Run.{bytesOf, numberOf as partialNumber, partialOf, lastOf}
 use Rattle.reassembly.proofs.Fitting.{SanePartial, SaneSaid, fit-received}
@@ -102,7 +102,7 @@ module _ (mode stream : ℕ) (m : Mode) (l : listing mode stream ≡ Listed m) (
 
   -- ---- receiving
 
-  module _ (x : Station) (y : Memory) (v : Shows x y) (k : ℕ) (q log : List ℕ) (d : Said) (h : Heard mode stream (m .width) q d) (s : SaneSaid d) (below : d .sequence < m .sequences)
+  module _ (x : Station) (y : Memory) (v : Shows x y) (k : ℕ) (marks q log : List ℕ) (d : Said) (h : Heard mode stream (m .width) marks q d) (s : SaneSaid d) (below : d .sequence < m .sequences)
       (bytes : (i : ℕ) → getD q i 0 < 256) (big : 8400 ≤ length log) where
     abbrev r : Receiver
     r = x .receiver
@@ -113,69 +113,70 @@ module _ (mode stream : ℕ) (m : Mode) (l : listing mode stream ≡ Listed m) (
     this-mode : modeOf r ≡ m
     this-mode = ap modeIn (mode-is r (v .sameMode) (v .sameStream))
 
-    said-is : said carry q log r ≡ d
-    said-is = ap (λ (t : Mode). saidBy (t .width) (controlAt (correctedPdu q)) (correctedPdu q)) this-mode ∙ h .says
+    said-is : said marks carry q log r ≡ d
+    said-is = ap (λ (t : Mode). saidBy (t .width) (controlAt (correctedPduWith marks q)) (correctedPduWith marks q)) this-mode ∙ h .says
 
-    outcome-is : outcome carry q log r ≡ received (m .sequences) y d
-    outcome-is = ap (λ (t : Mode). received (t .sequences) (memoryOf r carry) (said carry q log r)) this-mode ∙ ap₂ (received (m .sequences)) (v .memory) said-is
+    outcome-is : outcome marks carry q log r ≡ received (m .sequences) y d
+    outcome-is = ap (λ (t : Mode). received (t .sequences) (memoryOf r carry) (said marks carry q log r)) this-mode ∙ ap₂ (received (m .sequences)) (v .memory) said-is
 
-    after-is : memoryAfter carry q log r ≡ remembered (m .sequences) y d
-    after-is = ap (λ (t : Mode). remembered (t .sequences) (memoryOf r carry) (said carry q log r)) this-mode ∙ ap₂ (remembered (m .sequences)) (v .memory) said-is
+    after-is : memoryAfter marks carry q log r ≡ remembered (m .sequences) y d
+    after-is = ap (λ (t : Mode). remembered (t .sequences) (memoryOf r carry) (said marks carry q log r)) this-mode ∙ ap₂ (remembered (m .sequences)) (v .memory) said-is
 
     -- none of the rows 1 to 12 applies
-    first-twelve : firstOf (firstTwelve carry q log r) ≡ 0
-    unfolding readNumber
+    first-twelve : firstOf (firstTwelve marks carry q log r) ≡ 0
+    unfolding judged
     first-twelve =
-        let off : (j : ℕ) → getD (readTests q) j (false, 0) .0 ≡ false = λ j. row-off (readTests q) j refl (h .number) in
+        let y = correctedPduWith marks q in
+        let c = controlAt y in
         let e1 : anyOf (wrongState r) ≡ false = v .right in
         let e2 : ltb (length carry) 4096 ≡ false = le-ltb (length carry) 4096 (v .room) in
-        let c = controlAt (correctedPdu q) in
+        let e5 : not (eqb (numberOf (listingOf c)) 0) ≡ false = row-off (correctedTests c y) 0 refl (h .reads) in
         let em : eqb (c .mode) (r .mode) ≡ true = eq-eqb (c .mode) (r .mode) (h .sameMode ∙ sym (v .sameMode)) in
         let es : eqb (c .stream) (r .stream) ≡ true = eq-eqb (c .stream) (r .stream) (h .sameStream ∙ sym (v .sameStream)) in
-        rw (e1, e2, off 0, off 1, off 2, em, es) (rest-off (readTests q) 3 refl (h .number))
+        rw (e1, e2, h .size, h .allowed, h .correctable, e5, em, es) (rest-off (correctedTests c y) 1 refl (h .reads))
 
-    words-are : receivedWords carry q log r ≡ logWords (received (m .sequences) y d .entries)
+    words-are : receivedWords marks carry q log r ≡ logWords (received (m .sequences) y d .entries)
     words-are = ap (λ (o : Outcome). logWords (o .entries)) outcome-is
 
-    pub accepts : receiveNumber carry q log r ≡ 0
+    pub accepts : receiveNumber marks carry q log r ≡ 0
     unfolding receiveNumber
     accepts =
-        let n = most carry q log r bytes first-twelve in
-        let z : ltb (length log) (length (receivedWords carry q log r)) ≡ false = le-ltb (length log) (length (receivedWords carry q log r)) (omega (arith, n, big)) in
-        past (firstTwelve carry q log r) ((ltb (length log) (length (receivedWords carry q log r)), 13) ∷ []) refl first-twelve ∙ ap (λ (b : Bool). cond b 13 0) z
+        let n = most marks carry q log r bytes first-twelve in
+        let z : ltb (length log) (length (receivedWords marks carry q log r)) ≡ false = le-ltb (length log) (length (receivedWords marks carry q log r)) (omega (arith, n, big)) in
+        past (firstTwelve marks carry q log r) ((ltb (length log) (length (receivedWords marks carry q log r)), 13) ∷ []) refl first-twelve ∙ ap (λ (b : Bool). cond b 13 0) z
 
-    answer-is : receiveAnswer carry q log r k ≡ record { refusal = 0; wrong = 0; words = length (receivedWords carry q log r); receiver = remembering r (memoryAfter carry q log r) }
+    answer-is : receiveAnswer marks carry q log r k ≡ record { refusal = 0; wrong = 0; words = length (receivedWords marks carry q log r); receiver = remembering r (memoryAfter marks carry q log r) }
     unfolding receiveAnswer
     answer-is =
-        let t : eqb (receiveNumber carry q log r) 0 ≡ true = eq-eqb (receiveNumber carry q log r) 0 accepts in
-        ap (λ (b : Bool). cond b (record { refusal = 0; wrong = 0; words = length (receivedWords carry q log r); receiver = remembering r (memoryAfter carry q log r) }) (refusedAnswer r (receiveNumber carry q log r) k)) t
+        let t : eqb (receiveNumber marks carry q log r) 0 ≡ true = eq-eqb (receiveNumber marks carry q log r) 0 accepts in
+        ap (λ (b : Bool). cond b (record { refusal = 0; wrong = 0; words = length (receivedWords marks carry q log r); receiver = remembering r (memoryAfter marks carry q log r) }) (refusedAnswer r (receiveNumber marks carry q log r) k)) t
 
-    pub receive-accepted : answerOf x (receive k q log) .refusal ≡ 0
+    pub receive-accepted : answerOf x (receive k marks q log) .refusal ≡ 0
     receive-accepted = ap (λ (a : Received). a .refusal) answer-is
 
-    log-is : logAfter carry q log r ≡ putAt log 0 (receivedWords carry q log r)
+    log-is : logAfter marks carry q log r ≡ putAt log 0 (receivedWords marks carry q log r)
     unfolding logAfter
     log-is =
-        let t : eqb (receiveNumber carry q log r) 0 ≡ true = eq-eqb (receiveNumber carry q log r) 0 accepts in
-        ap (λ (b : Bool). cond b (putAt log 0 (receivedWords carry q log r)) log) t
+        let t : eqb (receiveNumber marks carry q log r) 0 ≡ true = eq-eqb (receiveNumber marks carry q log r) 0 accepts in
+        ap (λ (b : Bool). cond b (putAt log 0 (receivedWords marks carry q log r)) log) t
 
-    carry-is : carryAfter carry q log r ≡ putAt carry 0 (bytesOf (outcome carry q log r .partial))
+    carry-is : carryAfter marks carry q log r ≡ putAt carry 0 (bytesOf (outcome marks carry q log r .partial))
     unfolding carryAfter
     carry-is =
-        let t : eqb (receiveNumber carry q log r) 0 ≡ true = eq-eqb (receiveNumber carry q log r) 0 accepts in
-        ap (λ (b : Bool). cond b (putAt carry 0 (bytesOf (outcome carry q log r .partial))) carry) t
+        let t : eqb (receiveNumber marks carry q log r) 0 ≡ true = eq-eqb (receiveNumber marks carry q log r) 0 accepts in
+        ap (λ (b : Bool). cond b (putAt carry 0 (bytesOf (outcome marks carry q log r .partial))) carry) t
 
-    pub receive-logged : loggedBy defined x (receive k q log) ≡ logWords (received (m .sequences) y d .entries)
+    pub receive-logged : loggedBy defined x (receive k marks q log) ≡ logWords (received (m .sequences) y d .entries)
     receive-logged =
         ap₂ (λ (a : Received) (w : List ℕ). cond (eqb (a .refusal) 0) (take (a .words) w) []) answer-is log-is
-        ∙ take-put log (receivedWords carry q log r)
+        ∙ take-put log (receivedWords marks carry q log r)
         ∙ words-are
 
-    pub receive-shows : Shows (stationAfter defined x (receive k q log)) (remembered (m .sequences) y d)
+    pub receive-shows : Shows (stationAfter defined x (receive k marks q log)) (remembered (m .sequences) y d)
     unfolding remembered
     receive-shows =
         let z = remembered (m .sequences) y d in
-        let e : stationAfter defined x (receive k q log) ≡ put r carry z =
+        let e : stationAfter defined x (receive k marks q log) ≡ put r carry z =
         ap₂ (λ (a : Received) (c : List ℕ). record { receiver = a .receiver; carry = c }) answer-is carry-is
         ∙ ap₂ (λ (n : Memory) (o : Outcome). record { receiver = remembering r n; carry = putAt carry 0 (bytesOf (o .partial)) }) after-is outcome-is in
         subst (λ (t : Station). Shows t z) (sym e) (shows-put r carry z (v .sameMode) (v .sameStream) (v .room) below (fit-received (m .sequences) y d (v .sane) s .1))

@@ -1,14 +1,18 @@
 -- Small runs in mode 0, core, whose sequence has one bit. Where the bytes of the PDUs stand and which packets are asked for is computed; that the
 -- log holds these packets is the theorem.
-use mathlib.Core.Path.{_≡_, refl, sym, ap, ap₂, _∙_}
-use mathlib.Core.Bool.{Bool, true, false, cond}
+use mathlib.Core.Path.{_≡_, refl, sym, ap, ap₂, subst, _∙_}
+use mathlib.Core.Bool.{Bool, true, false, not, _&&_, _||_, cond}
 use mathlib.Core.List.{List, [], _∷_, _++_, map}
-use Prim.Native.Nat.{ℕ, zero, suc, _+_, _<_, _≤_}
+use Prim.Native.Nat.{ℕ, zero, suc, _+_, _*_, _<_, _≤_}
 use native.Mathlib.Omega.{arith}
 use lib.ListN.{length, getD, take, drop, replicate, length-replicate, length-take, length-drop}
 use lib.Dec.{eqb, ltb}
 use borrow.Author.Tests.{eq-eqb, ne-eqb}
-use Rattle.algebra.specs.Places.{All}
+use lib.Seq.{length-take-le, getD-take}
+use Rattle.algebra.specs.Places.{All, below, keep}
+use Rattle.algebra.proofs.Places.{one}
+use Rattle.correction.specs.Marks.{isMarked, marksRefusal, unmarkedDistance}
+use Rattle.correction.proofs.Counting.{keep-le}
 use Rattle.refusal.specs.Refusal.{firstOf, anyOf}
 use Rattle.header.specs.Header.{distance}
 use Rattle.modes.specs.Modes.{listing}
@@ -27,7 +31,7 @@ use Rattle.receiver.specs.declared.Received.{Received}
 use Rattle.runs.specs.Spans.{Span}
 use Rattle.delivery.specs.Delivery.{Packets, joined, Writing, spansFrom, InOrder, Station, Call, receive, markLost, answerOf, defined, Step, refuses, receptions, freshStation, stationAfter, Through, inReceived, wholePackets, logsFrom, runOf, made, spans, arrived, Asked}
 use Rattle.delivery.proofs.Channel.{Usable, made-right}
-use Rattle.delivery.proofs.Possible.{Alters, asSent, as-sent, stepsFor, told-receptions, goes-through, run-usable, stepsOf, possible}
+use Rattle.delivery.proofs.Possible.{four-altered, Alters, asSent, as-sent, stepsFor, told-receptions, goes-through, run-usable, stepsOf, possible}
 use Rattle.delivery.proofs.Theorem.{delivers}
 
 -- plain settings: no expansion fields
@@ -109,7 +113,7 @@ abbrev pub loggedIn : ℕ → ℕ → List Bool → List ℕ
 loggedIn first count bs = packetWords (logsFrom defined (freshStation defined 0 0 carry) (calls first count bs))
 
 pub told : (first count : ℕ) (bs : List Bool) → length (runOf first count fiveSpans) ≡ length bs → receptions (calls first count bs) ≡ bs
-told first count bs n = told-receptions asSent [] (runOf first count (made 0 0 six)) bs refl (sym (run-length first count (length bs) n))
+told first count bs n = told-receptions [] asSent [] (runOf first count (made 0 0 six)) bs refl (sym (run-length first count (length bs) n))
 
 logged-is : (first count : ℕ) (bs : List Bool) (es : List Entry) → length (runOf first count fiveSpans) ≡ length bs
     → wholePackets (inReceived (runOf first count fiveSpans) bs) 0 0 three ≡ es → loggedIn first count bs ≡ logWords es
@@ -212,18 +216,18 @@ pub altered-four : (p : List ℕ) → 96 ≤ length p → distance (take 96 (alt
 unfolding altered howMany
 altered-four p h = alter-distance four p h
 
-pub four-altered : Alters altered
+pub headers-altered : Alters [] altered
 unfolding altered
-four-altered p h = record {
+headers-altered p h = four-altered p (altered p) (h .1) (record {
   bytes = alter-bytes four p (h .0);
   long = alter-length four p;
   few = (let e = altered-four p (h .1) in omega (arith, e));
   rest = alter-rest four p;
-}
+})
 
 -- a PDU of no bytes, and a log of no words
 abbrev pub emptyPdu : Call
-emptyPdu = receive 0 [] []
+emptyPdu = receive 0 [] [] []
 
 abbrev pub noLog : Call
 noLog = markLost []
@@ -232,7 +236,7 @@ noLog = markLost []
 refused-by : (n : ℕ) (a : Received) (r : Receiver) (k : ℕ) → ¬ (n ≡ 0) → ¬ (cond (eqb n 0) a (refusedAnswer r n k) .refusal ≡ 0)
 refused-by n a r k h e = let f : eqb n 0 ≡ false = ne-eqb n 0 h in h (rw f at e)
 
-empty-number : (x : Station) → ¬ (receiveNumber (x .carry) [] [] (x .receiver) ≡ 0)
+empty-number : (x : Station) → ¬ (receiveNumber [] (x .carry) [] [] (x .receiver) ≡ 0)
 unfolding receiveNumber
 empty-number x = number (anyOf (wrongState (x .receiver))) (ltb (length (x .carry)) 4096)
   where
@@ -243,7 +247,7 @@ empty-number x = number (anyOf (wrongState (x .receiver))) (ltb (length (x .carr
 
 pub empty-refused : (x : Station) → ¬ (answerOf x emptyPdu .refusal ≡ 0)
 unfolding receiveAnswer
-empty-refused x = refused-by (receiveNumber (x .carry) [] [] (x .receiver)) _ (x .receiver) 0 (empty-number x)
+empty-refused x = refused-by (receiveNumber [] (x .carry) [] [] (x .receiver)) _ (x .receiver) 0 (empty-number x)
 
 pub no-log-refused : (x : Station) → ¬ (answerOf x noLog .refusal ≡ 0)
 unfolding lostAnswer
@@ -261,22 +265,94 @@ after-refused x c (p ∷ pdus) ss h t = (h, t)
 abbrev fourOfFive : List Bool
 fourOfFive = true ∷ true ∷ false ∷ true ∷ true ∷ []
 
-abbrev pub alteredCalls : List Step
-alteredCalls = refuses emptyPdu ∷ stepsFor altered (refuses noLog ∷ []) (runOf 0 5 (made 0 0 six)) fourOfFive
+-- with these marks, each header altered so
+module _ (marks : List ℕ) (alter : List ℕ → List ℕ) (right : Alters marks alter) where
+  abbrev pub alteredCalls : List Step
+  alteredCalls = refuses emptyPdu ∷ stepsFor marks alter (refuses noLog ∷ []) (runOf 0 5 (made 0 0 six)) fourOfFive
 
-altered-asked : Asked defined 0 0 three six 0 5 carry alteredCalls
-altered-asked = record {
-  opens = opens;
-  sized = packets-right;
-  offered = in-order;
-  room = carry-room;
-  through = after-refused (freshStation defined 0 0 carry) emptyPdu (runOf 0 5 (made 0 0 six)) _ (empty-refused (freshStation defined 0 0 carry))
-      (goes-through altered defined four-altered (refuses noLog ∷ []) (runOf 0 5 (made 0 0 six)) fourOfFive _ (λ y. (no-log-refused y, tt)) (run-usable 0 0 three six opens packets-right in-order 0 5));
+  altered-asked : Asked defined 0 0 three six 0 5 carry alteredCalls
+  altered-asked = record {
+    opens = opens;
+    sized = packets-right;
+    offered = in-order;
+    room = carry-room;
+    through = after-refused (freshStation defined 0 0 carry) emptyPdu (runOf 0 5 (made 0 0 six)) _ (empty-refused (freshStation defined 0 0 carry))
+        (goes-through marks alter defined right (refuses noLog ∷ []) (runOf 0 5 (made 0 0 six)) fourOfFive _ (λ y. (no-log-refused y, tt)) (run-usable 0 0 three six opens packets-right in-order 0 5));
+  }
+
+  pub altered-run : packetWords (logsFrom defined (freshStation defined 0 0 carry) alteredCalls) ≡ logWords (packet 0 (replicate 20 1) ∷ packet 2 (replicate 10 3) ∷ [])
+  unfolding wholePackets
+  altered-run =
+      delivers 0 0 three six 0 5 carry alteredCalls altered-asked .log
+      ∙ ap (askedFor 0 5) (told-receptions marks alter (refuses noLog ∷ []) (runOf 0 5 (made 0 0 six)) fourOfFive refl (sym (run-length 0 5 5 refl)))
+      ∙ asked-is 0 5 fourOfFive (packet 0 (replicate 20 1) ∷ packet 2 (replicate 10 3) ∷ []) refl
+
+-- four bytes of each, and no mark
+pub four-run : packetWords (logsFrom defined (freshStation defined 0 0 carry) (alteredCalls [] altered headers-altered)) ≡ logWords (packet 0 (replicate 20 1) ∷ packet 2 (replicate 10 3) ∷ [])
+four-run = altered-run [] altered headers-altered
+
+-- ---- document 02, Ask 3: six marked bytes and another one altered in each header, twice one plus six being eight
+
+-- bytes 0 to 5, and 95
+abbrev seven : List Bool
+seven = replicate 6 true ++ (replicate 89 false ++ (true ∷ []))
+
+abbrev pub firstSix : List ℕ
+firstSix = 0 ∷ 1 ∷ 2 ∷ 3 ∷ 4 ∷ 5 ∷ []
+
+pub sevenAltered : List ℕ → List ℕ
+sevenAltered p = alterAt seven p
+
+same-byte : (x : ℕ) → one (not (eqb x x)) ≡ 0
+same-byte x = let e : eqb x x ≡ true = eq-eqb x x refl in rw e
+
+one-most : (b : Bool) → one b ≤ 1
+one-most true = omega arith
+one-most false = omega arith
+
+-- only altered bytes differ
+alter-differs : (bs : List Bool) (l : List ℕ) (i : ℕ) → one (not (eqb (getD (alterAt bs l) i 0) (getD l i 0))) ≤ one (getD bs i false)
+unfolding alterAt
+alter-differs [] l i = omega (arith, same-byte (getD l i 0))
+alter-differs (b ∷ bs) [] i = omega (arith, same-byte 0)
+alter-differs (true ∷ bs) (x ∷ l) zero = one-most (not (eqb (flipped x) x))
+alter-differs (false ∷ bs) (x ∷ l) zero = omega (arith, same-byte x)
+alter-differs (b ∷ bs) (x ∷ l) (suc i) = alter-differs bs l i
+
+-- so at most as many unmarked bytes differ as are altered
+alter-unmarked : (marks : List ℕ) (bs : List Bool) (p : List ℕ) → 96 ≤ length p
+    → unmarkedDistance marks (take 96 (alterAt bs p)) (take 96 p) ≤ length (keep (λ i. not (isMarked marks i) && getD bs i false) (below 96))
+unfolding unmarkedDistance
+alter-unmarked marks bs p h =
+    let n : length (take 96 (alterAt bs p)) ≡ 96 = length-take-le 96 (alterAt bs p) (let e = alter-length bs p in omega (arith, e)) in
+    subst (λ (m : ℕ). length (keep test (below m)) ≤ length (keep (λ i. not (isMarked marks i) && getD bs i false) (below 96))) (sym n)
+    (keep-le test (λ i. not (isMarked marks i) && getD bs i false) 96 (λ i b. at i b))
+  where
+    test : ℕ → Bool
+    test i = not (isMarked marks i || eqb (getD (take 96 (alterAt bs p)) i 0) (getD (take 96 p) i 0))
+
+    unless : (m x y : Bool) → one (not x) ≤ one y → one (not (m || x)) ≤ one (not m && y)
+    unless true x y e = omega arith
+    unless false x y e = e
+
+    at : (i : ℕ) → i < 96 → one (test i) ≤ one (not (isMarked marks i) && getD bs i false)
+    at i b =
+        let e : getD (take 96 (alterAt bs p)) i 0 ≡ getD (alterAt bs p) i 0 = getD-take 96 (alterAt bs p) i 0 b in
+        let f : getD (take 96 p) i 0 ≡ getD p i 0 = getD-take 96 p i 0 b in
+        unless (isMarked marks i) (eqb (getD (take 96 (alterAt bs p)) i 0) (getD (take 96 p) i 0)) (getD bs i false)
+        (subst (λ (x : Bool). one (not x) ≤ one (getD bs i false)) (sym (ap₂ eqb e f)) (alter-differs bs p i))
+
+pub headers-marked : Alters firstSix sevenAltered
+unfolding sevenAltered marksRefusal
+headers-marked p h = record {
+  header = record {
+    allowed = refl;
+    bytes = alter-bytes seven p (h .0);
+    long = alter-length seven p;
+    few = (let e : unmarkedDistance firstSix (take 96 (alterAt seven p)) (take 96 p) ≤ 1 = alter-unmarked firstSix seven p (h .1) in omega (arith, e));
+  };
+  rest = alter-rest seven p;
 }
 
-pub altered-run : packetWords (logsFrom defined (freshStation defined 0 0 carry) alteredCalls) ≡ logWords (packet 0 (replicate 20 1) ∷ packet 2 (replicate 10 3) ∷ [])
-unfolding wholePackets
-altered-run =
-    delivers 0 0 three six 0 5 carry alteredCalls altered-asked .log
-    ∙ ap (askedFor 0 5) (told-receptions altered (refuses noLog ∷ []) (runOf 0 5 (made 0 0 six)) fourOfFive refl (sym (run-length 0 5 5 refl)))
-    ∙ asked-is 0 5 fourOfFive (packet 0 (replicate 20 1) ∷ packet 2 (replicate 10 3) ∷ []) refl
+pub marked-run : packetWords (logsFrom defined (freshStation defined 0 0 carry) (alteredCalls firstSix sevenAltered headers-marked)) ≡ logWords (packet 0 (replicate 20 1) ∷ packet 2 (replicate 10 3) ∷ [])
+marked-run = altered-run firstSix sevenAltered headers-marked

@@ -1,18 +1,18 @@
--- How a copy of a PDU may come: at most four of its first 96 bytes altered, bytes 96 to La as sent, and each piece with its CRC byte either as sent
--- or damaged. One notion for demand 3, for two copies of a PDU (document 02, Ask 5) and for bursts (Ask 12).
+-- How a copy of a PDU may come: its first 96 bytes altered and marked within the bound (Delivery.antt, `Correctable`), bytes 96 to La as
+-- sent, and each piece with its CRC byte either as sent or damaged. One notion for demand 3, for marks (document 02, Ask 3), for two copies of a PDU
+-- (Ask 5) and for bursts (Ask 12).
 use mathlib.Core.Path.{_≡_}
 use mathlib.Core.Bool.{Bool, true, false, not, cond}
 use mathlib.Core.List.{List, [], _∷_, _++_}
-use Prim.Native.Nat.{ℕ, zero, suc, _+_, _-_, _<_, _≤_}
+use Prim.Native.Nat.{ℕ, zero, suc, _+_, _-_, _<_}
 use lib.Dec.{eqb}
 use lib.ListN.{length, getD, take, drop}
 use Rattle.crc.specs.Crc.{crcFrom}
 use Rattle.burst.specs.Burst.{Burst}
-use Rattle.header.specs.Header.{distance}
 use Rattle.layout.specs.Control.{controlAt}
 use Rattle.layout.specs.Locators.{locatorAt}
 use Rattle.pdu.specs.Reading.{startAt, lengthAt}
-use Rattle.writer.specs.RoundTrip.{Bytes}
+use Rattle.delivery.specs.Delivery.{Correctable}
 
 -- what a receiver reads of a PDU p that came as q: the header is p's again
 abbrev pub restored : List ℕ → List ℕ → List ℕ
@@ -39,12 +39,10 @@ module _ (width : ℕ) (p : List ℕ) where
     wrong : ¬ (crcFrom 0 (bytesAt y k) ≡ crcAt y k) → Damage y k
     burst : Burst (pieceAt p k) (pieceAt y k) → Damage y k
 
-  -- q is p with at most four of its first 96 bytes altered, to anything; bytes 96 to La are as sent, and so is each piece with its CRC byte where
+  -- q is p with its first 96 bytes altered and marked within the bound; bytes 96 to La are as sent, and so is each piece with its CRC byte where
   -- `sound` says so; any other is damaged. Bytes after the last locator may be any
-  pub record Copy (q : List ℕ) (sound : ℕ → Bool) : Type 0 where
-    pub bytes : Bytes q
-    pub long : length q ≡ length p
-    pub few : distance (take 96 q) (take 96 p) ≤ 4
+  pub record Copy (marks q : List ℕ) (sound : ℕ → Bool) : Type 0 where
+    pub header : Correctable marks p q
     pub front : take (frontLength p) (restored p q) ≡ take (frontLength p) p
     pub whole : (k : ℕ) → k < controlAt p .nop → sound k ≡ true → (bytesAt (restored p q) k ≡ bytesAt p k) × (crcAt (restored p q) k ≡ crcAt p k)
     pub found : (k : ℕ) → k < controlAt p .nop → sound k ≡ false → Damage (restored p q) k

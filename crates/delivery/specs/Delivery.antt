@@ -4,9 +4,10 @@
 use mathlib.Core.Path.{_≡_}
 use mathlib.Core.Bool.{Bool, true, false, not, _&&_, _||_, cond}
 use mathlib.Core.List.{List, [], _∷_, _++_, map}
-use Prim.Native.Nat.{ℕ, zero, suc, _+_, _-_, _%_, _<_, _≤_}
+use Prim.Native.Nat.{ℕ, zero, suc, _+_, _-_, _*_, _%_, _<_, _≤_}
 use lib.Dec.{eqb, ltb, leb}
 use lib.ListN.{length, take, drop}
+use Rattle.correction.specs.Marks.{marksRefusal, unmarkedDistance}
 use Rattle.modes.specs.Modes.{listing}
 use Rattle.pdu.specs.Reading.{modeIn}
 use Rattle.pieces.specs.Pieces.{total}
@@ -14,7 +15,7 @@ use Rattle.settings.specs.declared.Settings.{Settings}
 use Rattle.log.specs.Log.{Entry, packet, logWords, packetWords}
 use Rattle.runs.specs.Spans.{Span}
 use Rattle.writer.specs.Writing.{opened as writerOpened, placed, writeAnswer, writtenPdu}
-use Rattle.writer.specs.RoundTrip.{Bytes, Altered}
+use Rattle.writer.specs.RoundTrip.{Bytes}
 use Rattle.writer.specs.declared.Writer.{Writer}
 use Rattle.writer.specs.declared.Written.{Written}
 use Rattle.receiver.specs.Receiving.{opened as receiverOpened, receiveAnswer, carryAfter, logAfter, lostAnswer, logAfterLost}
@@ -106,9 +107,9 @@ pub record Station : Type 0 where
   pub receiver : Receiver
   pub carry : List ℕ
 
--- a call's arguments besides: the lent PDU and log, as they were before the call. k is whichever comes with an answer of 11
+-- a call's arguments besides: the marked places, and the lent PDU and log, as they were before the call. k is whichever comes with an answer of 11
 pub data Call : Type 0 where
-  receive : (k : ℕ) (pdu log : List ℕ) → Call
+  receive : (k : ℕ) (marks pdu log : List ℕ) → Call
   markLost : (log : List ℕ) → Call
 
 -- a receiver as its calls show it: what opening hands back, what a call answers, and the carry and the log after it
@@ -120,15 +121,15 @@ pub record Behaviour : Type 0 where
 
 -- the receiver of document 01
 abbrev pub answerOf : Station → Call → Received
-answerOf x (receive k pdu log) = receiveAnswer (x .carry) pdu log (x .receiver) k
+answerOf x (receive k marks pdu log) = receiveAnswer marks (x .carry) pdu log (x .receiver) k
 answerOf x (markLost log) = lostAnswer log (x .receiver)
 
 abbrev pub carryOf : Station → Call → List ℕ
-carryOf x (receive k pdu log) = carryAfter (x .carry) pdu log (x .receiver)
+carryOf x (receive k marks pdu log) = carryAfter marks (x .carry) pdu log (x .receiver)
 carryOf x (markLost log) = x .carry
 
 abbrev pub logOf : Station → Call → List ℕ
-logOf x (receive k pdu log) = logAfter (x .carry) pdu log (x .receiver)
+logOf x (receive k marks pdu log) = logAfter marks (x .carry) pdu log (x .receiver)
 logOf x (markLost log) = logAfterLost log (x .receiver)
 
 abbrev pub defined : Behaviour
@@ -136,21 +137,34 @@ defined = record { opening = λ mode stream. receiverOpened mode stream .receive
 
 -- ---- going through a run
 
+-- q is as long as p, and of the first 96 bytes some are altered, to anything: twice the altered unmarked bytes plus the marks is at most eight. The
+-- marks are at most 95 each, and none is repeated. With no marks: at most four altered
+pub record Correctable (marks p q : List ℕ) : Type 0 where
+  pub allowed : marksRefusal marks ≡ 0
+  pub bytes : Bytes q
+  pub long : length q ≡ length p
+  pub few : 2 * unmarkedDistance marks (take 96 q) (take 96 p) + length marks ≤ 8
+
+-- and the other bytes are p's
+pub record HeaderAltered (marks p q : List ℕ) : Type 0 where
+  pub header : Correctable marks p q
+  pub rest : drop 96 q ≡ drop 96 p
+
 -- a call of the list: for the next PDU of the run, received or marked lost; or another, a refused one
 pub data Step : Type 0 where
-  receives : (k : ℕ) (pdu log : List ℕ) → Step
+  receives : (k : ℕ) (marks pdu log : List ℕ) → Step
   loses : (log : List ℕ) → Step
   refuses : Call → Step
 
 abbrev pub callOf : Step → Call
-callOf (receives k pdu log) = receive k pdu log
+callOf (receives k marks pdu log) = receive k marks pdu log
 callOf (loses log) = markLost log
 callOf (refuses c) = c
 
 -- which PDUs of the run are received
 abbrev pub receptions : List Step → List Bool
 receptions [] = []
-receptions (receives k pdu log ∷ ss) = true ∷ receptions ss
+receptions (receives k marks pdu log ∷ ss) = true ∷ receptions ss
 receptions (loses log ∷ ss) = false ∷ receptions ss
 receptions (refuses c ∷ ss) = receptions ss
 
@@ -166,8 +180,8 @@ module _ (b : Behaviour) where
   abbrev pub Through : Station → List (List ℕ) → List Step → Type 0
   Through x [] [] = Unit {0}
   Through x (p ∷ ps) [] = ⊥
-  Through x [] (receives k q log ∷ ss) = ⊥
-  Through x (p ∷ ps) (receives k q log ∷ ss) = Altered p q × (8400 ≤ length log) × Through (stationAfter x (receive k q log)) ps ss
+  Through x [] (receives k marks q log ∷ ss) = ⊥
+  Through x (p ∷ ps) (receives k marks q log ∷ ss) = HeaderAltered marks p q × (8400 ≤ length log) × Through (stationAfter x (receive k marks q log)) ps ss
   Through x [] (loses log ∷ ss) = ⊥
   Through x (p ∷ ps) (loses log ∷ ss) = (8400 ≤ length log) × Through (stationAfter x (markLost log)) ps ss
   Through x [] (refuses c ∷ ss) = (¬ (b .answer x c .refusal ≡ 0)) × Through (stationAfter x c) [] ss
@@ -176,7 +190,7 @@ module _ (b : Behaviour) where
   -- no call for a PDU of the run is refused
   abbrev pub NoneRefused : Station → List Step → Type 0
   NoneRefused x [] = Unit {0}
-  NoneRefused x (receives k q log ∷ ss) = (b .answer x (receive k q log) .refusal ≡ 0) × NoneRefused (stationAfter x (receive k q log)) ss
+  NoneRefused x (receives k marks q log ∷ ss) = (b .answer x (receive k marks q log) .refusal ≡ 0) × NoneRefused (stationAfter x (receive k marks q log)) ss
   NoneRefused x (loses log ∷ ss) = (b .answer x (markLost log) .refusal ≡ 0) × NoneRefused (stationAfter x (markLost log)) ss
   NoneRefused x (refuses c ∷ ss) = NoneRefused (stationAfter x c) ss
 

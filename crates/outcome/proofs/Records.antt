@@ -87,9 +87,9 @@ lost-by false n m k a o l w q = q ∙ parts 2 n n 0 k 0 m a a refl w l refl
 -- ---- a record
 
 module _ (carry pdu log : List ℕ) (r : Receiver) where
-  receive-number : (k : ℕ) → receiveAnswer carry pdu log r k .refusal ≡ receiveNumber carry pdu log r
+  receive-number : (k : ℕ) → receiveAnswer [] carry pdu log r k .refusal ≡ receiveNumber [] carry pdu log r
   unfolding receiveAnswer
-  receive-number k = number-by (eqb (receiveNumber carry pdu log r) 0) (receiveNumber carry pdu log r) _ r k refl refl
+  receive-number k = number-by (eqb (receiveNumber [] carry pdu log r) 0) (receiveNumber [] carry pdu log r) _ r k refl refl
 
   -- what is promised of the outcome, and of the carry, the record and the log after it
   abbrev pub Comes : Outcome → List ℕ → List ℕ → List ℕ → Type 0
@@ -106,14 +106,14 @@ module _ (carry pdu log : List ℕ) (r : Receiver) where
         (record { inside = λ z. absurd (other z); wrong = λ z. absurd (other z); none = λ _. w }, (rw t, (rw t, rw t (e ∙ neither (eqb (lostNumber log r) 0))))),
       )
     where
-      neither : (s : Bool) → logAfterLost log r ≡ cond (s && false) (logAfter carry pdu log r) (logAfterLost log r)
+      neither : (s : Bool) → logAfterLost log r ≡ cond (s && false) (logAfter [] carry pdu log r) (logAfterLost log r)
       neither true = refl
       neither false = refl
 
   -- the answer of receiving a PDU that is not empty, and the three buffers after it
-  module _ (full : length pdu ≡ 0 → ⊥) (a : Received) (carryEnd pduEnd logMid : List ℕ) (ea : a ≡ receiveAnswer carry pdu log r (a .wrong)) (wrong : WrongOne pdu (a .refusal) (a .wrong))
-      (ec : carryEnd ≡ carryAfter carry pdu log r) (ep : pduEnd ≡ pduAfter carry pdu log r) (el : logMid ≡ logAfter carry pdu log r) (n : ℕ) (long : n ≡ length pdu) (o : Outcome) where
-    number : a .refusal ≡ receiveNumber carry pdu log r
+  module _ (full : length pdu ≡ 0 → ⊥) (a : Received) (carryEnd pduEnd logMid : List ℕ) (ea : a ≡ receiveAnswer [] carry pdu log r (a .wrong)) (wrong : WrongOne pdu (a .refusal) (a .wrong))
+      (ec : carryEnd ≡ carryAfter [] carry pdu log r) (ep : pduEnd ≡ pduAfter [] carry pdu log r) (el : logMid ≡ logAfter [] carry pdu log r) (n : ℕ) (long : n ≡ length pdu) (o : Outcome) where
+    number : a .refusal ≡ receiveNumber [] carry pdu log r
     number = ap (λ (x : Received). x .refusal) ea ∙ receive-number (a .wrong)
 
     some : eqb (length pdu) 0 ≡ false
@@ -122,7 +122,7 @@ module _ (carry pdu log : List ℕ) (r : Receiver) where
     -- the k, and the buffers that are as receiving leaves them
     k-is : o .wrong ≡ a .wrong → WrongOne pdu (recordNumber carry pdu log r) (o .wrong)
     unfolding recordNumber
-    k-is e = rw some (subst (λ (x : ℕ). WrongOne pdu (receiveNumber carry pdu log r) x) (sym e) (subst (λ (x : ℕ). WrongOne pdu x (a .wrong)) number wrong))
+    k-is e = rw some (subst (λ (x : ℕ). WrongOne pdu (receiveNumber [] carry pdu log r) x) (sym e) (subst (λ (x : ℕ). WrongOne pdu x (a .wrong)) number wrong))
 
     carry-is : carryEnd ≡ recordCarry carry pdu log r
     unfolding recordCarry
@@ -135,23 +135,23 @@ module _ (carry pdu log : List ℕ) (r : Receiver) where
     pub refused-record : (last : Received) (logEnd : List ℕ) → (a .refusal ≡ 0 → ⊥) → o ≡ outcomeOf 2 (a .refusal) (a .wrong) n last → last ≡ lostAnswer logMid (a .receiver) → logEnd ≡ logAfterLost logMid (a .receiver) → Comes o carryEnd pduEnd logEnd
     unfolding recordOutcome recordNumber recordLog receiveAnswer logAfter
     refused-record last logEnd d q f e =
-        let t : eqb (receiveNumber carry pdu log r) 0 ≡ false = ne-eqb (receiveNumber carry pdu log r) 0 (λ z. d (number ∙ z)) in
-        let kept : a ≡ refusedAnswer r (receiveNumber carry pdu log r) (a .wrong) = rw t at ea in
+        let t : eqb (receiveNumber [] carry pdu log r) 0 ≡ false = ne-eqb (receiveNumber [] carry pdu log r) 0 (λ z. d (number ∙ z)) in
+        let kept : a ≡ refusedAnswer r (receiveNumber [] carry pdu log r) (a .wrong) = rw t at ea in
         let same : logMid ≡ log = rw t at el in
         let known : a .receiver ≡ r = ap (λ (x : Received). x .receiver) kept in
         let lost : last ≡ lostAnswer log r = f ∙ ap₂ lostAnswer same known in
         let w : o .wrong ≡ a .wrong = k-of o 2 (a .refusal) (a .wrong) n last q in (
-          rw (some, t) (q ∙ parts 2 (a .refusal) (receiveNumber carry pdu log r) (a .wrong) (o .wrong) n (length pdu) last (lostAnswer log r) number (sym w) long lost),
+          rw (some, t) (q ∙ parts 2 (a .refusal) (receiveNumber [] carry pdu log r) (a .wrong) (o .wrong) n (length pdu) last (lostAnswer log r) number (sym w) long lost),
           (k-is w, (carry-is, (pdu-is, rw (some, t) (e ∙ ap₂ logAfterLost same known)))),
         )
 
     pub accepted-record : (before after : List ℕ) (count : ℕ) → a .refusal ≡ 0 → before ≡ headerOf pdu → after ≡ headerOf pduEnd → count ≡ distance before after → o ≡ outcomeOf 0 count 0 n a → Comes o carryEnd pduEnd logMid
     unfolding recordOutcome recordNumber recordLog
     accepted-record before after count z eb eh en q =
-        let t : eqb (receiveNumber carry pdu log r) 0 ≡ true = eq-eqb (receiveNumber carry pdu log r) 0 (sym number ∙ z) in
+        let t : eqb (receiveNumber [] carry pdu log r) 0 ≡ true = eq-eqb (receiveNumber [] carry pdu log r) 0 (sym number ∙ z) in
         let none : a .wrong ≡ 0 = wrong .none (λ f. omega (arith, z, f)) in
-        let d : count ≡ distance (headerOf pdu) (headerOf (pduAfter carry pdu log r)) = en ∙ ap₂ distance eb (eh ∙ ap headerOf ep) in
-        let same : a ≡ receiveAnswer carry pdu log r 0 = ea ∙ ap (receiveAnswer carry pdu log r) none in (
-          rw (some, t) (q ∙ parts 0 count _ 0 0 n (length pdu) a (receiveAnswer carry pdu log r 0) d refl long same),
+        let d : count ≡ distance (headerOf pdu) (headerOf (pduAfter [] carry pdu log r)) = en ∙ ap₂ distance eb (eh ∙ ap headerOf ep) in
+        let same : a ≡ receiveAnswer [] carry pdu log r 0 = ea ∙ ap (receiveAnswer [] carry pdu log r) none in (
+          rw (some, t) (q ∙ parts 0 count _ 0 0 n (length pdu) a (receiveAnswer [] carry pdu log r 0) d refl long same),
           (k-is (k-of o 0 count 0 n a q ∙ sym none), (carry-is, (pdu-is, rw (some, t) el))),
         )

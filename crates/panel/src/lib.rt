@@ -3,7 +3,7 @@ use layout::ControlWord;
 use pdu::Reading;
 use receiver::Receiver;
 ghost use mathlib.Core.Path.{_≡_};
-ghost use mathlib.Core.List.{List, _++_};
+ghost use mathlib.Core.List.{List, [], _++_};
 ghost use Prim.Native.Nat.{ℕ, _+_, _<_, _≤_};
 ghost use lib.ListN.{length, getD, take, drop};
 ghost use Rattle.layout.specs.Control.{controlAt};
@@ -176,12 +176,12 @@ pub extern "C" fn barzhilup_receive_in_place(
     pdu: &mut [u8],
     log: &mut [u32],
 ) -> Stepped
-    ensures { λ a. ⌜ a ≡ steppedOf (receiveAnswer (now (carry .entry)) (now (pdu .entry)) (now (log .entry)) (now (receiver .entry)) (a .wrong)) ⌝ }
+    ensures { λ a. ⌜ a ≡ steppedOf (receiveAnswer [] (now (carry .entry)) (now (pdu .entry)) (now (log .entry)) (now (receiver .entry)) (a .wrong)) ⌝ }
     ensures { λ a. ⌜ WrongOne (now (pdu .entry)) (a .refusal) (a .wrong) ⌝ }
-    ensures { λ a. ⌜ now (receiver .exit) ≡ receiveAnswer (now (carry .entry)) (now (pdu .entry)) (now (log .entry)) (now (receiver .entry)) (a .wrong) .receiver ⌝ }
-    ensures { λ _. ⌜ now (carry .exit) ≡ carryAfter (now (carry .entry)) (now (pdu .entry)) (now (log .entry)) (now (receiver .entry)) ⌝ }
-    ensures { λ _. ⌜ now (pdu .exit) ≡ pduAfter (now (carry .entry)) (now (pdu .entry)) (now (log .entry)) (now (receiver .entry)) ⌝ }
-    ensures { λ _. ⌜ now (log .exit) ≡ logAfter (now (carry .entry)) (now (pdu .entry)) (now (log .entry)) (now (receiver .entry)) ⌝ }
+    ensures { λ a. ⌜ now (receiver .exit) ≡ receiveAnswer [] (now (carry .entry)) (now (pdu .entry)) (now (log .entry)) (now (receiver .entry)) (a .wrong) .receiver ⌝ }
+    ensures { λ _. ⌜ now (carry .exit) ≡ carryAfter [] (now (carry .entry)) (now (pdu .entry)) (now (log .entry)) (now (receiver .entry)) ⌝ }
+    ensures { λ _. ⌜ now (pdu .exit) ≡ pduAfter [] (now (carry .entry)) (now (pdu .entry)) (now (log .entry)) (now (receiver .entry)) ⌝ }
+    ensures { λ _. ⌜ now (log .exit) ≡ logAfter [] (now (carry .entry)) (now (pdu .entry)) (now (log .entry)) (now (receiver .entry)) ⌝ }
 {
     let a = receiver.receive(carry, pdu, log);
     *receiver = a.receiver;

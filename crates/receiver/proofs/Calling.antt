@@ -2,7 +2,6 @@
 use mathlib.Core.Path.{_≡_, refl, sym, ap, _∙_, subst}
 use mathlib.Core.Bool.{Bool, true, false, cond}
 use mathlib.Core.List.{List, [], _∷_}
-use mathlib.Core.Logic.{⊎-elim}
 use Prim.Native.Nat.{ℕ, _<_, _≤_}
 use native.Mathlib.Omega.{arith}
 use lib.Dec.{eqb}
@@ -15,13 +14,13 @@ use Rattle.modes.specs.declared.Mode.{Mode}
 use Rattle.modes.specs.declared.Listing.{Listing}
 use Rattle.modes.specs.declared.Listing.the-variants.{Listed, Refused}
 use Rattle.header.specs.Header.{headerOf, frontReplaced}
-use Rattle.correction.specs.Correction.{correctionOf, correctedPdu}
+use Rattle.correction.specs.Marks.{marksRefusal, correctionWith, correctedPduWith}
 use Rattle.correction.specs.declared.Correction.the-variants.{Corrected, Refused as CorrectionRefused}
-use Rattle.correction.proofs.Answers.{refused-unchanged, corrected-allowed, header-put-back}
+use Rattle.correction.proofs.Answers.{refused-unchanged-with, corrected-allowed-with, header-put-back-with}
 use Rattle.layout.specs.Control.{controlAt}
 use Rattle.layout.specs.declared.ControlWord.{ControlWord}
-use Rattle.pdu.specs.Reading.{readerTests, modeIn, widthOf, WrongIn, WrongOne}
-use Rattle.receiver.specs.Receiving.{saidBy, modeOf, wrongFields, wrongState, refusedAnswer, receiveNumber, receiveAnswer, carryAfter, pduAfter, logAfter}
+use Rattle.pdu.specs.Reading.{readerTests, modeIn, widthOf, WrongIn}
+use Rattle.receiver.specs.Receiving.{saidBy, modeOf, wrongFields, wrongState, refusedAnswer, WrongOneWith, receiveNumber, receiveAnswer, carryAfter, pduAfter, logAfter}
 use Rattle.receiver.specs.Steps.{noRoom, streamTests, correctedNumber, Answered}
 use Rattle.receiver.specs.declared.Receiver.{Receiver}
 use Rattle.receiver.specs.declared.Received.{Received}
@@ -89,32 +88,32 @@ module _ (m : Mode) (r : Receiver) (carry y log : List ℕ) where
 
 -- ---- the whole call
 
-module _ (carry pdu log : List ℕ) (r : Receiver) where
+module _ (marks carry pdu log : List ℕ) (r : Receiver) where
   -- what is promised of the answer a, and of the carry buffer, the PDU and the log after the call
   abbrev pub Promised : Received → List ℕ → List ℕ → List ℕ → Type 0
   Promised a carryEnd pduEnd logEnd =
-      (a ≡ receiveAnswer carry pdu log r (a .wrong))
-      × (WrongOne pdu (a .refusal) (a .wrong)
-      × ((carryEnd ≡ carryAfter carry pdu log r) × ((pduEnd ≡ pduAfter carry pdu log r) × (logEnd ≡ logAfter carry pdu log r))))
+      (a ≡ receiveAnswer marks carry pdu log r (a .wrong))
+      × (WrongOneWith marks pdu (a .refusal) (a .wrong)
+      × ((carryEnd ≡ carryAfter marks carry pdu log r) × ((pduEnd ≡ pduAfter marks carry pdu log r) × (logEnd ≡ logAfter marks carry pdu log r))))
 
-  turned-down : (n : ℕ) (a : Received) → receiveNumber carry pdu log r ≡ n → (n ≡ 0 → ⊥) → (n ≡ 11 → ⊥) → a ≡ refusedAnswer r n 0 → Promised a carry pdu log
+  turned-down : (n : ℕ) (a : Received) → receiveNumber marks carry pdu log r ≡ n → (n ≡ 0 → ⊥) → (n ≡ 11 → ⊥) → a ≡ refusedAnswer r n 0 → Promised a carry pdu log
   unfolding receiveAnswer carryAfter pduAfter logAfter
   turned-down n a e z d q =
-      let t : eqb (receiveNumber carry pdu log r) 0 ≡ false = ne-eqb (receiveNumber carry pdu log r) 0 (λ h. z (sym e ∙ h)) in
+      let t : eqb (receiveNumber marks carry pdu log r) 0 ≡ false = ne-eqb (receiveNumber marks carry pdu log r) 0 (λ h. z (sym e ∙ h)) in
       let w : a .wrong ≡ 0 = ap (λ (x : Received). x .wrong) q in
       let f : a .refusal ≡ n = ap (λ (x : Received). x .refusal) q in (
         rw t (q ∙ ap (refusedAnswer r n) (sym w) ∙ ap (λ (x : ℕ). refusedAnswer r x (a .wrong)) (sym e)),
-        (without-k (widthOf (correctedPdu pdu)) (controlAt (correctedPdu pdu)) (correctedPdu pdu) (a .refusal) (a .wrong) (λ h. d (sym f ∙ h)) w, (rw t, (rw t, rw t))),
+        (without-k (widthOf (correctedPduWith marks pdu)) (controlAt (correctedPduWith marks pdu)) (correctedPduWith marks pdu) (a .refusal) (a .wrong) (λ h. d (sym f ∙ h)) w, (rw t, (rw t, rw t))),
       )
 
   -- 1, for a mode and stream that the table has not
   pub unlisted-call : (l : Listing) (n : ℕ) (a : Received) → l ≡ listing (r .mode) (r .stream) → l ≡ Refused n → a ≡ refusedAnswer r 1 0 → Promised a carry pdu log
-  unlisted-call l n a e f q = turned-down 1 a (at-state carry pdu log r (state-unlisted r n (sym e ∙ f))) (λ z. omega arith) (λ z. omega arith) q
+  unlisted-call l n a e f q = turned-down 1 a (at-state marks carry pdu log r (state-unlisted r n (sym e ∙ f))) (λ z. omega arith) (λ z. omega arith) q
 
   module _ (m : Mode) (l : listing (r .mode) (r .stream) ≡ Listed m) (b : Bool) (eb : b ≡ anyOf (wrongFields m r)) where
     -- 1
     pub state-call : (a : Received) → b ≡ true → a ≡ refusedAnswer r 1 0 → Promised a carry pdu log
-    state-call a t q = turned-down 1 a (at-state carry pdu log r (state-listed r m l ∙ sym eb ∙ t)) (λ z. omega arith) (λ z. omega arith) q
+    state-call a t q = turned-down 1 a (at-state marks carry pdu log r (state-listed r m l ∙ sym eb ∙ t)) (λ z. omega arith) (λ z. omega arith) q
 
     module _ (f : b ≡ false) where
       right : anyOf (wrongState r) ≡ false
@@ -122,34 +121,32 @@ module _ (carry pdu log : List ℕ) (r : Receiver) where
 
       -- 2
       pub carry-call : (a : Received) → length carry < 4096 → a ≡ refusedAnswer r 2 0 → Promised a carry pdu log
-      carry-call a h q = turned-down 2 a (at-carry carry pdu log r right h) (λ z. omega arith) (λ z. omega arith) q
+      carry-call a h q = turned-down 2 a (at-carry marks carry pdu log r right h) (λ z. omega arith) (λ z. omega arith) q
 
       module _ (room : 4096 ≤ length carry) where
-        -- 3 and 4
-        pub correction-call : (n : ℕ) (a : Received) (pduEnd : List ℕ) → correctionOf pdu ≡ CorrectionRefused n → pduEnd ≡ correctedPdu pdu → a ≡ refusedAnswer r n 0 → Promised a carry pduEnd log
+        -- 3, 19 and 4
+        pub correction-call : (n : ℕ) (a : Received) (pduEnd : List ℕ) → correctionWith marks pdu ≡ CorrectionRefused n → pduEnd ≡ correctedPduWith marks pdu → a ≡ refusedAnswer r n 0 → Promised a carry pduEnd log
         correction-call n a pduEnd e ep q =
-            let k = at-correction carry pdu log r right room n e in
-            let z : (n ≡ 0) → ⊥ = λ (h : n ≡ 0). ⊎-elim (λ (u : n ≡ 3). absurd (omega arith)) (λ (u : n ≡ 4). absurd (omega arith)) (k .1) in
-            let d : (n ≡ 11) → ⊥ = λ (h : n ≡ 11). ⊎-elim (λ (u : n ≡ 3). absurd (omega arith)) (λ (u : n ≡ 4). absurd (omega arith)) (k .1) in
-            subst (λ (x : List ℕ). Promised a carry x log) (sym (ep ∙ refused-unchanged pdu n e)) (turned-down n a (k .0) z d q)
+            let k = at-correction marks carry pdu log r right room n e in
+            subst (λ (x : List ℕ). Promised a carry x log) (sym (ep ∙ refused-unchanged-with marks pdu n e)) (turned-down n a (k .0) (k .1) (k .2) q)
 
         -- a corrected PDU y, whose header was w
-        pub corrected-call : (n : ℕ) (a : Received) (y w carryEnd pduEnd logEnd : List ℕ) → ((i : ℕ) → getD pdu i 0 < 256) → correctionOf pdu ≡ Corrected n → w ≡ headerOf pdu → y ≡ correctedPdu pdu
+        pub corrected-call : (n : ℕ) (a : Received) (y w carryEnd pduEnd logEnd : List ℕ) → ((i : ℕ) → getD pdu i 0 < 256) → correctionWith marks pdu ≡ Corrected n → w ≡ headerOf pdu → y ≡ correctedPduWith marks pdu
             → Answered (m .sequences) (saidBy (m .width) (controlAt y) y) r carry log (correctedNumber m r carry y log) a carryEnd logEnd
             → WrongIn (widthOf y) (controlAt y) y (a .refusal) (a .wrong)
             → pduEnd ≡ cond (eqb (correctedNumber m r carry y log) 0) y (frontReplaced y w)
             → Promised a carryEnd pduEnd logEnd
         unfolding receiveAnswer carryAfter pduAfter logAfter
         corrected-call n a y w carryEnd pduEnd logEnd bytes e ew ey h k ep =
-            let size : (96 ≤ length pdu) × (length pdu ≤ 20480) = corrected-allowed pdu n e in
+            let size : (96 ≤ length pdu) × (length pdu ≤ 20480) × (marksRefusal marks ≡ 0) = corrected-allowed-with marks pdu n e in
             let mode : modeOf r ≡ m = ap modeIn l in
-            let number : receiveNumber carry pdu log r ≡ correctedNumber m r carry (correctedPdu pdu) log = at-corrected carry pdu log r right room n e ∙ ap (λ (x : Mode). correctedNumber x r carry (correctedPdu pdu) log) mode in
-            let u : frontReplaced y w ≡ pdu = rw (ew, ey) (header-put-back pdu (size .0) (size .1) bytes) in
-            let h₁ : Answered (m .sequences) (saidBy (m .width) (controlAt (correctedPdu pdu)) (correctedPdu pdu)) r carry log (correctedNumber m r carry (correctedPdu pdu) log) a carryEnd logEnd =
+            let number : receiveNumber marks carry pdu log r ≡ correctedNumber m r carry (correctedPduWith marks pdu) log = at-corrected marks carry pdu log r right room n e ∙ ap (λ (x : Mode). correctedNumber x r carry (correctedPduWith marks pdu) log) mode in
+            let u : frontReplaced y w ≡ pdu = rw (ew, ey) (header-put-back-with marks pdu (size .0) (size .1) bytes (size .2)) in
+            let h₁ : Answered (m .sequences) (saidBy (m .width) (controlAt (correctedPduWith marks pdu)) (correctedPduWith marks pdu)) r carry log (correctedNumber m r carry (correctedPduWith marks pdu) log) a carryEnd logEnd =
             subst (λ (x : List ℕ). Answered (m .sequences) (saidBy (m .width) (controlAt x) x) r carry log (correctedNumber m r carry x log) a carryEnd logEnd) ey h in
-            let h₂ : Answered (m .sequences) (saidBy (m .width) (controlAt (correctedPdu pdu)) (correctedPdu pdu)) r carry log (receiveNumber carry pdu log r) a carryEnd logEnd = rw number h₁ in
-            let h₃ : Answered (modeOf r .sequences) (saidBy (modeOf r .width) (controlAt (correctedPdu pdu)) (correctedPdu pdu)) r carry log (receiveNumber carry pdu log r) a carryEnd logEnd =
-            subst (λ (x : Mode). Answered (x .sequences) (saidBy (x .width) (controlAt (correctedPdu pdu)) (correctedPdu pdu)) r carry log (receiveNumber carry pdu log r) a carryEnd logEnd) (sym mode) h₂ in
-            let ending : pduEnd ≡ cond (eqb (receiveNumber carry pdu log r) 0) (correctedPdu pdu) pdu =
-            ep ∙ ap (λ (x : List ℕ). cond (eqb (correctedNumber m r carry y log) 0) y x) u ∙ ap (λ (x : List ℕ). cond (eqb (correctedNumber m r carry x log) 0) x pdu) ey ∙ ap (λ (x : ℕ). cond (eqb x 0) (correctedPdu pdu) pdu) (sym number) in
+            let h₂ : Answered (m .sequences) (saidBy (m .width) (controlAt (correctedPduWith marks pdu)) (correctedPduWith marks pdu)) r carry log (receiveNumber marks carry pdu log r) a carryEnd logEnd = rw number h₁ in
+            let h₃ : Answered (modeOf r .sequences) (saidBy (modeOf r .width) (controlAt (correctedPduWith marks pdu)) (correctedPduWith marks pdu)) r carry log (receiveNumber marks carry pdu log r) a carryEnd logEnd =
+            subst (λ (x : Mode). Answered (x .sequences) (saidBy (x .width) (controlAt (correctedPduWith marks pdu)) (correctedPduWith marks pdu)) r carry log (receiveNumber marks carry pdu log r) a carryEnd logEnd) (sym mode) h₂ in
+            let ending : pduEnd ≡ cond (eqb (receiveNumber marks carry pdu log r) 0) (correctedPduWith marks pdu) pdu =
+            ep ∙ ap (λ (x : List ℕ). cond (eqb (correctedNumber m r carry y log) 0) y x) u ∙ ap (λ (x : List ℕ). cond (eqb (correctedNumber m r carry x log) 0) x pdu) ey ∙ ap (λ (x : ℕ). cond (eqb x 0) (correctedPduWith marks pdu) pdu) (sym number) in
             (h₃ .answer, (subst (λ (x : List ℕ). WrongIn (widthOf x) (controlAt x) x (a .refusal) (a .wrong)) ey k, (h₃ .held, (ending, h₃ .logged))))

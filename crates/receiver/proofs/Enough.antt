@@ -5,21 +5,21 @@ use mathlib.Core.List.{List, [], _∷_, _++_}
 use Prim.Native.Nat.{ℕ, zero, suc, _+_, _<_, _≤_}
 use native.Mathlib.Omega.{arith}
 use lib.Dec.{eqb, ltb, leb}
-use borrow.Author.Tests.{ltb-true, ltb-false, leb-true, le-ltb}
+use borrow.Author.Tests.{ltb-true, ltb-false, leb-true, le-ltb, eqb-true, not-false}
 use lib.ListN.{length, getD, take, drop, length-append, length-take, length-drop}
 use lib.Seq.{length-take-le}
 use Rattle.refusal.specs.Refusal.{firstOf, anyOf}
 use Rattle.refusal.proofs.Rows.{passed, row-off, rest-off, never, last-on, none-at}
 use Rattle.modes.specs.Modes.{numberOf}
 use Rattle.modes.specs.declared.Mode.{Mode}
-use Rattle.header.specs.Header.{lengthRefusal}
 use Rattle.header.proofs.Unique.{all-take}
-use Rattle.header.proofs.Lengths.{length-allowed}
 use Rattle.layout.specs.Control.{controlAt}
 use Rattle.layout.specs.declared.ControlWord.{ControlWord}
 use Rattle.log.specs.Log.{logWords, entryWords}
-use Rattle.correction.specs.Correction.{corrected, correctedPdu, headerAfter}
-use Rattle.correction.proofs.Answers.{header-after-length}
+use Rattle.correction.specs.Correction.{headerAfter}
+use Rattle.correction.specs.Marks.{marksRefusal, correctedWith, correctedPduWith}
+use Rattle.correction.proofs.MarkLists.{allowed-marks}
+use Rattle.correction.proofs.Answers.{header-with-length, corrected-pdu}
 use Rattle.pdu.specs.Reading.{startAt, lengthAt, psdOf, readerTests, listingOf, modeIn, uncorrectable}
 use Rattle.pdu.proofs.Sizes.{lengthsFrom, sized}
 use Rattle.reassembly.specs.Reassembly.{received}
@@ -59,59 +59,59 @@ words-most range m r carry c y held size e =
 
 -- ---- the rows before 13
 
-pub corrected-length : (p : List ℕ) → 96 ≤ length p → length p ≤ 20480 → ((i : ℕ) → getD p i 0 < 256) → length (correctedPdu p) ≡ length p
-unfolding correctedPdu
-corrected-length p lo hi b =
+pub corrected-length : (marks p : List ℕ) → 96 ≤ length p → length p ≤ 20480 → ((i : ℕ) → getD p i 0 < 256) → marksRefusal marks ≡ 0 → length (correctedPduWith marks p) ≡ length p
+corrected-length marks p lo hi b ok =
     let w : List ℕ = take 96 p in
-    let h : List ℕ = headerAfter w (corrected w) in
-    let lh : length h ≡ 96 = header-after-length w (length-take-le 96 p lo) (all-take 96 p b) in
-    let e : lengthRefusal (length p) ≡ 0 = length-allowed (length p) lo hi in
+    let h : List ℕ = headerAfter w (correctedWith marks w) in
+    let lh : length h ≡ 96 = header-with-length marks w (allowed-marks marks ok .0) (length-take-le 96 p lo) (all-take 96 p b) in
     let n : length (h ++ drop 96 p) ≡ length h + length (drop 96 p) = length-append h (drop 96 p) in
     let d = length-drop 96 p in
-    rw e (omega (arith, n, lh, d, lo))
+    ap length (corrected-pdu marks p lo hi ok) ∙ omega (arith, n, lh, d, lo)
 
-module _ (carry pdu log : List ℕ) (r : Receiver) where
+module _ (marks carry pdu log : List ℕ) (r : Receiver) where
   abbrev y : List ℕ
-  y = correctedPdu pdu
+  y = correctedPduWith marks pdu
 
   abbrev c : ControlWord
   c = controlAt y
 
-  -- rows 1 to 12
+  -- rows 1 to 12, and 19
   abbrev pub firstTwelve : List (Bool × ℕ)
   firstTwelve =
       (anyOf (wrongState r), 1)
       ∷ (ltb (length carry) 4096, 2)
       ∷ (not (leb 96 (length pdu) && leb (length pdu) 20480), 3)
-      ∷ (uncorrectable (corrected (take 96 pdu)), 4)
+      ∷ (not (eqb (marksRefusal marks) 0), 19)
+      ∷ (uncorrectable (correctedWith marks (take 96 pdu)), 4)
       ∷ (not (eqb (numberOf (listingOf c)) 0), 5)
       ∷ (not (eqb (c .mode) (r .mode) && eqb (c .stream) (r .stream)), 6)
       ∷ readerTests (modeIn (listingOf c)) c y
 
   -- where none of these rows applies, the words are at most 8,400
-  pub most : ((i : ℕ) → getD pdu i 0 < 256) → firstOf firstTwelve ≡ 0 → length (receivedWords carry pdu log r) ≤ 8400
+  pub most : ((i : ℕ) → getD pdu i 0 < 256) → firstOf firstTwelve ≡ 0 → length (receivedWords marks carry pdu log r) ≤ 8400
   most b e =
       let off : (k : ℕ) → getD firstTwelve k (false, 0) .0 ≡ false = λ k. row-off firstTwelve k refl e in
       let size = both-on (leb 96 (length pdu)) (leb (length pdu) 20480) (off 2) in
       let lo = leb-true 96 (length pdu) (size .0) in
       let hi = leb-true (length pdu) 20480 (size .1) in
-      let m : modeIn (listingOf c) ≡ modeOf r = ap modeIn (same-listing r c (off 5)) in
+      let ok : marksRefusal marks ≡ 0 = eqb-true (marksRefusal marks) 0 (not-false (eqb (marksRefusal marks) 0) (off 3)) in
+      let m : modeIn (listingOf c) ≡ modeOf r = ap modeIn (same-listing r c (off 6)) in
       let held = ltb-false 4096 (r .held) (none-at (wrongState r) 3 (off 0)) in
-      words-most (modeOf r .sequences) (modeOf r) r carry c y held (omega (arith, corrected-length pdu lo hi b, hi)) (ap (λ (k : Mode). firstOf (readerTests k c y)) (sym m) ∙ rest-off firstTwelve 6 refl e)
+      words-most (modeOf r .sequences) (modeOf r) r carry c y held (omega (arith, corrected-length marks pdu lo hi b ok, hi)) (ap (λ (k : Mode). firstOf (readerTests k c y)) (sym m) ∙ rest-off firstTwelve 7 refl e)
 
   -- a carry of 4,096 bytes and a log of 8,400 words: never refused with 2 or 13
-  pub enough-carry : 4096 ≤ length carry → ¬ (receiveNumber carry pdu log r ≡ 2)
+  pub enough-carry : 4096 ≤ length carry → ¬ (receiveNumber marks carry pdu log r ≡ 2)
   unfolding receiveNumber
   enough-carry big e =
-      let t = passed 2 ((anyOf (wrongState r), 1) ∷ []) (drop 1 (receiveTests carry pdu log r)) refl e in
+      let t = passed 2 ((anyOf (wrongState r), 1) ∷ []) (drop 1 (receiveTests marks carry pdu log r)) refl e in
       let z : ltb (length carry) 4096 ≡ false = le-ltb (length carry) 4096 big in
-      never 2 (drop 2 (receiveTests carry pdu log r)) refl refl (sym (ap (λ (b : Bool). cond b 2 (firstOf (drop 2 (receiveTests carry pdu log r)))) z) ∙ t .1)
+      never 2 (drop 2 (receiveTests marks carry pdu log r)) refl refl (sym (ap (λ (b : Bool). cond b 2 (firstOf (drop 2 (receiveTests marks carry pdu log r)))) z) ∙ t .1)
 
-  pub enough-log : ((i : ℕ) → getD pdu i 0 < 256) → 8400 ≤ length log → ¬ (receiveNumber carry pdu log r ≡ 13)
+  pub enough-log : ((i : ℕ) → getD pdu i 0 < 256) → 8400 ≤ length log → ¬ (receiveNumber marks carry pdu log r ≡ 13)
   unfolding receiveNumber
   enough-log b big e =
-      let t = passed 13 firstTwelve ((ltb (length log) (length (receivedWords carry pdu log r)), 13) ∷ []) refl e in
-      let on = ltb-true (length log) (length (receivedWords carry pdu log r)) (last-on (ltb (length log) (length (receivedWords carry pdu log r))) 13 refl (t .1)) in
+      let t = passed 13 firstTwelve ((ltb (length log) (length (receivedWords marks carry pdu log r)), 13) ∷ []) refl e in
+      let on = ltb-true (length log) (length (receivedWords marks carry pdu log r)) (last-on (ltb (length log) (length (receivedWords marks carry pdu log r))) 13 refl (t .1)) in
       let h = most b (t .0) in
       absurd (omega (arith, on, h, big))
 

@@ -12,9 +12,9 @@ unfolding opened
 opened-by l k mode stream e f = ap (λ (x : Listing). openedAs x mode stream) (sym f ∙ e)
 
 -- what a refused opening hands back is of no use: every call turns it down with 1, whatever it is lent
-pub none-received : (carry pdu log : List ℕ) → receiveNumber carry pdu log noReceiver ≡ 1
+pub none-received : (marks carry pdu log : List ℕ) → receiveNumber marks carry pdu log noReceiver ≡ 1
 unfolding receiveNumber listing
-none-received carry pdu log = refl
+none-received marks carry pdu log = refl
 
 pub none-lost : (log : List ℕ) → lostNumber log noReceiver ≡ 1
 unfolding lostNumber listing

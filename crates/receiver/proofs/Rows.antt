@@ -2,7 +2,6 @@
 use mathlib.Core.Path.{_≡_, refl, sym, ap, ap₂, _∙_}
 use mathlib.Core.Bool.{Bool, true, false, not, _&&_, cond, true≢false}
 use mathlib.Core.List.{List, [], _∷_, _++_}
-use mathlib.Core.Logic.{_⊎_, inl, inr}
 use mathlib.Core.Option.{Option, none, some}
 use Prim.Native.Nat.{ℕ, _<_, _≤_}
 use native.Mathlib.Omega.{arith}
@@ -18,7 +17,8 @@ use Rattle.modes.specs.declared.Listing.the-variants.{Listed, Refused}
 use Rattle.modes.proofs.Lines.{refusal-five}
 use Rattle.modes.proofs.Listable.{listable}
 use Rattle.header.specs.Header.{lengthRefusal}
-use Rattle.correction.specs.Correction.{corrected, answerFor, correctionOf, correctedPdu}
+use Rattle.correction.specs.Correction.{answerFor}
+use Rattle.correction.specs.Marks.{marksRefusal, correctedWith, correctionWith, correctedPduWith}
 use Rattle.correction.specs.declared.Correction.{Correction}
 use Rattle.correction.specs.declared.Correction.the-variants.{Corrected, Refused as CorrectionRefused}
 use Rattle.layout.specs.Control.{controlAt}
@@ -96,35 +96,37 @@ module _ (m : Mode) (r : Receiver) (carry y log : List ℕ) (c : ControlWord) (e
     pub at-log : firstOf (readerTests m c y) ≡ 0 → correctedNumber m r carry y log ≡ cond (noRoom (m .sequences) (saidBy (m .width) c y) r carry log) 13 0
     at-log e = later-rows ∙ past (readerTests m c y) room refl e
 
--- ---- rows 3 and 4 are correction's numbers
+-- ---- rows 3, 19 and 4 are correction's numbers
 
-module _ (p : List ℕ) (x : ℕ) where
-  abbrev lengthRows : Bool → Option (List ℕ) → ℕ
-  lengthRows b o = cond (not b) 3 (cond (uncorrectable o) 4 x)
+module _ (marks p : List ℕ) (x : ℕ) where
+  abbrev lengthRows : Bool → Bool → Option (List ℕ) → ℕ
+  lengthRows b m o = cond (not b) 3 (cond (not m) 19 (cond (uncorrectable o) 4 x))
 
   abbrev correctionRows : ℕ
-  correctionRows = lengthRows (leb 96 (length p) && leb (length p) 20480) (corrected (take 96 p))
+  correctionRows = lengthRows (leb 96 (length p) && leb (length p) 20480) (eqb (marksRefusal marks) 0) (correctedWith marks (take 96 p))
 
-  abbrev answer : Bool → Option (List ℕ) → Correction
-  answer b o = cond (eqb (cond b 0 3) 0) (answerFor (take 96 p) o) (CorrectionRefused 3)
+  abbrev answer : Bool → Bool → Option (List ℕ) → Correction
+  answer b m o = cond (eqb (cond b 0 3) 0) (cond m (answerFor (take 96 p) o) (CorrectionRefused 19)) (CorrectionRefused 3)
 
-  rows-corrected : (n : ℕ) → correctionOf p ≡ Corrected n → correctionRows ≡ x
-  unfolding correctionOf lengthRefusal
-  rows-corrected n = go (leb 96 (length p) && leb (length p) 20480) (corrected (take 96 p))
+  rows-corrected : (n : ℕ) → correctionWith marks p ≡ Corrected n → correctionRows ≡ x
+  unfolding correctionWith lengthRefusal
+  rows-corrected n = go (leb 96 (length p) && leb (length p) 20480) (eqb (marksRefusal marks) 0) (correctedWith marks (take 96 p))
     where
-      go : (b : Bool) (o : Option (List ℕ)) → answer b o ≡ Corrected n → lengthRows b o ≡ x
-      go true (some c) e = refl
-      go true none e = let z : _≡_ {A = ℕ} 0 1 = cc in absurd (omega arith)
-      go false o e = let z : _≡_ {A = ℕ} 0 1 = cc in absurd (omega arith)
+      go : (b m : Bool) (o : Option (List ℕ)) → answer b m o ≡ Corrected n → lengthRows b m o ≡ x
+      go true true (some c) e = refl
+      go true true none e = let z : _≡_ {A = ℕ} 0 1 = cc in absurd (omega arith)
+      go true false o e = let z : _≡_ {A = ℕ} 0 1 = cc in absurd (omega arith)
+      go false m o e = let z : _≡_ {A = ℕ} 0 1 = cc in absurd (omega arith)
 
-  rows-refused : (n : ℕ) → correctionOf p ≡ CorrectionRefused n → (correctionRows ≡ n) × ((n ≡ 3) ⊎ (n ≡ 4))
-  unfolding correctionOf lengthRefusal
-  rows-refused n = go (leb 96 (length p) && leb (length p) 20480) (corrected (take 96 p))
+  rows-refused : (n : ℕ) → correctionWith marks p ≡ CorrectionRefused n → (correctionRows ≡ n) × (¬ (n ≡ 0)) × (¬ (n ≡ 11))
+  unfolding correctionWith lengthRefusal
+  rows-refused n = go (leb 96 (length p) && leb (length p) 20480) (eqb (marksRefusal marks) 0) (correctedWith marks (take 96 p))
     where
-      go : (b : Bool) (o : Option (List ℕ)) → answer b o ≡ CorrectionRefused n → (lengthRows b o ≡ n) × ((n ≡ 3) ⊎ (n ≡ 4))
-      go true (some c) e = let z : _≡_ {A = ℕ} 0 1 = cc in absurd (omega arith)
-      go true none e = let q : 4 ≡ n = cc in (q, inr (sym q))
-      go false o e = let q : 3 ≡ n = cc in (q, inl (sym q))
+      go : (b m : Bool) (o : Option (List ℕ)) → answer b m o ≡ CorrectionRefused n → (lengthRows b m o ≡ n) × (¬ (n ≡ 0)) × (¬ (n ≡ 11))
+      go true true (some c) e = let z : _≡_ {A = ℕ} 0 1 = cc in absurd (omega arith)
+      go true true none e = let q : 4 ≡ n = cc in (q, (λ z. omega arith), (λ z. omega arith))
+      go true false o e = let q : 19 ≡ n = cc in (q, (λ z. omega arith), (λ z. omega arith))
+      go false m o e = let q : 3 ≡ n = cc in (q, (λ z. omega arith), (λ z. omega arith))
 
 -- ---- row 1
 
@@ -160,25 +162,25 @@ module _ (r : Receiver) where
 
 -- ---- the whole table
 
-module _ (carry pdu log : List ℕ) (r : Receiver) where
-  table : receiveNumber carry pdu log r
-      ≡ cond (anyOf (wrongState r)) 1 (cond (ltb (length carry) 4096) 2 (correctionRows pdu (correctedNumber (modeOf r) r carry (correctedPdu pdu) log)))
+module _ (marks carry pdu log : List ℕ) (r : Receiver) where
+  table : receiveNumber marks carry pdu log r
+      ≡ cond (anyOf (wrongState r)) 1 (cond (ltb (length carry) 4096) 2 (correctionRows marks pdu (correctedNumber (modeOf r) r carry (correctedPduWith marks pdu) log)))
   unfolding receiveNumber correctedNumber
   table = refl
 
-  pub at-state : anyOf (wrongState r) ≡ true → receiveNumber carry pdu log r ≡ 1
+  pub at-state : anyOf (wrongState r) ≡ true → receiveNumber marks carry pdu log r ≡ 1
   at-state t = table ∙ rw t
 
   module _ (s : anyOf (wrongState r) ≡ false) where
-    pub at-carry : length carry < 4096 → receiveNumber carry pdu log r ≡ 2
+    pub at-carry : length carry < 4096 → receiveNumber marks carry pdu log r ≡ 2
     at-carry h = let t : ltb (length carry) 4096 ≡ true = lt-ltb (length carry) 4096 h in table ∙ rw (s, t)
 
     module _ (h : 4096 ≤ length carry) where
-      past-carry : receiveNumber carry pdu log r ≡ correctionRows pdu (correctedNumber (modeOf r) r carry (correctedPdu pdu) log)
+      past-carry : receiveNumber marks carry pdu log r ≡ correctionRows marks pdu (correctedNumber (modeOf r) r carry (correctedPduWith marks pdu) log)
       past-carry = let t : ltb (length carry) 4096 ≡ false = le-ltb (length carry) 4096 h in table ∙ rw (s, t)
 
-      pub at-correction : (n : ℕ) → correctionOf pdu ≡ CorrectionRefused n → (receiveNumber carry pdu log r ≡ n) × ((n ≡ 3) ⊎ (n ≡ 4))
-      at-correction n e = let q = rows-refused pdu (correctedNumber (modeOf r) r carry (correctedPdu pdu) log) n e in (past-carry ∙ q .0, q .1)
+      pub at-correction : (n : ℕ) → correctionWith marks pdu ≡ CorrectionRefused n → (receiveNumber marks carry pdu log r ≡ n) × (¬ (n ≡ 0)) × (¬ (n ≡ 11))
+      at-correction n e = let q = rows-refused marks pdu (correctedNumber (modeOf r) r carry (correctedPduWith marks pdu) log) n e in (past-carry ∙ q .0, q .1, q .2)
 
-      pub at-corrected : (n : ℕ) → correctionOf pdu ≡ Corrected n → receiveNumber carry pdu log r ≡ correctedNumber (modeOf r) r carry (correctedPdu pdu) log
-      at-corrected n e = past-carry ∙ rows-corrected pdu (correctedNumber (modeOf r) r carry (correctedPdu pdu) log) n e
+      pub at-corrected : (n : ℕ) → correctionWith marks pdu ≡ Corrected n → receiveNumber marks carry pdu log r ≡ correctedNumber (modeOf r) r carry (correctedPduWith marks pdu) log
+      at-corrected n e = past-carry ∙ rows-corrected marks pdu (correctedNumber (modeOf r) r carry (correctedPduWith marks pdu) log) n e

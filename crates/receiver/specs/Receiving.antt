@@ -16,8 +16,8 @@ use Rattle.layout.specs.Control.{controlAt}
 use Rattle.layout.specs.declared.ControlWord.{ControlWord}
 use Rattle.layout.specs.Locators.{locatorAt}
 use Rattle.log.specs.Log.{logWords}
-use Rattle.correction.specs.Correction.{corrected, correctedPdu}
-use Rattle.pdu.specs.Reading.{startAt, lengthAt, psdOf, readerTests, listingOf, modeIn, uncorrectable}
+use Rattle.correction.specs.Marks.{marksRefusal, correctedWith, correctedPduWith}
+use Rattle.pdu.specs.Reading.{startAt, lengthAt, psdOf, readerTests, listingOf, modeIn, uncorrectable, widthOf, WrongIn}
 use Rattle.reassembly.specs.Reassembly.{Piece, Said, Memory, Outcome, received, remembered, lostEntries, forgotten}
 use Rattle.reassembly.specs.Run.{bytesOf, numberOf as partialNumber, partialOf, lastOf}
 use Rattle.receiver.specs.declared.Receiver.{Receiver}
@@ -112,11 +112,11 @@ refusedAnswer r number k = record { refusal = number; wrong = k; words = 0; rece
 
 -- ---- receiving a PDU
 
--- the lent carry, PDU and log before the call, and the receiver
-module _ (carry pdu log : List ℕ) (r : Receiver) where
+-- the PDU's marked places, the lent carry, PDU and log before the call, and the receiver
+module _ (marks carry pdu log : List ℕ) (r : Receiver) where
   -- what the corrected PDU says, what is logged and held, and what is remembered
   abbrev pub said : Said
-  said = saidBy (modeOf r .width) (controlAt (correctedPdu pdu)) (correctedPdu pdu)
+  said = saidBy (modeOf r .width) (controlAt (correctedPduWith marks pdu)) (correctedPduWith marks pdu)
 
   abbrev pub outcome : Outcome
   outcome = received (modeOf r .sequences) (memoryOf r carry) said
@@ -127,15 +127,16 @@ module _ (carry pdu log : List ℕ) (r : Receiver) where
   abbrev pub memoryAfter : Memory
   memoryAfter = remembered (modeOf r .sequences) (memoryOf r carry) said
 
-  -- rows 1 to 13, in the table's order
+  -- rows 1 to 13, in the table's order, 19 directly after 3
   abbrev pub receiveTests : List (Bool × ℕ)
   receiveTests =
-      let y = correctedPdu pdu in
+      let y = correctedPduWith marks pdu in
       let c = controlAt y in
       (anyOf (wrongState r), 1)
       ∷ (ltb (length carry) 4096, 2)  -- carry under 4,096 bytes
       ∷ (not (leb 96 (length pdu) && leb (length pdu) 20480), 3)  -- length not 96 to 20,480
-      ∷ (uncorrectable (corrected (take 96 pdu)), 4)  -- the paper's beyond mending
+      ∷ (not (eqb (marksRefusal marks) 0), 19)  -- more than eight marks, one over 95, or one repeated
+      ∷ (uncorrectable (correctedWith marks (take 96 pdu)), 4)  -- the paper's beyond mending
       ∷ (not (eqb (numberOf (listingOf c)) 0), 5)  -- mode and stream not in the table
       ∷ (not (eqb (c .mode) (r .mode) && eqb (c .stream) (r .stream)), 6)  -- not those opened
       ∷ (readerTests (modeIn (listingOf c)) c y ++ (ltb (length log) (length receivedWords), 13) ∷ [])  -- 7 to 12; log shorter than the words
@@ -155,10 +156,14 @@ module _ (carry pdu log : List ℕ) (r : Receiver) where
   carryAfter = cond (eqb receiveNumber 0) (putAt carry 0 (bytesOf (outcome .partial))) carry
 
   unfoldable pub pduAfter : List ℕ
-  pduAfter = cond (eqb receiveNumber 0) (correctedPdu pdu) pdu
+  pduAfter = cond (eqb receiveNumber 0) (correctedPduWith marks pdu) pdu
 
   unfoldable pub logAfter : List ℕ
   logAfter = cond (eqb receiveNumber 0) (putAt log 0 receivedWords) log
+
+-- k is that of a wrong locator of the corrected PDU where the number is 11, else 0
+abbrev pub WrongOneWith : List ℕ → List ℕ → ℕ → ℕ → Type 0
+WrongOneWith marks p number k = WrongIn (widthOf (correctedPduWith marks p)) (controlAt (correctedPduWith marks p)) (correctedPduWith marks p) number k
 
 -- ---- marking a PDU lost, which takes no PDU and no carry
 

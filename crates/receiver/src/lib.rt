@@ -8,6 +8,7 @@ use reassembly::Run;
 use reassembly::State;
 ghost use mathlib.Core.Path.{_≡_};
 ghost use mathlib.Core.Bool.{not, _&&_, cond};
+ghost use mathlib.Core.List.{[]};
 ghost use Prim.Native.Nat.{_+_, _≤_, _<_};
 ghost use lib.Dec.{eqb};
 ghost use lib.ListN.{length, getD};
@@ -18,7 +19,7 @@ ghost use Rattle.header.specs.Header.{frontReplaced};
 ghost use Rattle.layout.specs.Control.{controlAt};
 ghost use Rattle.pdu.specs.Reading.{readerTests, widthOf, WrongIn, WrongOne};
 ghost use Rattle.reassembly.specs.Run.{placeAt, Marked};
-ghost use Rattle.receiver.specs.Receiving.{saidBy, opened, wrongFields, refusedAnswer, receiveAnswer, carryAfter, pduAfter, logAfter, lostAnswer, logAfterLost};
+ghost use Rattle.receiver.specs.Receiving.{saidBy, opened, wrongFields, refusedAnswer, WrongOneWith, receiveAnswer, carryAfter, pduAfter, logAfter, lostAnswer, logAfterLost};
 ghost use Rattle.receiver.specs.Steps.{MarksOf, causeAt, CausesOf, headOf, stateOf, Usable, acceptedAfter, noRoom, Answered, streamTests, correctedNumber, forgetful};
 
 // What a receiver remembers. A field not known or not held is 0; held length 0 means nothing held.
@@ -306,20 +307,21 @@ fn receive_or_restore(
     a
 }
 
-// Receives a PDU by a receiver of a listed mode and stream, or refuses.
+// Receives a PDU with marked places by a receiver of a listed mode and stream, or refuses.
 fn receive_listed(
     r: Receiver,
     m: Mode,
     carry: &mut [u8],
     pdu: &mut [u8],
+    marks: &[u8],
     log: &mut [u32],
 ) -> Received
     requires { ⌜ listing (r .mode) (r .stream) ≡ Listed m ⌝ }
-    ensures { λ a. ⌜ a ≡ receiveAnswer (now (carry .entry)) (now (pdu .entry)) (now (log .entry)) r (a .wrong) ⌝ }
-    ensures { λ a. ⌜ WrongOne (now (pdu .entry)) (a .refusal) (a .wrong) ⌝ }
-    ensures { λ _. ⌜ now (carry .exit) ≡ carryAfter (now (carry .entry)) (now (pdu .entry)) (now (log .entry)) r ⌝ }
-    ensures { λ _. ⌜ now (pdu .exit) ≡ pduAfter (now (carry .entry)) (now (pdu .entry)) (now (log .entry)) r ⌝ }
-    ensures { λ _. ⌜ now (log .exit) ≡ logAfter (now (carry .entry)) (now (pdu .entry)) (now (log .entry)) r ⌝ }
+    ensures { λ a. ⌜ a ≡ receiveAnswer (now (marks .entry)) (now (carry .entry)) (now (pdu .entry)) (now (log .entry)) r (a .wrong) ⌝ }
+    ensures { λ a. ⌜ WrongOneWith (now (marks .entry)) (now (pdu .entry)) (a .refusal) (a .wrong) ⌝ }
+    ensures { λ _. ⌜ now (carry .exit) ≡ carryAfter (now (marks .entry)) (now (carry .entry)) (now (pdu .entry)) (now (log .entry)) r ⌝ }
+    ensures { λ _. ⌜ now (pdu .exit) ≡ pduAfter (now (marks .entry)) (now (carry .entry)) (now (pdu .entry)) (now (log .entry)) r ⌝ }
+    ensures { λ _. ⌜ now (log .exit) ≡ logAfter (now (marks .entry)) (now (carry .entry)) (now (pdu .entry)) (now (log .entry)) r ⌝ }
 {
     if wrong_state(r, m) {
         return refused(r, 1, 0);
@@ -328,7 +330,7 @@ fn receive_listed(
         return refused(r, 2, 0);
     }
     let before = header::header_of(pdu);
-    let answer = correction::correct(pdu);
+    let answer = correction::correct_marked(pdu, marks);
     match answer {
         Correction::Corrected(_) => receive_or_restore(r, m, carry, pdu, log, before),
         Correction::Refused(n) => refused(r, n, 0),
@@ -370,19 +372,38 @@ fn lose_listed(r: Receiver, m: Mode, log: &mut [u32]) -> Received
 }
 
 impl Receiver {
+    // Receives a PDU with a list of marked header places (document 02, Ask 3): twice the differing unmarked bytes plus the marks may be
+    // eight. It is refused with 19, directly after 3, for more than eight marks, one over 95, or one repeated.
+    pub fn receive_marked(
+        self,
+        carry: &mut [u8],
+        pdu: &mut [u8],
+        marks: &[u8],
+        log: &mut [u32],
+    ) -> Received
+        ensures { λ a. ⌜ a ≡ receiveAnswer (now (marks .entry)) (now (carry .entry)) (now (pdu .entry)) (now (log .entry)) self (a .wrong) ⌝ }
+        ensures { λ a. ⌜ WrongOneWith (now (marks .entry)) (now (pdu .entry)) (a .refusal) (a .wrong) ⌝ }
+        ensures { λ _. ⌜ now (carry .exit) ≡ carryAfter (now (marks .entry)) (now (carry .entry)) (now (pdu .entry)) (now (log .entry)) self ⌝ }
+        ensures { λ _. ⌜ now (pdu .exit) ≡ pduAfter (now (marks .entry)) (now (carry .entry)) (now (pdu .entry)) (now (log .entry)) self ⌝ }
+        ensures { λ _. ⌜ now (log .exit) ≡ logAfter (now (marks .entry)) (now (carry .entry)) (now (pdu .entry)) (now (log .entry)) self ⌝ }
+    {
+        match modes::look_up(self.mode, self.stream) {
+            Listing::Listed(m) => receive_listed(self, m, carry, pdu, marks, log),
+            Listing::Refused(_) => refused(self, 1, 0),
+        }
+    }
+
     // Receives a PDU (document 01, "Receiver"): its header is corrected in place, log words are written from the log's first word on, and
     // what is held stands first in the carry buffer; or it is refused with 1 to 13, and nothing is changed.
     pub fn receive(self, carry: &mut [u8], pdu: &mut [u8], log: &mut [u32]) -> Received
-        ensures { λ a. ⌜ a ≡ receiveAnswer (now (carry .entry)) (now (pdu .entry)) (now (log .entry)) self (a .wrong) ⌝ }
+        ensures { λ a. ⌜ a ≡ receiveAnswer [] (now (carry .entry)) (now (pdu .entry)) (now (log .entry)) self (a .wrong) ⌝ }
         ensures { λ a. ⌜ WrongOne (now (pdu .entry)) (a .refusal) (a .wrong) ⌝ }
-        ensures { λ _. ⌜ now (carry .exit) ≡ carryAfter (now (carry .entry)) (now (pdu .entry)) (now (log .entry)) self ⌝ }
-        ensures { λ _. ⌜ now (pdu .exit) ≡ pduAfter (now (carry .entry)) (now (pdu .entry)) (now (log .entry)) self ⌝ }
-        ensures { λ _. ⌜ now (log .exit) ≡ logAfter (now (carry .entry)) (now (pdu .entry)) (now (log .entry)) self ⌝ }
+        ensures { λ _. ⌜ now (carry .exit) ≡ carryAfter [] (now (carry .entry)) (now (pdu .entry)) (now (log .entry)) self ⌝ }
+        ensures { λ _. ⌜ now (pdu .exit) ≡ pduAfter [] (now (carry .entry)) (now (pdu .entry)) (now (log .entry)) self ⌝ }
+        ensures { λ _. ⌜ now (log .exit) ≡ logAfter [] (now (carry .entry)) (now (pdu .entry)) (now (log .entry)) self ⌝ }
     {
-        match modes::look_up(self.mode, self.stream) {
-            Listing::Listed(m) => receive_listed(self, m, carry, pdu, log),
-            Listing::Refused(_) => refused(self, 1, 0),
-        }
+        let marks = [0u8; 1];
+        self.receive_marked(carry, pdu, &marks[..0], log)
     }
 
     // Marks a PDU lost: note 6 is logged, and the held beginning and the last sequence are dropped; or it is refused with 1 or 13, and

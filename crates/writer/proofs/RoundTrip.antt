@@ -23,7 +23,7 @@ use Rattle.header.proofs.Division.{parity-length, remainder-bytes}
 use Rattle.header.proofs.Lengths.{length-allowed, parity-written}
 use Rattle.correction.specs.Correction.{Near, correctionOf, correctedPdu}
 use Rattle.correction.specs.declared.Correction.the-variants.{Corrected}
-use Rattle.correction.proofs.Theorem.{corrects}
+use Rattle.correction.proofs.Theorem.{corrects, corrects-with}
 use Rattle.layout.specs.Control.{controlAt, controlBytes}
 use Rattle.layout.specs.declared.ControlWord.{ControlWord}
 use Rattle.layout.specs.Locators.{locatorSize}
@@ -194,6 +194,7 @@ accepts settings psd lengths bytes size w m l t =
 pub demand2 : Demand2
 demand2 = record {
   corrects = λ p lo hi b. corrects p lo hi (all-bytes p b);
+  corrects-with = λ marks p ok lo hi b. corrects-with p lo hi (all-bytes p b) marks ok;
   accepts = accepts;
   sends = λ settings psd lengths bytes size w m l h. byte-sent settings psd lengths bytes size w m l h;
   reads = round-trip;

@@ -1,5 +1,5 @@
 -- Document 00, demand 2, in two parts. "A header is mended to the one code word that differs in at most four bytes, and is refused as beyond mending
--- exactly when there is none": correction/specs/Corrects.antt. "Reading a written PDU gives its fields, PSD and pieces": below, also with at most
+-- exactly when there is none": correction/specs/Corrects.antt, where document 02's Ask 3 has the same with marked places. "Reading a written PDU gives its fields, PSD and pieces": below, also with at most
 -- four of its first 96 bytes altered. That writer and reader follow document 01's rules for parity, layouts, CRC and pieces is what the contracts
 -- say, which give their results by the definitions of these rules.
 use mathlib.Core.Path.{_≡_}
@@ -12,7 +12,8 @@ use Rattle.modes.specs.Modes.{listing}
 use Rattle.modes.specs.declared.Mode.{Mode}
 use Rattle.modes.specs.declared.Listing.the-variants.{Listed}
 use Rattle.header.specs.Header.{isCodeWord, distance}
-use Rattle.correction.specs.Corrects.{Corrects}
+use Rattle.correction.specs.Corrects.{Corrects, CorrectsWith}
+use Rattle.correction.specs.Marks.{marksRefusal}
 use Rattle.layout.specs.Locators.{locatorSize}
 use Rattle.expansion.specs.Writing.{interpretedOf}
 use Rattle.settings.specs.Settings.{fieldsFor}
@@ -60,6 +61,8 @@ module _ (settings : Settings) (psd lengths bytes : List ℕ) (size : ℕ) (w : 
 -- demand 2: for every PDU of a length that is not refused with 3, and for every accepted writing call, whatever its buffer held
 pub record Demand2 : Type 0 where
   pub corrects : (p : List ℕ) → 96 ≤ length p → length p ≤ 20480 → Bytes p → Corrects p
+  -- document 02, Ask 3: and for every list of marks that is not refused with 19
+  pub corrects-with : (marks p : List ℕ) → marksRefusal marks ≡ 0 → 96 ≤ length p → length p ≤ 20480 → Bytes p → CorrectsWith marks p
   -- a call is refused by a row of the table or not at all, and with packets offered an accepted one sends at least one byte: a writer that always
   -- refuses, or answers 17 early, or sends nothing, is none
   pub accepts : (settings : Settings) (psd lengths bytes : List ℕ) (size : ℕ) (w : Writer) (m : Mode) → listing (w .mode) (w .stream) ≡ Listed m

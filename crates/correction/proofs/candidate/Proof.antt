@@ -1,12 +1,14 @@
 use native.Mathlib.Omega.{arith}
-use mathlib.Core.Path.{_≡_, refl, ap, sym, _∙_}
+use mathlib.Core.Path.{_≡_, refl, ap, ap₂, sym, _∙_, subst}
 use Prim.Native.Nat.{ℕ, _+_, _-_, _*_, _≤_, _<_}
 use lib.ListN.{length, take, drop, getD, set, length-set}
 use mathlib.Core.List.{List, [], _∷_, _++_}
 use borrow.Author.Needs.{needs}
-use mathlib.Core.Path.{subst, ap₂}
+use Rattle.algebra.specs.Places.{All}
+use Rattle.correction.specs.Marks.{spare}
 use Rattle.correction.specs.Elimination.{Solved, systemOf, beside}
-use Rattle.correction.proofs.Candidates.{few-places, distinct-places, candidate-word}
+use Rattle.correction.proofs.MarkLists.{allowed-inside}
+use Rattle.correction.proofs.Candidates.{system-back, few-places, distinct-places, candidate-word}
 use Rattle.correction.proofs.candidate.Statement.{statement}
 use Rattle.correction.proofs.candidate.Tie as tie
 use Rattle.correction.proofs.candidate.Reads as reads
@@ -14,8 +16,16 @@ use Rattle.correction.proofs.candidate.Lts as lts
 use Rattle.correction.proofs.eliminate.Reads as eliminate-reads
 use Rattle.correction.proofs.error_places.Reads as error-places-reads
 use Rattle.correction.proofs.repaired.Reads as repaired-reads
+use Rattle.correction.proofs.spare.Reads as spare-reads
+use Rattle.correction.proofs.stripped.Reads as stripped-reads
 use Rattle.correction.proofs.right_side.Reads as right-side-reads
 use Rattle.correction.proofs.system.Reads as system-reads
+
+stripped-requires : tie.Need-stripped-requires
+stripped-requires c κs = search needs
+
+spare-requires : tie.Need-spare-requires
+spare-requires c κs = search needs
 
 system-requires : tie.Need-system-requires
 system-requires c κs = search needs
@@ -26,42 +36,57 @@ right-side-requires c κs = search needs
 eliminate-requires : tie.Need-eliminate-requires
 eliminate-requires c κs = search needs
 
--- where the function begins, seen from the elimination
+-- where the syndromes are filtered, and where the function begins, seen from the elimination
+abbrev filtering : tie.After-eliminate → tie.After-stripped
+filtering c = c .before .before .before .before
+
 abbrev start : tie.After-eliminate → tie.Start
-start c = c .before .before .before
+start c = filtering c .before .before
 
 long : (c : tie.After-eliminate) → length (start c .args .header) ≡ 96
 long c = start c .good .1 .1 .0 .1 .0 .1
 
--- what the elimination of the syndromes' system found
-solution : (c : tie.After-eliminate) → Solved (systemOf (start c .args .s)) (c .eliminate .result .degree) (c .eliminate .result .coefficients)
+few : (c : tie.After-eliminate) → length (start c .args .marks .now) ≤ 8
+few c = start c .pre .1 .1 .0
+
+inside : (c : tie.After-eliminate) → All (λ k. k < 96) (start c .args .marks .now)
+inside c = allowed-inside (start c .args .marks .now) (start c .pre .1 .1 .1 .0)
+
+-- what the elimination of the system found
+solution : (c : tie.After-eliminate) → Solved (systemOf (filtering c .stripped .result) (spare (start c .args .marks .now))) (c .eliminate .result .degree) (c .eliminate .result .coefficients)
 solution c =
+    let t = filtering c .stripped .result in
+    let h = c .before .before .before .spare in
     subst (λ (m : List (List ℕ)). Solved m (c .eliminate .result .degree) (c .eliminate .result .coefficients))
-    (ap₂ beside (c .before .before .system .ensures) (c .before .right-side .ensures)) (c .eliminate .ensures)
+    (ap₂ beside (c .before .before .system .ensures) (c .before .right-side .ensures) ∙ system-back t (h .result) ∙ ap (systemOf t) (h .ensures)) (c .eliminate .ensures)
 
 error-places-requires : tie.Need-error-places-requires
 error-places-requires c κs =
-    let e = c .before in
-    (solution e .small, (few-places _ _ _ _ (long e) (start e .pre .0) (start e .pre .1 .0) (solution e), search needs))
+    let e = c .before in (
+      solution e .small,
+      (few-places _ _ _ _ _ _ (few e) (inside e) (long e) (start e .pre .0) (start e .pre .1 .0) (filtering e .stripped .ensures) (solution e), start e .pre .1 .1 .1 .1),
+    )
 
 repaired-requires : tie.Need-repaired-requires
 repaired-requires c κs =
     let p = c .before in
     let e = p .before .before in (
       p .error-places .ensures .few,
-      (distinct-places _ _ _ _ (long e) (start e .pre .0) (start e .pre .1 .0) (solution e) _ _ (p .error-places .ensures), search needs),
+      (distinct-places _ _ _ _ _ _ (few e) (inside e) (long e) (start e .pre .0) (start e .pre .1 .0) (filtering e .stripped .ensures) (solution e) _ _ (p .error-places .ensures), start e .pre .1 .1 .1 .1),
     )
 
 returns : tie.Need-returns
 returns c =
     let p = c .before .before in
     let e = p .before .before in
-    candidate-word _ _ _ _ (long e) (start e .pre .0) (start e .pre .1 .0) (solution e) _ _ (p .error-places .ensures) _ (c .repaired .ensures)
+    candidate-word _ _ _ _ _ _ (few e) (inside e) (long e) (start e .pre .0) (start e .pre .1 .0) (filtering e .stripped .ensures) (solution e) _ _ (p .error-places .ensures) _ (c .repaired .ensures)
 
 pub candidate-spec : {M : Type 1} → statement M
 candidate-spec =
     tie.close
     (tie.spec
+    stripped-requires
+    spare-requires
     system-requires
     right-side-requires
     eliminate-requires

@@ -12,21 +12,23 @@ use Rattle.correction.proofs.decode.Reads as reads
 use Rattle.correction.proofs.decode.Lts as lts
 use Rattle.field.proofs.logarithms.Reads as logarithms-reads
 use Rattle.field.proofs.powers.Reads as powers-reads
+use Rattle.correction.proofs.adopted.Reads as adopted-reads
 use Rattle.correction.proofs.candidate.Reads as candidate-reads
 use Rattle.correction.proofs.refused.Reads as refused-reads
+use Rattle.correction.proofs.spare.Reads as spare-reads
 use Rattle.header.proofs.all_zero.Reads as all-zero-reads
 use Rattle.header.proofs.is_code_word_by.Reads as is-code-word-by-reads
 use Rattle.header.proofs.syndromes_by.Reads as syndromes-by-reads
 
 -- where the function begins, seen from the syndromes and from the candidate
 abbrev begin : tie.After-syndromes-by → tie.Start
-begin c = c .before .before .before .before .before .before
+begin c = c .before .before .before .before .before .before .before
 
 abbrev start : tie.After-candidate → tie.Start
 start c = begin (c .before .before .before .before .before)
 
-long : (c : tie.Start) → length (c .args .t1) ≡ 96
-long c = c .good .0 .1 .0 .1
+long : (c : tie.After-candidate) → length (start c .args .t1) ≡ 96
+long c = start c .good .0 .1 .0 .1
 
 powers-requires : tie.Need-powers-requires
 powers-requires c κs = search needs
@@ -44,41 +46,64 @@ returns : tie.Need-returns
 unfolding isCodeWord
 returns c =
     let s = c .before .before in
-    answer-clean _ (omega arith) (begin s .pre) (ap allZero (sym (s .syndromes-by .ensures)) ∙ sym (c .before .all-zero .ensures) ∙ c .if1 .taken)
+    let b = begin s in
+    answer-clean _ _ (b .pre .1 .0) (omega arith) (b .pre .0) (ap allZero (sym (s .syndromes-by .ensures)) ∙ sym (c .before .all-zero .ensures) ∙ c .if1 .taken)
 
 candidate-requires : tie.Need-candidate-requires
-candidate-requires c κs = (let s = c .before .before .before .before in (begin s .pre, (s .syndromes-by .ensures, search needs)))
+candidate-requires c κs =
+    let s = c .before .before .before .before in
+    (begin s .pre .0, (s .syndromes-by .ensures, (begin s .pre .1 .0, (begin s .pre .1 .1, search needs))))
+
+adopted-requires : tie.Need-adopted-requires
+adopted-requires c κs = start c .pre .1 .1
 
 difference-requires : tie.Need-difference-requires
 difference-requires c κs = search needs
+
+spare-requires : tie.Need-spare-requires
+spare-requires c κs = search needs
+
+cast-if2 : tie.Need-cast-if2
+cast-if2 c = search needs
 
 refused-requires : tie.Need-refused-requires
 refused-requires c κs = search needs
 
 returns-2 : tie.Need-returns-2
 returns-2 c =
-    let d = c .before .before in
-    let r = answer-far _ (long (start (d .before))) (start (d .before) .pre) _ (d .before .candidate .ensures) _ (d .difference .ensures) (omega arith) in
+    let p = c .before .before in
+    let d = p .before in
+    let k = d .before .before in
+    let r = answer-far _ _ (start k .pre .1 .0) (long k) (start k .pre .0) _ _ (k .candidate .ensures) (d .before .adopted .ensures) _ (d .difference .ensures) _ (p .spare .ensures) (omega (arith, c .before .if2 .taken)) in
     (c .refused .ensures .0 ∙ r .0, c .refused .ensures .1 ∙ r .1)
 
 is-code-word-by-requires : tie.Need-is-code-word-by-requires
 is-code-word-by-requires c κs = search needs
 
+difference-requires-2 : tie.Need-difference-requires-2
+difference-requires-2 c κs = search needs
+
 returns-3 : tie.Need-returns-3
 returns-3 c =
-    let d = c .before .before .before .before .before .before in
-    answer-corrected _ (long (start (d .before))) (start (d .before) .pre) _ (d .before .candidate .ensures) _ (d .difference .ensures)
-    (omega arith) (sym (c .before .is-code-word-by .ensures) ∙ c .if3 .taken)
+    let w = c .before .before in
+    let q = w .before .before .before .before in
+    let p = q .before in
+    let d = p .before in
+    let k = d .before .before in
+    answer-corrected _ _ (start k .pre .1 .0) (long k) (start k .pre .0) _ _ (k .candidate .ensures) (d .before .adopted .ensures) _ (d .difference .ensures) _ (p .spare .ensures)
+    _ (c .difference2 .ensures) (omega (arith, q .if2 .left)) (sym (w .is-code-word-by .ensures) ∙ c .before .if3 .taken)
 
 refused-requires-2 : tie.Need-refused-requires-2
 refused-requires-2 c κs = search needs
 
 returns-4 : tie.Need-returns-4
 returns-4 c =
-    let e = c .before in
-    let d = e .before .before .before .before .before .before in
-    let r = answer-wrong _ (long (start (d .before))) (start (d .before) .pre) _ (d .before .candidate .ensures) _ (d .difference .ensures)
-    (sym (e .before .is-code-word-by .ensures) ∙ e .if3 .left) in
+    let w = c .before .before in
+    let p = w .before .before .before .before .before in
+    let d = p .before in
+    let k = d .before .before in
+    let r = answer-wrong _ _ (start k .pre .1 .0) (long k) (start k .pre .0) _ _ (k .candidate .ensures) (d .before .adopted .ensures) _ (d .difference .ensures) _ (p .spare .ensures)
+    (sym (w .is-code-word-by .ensures) ∙ c .before .if3 .left) in
     (c .refused2 .ensures .0 ∙ r .0, c .refused2 .ensures .1 ∙ r .1)
 
 pub decode-spec : {M : Type 1} → statement M
@@ -91,10 +116,14 @@ decode-spec =
     all-zero-requires
     returns
     candidate-requires
+    adopted-requires
     difference-requires
+    spare-requires
+    cast-if2
     refused-requires
     returns-2
     is-code-word-by-requires
+    difference-requires-2
     returns-3
     refused-requires-2
     returns-4)

@@ -21,7 +21,7 @@ abbrev μ-loop : tie.MeasureT-loop
 μ-loop powers logarithms x t out₀ j₀ out j = 7 - j
 
 loop-holds : tie.Need-loop-holds Inv-loop μ-loop
-loop-holds c = (omega arith, record { long = search needs; entry = λ i l. absurd (omega arith) })
+loop-holds c = (omega arith, record { long = search needs; last = search needs; entry = λ i l. absurd (omega arith) })
 
 add-out : tie.Need-add-out Inv-loop μ-loop
 add-out c = search needs

@@ -124,8 +124,8 @@ module _ {M : Type 1} (𝓤 : URA M) (H : Heap 𝓤) (A : Atoms 𝓤) (W : Given
       ‵ (N.the-row .own (made u) (N′.lowered (made u) ∷ [])) ∷ ‵ (fobs γ (T.the-row .coded .code (u .receiver))) ∷ ‵ (fbor κ (Body (mem T.the-row) b o γ)) ∷ ‵ (flft κ q)
       ∷ tokens ∷ ‵ (finally u8 γ₁ xs) ∷ ‵ (finally u8 γ₂ us) ∷ ‵ (finally u32 γ₃ ws) ∷ []
 
-  exits : (u : Received) (xs us ws : List ℕ) → u ≡ receiveAnswer cs ps ys h (u .wrong) → WrongOne ps (u .refusal) (u .wrong)
-      → xs ≡ carryAfter cs ps ys h → us ≡ pduAfter cs ps ys h → ws ≡ logAfter cs ps ys h → length xs ≡ length cs → length us ≡ length ps → length ws ≡ length ys
+  exits : (u : Received) (xs us ws : List ℕ) → u ≡ receiveAnswer [] cs ps ys h (u .wrong) → WrongOne ps (u .refusal) (u .wrong)
+      → xs ≡ carryAfter [] cs ps ys h → us ≡ pduAfter [] cs ps ys h → ws ≡ logAfter [] cs ps ys h → length xs ≡ length cs → length us ≡ length ps → length ws ≡ length ys
       → ent 𝓤 (⋆ 𝓤 H A (held u xs us ws)) (Post (N′.lowered (made u)))
   exits u xs us ws e₁ e₂ e₃ e₄ e₅ n₁ n₂ n₃ =
       qed W (held u xs us ws) ∵
@@ -164,16 +164,16 @@ module _ {M : Type 1} (𝓤 : URA M) (H : Heap 𝓤) (A : Atoms 𝓤) (W : Given
         (and-then ! (load ! (from ! (stop !)) (look ! 17 refl)) (and-then ! (load ! (from ! (stop !)) (look ! 13 refl)) (and-then ! (load ! (from ! (stop !)) (look ! 9 refl)) (and-then ! (load ! (from ! (stop !)) (look ! 5 refl)) (no-more !))))) (λ w.
         use1 W (later (some (λ (u : Received). (tokens ⊛ ‵ (O.the-row .own u (w ∷ []))) ⊛ raw (ensured 𝓤 H A step.ended (step.clauses 𝓤 H A at-mem run) (κ₁, (κ₂, (κ₃, tt))) (h, (carry, (pdu, (log, tt)))) tt u)))) (id⊢ 𝓤 _) $ await ! tt $ pick ! (λ u.
         split ! $ move ! (1 ∷ []) $ use1 W (some (λ (zs : Unit {0} × (List ℕ × (List ℕ × (List ℕ × Unit {0})))). ‵ (lasts step.ended (κ₁, (κ₂, (κ₃, tt))) (h, (carry, (pdu, (log, tt)))) zs)
-        ⊛ raw (fact 𝓤 (u ≡ receiveAnswer cs ps ys h (u .wrong)))
+        ⊛ raw (fact 𝓤 (u ≡ receiveAnswer [] cs ps ys h (u .wrong)))
         ⊛ raw (fact 𝓤 (WrongOne ps (u .refusal) (u .wrong)))
-        ⊛ raw (fact 𝓤 (zs .1 .0 ≡ carryAfter cs ps ys h))
-        ⊛ raw (fact 𝓤 (zs .1 .1 .0 ≡ pduAfter cs ps ys h))
-        ⊛ raw (fact 𝓤 (zs .1 .1 .1 .0 ≡ logAfter cs ps ys h)))) (id⊢ 𝓤 _) $ pick ! (λ zs.
-        split ! $ move ! (1 ∷ []) $ split ! $ heard ! (u ≡ receiveAnswer cs ps ys h (u .wrong)) (λ e₁.
+        ⊛ raw (fact 𝓤 (zs .1 .0 ≡ carryAfter [] cs ps ys h))
+        ⊛ raw (fact 𝓤 (zs .1 .1 .0 ≡ pduAfter [] cs ps ys h))
+        ⊛ raw (fact 𝓤 (zs .1 .1 .1 .0 ≡ logAfter [] cs ps ys h)))) (id⊢ 𝓤 _) $ pick ! (λ zs.
+        split ! $ move ! (1 ∷ []) $ split ! $ heard ! (u ≡ receiveAnswer [] cs ps ys h (u .wrong)) (λ e₁.
         split ! $ heard ! (WrongOne ps (u .refusal) (u .wrong)) (λ e₂.
-        split ! $ heard ! (zs .1 .0 ≡ carryAfter cs ps ys h) (λ e₃.
-        split ! $ heard ! (zs .1 .1 .0 ≡ pduAfter cs ps ys h) (λ e₄.
-        heard ! (zs .1 .1 .1 .0 ≡ logAfter cs ps ys h) (λ e₅.
+        split ! $ heard ! (zs .1 .0 ≡ carryAfter [] cs ps ys h) (λ e₃.
+        split ! $ heard ! (zs .1 .1 .0 ≡ pduAfter [] cs ps ys h) (λ e₄.
+        heard ! (zs .1 .1 .1 .0 ≡ logAfter [] cs ps ys h) (λ e₅.
         -- each slice's last list, and that it is as long as the list passed
         fsplit ! $ drop ! $ fsplit ! $ fsplit ! $ move ! (1 ∷ []) $ feqL ! (λ n₁.
         move ! (1 ∷ []) $ fsplit ! $ fsplit ! $ move ! (1 ∷ []) $ feqL ! (λ n₂.

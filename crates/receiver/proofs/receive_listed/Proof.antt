@@ -1,6 +1,6 @@
 use Rattle.receiver.proofs.Calling.{state-call, carry-call, correction-call, corrected-call}
 use Rattle.receiver.proofs.Rows.{usable}
-use Rattle.correction.proofs.Answers.{corrected-allowed}
+use Rattle.correction.proofs.Answers.{corrected-allowed-with}
 use denote.Ref.{now}
 use native.Mathlib.Omega.{arith}
 use mathlib.Core.Path.{sym, _∙_}
@@ -11,7 +11,7 @@ use Rattle.receiver.proofs.receive_listed.Statement.{statement}
 use Rattle.receiver.proofs.receive_listed.Tie as tie
 use Rattle.receiver.proofs.receive_listed.Reads as reads
 use Rattle.receiver.proofs.receive_listed.Lts as lts
-use Rattle.correction.proofs.correct.Reads as correct-reads
+use Rattle.correction.proofs.correct_marked.Reads as correct-marked-reads
 use Rattle.header.proofs.header_of.Reads as header-of-reads
 use Rattle.receiver.proofs.receive_or_restore.Reads as receive-or-restore-reads
 use Rattle.receiver.proofs.refused.Reads as refused-reads
@@ -26,9 +26,9 @@ refused-requires c κs = search needs
 returns : tie.Need-returns
 returns c =
     let w = c .before .before in
-    let s = w .before .before .before .before in
+    let s = w .before .before .before .before .before in
     let a = s .args in
-    state-call (now (a .carry)) (now (a .pdu)) (now (a .log)) (a .r) (a .m) (s .pre) (w .wrong-state .result) (w .wrong-state .ensures) (c .refused .result) (c .before .if1 .taken) (c .refused .ensures)
+    state-call (a .marks .now) (now (a .carry)) (now (a .pdu)) (now (a .log)) (a .r) (a .m) (s .pre) (w .wrong-state .result) (w .wrong-state .ensures) (c .refused .result) (c .before .if1 .taken) (c .refused .ensures)
 
 refused-requires-2 : tie.Need-refused-requires-2
 refused-requires-2 c κs = search needs
@@ -36,15 +36,15 @@ refused-requires-2 c κs = search needs
 returns-2 : tie.Need-returns-2
 returns-2 c =
     let w = c .before .before .before in
-    let s = w .before .before .before .before in
+    let s = w .before .before .before .before .before in
     let a = s .args in
-    carry-call (now (a .carry)) (now (a .pdu)) (now (a .log)) (a .r) (a .m) (s .pre) (w .wrong-state .result) (w .wrong-state .ensures) (c .before .before .if1 .left) (c .refused2 .result) (omega (arith, c .before .if2 .taken)) (c .refused2 .ensures)
+    carry-call (a .marks .now) (now (a .carry)) (now (a .pdu)) (now (a .log)) (a .r) (a .m) (s .pre) (w .wrong-state .result) (w .wrong-state .ensures) (c .before .before .if1 .left) (c .refused2 .result) (omega (arith, c .before .if2 .taken)) (c .refused2 .ensures)
 
 header-of-requires : tie.Need-header-of-requires
 header-of-requires c κs = search needs
 
-correct-requires : tie.Need-correct-requires
-correct-requires c κs = search needs
+correct-marked-requires : tie.Need-correct-marked-requires
+correct-marked-requires c κs = search needs
 
 enum-told : tie.Need-enum-told
 enum-told c = search needs
@@ -55,9 +55,9 @@ receive-or-restore-requires c κs =
     let k = g .before .before .before .before in
     let e = k .before .before .before .before in
     let w = e .before .before in
-    let s = w .before .before .before .before in
+    let s = w .before .before .before .before .before in
     let a = s .args in
-    let size : length (k .correct .last .0) ≤ 20480 = omega (arith, k .correct .kept .0, corrected-allowed (now (a .pdu)) _ (sym (k .correct .ensures .0) ∙ g .enum-told .given .1)) in
+    let size : length (k .correct-marked .last .0) ≤ 20480 = omega (arith, k .correct-marked .kept .0, corrected-allowed-with (a .marks .now) (now (a .pdu)) _ (sym (k .correct-marked .ensures .0) ∙ g .enum-told .given .1)) in
     (s .pre, (usable (a .r) (a .m) (now (a .carry)) (s .pre) (sym (w .wrong-state .ensures) ∙ e .before .if1 .left) (e .if2 .left), size))
 
 enum-known-answer : tie.Need-enum-known-answer
@@ -83,9 +83,9 @@ returns-3 c =
     let h = k .before .before in
     let e = h .before .before in
     let w = e .before .before in
-    let s = w .before .before .before .before in
+    let s = w .before .before .before .before .before in
     let a = s .args in
-    corrected-call (now (a .carry)) (now (a .pdu)) (now (a .log)) (a .r) (a .m) (s .pre) (w .wrong-state .result) (w .wrong-state .ensures) (e .before .if1 .left) (e .if2 .left) _ (f .receive-or-restore .result) (k .correct .last .0) (h .header-of .result) (f .receive-or-restore .last .1 .1 .0) (f .receive-or-restore .last .1 .1 .1 .0) (f .receive-or-restore .last .1 .1 .1 .1 .0) (λ i. w .before .before .slice-known2 .given i .fits) (sym (k .correct .ensures .0) ∙ g .enum-told .given .1) (h .header-of .ensures) (k .correct .ensures .1) (f .receive-or-restore .ensures .0) (f .receive-or-restore .ensures .1 .0) (f .receive-or-restore .ensures .1 .1)
+    corrected-call (a .marks .now) (now (a .carry)) (now (a .pdu)) (now (a .log)) (a .r) (a .m) (s .pre) (w .wrong-state .result) (w .wrong-state .ensures) (e .before .if1 .left) (e .if2 .left) _ (f .receive-or-restore .result) (k .correct-marked .last .0) (h .header-of .result) (f .receive-or-restore .last .1 .1 .0) (f .receive-or-restore .last .1 .1 .1 .0) (f .receive-or-restore .last .1 .1 .1 .1 .0) (λ i. w .before .before .before .slice-known2 .given i .fits) (sym (k .correct-marked .ensures .0) ∙ g .enum-told .given .1) (h .header-of .ensures) (k .correct-marked .ensures .1) (f .receive-or-restore .ensures .0) (f .receive-or-restore .ensures .1 .0) (f .receive-or-restore .ensures .1 .1)
 
 same-length-4 : tie.Need-same-length-4
 same-length-4 c = search needs
@@ -97,9 +97,9 @@ returns-4 c =
     let h = k .before .before in
     let e = h .before .before in
     let w = e .before .before in
-    let s = w .before .before .before .before in
+    let s = w .before .before .before .before .before in
     let a = s .args in
-    correction-call (now (a .carry)) (now (a .pdu)) (now (a .log)) (a .r) (a .m) (s .pre) (w .wrong-state .result) (w .wrong-state .ensures) (e .before .if1 .left) (e .if2 .left) _ (c .refused3 .result) (k .correct .last .0) (sym (k .correct .ensures .0) ∙ g .answer .given .1) (k .correct .ensures .1) (c .refused3 .ensures)
+    correction-call (a .marks .now) (now (a .carry)) (now (a .pdu)) (now (a .log)) (a .r) (a .m) (s .pre) (w .wrong-state .result) (w .wrong-state .ensures) (e .before .if1 .left) (e .if2 .left) _ (c .refused3 .result) (k .correct-marked .last .0) (sym (k .correct-marked .ensures .0) ∙ g .answer .given .1) (k .correct-marked .ensures .1) (c .refused3 .ensures)
 
 pub receive-listed-spec : {M : Type 1} → statement M
 receive-listed-spec =
@@ -111,7 +111,7 @@ receive-listed-spec =
     refused-requires-2
     returns-2
     header-of-requires
-    correct-requires
+    correct-marked-requires
     enum-told
     receive-or-restore-requires
     enum-known-answer

@@ -1,61 +1,58 @@
-use Rattle.receiver.proofs.Calling.{unlisted-call}
-use denote.Ref.{now}
-use mathlib.Core.Path.{sym, _∙_}
+use native.Mathlib.Omega.{arith}
+use mathlib.Core.Path.{_≡_, refl, ap, sym, _∙_}
+use Prim.Native.Nat.{ℕ, _+_, _-_, _*_, _≤_, _<_}
+use lib.ListN.{length, take, drop, getD, set, length-set}
+use mathlib.Core.List.{List, [], _∷_, _++_}
 use borrow.Author.Needs.{needs}
+use mathlib.Core.Path.{subst}
+use Rattle.layout.specs.Control.{controlAt}
+use Rattle.pdu.specs.Reading.{widthOf, WrongIn}
+use Rattle.correction.proofs.Answers.{no-marks-pdu}
 use Rattle.receiver.proofs.Receiver.receive.Statement.{statement}
 use Rattle.receiver.proofs.Receiver.receive.Tie as tie
 use Rattle.receiver.proofs.Receiver.receive.Reads as reads
 use Rattle.receiver.proofs.Receiver.receive.Lts as lts
-use Rattle.modes.proofs.look_up.Reads as look-up-reads
-use Rattle.receiver.proofs.receive_listed.Reads as receive-listed-reads
-use Rattle.receiver.proofs.refused.Reads as refused-reads
+use Rattle.receiver.proofs.Receiver.receive_marked.Reads as receive-marked-reads
 
-look-up-requires : tie.Need-look-up-requires
-look-up-requires c κs = search needs
+-- src/lib.rt:403:41
+array-share-prefix-marks : tie.Need-array-share-prefix-marks
+array-share-prefix-marks c = search needs
 
-enum-known-m : tie.Need-enum-known-m
-enum-known-m c = search needs
+-- src/lib.rt:403:41
+slice-aggregate-receive-marked : tie.Need-slice-aggregate-receive-marked
+slice-aggregate-receive-marked c = search needs
 
-receive-listed-requires : tie.Need-receive-listed-requires
-receive-listed-requires c κs =
-    let g = c .before .before .before .before in
-    sym (g .before .before .look-up .ensures) ∙ g .m .given .1
+-- src/lib.rt:403:9
+receive-marked-requires : tie.Need-receive-marked-requires
+receive-marked-requires c κs = search needs
 
-enum-told : tie.Need-enum-told
-enum-told c = search needs
-
-refused-requires : tie.Need-refused-requires
-refused-requires c κs = search needs
-
+-- src/lib.rt:395:5
 same-length : tie.Need-same-length
 same-length c = search needs
 
+-- src/lib.rt:395:5
 same-length-2 : tie.Need-same-length-2
 same-length-2 c = search needs
 
+-- src/lib.rt:395:5
 same-length-3 : tie.Need-same-length-3
 same-length-3 c = search needs
 
+-- src/lib.rt:395:5
 returns : tie.Need-returns
-returns c = c .before .before .before .before .before .before .receive-listed .ensures
-
-returns-2 : tie.Need-returns-2
-returns-2 c =
-    let l = c .before .before .before in
-    let a = l .before .before .before .before .args in
-    unlisted-call (now (a .carry)) (now (a .pdu)) (now (a .log)) (a .self) _ _ (c .refused .result) (l .look-up .ensures) (c .before .enum-told .given .1) (c .refused .ensures)
+returns c =
+    let m = c .before .before .before .before .before .before .receive-marked in
+    let e = m .ensures in
+    (e .0, (subst (λ (y : List ℕ). WrongIn (widthOf y) (controlAt y) y (m .result .refusal) (m .result .wrong)) (no-marks-pdu _) (e .1 .0), e .1 .1))
 
 pub receive-spec : {M : Type 1} → statement M
 receive-spec =
     tie.close
     (tie.spec
-    look-up-requires
-    enum-known-m
-    receive-listed-requires
-    enum-told
-    refused-requires
+    array-share-prefix-marks
+    slice-aggregate-receive-marked
+    receive-marked-requires
     same-length
     same-length-2
     same-length-3
-    returns
-    returns-2)
+    returns)

@@ -1,0 +1,27 @@
+use mathlib.Core.Path.{_≡_, ap, _∙_}
+use borrow.Author.Needs.{needs}
+use Rattle.correction.specs.Correction.{numberOf, countOf}
+use Rattle.capi.proofs.barzhilup_correct_header_marked.Statement.{statement}
+use Rattle.capi.proofs.barzhilup_correct_header_marked.Tie as tie
+use Rattle.capi.proofs.barzhilup_correct_header_marked.Reads as reads
+use Rattle.capi.proofs.barzhilup_correct_header_marked.Lts as lts
+use Rattle.capi.proofs.in_numbers.Reads as in-numbers-reads
+use Rattle.correction.proofs.correct_marked.Reads as correct-marked-reads
+
+correct-marked-requires : tie.Need-correct-marked-requires
+correct-marked-requires c κs = search needs
+
+in-numbers-requires : tie.Need-in-numbers-requires
+in-numbers-requires c κs = search needs
+
+same-length : tie.Need-same-length
+same-length c = search needs
+
+returns : tie.Need-returns
+returns c =
+    let r = c .before .before .before .correct-marked in
+    (c .in-numbers .ensures .0 ∙ ap numberOf (r .ensures .0), (c .in-numbers .ensures .1 ∙ ap countOf (r .ensures .0), r .ensures .1))
+
+pub barzhilup-correct-header-marked-spec : {M : Type 1} → statement M
+barzhilup-correct-header-marked-spec =
+    tie.close (tie.spec correct-marked-requires in-numbers-requires same-length returns)

@@ -1,0 +1,78 @@
+use borrow.Author.Needs.{needs}
+use native.Mathlib.Omega.{arith}
+use mathlib.Core.Path.{_≡_, refl, ap, sym, _∙_}
+use Prim.Native.Nat.{ℕ, _+_, _-_, _*_, _≤_, _<_}
+use lib.ListN.{length, take, drop, getD, set, length-set}
+use mathlib.Core.List.{List, [], _∷_, _++_}
+use mathlib.Core.Path.{subst}
+use Rattle.algebra.proofs.Places.{all-getD}
+use Rattle.correction.specs.Marks.{adopted as adoptedFrom}
+use Rattle.correction.proofs.MarkLists.{allowed-inside, adopted-next, adopted-end}
+use Rattle.correction.proofs.adopted.Statement.{statement}
+use Rattle.correction.proofs.adopted.Tie as tie
+use Rattle.correction.proofs.adopted.Reads as reads
+use Rattle.correction.proofs.adopted.Lts as lts
+use Rattle.correction.proofs.place.Reads as place-reads
+
+abbrev Inv-loop : tie.InvT-loop
+Inv-loop marks other out₀ k₀ out k = (k ≤ length marks) × (length out ≡ 96) × (adoptedFrom (drop k marks) out other ≡ adoptedFrom marks out₀ other)
+
+abbrev μ-loop : tie.MeasureT-loop
+μ-loop marks other out₀ k₀ out k = length marks - k
+
+loop-holds : tie.Need-loop-holds Inv-loop μ-loop
+loop-holds c = (omega arith, search needs, refl)
+
+shared-slice-read-place : tie.Need-shared-slice-read-place Inv-loop μ-loop
+shared-slice-read-place c = search needs
+
+place-requires : tie.Need-place-requires Inv-loop μ-loop
+place-requires c κs = search needs
+
+-- the place marked is inside
+inside : (c : tie.After-place Inv-loop μ-loop) → c .place .result < 96
+inside c =
+    let l = c .before .before .before in
+    subst (λ (at : ℕ). at < 96) (sym (c .place .ensures))
+    (all-getD (λ k. k < 96) (l .before .before .args .marks .now) (allowed-inside (l .before .before .args .marks .now) (l .before .before .pre)) (l .loop .k) (omega arith))
+
+array-read-out : tie.Need-array-read-out Inv-loop μ-loop
+array-read-out c = inside c
+
+array-write-out : tie.Need-array-write-out Inv-loop μ-loop
+array-write-out c = inside c
+
+add-k : tie.Need-add-k Inv-loop μ-loop
+add-k c = search needs
+
+loop-less : tie.Need-loop-less Inv-loop μ-loop
+loop-less c = search needs
+
+loop-again : tie.Need-loop-again Inv-loop μ-loop
+loop-again c =
+    let l = c .before .before .before in (
+      omega arith,
+      simp length-set (l .loop .inv .1),
+      subst (λ (at : ℕ). adoptedFrom (drop (l .loop .k + 1) (l .before .before .args .marks .now)) (set (l .loop .out) at (getD (l .before .before .args .t2) at 0)) (l .before .before .args .t2)
+          ≡ adoptedFrom (l .before .before .args .marks .now) (l .before .before .args .header) (l .before .before .args .t2)) (sym (c .place .ensures))
+          (adopted-next (l .before .before .args .marks .now) (l .before .before .args .header) (l .before .before .args .t2) (l .loop .k) (l .loop .out) (omega arith) (l .loop .inv .2)),
+    )
+
+returns : tie.Need-returns Inv-loop μ-loop
+returns c = adopted-end _ _ _ (c .before .loop .k) _ (omega arith) (c .before .loop .inv .2)
+
+pub adopted-spec : {M : Type 1} → statement M
+adopted-spec =
+    tie.close
+    (tie.spec
+    Inv-loop
+    μ-loop
+    loop-holds
+    shared-slice-read-place
+    place-requires
+    array-read-out
+    array-write-out
+    add-k
+    loop-less
+    loop-again
+    returns)

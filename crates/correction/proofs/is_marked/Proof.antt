@@ -1,0 +1,58 @@
+use borrow.Author.Needs.{needs}
+use native.Mathlib.Omega.{arith}
+use mathlib.Core.Path.{_≡_, refl, ap, sym, _∙_}
+use Prim.Native.Nat.{ℕ, _+_, _-_, _*_, _≤_, _<_}
+use lib.ListN.{length, take, drop, getD, set, length-set}
+use mathlib.Core.List.{List, [], _∷_, _++_}
+use Rattle.correction.specs.Marks.{isMarked}
+use Rattle.correction.proofs.MarkLists.{marked-here, marked-past, marked-end}
+use Rattle.correction.proofs.is_marked.Statement.{statement}
+use Rattle.correction.proofs.is_marked.Tie as tie
+use Rattle.correction.proofs.is_marked.Reads as reads
+use Rattle.correction.proofs.is_marked.Lts as lts
+use Rattle.correction.proofs.place.Reads as place-reads
+
+abbrev Inv-loop : tie.InvT-loop
+Inv-loop marks i k₀ k = (k ≤ length marks) × (isMarked marks i ≡ isMarked (drop k marks) i)
+
+abbrev μ-loop : tie.MeasureT-loop
+μ-loop marks i k₀ k = length marks - k
+
+loop-holds : tie.Need-loop-holds Inv-loop μ-loop
+loop-holds c = (omega arith, refl)
+
+shared-slice-read-place : tie.Need-shared-slice-read-place Inv-loop μ-loop
+shared-slice-read-place c = search needs
+
+place-requires : tie.Need-place-requires Inv-loop μ-loop
+place-requires c κs = search needs
+
+returns : tie.Need-returns Inv-loop μ-loop
+returns c = marked-here _ _ (c .before .before .before .before .loop .k) (omega arith) (c .before .before .before .before .loop .inv .1) (sym (c .before .place .ensures) ∙ c .if1 .taken)
+
+add-k : tie.Need-add-k Inv-loop μ-loop
+add-k c = search needs
+
+loop-less : tie.Need-loop-less Inv-loop μ-loop
+loop-less c = search needs
+
+loop-again : tie.Need-loop-again Inv-loop μ-loop
+loop-again c = (omega arith, marked-past _ _ (c .before .before .before .before .loop .k) (omega arith) (c .before .before .before .before .loop .inv .1) (λ e. c .if1 .left (c .before .place .ensures ∙ e)))
+
+returns-2 : tie.Need-returns-2 Inv-loop μ-loop
+returns-2 c = marked-end _ _ (c .before .loop .k) (omega arith) (c .before .loop .inv .1)
+
+pub is-marked-spec : {M : Type 1} → statement M
+is-marked-spec =
+    tie.close
+    (tie.spec
+    Inv-loop
+    μ-loop
+    loop-holds
+    shared-slice-read-place
+    place-requires
+    returns
+    add-k
+    loop-less
+    loop-again
+    returns-2)

@@ -1,0 +1,32 @@
+use native.Mathlib.Omega.{arith}
+use mathlib.Core.Path.{_≡_, refl, ap, sym, _∙_}
+use Prim.Native.Nat.{ℕ, _+_, _-_, _*_, _≤_, _<_}
+use lib.ListN.{length, take, drop, getD, set, length-set}
+use mathlib.Core.List.{List, [], _∷_, _++_}
+use borrow.Author.Needs.{needs}
+use mathlib.Core.Bool.{true, false}
+use lib.Dec.{ltb}
+use borrow.Author.Tests.{lt-ltb, le-ltb}
+use Rattle.correction.proofs.right_entry.Statement.{statement}
+use Rattle.correction.proofs.right_entry.Tie as tie
+use Rattle.correction.proofs.right_entry.Reads as reads
+use Rattle.correction.proofs.right_entry.Lts as lts
+
+add-result : tie.Need-add-result
+add-result c = search needs
+
+array-read-result : tie.Need-array-read-result
+array-read-result c = search needs
+
+returns : tie.Need-returns
+returns c =
+    let e : ltb (c .before .args .r) (c .before .args .h) ≡ true = lt-ltb _ _ (c .if1 .taken) in
+    simp e
+
+returns-2 : tie.Need-returns-2
+returns-2 c =
+    let e : ltb (c .before .args .r) (c .before .args .h) ≡ false = le-ltb _ _ (c .if1 .left) in
+    simp e
+
+pub right-entry-spec : {M : Type 1} → statement M
+right-entry-spec = tie.close (tie.spec add-result array-read-result returns returns-2)

@@ -1,0 +1,70 @@
+use borrow.Author.Needs.{needs}
+use native.Mathlib.Omega.{arith}
+use mathlib.Core.Path.{_≡_, refl, ap, sym, _∙_}
+use Prim.Native.Nat.{ℕ, _+_, _-_, _*_, _≤_, _<_}
+use lib.ListN.{length, take, drop, getD, set, length-set}
+use mathlib.Core.List.{List, [], _∷_, _++_}
+use Rattle.field.specs.Field.{pow}
+use Rattle.correction.specs.ErrorValues.{Stripped}
+use Rattle.correction.proofs.Filtering.{stripped-start, stripped-next, stripped-end}
+use Rattle.correction.proofs.stripped.Statement.{statement}
+use Rattle.correction.proofs.stripped.Tie as tie
+use Rattle.correction.proofs.stripped.Reads as reads
+use Rattle.correction.proofs.stripped.Lts as lts
+use Rattle.correction.proofs.filtered.Reads as filtered-reads
+use Rattle.correction.proofs.place.Reads as place-reads
+use Rattle.field.proofs.power_by.Reads as power-by-reads
+
+abbrev Inv-loop : tie.InvT-loop
+Inv-loop powers logarithms marks t₀ k₀ t k = (k ≤ length marks) × Stripped t₀ marks k t
+
+abbrev μ-loop : tie.MeasureT-loop
+μ-loop powers logarithms marks t₀ k₀ t k = length marks - k
+
+loop-holds : tie.Need-loop-holds Inv-loop μ-loop
+loop-holds c = (omega arith, stripped-start _ _)
+
+shared-slice-read-place : tie.Need-shared-slice-read-place Inv-loop μ-loop
+shared-slice-read-place c = search needs
+
+place-requires : tie.Need-place-requires Inv-loop μ-loop
+place-requires c κs = search needs
+
+power-by-requires : tie.Need-power-by-requires Inv-loop μ-loop
+power-by-requires c κs = search needs
+
+filtered-requires : tie.Need-filtered-requires Inv-loop μ-loop
+filtered-requires c κs = search needs
+
+add-k : tie.Need-add-k Inv-loop μ-loop
+add-k c = search needs
+
+loop-less : tie.Need-loop-less Inv-loop μ-loop
+loop-less c = search needs
+
+loop-again : tie.Need-loop-again Inv-loop μ-loop
+loop-again c =
+    let l = c .before .before .before .before .before in (
+      omega arith,
+      stripped-next _ (l .before .before .args .marks .now) (l .loop .k) (c .before .power-by .result) (l .loop .t) _ (omega arith) (l .loop .inv .1)
+          (c .before .power-by .ensures ∙ ap pow (c .before .before .place .ensures)) (c .filtered .ensures),
+    )
+
+returns : tie.Need-returns Inv-loop μ-loop
+returns c = stripped-end _ _ (c .before .loop .k) _ (omega arith) (c .before .loop .inv .1)
+
+pub stripped-spec : {M : Type 1} → statement M
+stripped-spec =
+    tie.close
+    (tie.spec
+    Inv-loop
+    μ-loop
+    loop-holds
+    shared-slice-read-place
+    place-requires
+    power-by-requires
+    filtered-requires
+    add-k
+    loop-less
+    loop-again
+    returns)

@@ -1,0 +1,58 @@
+use native.Mathlib.Omega.{arith}
+use mathlib.Core.Path.{_≡_, refl, ap, sym, _∙_}
+use Prim.Native.Nat.{ℕ, _+_, _-_, _*_, _≤_, _<_}
+use lib.ListN.{length, take, drop, getD, set, length-set}
+use mathlib.Core.List.{List, [], _∷_, _++_}
+use borrow.Author.Needs.{needs}
+use mathlib.Core.Bool.{true, false}
+use lib.Dec.{ltb}
+use borrow.Author.Tests.{lt-ltb, le-ltb}
+use Rattle.correction.proofs.system_row.Statement.{statement}
+use Rattle.correction.proofs.system_row.Tie as tie
+use Rattle.correction.proofs.system_row.Reads as reads
+use Rattle.correction.proofs.system_row.Lts as lts
+
+array-read-t8 : tie.Need-array-read-t8
+array-read-t8 c = search needs
+
+add-t9 : tie.Need-add-t9
+add-t9 c = search needs
+
+array-read-t12 : tie.Need-array-read-t12
+array-read-t12 c = search needs
+
+add-t13 : tie.Need-add-t13
+add-t13 c = search needs
+
+array-read-t16 : tie.Need-array-read-t16
+array-read-t16 c = search needs
+
+add-t17 : tie.Need-add-t17
+add-t17 c = search needs
+
+array-read-t20 : tie.Need-array-read-t20
+array-read-t20 c = search needs
+
+returns : tie.Need-returns
+returns c =
+    let e : ltb (c .before .args .r) (c .before .args .h) ≡ true = lt-ltb _ _ (c .if1 .taken) in
+    simp e
+
+returns-2 : tie.Need-returns-2
+returns-2 c =
+    let e : ltb (c .before .args .r) (c .before .args .h) ≡ false = le-ltb _ _ (c .if1 .left) in
+    simp e
+
+pub system-row-spec : {M : Type 1} → statement M
+system-row-spec =
+    tie.close
+    (tie.spec
+    array-read-t8
+    add-t9
+    array-read-t12
+    add-t13
+    array-read-t16
+    add-t17
+    array-read-t20
+    returns
+    returns-2)
