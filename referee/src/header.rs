@@ -2,6 +2,7 @@
 //! eight sums S1 to S8 are zero. Byte i is the coefficient of X^i, bytes 0 to
 //! 7 are parity, and up to four altered bytes can be mended.
 
+use crate::erasures;
 use crate::field::{inverse, power_of_a, product};
 use crate::linear::bytes_with_sums;
 use crate::refusal;
@@ -78,28 +79,10 @@ pub fn parity_by_division(header: &Header) -> [u8; SUMS] {
 }
 
 /// The code word that differs from the header in at most four of its 96
-/// bytes, and in how many it differs; none if there is no such code word.
+/// bytes, and in how many it differs; none if there is no such code word. It
+/// is what correcting finds where no place is marked.
 pub fn correct(header: &Header) -> Option<(Header, u32)> {
-    let sums = syndromes(header);
-    let (locator, length) = shortest_recurrence(&sums);
-    if length > MENDABLE {
-        return None;
-    }
-    let places: Vec<usize> = (0..PLACES)
-        .filter(|&place| value_at(&locator, power_of_a(255 - place)) == 0)
-        .collect();
-    if places.len() != length {
-        return None;
-    }
-    let mut mended = *header;
-    for (&place, byte) in places.iter().zip(bytes_with_sums(&places, &sums)) {
-        mended[place] ^= byte;
-    }
-    let changed = differing(header, &mended);
-    if changed > MENDABLE || !is_code_word(&mended) {
-        return None;
-    }
-    Some((mended, changed as u32))
+    erasures::correct(header, &[])
 }
 
 /// In how many bytes two headers differ.
@@ -110,10 +93,11 @@ pub fn differing(one: &Header, other: &Header) -> usize {
 /// The shortest recurrence behind the sums (Berlekamp and Massey): with its
 /// length L and coefficients c0 = 1, c1 to cL, each sum from the L-th on
 /// fulfils Sn + c1 S(n-1) + ... + cL S(n-L) = 0. If the sums come from w
-/// altered bytes, w at most four, then L is w and the polynomial with these
-/// coefficients is zero exactly at a^-i for the altered places i.
-fn shortest_recurrence(sums: &[u8; SUMS]) -> (Vec<u8>, usize) {
-    let mut current = vec![0u8; SUMS + 2];
+/// altered bytes, w at most half as many as there are sums, then L is w and
+/// the polynomial with these coefficients is zero exactly at a^-i for the
+/// altered places i.
+pub fn shortest_recurrence(sums: &[u8]) -> (Vec<u8>, usize) {
+    let mut current = vec![0u8; sums.len() + 2];
     current[0] = 1;
     let mut length = 0;
     // The recurrence before the last lengthening, by how much it failed
@@ -121,7 +105,7 @@ fn shortest_recurrence(sums: &[u8; SUMS]) -> (Vec<u8>, usize) {
     let mut earlier = current.clone();
     let mut earlier_miss = 1;
     let mut steps = 1;
-    for n in 0..SUMS {
+    for n in 0..sums.len() {
         let mut miss = 0;
         for k in 0..=length {
             miss ^= product(current[k], sums[n - k]);
@@ -149,7 +133,7 @@ fn shortest_recurrence(sums: &[u8; SUMS]) -> (Vec<u8>, usize) {
 }
 
 /// The value of a polynomial, constant first, at a point.
-fn value_at(coefficients: &[u8], point: u8) -> u8 {
+pub fn value_at(coefficients: &[u8], point: u8) -> u8 {
     coefficients
         .iter()
         .rev()
@@ -173,10 +157,7 @@ pub fn header_of(pdu: &[u8]) -> Header {
 /// Mends the header of a lent PDU and answers how many bytes differed, or the
 /// number of the refusal; then the PDU is left as it was.
 pub fn mend_pdu(pdu: &mut [u8]) -> Result<u32, u32> {
-    check_length(pdu)?;
-    let (mended, changed) = correct(&header_of(pdu)).ok_or(refusal::BEYOND_MENDING)?;
-    pdu[..PLACES].copy_from_slice(&mended);
-    Ok(changed)
+    erasures::correct_pdu(pdu, &[])
 }
 
 /// Writes the parity into bytes 0 to 7 of a lent PDU, or answers the number

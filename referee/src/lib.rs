@@ -1,12 +1,14 @@
 //! The reference for the audio transport layer: the rules of document 01 in
 //! their plainest form, for the tests to compare the product with. It covers
 //! the header code, the CRC-8, reading without a receiver, the writer, the
-//! receiver, the packet log and the refusals 1 to 17:
+//! receiver, the packet log and the refusals 1 to 17; and of document 02,
+//! header bytes marked doubtful with refusal 19 (Ask 3):
 //!
 //! - `field`: the bytes as elements of GF(256);
 //! - `linear`: systems of linear equations over them;
 //! - `header`: sums, parity and mending of the first 96 bytes of a PDU;
-//! - `search`: mending again, by trying all sets of at most four places;
+//! - `erasures`: mending with places of the header marked;
+//! - `search`: mending again, by trying all sets of places;
 //! - `crc`: the CRC-8 of a piece;
 //! - `modes`: the modes and streams, and what they decide;
 //! - `control`, `locators`, `expansion`: the parts of a PDU before its PSD;
@@ -25,6 +27,7 @@
 pub mod control;
 pub mod crc;
 pub mod encode;
+pub mod erasures;
 pub mod expansion;
 pub mod field;
 pub mod header;

@@ -3,6 +3,7 @@
 //! the lowest of their numbers is the answer.
 
 use crate::control::{self, ControlWord};
+use crate::erasures;
 use crate::expansion::{self, Fields};
 use crate::header;
 use crate::locators;
@@ -45,7 +46,13 @@ impl Refusal {
 
 /// Reads a lent PDU. When accepted it is left mended, when refused as it was.
 pub fn read(pdu: &mut [u8]) -> Result<Reading, Refusal> {
-    let mended = mended(pdu);
+    read_marked(pdu, &[])
+}
+
+/// The same with places of the header marked, as a receiver reads a PDU that
+/// comes with marks. They are at most eight different places.
+pub fn read_marked(pdu: &mut [u8], marks: &[u8]) -> Result<Reading, Refusal> {
+    let mended = mended(pdu, marks);
     let view = mended.as_deref().map(View::of);
     let causes = causes(pdu, view.as_ref());
     if let Some(number) = causes.iter().map(|cause| cause.number()).min() {
@@ -58,11 +65,11 @@ pub fn read(pdu: &mut [u8]) -> Result<Reading, Refusal> {
 
 /// The PDU with its header mended; none if it hasn't a whole header, or one
 /// that is beyond mending.
-fn mended(pdu: &[u8]) -> Option<Vec<u8>> {
+pub fn mended(pdu: &[u8], marks: &[u8]) -> Option<Vec<u8>> {
     if pdu.len() < header::PLACES {
         return None;
     }
-    let (word, _) = header::correct(&header::header_of(pdu))?;
+    let (word, _) = erasures::correct(&header::header_of(pdu), marks)?;
     Some([&word, &pdu[header::PLACES..]].concat())
 }
 
@@ -86,7 +93,7 @@ fn causes(pdu: &[u8], view: Option<&View>) -> Vec<Cause> {
 }
 
 /// Refusal 3: the PDU length isn't 96 to 20,480.
-fn length_causes(length: usize) -> Vec<Cause> {
+pub fn length_causes(length: usize) -> Vec<Cause> {
     only_if(
         !(header::PLACES..=header::LONGEST).contains(&length),
         Cause::Length,

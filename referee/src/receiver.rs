@@ -1,10 +1,10 @@
-//! The receiver (document 01, "Receiver"), with the refusals 1 to 13. All
-//! causes for a refusal are gathered first; the lowest of their numbers is the
-//! answer.
+//! The receiver (document 01, "Receiver"; with marks, document 02, Ask 3), with
+//! the refusals 1 to 13 and 19. All causes for a refusal are gathered first; of
+//! their numbers the one checked first is the answer.
 
 use crate::control::{self, ControlWord};
 use crate::crc::crc8;
-use crate::header;
+use crate::erasures;
 use crate::log::{self, Entry, Note};
 use crate::modes;
 use crate::reading::{self, Reading};
@@ -49,7 +49,7 @@ pub fn open(mode: u8, stream: u8) -> Result<Receiver, u32> {
 /// The answer to receiving a PDU or marking one lost.
 #[derive(Clone, Debug, PartialEq, Eq)]
 pub struct Answer {
-    /// 0 if accepted, otherwise the lowest of the causes' numbers.
+    /// 0 if accepted, otherwise the first of the causes' numbers.
     pub refusal: u32,
     /// All causes for a refusal that can be told.
     pub causes: Vec<ReceiverCause>,
@@ -74,12 +74,34 @@ impl Answer {
 /// from its first on, and the carry begins with what is held now, if anything
 /// is. What else they hold is left as it was, and all of it when refused.
 pub fn receive(receiver: Receiver, carry: &mut [u8], pdu: &mut [u8], log: &mut [u32]) -> Answer {
+    receive_marked(receiver, carry, pdu, &[], log)
+}
+
+/// Receives a lent PDU of whose header some places are marked.
+pub fn receive_marked(
+    receiver: Receiver,
+    carry: &mut [u8],
+    pdu: &mut [u8],
+    marks: &[u8],
+    log: &mut [u32],
+) -> Answer {
     let mut mended = pdu.to_vec();
-    let reading = reading::read(&mut mended);
     let mut causes = state_causes(&receiver);
     causes.extend(carry_causes(carry.len()));
+    let wrong_marks = erasures::marks_causes(marks);
+    if !wrong_marks.is_empty() {
+        // What the PDU says can't be told.
+        causes.extend(
+            reading::length_causes(pdu.len())
+                .into_iter()
+                .map(ReceiverCause::Pdu),
+        );
+        causes.extend(wrong_marks.into_iter().map(ReceiverCause::Marks));
+        return refused(receiver, causes);
+    }
+    let reading = reading::read_marked(&mut mended, marks);
     causes.extend(pdu_causes(&reading));
-    causes.extend(opened_causes(&receiver, pdu));
+    causes.extend(opened_causes(&receiver, pdu, marks));
     // What would be logged can be told only if nothing else is wrong.
     let accepted = match reading {
         Ok(reading) if causes.is_empty() => {
@@ -134,7 +156,7 @@ pub fn mark_lost(receiver: Receiver, log: &mut [u32]) -> Answer {
 fn refused(receiver: Receiver, causes: Vec<ReceiverCause>) -> Answer {
     let numbers = causes.iter().map(|cause| cause.number());
     Answer {
-        refusal: numbers.min().expect("a cause"),
+        refusal: refusal::first(numbers).expect("a cause"),
         causes,
         words: 0,
         receiver,
@@ -187,8 +209,8 @@ fn pdu_causes(reading: &Result<Reading, reading::Refusal>) -> Vec<ReceiverCause>
 }
 
 /// Refusal 6: mode and stream of the mended PDU aren't those opened.
-fn opened_causes(receiver: &Receiver, pdu: &[u8]) -> Vec<ReceiverCause> {
-    match sent_word(pdu) {
+fn opened_causes(receiver: &Receiver, pdu: &[u8], marks: &[u8]) -> Vec<ReceiverCause> {
+    match sent_word(pdu, marks) {
         Some(word) if (word.mode, word.stream) != (receiver.mode, receiver.stream) => {
             vec![ReceiverCause::NotThoseOpened]
         }
@@ -198,11 +220,8 @@ fn opened_causes(receiver: &Receiver, pdu: &[u8]) -> Vec<ReceiverCause> {
 
 /// The control word of the PDU when mended; none if it hasn't a whole header,
 /// or one that is beyond mending.
-fn sent_word(pdu: &[u8]) -> Option<ControlWord> {
-    if pdu.len() < header::PLACES {
-        return None;
-    }
-    let (mended, _) = header::correct(&header::header_of(pdu))?;
+fn sent_word(pdu: &[u8], marks: &[u8]) -> Option<ControlWord> {
+    let mended = reading::mended(pdu, marks)?;
     let bytes = mended[control::FIRST..control::FIRST + control::BYTES]
         .try_into()
         .expect("six bytes");
@@ -364,6 +383,7 @@ fn piece_number(word: &ControlWord, k: usize) -> u8 {
 mod tests {
     use super::*;
     use crate::encode::{Parts, Piece};
+    use crate::header;
     use crate::locators;
     use crate::modes::TABLE;
     use crate::refusal::Cause;
@@ -875,7 +895,10 @@ mod tests {
         lengths[0] = 100;
         lengths[64] = 1_000;
         let pdus = sent(&lengths, &[(96, 1), (400, 33), (400, 32), (900, 1)]);
-        let words: Vec<ControlWord> = pdus.iter().map(|pdu| sent_word(pdu).unwrap()).collect();
+        let words: Vec<ControlWord> = pdus
+            .iter()
+            .map(|pdu| sent_word(pdu, &[]).unwrap())
+            .collect();
         assert!(words[0].plast && words[3].pfirst);
         assert_eq!((words[0].sequence, words[3].sequence), (0, 1));
         assert_eq!((words[0].start, words[3].start), (0, 1));
@@ -1036,5 +1059,87 @@ mod tests {
         assert_eq!(once(fresh, &carry, &pdu[..95], 0).answer.refusal, 3);
         pdu[20..40].fill(0xFF);
         assert_eq!(once(fresh, &carry, &pdu, 0).answer.refusal, 4);
+    }
+
+    /// Receives the PDU with these marks once and looks at what must not
+    /// change.
+    fn with_marks(receiver: Receiver, carry: &[u8], pdu: &[u8], marks: &[u8]) -> (Answer, Vec<u8>) {
+        let mut lent = pdu.to_vec();
+        let mut lent_carry = carry.to_vec();
+        let mut log = vec![UNTOUCHED; LOG_WORDS];
+        let answer = receive_marked(receiver, &mut lent_carry, &mut lent, marks, &mut log);
+        assert!(log[answer.words..].iter().all(|&word| word == UNTOUCHED));
+        if answer.refusal != 0 {
+            assert_eq!((answer.words, answer.receiver), (0, receiver));
+            assert_eq!((&lent[..], &lent_carry[..]), (pdu, carry));
+        }
+        (answer, lent)
+    }
+
+    /// Eight bytes altered and marked, among them those that say mode, stream
+    /// and NOP; with one mark less it can't be mended.
+    #[test]
+    fn marked_places() {
+        let right = pdu(word(1, false, true, 7), &[9], &[(&[1, 2], 0), (&[3], 0)]);
+        let marks = [8, 9, 11, 12, 13, 0, 95, 40];
+        let mut damaged = right.clone();
+        for mark in marks {
+            damaged[usize::from(mark)] ^= 0xFF;
+        }
+        let fresh = open(0, 0).unwrap();
+        let (answer, mended) = with_marks(fresh, &carry_with(&[]), &damaged, &marks);
+        assert_eq!(answer.causes, []);
+        assert_eq!(mended, right);
+        let got = receive_from(fresh, &carry_with(&[]), &right);
+        assert_eq!(answer, got.answer);
+        // Seven marks can't explain an eighth byte, nor can none.
+        for marks in [&marks[..7], &[]] {
+            let (answer, _) = with_marks(fresh, &carry_with(&[]), &damaged, marks);
+            assert_eq!(answer.causes, [ReceiverCause::Pdu(Cause::BeyondMending)]);
+        }
+        // Of another mode than the receiver's, once it is mended.
+        let other = open(1, 0).unwrap();
+        let (answer, _) = with_marks(other, &carry_with(&[]), &damaged, &marks);
+        assert_eq!(answer.causes, [ReceiverCause::NotThoseOpened]);
+    }
+
+    /// 1, 2, 3, then 19, then 4 and the others.
+    #[test]
+    fn order_of_19() {
+        use refusal::MarksCause::{MoreThanEight, Over95, Repeated};
+        let control = ControlWord {
+            mode: 5,
+            ..ControlWord::default()
+        };
+        let mut pdu = vec![0; 96];
+        let parts = Parts {
+            control,
+            locator_bits: 16,
+            ..Parts::default()
+        };
+        parts.encode(&mut pdu);
+        let fresh = open(0, 0).unwrap();
+        let carry = carry_with(&[]);
+        let wrong = Receiver {
+            number: 64,
+            ..fresh
+        };
+        let nine: Vec<u8> = (0..9).collect();
+        assert_eq!(with_marks(wrong, &[], &pdu[..95], &nine).0.refusal, 1);
+        assert_eq!(with_marks(fresh, &[], &pdu[..95], &nine).0.refusal, 2);
+        assert_eq!(with_marks(fresh, &carry, &pdu[..95], &nine).0.refusal, 3);
+        for (marks, cause) in [
+            (&nine[..], MoreThanEight),
+            (&[1, 96], Over95),
+            (&[5, 1, 5], Repeated),
+        ] {
+            let (answer, _) = with_marks(fresh, &carry, &pdu, marks);
+            assert_eq!(answer.refusal, 19);
+            assert_eq!(answer.causes, [ReceiverCause::Marks(cause)]);
+        }
+        assert_eq!(with_marks(fresh, &carry, &pdu, &nine[..8]).0.refusal, 5);
+        pdu[20..40].fill(0xFF);
+        assert_eq!(with_marks(fresh, &carry, &pdu, &nine).0.refusal, 19);
+        assert_eq!(with_marks(fresh, &carry, &pdu, &[1]).0.refusal, 4);
     }
 }

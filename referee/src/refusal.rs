@@ -1,6 +1,6 @@
 //! The numbers of the table of refusals, and the causes its rows name. Where
-//! several apply, the lowest number is answered, and a refusal changes nothing
-//! that was lent.
+//! several apply, the lowest number is answered, but 19 directly after 3; and a
+//! refusal changes nothing that was lent.
 
 /// A field of a lent state is outside its range.
 pub const STATE: u32 = 1;
@@ -12,7 +12,8 @@ pub const CARRY: u32 = 2;
 /// 12-bit locators.
 pub const LENGTH: u32 = 3;
 
-/// No code word differs from the header in at most four bytes.
+/// No code word differs from the header in at most four bytes; with marks: for
+/// none is twice the differing unmarked bytes plus the marks at most eight.
 pub const BEYOND_MENDING: u32 = 4;
 
 /// Mode and stream aren't in the table of modes.
@@ -56,6 +57,25 @@ pub const PSD: u32 = 16;
 
 /// The overhead leaves no room.
 pub const OVERHEAD: u32 = 17;
+
+/// More than eight marks, one over 95, or one repeated (document 02, Ask 3).
+pub const MARKS: u32 = 19;
+
+/// Which of these numbers is answered: the lowest, but 19 directly after 3.
+pub fn first(numbers: impl Iterator<Item = u32>) -> Option<u32> {
+    numbers.min_by_key(|&number| match number {
+        MARKS => (LENGTH, MARKS),
+        other => (other, 0),
+    })
+}
+
+/// Each single cause for turning down a list of marks.
+#[derive(Clone, Copy, Debug, PartialEq, Eq, PartialOrd, Ord)]
+pub enum MarksCause {
+    MoreThanEight,
+    Over95,
+    Repeated,
+}
 
 /// Each single cause for turning down a PDU that is read without a receiver.
 #[derive(Clone, Copy, Debug, PartialEq, Eq, PartialOrd, Ord)]
@@ -195,6 +215,7 @@ pub enum ReceiverCause {
     /// The number is not 0 where nothing is held.
     NumberNotHeld,
     CarryUnder4096,
+    Marks(MarksCause),
     /// What reading the PDU without a receiver turns down.
     Pdu(Cause),
     NotThoseOpened,
@@ -208,6 +229,7 @@ impl ReceiverCause {
         match self {
             ModeAndStream | Sequence | Held | Number | SequenceNotKnown | NumberNotHeld => STATE,
             CarryUnder4096 => CARRY,
+            Marks(_) => MARKS,
             Pdu(cause) => cause.number(),
             NotThoseOpened => NOT_THOSE_OPENED,
             LogTooShort => LOG,

@@ -1,6 +1,8 @@
 //! Mending by trying everything: all code words that differ from a header in
 //! at most four of its 96 bytes, found by going through all sets of at most
-//! four places. Slow, and meant for a sample of the cases only.
+//! four places; with marked places, all code words for which twice the
+//! differing unmarked bytes plus the marks is at most eight. Slow with few
+//! marks, and then meant for a sample of the cases only.
 //!
 //! What a set of places can explain is told by striking places out. A byte at
 //! place i adds b, b p, b p^2, ... to consecutive sums, where p = a^i.
@@ -9,9 +11,9 @@
 //! bytes at w places, w at most 8, have the given eight sums exactly when
 //! striking out the w places leaves only zeros.
 
+use crate::erasures::{differing_unmarked, strike_out, with_bytes_changed, BOUND};
 use crate::field::{power_of_a, product};
-use crate::header::{differing, is_code_word, syndromes, Header, MENDABLE, PLACES, SUMS};
-use crate::linear::bytes_with_sums;
+use crate::header::{differing, is_code_word, syndromes, Header, PLACES, SUMS};
 
 /// Each byte times a^i for each place i, worked out beforehand.
 pub struct Search {
@@ -42,21 +44,32 @@ impl Search {
     /// Every code word that differs from the header in at most four bytes,
     /// with the number of differing bytes, those with fewer first.
     pub fn near_code_words(&self, header: &Header) -> Vec<(Header, u32)> {
+        self.within_bound(header, &[])
+    }
+
+    /// Every code word for which twice the differing unmarked bytes plus the
+    /// count of marks is at most eight, with the number of all differing
+    /// bytes, those with fewer unmarked ones first. The marks are at most
+    /// eight different places.
+    pub fn within_bound(&self, header: &Header, marks: &[u8]) -> Vec<(Header, u32)> {
         let sums = syndromes(header);
         let mut found = Found {
             header,
+            marks,
             sums,
             sets: Vec::new(),
             words: Vec::new(),
         };
-        for size in 0..=MENDABLE {
-            self.visit(size, 0, &sums, &mut Vec::new(), &mut found);
+        let left = strike_out(&sums, marks);
+        for size in 0..=(BOUND - marks.len()) / 2 {
+            self.visit(size, 0, &left, &mut Vec::new(), &mut found);
         }
         found.words
     }
 
-    /// Goes through all sets that have `more` places from `first` on besides
-    /// the chosen ones; `left` is what striking out the chosen ones leaves.
+    /// Goes through all sets that have `more` unmarked places from `first` on
+    /// besides the chosen ones; `left` is what striking out these and the
+    /// marked ones leaves.
     fn visit(
         &self,
         more: usize,
@@ -82,7 +95,7 @@ impl Search {
             return;
         }
         for (place, &in_front) in front.iter().enumerate().skip(first) {
-            if more == 1 && in_front != left[1] {
+            if more == 1 && in_front != left[1] || found.marks.contains(&(place as u8)) {
                 continue;
             }
             let mut struck = [0; SUMS];
@@ -100,30 +113,32 @@ impl Search {
 /// The sets of places and code words found so far.
 struct Found<'a> {
     header: &'a Header,
+    marks: &'a [u8],
     sums: [u8; SUMS],
     sets: Vec<Vec<usize>>,
     words: Vec<(Header, u32)>,
 }
 
 impl Found<'_> {
-    /// Adds the code word reached by changing bytes at these places. The
-    /// bytes to add are determined by the places, so a set that contains an
-    /// earlier one leads to the same code word and is passed over.
+    /// Adds the code word reached by changing bytes at these places and the
+    /// marked ones. The bytes to add are determined by the places, so a set
+    /// that contains an earlier one leads to the same code word and is passed
+    /// over.
     fn add(&mut self, places: &[usize]) {
         let known = |set: &Vec<usize>| set.iter().all(|place| places.contains(place));
         if self.sets.iter().any(known) {
             return;
         }
-        let mut word = *self.header;
-        for (&place, byte) in places.iter().zip(bytes_with_sums(places, &self.sums)) {
-            assert_ne!(byte, 0, "a smaller set would have been found before");
-            word[place] ^= byte;
-        }
+        let marked = self.marks.iter().map(|&mark| usize::from(mark));
+        let changed: Vec<usize> = marked.chain(places.iter().copied()).collect();
+        let word = with_bytes_changed(self.header, &changed, &self.sums);
         assert!(is_code_word(&word));
-        let changed = differing(self.header, &word);
-        assert_eq!(changed, places.len());
+        // A smaller set would have been found before.
+        let unmarked = differing_unmarked(self.header, &word, self.marks);
+        assert_eq!(unmarked, places.len());
         self.sets.push(places.to_vec());
-        self.words.push((word, changed as u32));
+        let changed = differing(self.header, &word) as u32;
+        self.words.push((word, changed));
     }
 }
 

@@ -937,7 +937,10 @@ fn opening() {
 fn compare_opening(mode: u8, stream: u8, wanted: Result<Writer, u32>) {
     let right = product::writer::Opened {
         refusal: wanted.err().unwrap_or(0),
-        writer: trial::writer_for(&wanted.unwrap_or(Writer { mode: 255, ..Writer::default() })),
+        writer: trial::writer_for(&wanted.unwrap_or(Writer {
+            mode: 255,
+            ..Writer::default()
+        })),
     };
     let answer = product::writer::open(mode, stream);
     assert_eq!(answer, right, "mode {mode}, stream {stream}");

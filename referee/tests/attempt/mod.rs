@@ -377,7 +377,10 @@ pub mod against_product {
     pub fn open(mode: u8, stream: u8, wanted: Result<Receiver, u32>) {
         let right = product::Opened {
             refusal: wanted.err().unwrap_or(0),
-            receiver: receiver_for(&wanted.unwrap_or(Receiver { mode: 255, ..Receiver::default() })),
+            receiver: receiver_for(&wanted.unwrap_or(Receiver {
+                mode: 255,
+                ..Receiver::default()
+            })),
         };
         let answer = product::open(mode, stream);
         assert_eq!(answer, right, "mode {mode}, stream {stream}");
