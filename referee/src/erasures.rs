@@ -206,7 +206,7 @@ mod tests {
                         assert_eq!(answer, [(word, (marked + unmarked) as u32)]);
                     }
                     none[marks.len()] += u32::from(answer.is_empty());
-                    if marks.len() > 0 || round == 0 {
+                    if !marks.is_empty() || round == 0 {
                         assert_eq!(search.within_bound(&header, &marks), answer);
                     }
                     if marks.len() > 4 || marks.len() > 2 && round == 0 {

@@ -15,9 +15,16 @@ use crate::erasures::{differing_unmarked, strike_out, with_bytes_changed, BOUND}
 use crate::field::{power_of_a, product};
 use crate::header::{differing, is_code_word, syndromes, Header, PLACES, SUMS};
 
-/// Each byte times a^i for each place i, worked out beforehand.
+/// No place.
+const NONE: u8 = 255;
+
+/// What the search needs again and again, worked out beforehand.
 pub struct Search {
+    /// Each byte times a^i for each place i.
     times: Vec<[u8; PLACES]>,
+    /// For each byte other than 0 and each product: the place i for which the
+    /// byte times a^i is the product.
+    place_for: Vec<[u8; 256]>,
 }
 
 impl Default for Search {
@@ -29,16 +36,19 @@ impl Default for Search {
 impl Search {
     /// Works out the products.
     pub fn new() -> Search {
-        let times = (0..=255)
-            .map(|value| {
-                let mut row = [0; PLACES];
-                for (place, entry) in row.iter_mut().enumerate() {
-                    *entry = product(value, power_of_a(place));
+        let mut times = vec![[0; PLACES]; 256];
+        let mut place_for = vec![[NONE; 256]; 256];
+        for value in 0..=255 {
+            let index = usize::from(value);
+            for place in 0..PLACES {
+                let times_power = product(value, power_of_a(place));
+                times[index][place] = times_power;
+                if value != 0 {
+                    place_for[index][usize::from(times_power)] = place as u8;
                 }
-                row
-            })
-            .collect();
-        Search { times }
+            }
+        }
+        Search { times, place_for }
     }
 
     /// Every code word that differs from the header in at most four bytes,
@@ -88,14 +98,18 @@ impl Search {
         if more == 0 {
             return;
         }
-        // The last place has to leave zeros, a zero in front among them, which
-        // hardly any place does.
-        let front = &self.times[usize::from(left[0])];
-        if more == 1 && !front[first..].contains(&left[1]) {
+        if more == 1 {
+            if let Some(place) = self.only_place(left) {
+                if place >= first && !found.is_marked(place) {
+                    chosen.push(place);
+                    found.add(chosen);
+                    chosen.pop();
+                }
+            }
             return;
         }
-        for (place, &in_front) in front.iter().enumerate().skip(first) {
-            if more == 1 && in_front != left[1] || found.marks.contains(&(place as u8)) {
+        for place in first..PLACES {
+            if found.is_marked(place) {
                 continue;
             }
             let mut struck = [0; SUMS];
@@ -107,6 +121,18 @@ impl Search {
             self.visit(more - 1, place + 1, &struck[..fewer], chosen, found);
             chosen.pop();
         }
+    }
+
+    /// The place of the one byte that sums come from which aren't all zero, if
+    /// they come from one: each is the one before it times a^i.
+    fn only_place(&self, left: &[u8]) -> Option<usize> {
+        let place = self.place_for[usize::from(left[0])][usize::from(left[1])];
+        if place == NONE {
+            return None;
+        }
+        let place = usize::from(place);
+        let follows = |pair: &[u8]| self.times[usize::from(pair[0])][place] == pair[1];
+        left.windows(2).all(follows).then_some(place)
     }
 }
 
@@ -120,6 +146,10 @@ struct Found<'a> {
 }
 
 impl Found<'_> {
+    fn is_marked(&self, place: usize) -> bool {
+        self.marks.contains(&(place as u8))
+    }
+
     /// Adds the code word reached by changing bytes at these places and the
     /// marked ones. The bytes to add are determined by the places, so a set
     /// that contains an earlier one leads to the same code word and is passed

@@ -46,6 +46,12 @@ mod c {
         pub fn barzhilup_parity(header: *const [u8; 96]) -> Parity;
         pub fn barzhilup_write_parity(pdu: *mut u8, length: usize) -> u32;
         pub fn barzhilup_correct_header(pdu: *mut u8, length: usize) -> Correction;
+        pub fn barzhilup_correct_header_marked(
+            pdu: *mut u8,
+            length: usize,
+            marks: *const u8,
+            count: usize,
+        ) -> Correction;
         pub fn barzhilup_crc8(bytes: *const u8, length: usize) -> u8;
         pub fn barzhilup_read(pdu: *mut u8, length: usize) -> super::Reading;
     }
@@ -170,6 +176,15 @@ pub fn write_parity(pdu: &mut [u8]) -> u32 {
 /// Mends a PDU's header; answers 0 or the refusal's number, and the count.
 pub fn correct_header(pdu: &mut [u8]) -> (u32, u32) {
     let answer = unsafe { c::barzhilup_correct_header(pdu.as_mut_ptr(), pdu.len()) };
+    (answer.refusal, answer.corrected)
+}
+
+/// Mends a PDU's header with places marked; answers 0 or the refusal's number,
+/// and the count.
+pub fn correct_header_marked(pdu: &mut [u8], marks: &[u8]) -> (u32, u32) {
+    let answer = unsafe {
+        c::barzhilup_correct_header_marked(pdu.as_mut_ptr(), pdu.len(), marks.as_ptr(), marks.len())
+    };
     (answer.refusal, answer.corrected)
 }
 
