@@ -9,6 +9,7 @@ mod attempt;
 mod calls;
 mod drives;
 mod lent;
+mod noise;
 mod product;
 mod receptions;
 #[allow(dead_code)]
@@ -244,8 +245,8 @@ fn altered(total: &mut Outcomes) {
             ..Wish::default()
         };
         let mut reception = Reception::new(&mut class.rng, &wish);
-        reception.altered = case / TABLE.len() % 6;
-        if reception.altered <= 4 {
+        reception.noise.altered = case / TABLE.len() % 6;
+        if reception.noise.altered <= 4 {
             take(&mut class, &reception);
         } else {
             // Few of these are near another code word.

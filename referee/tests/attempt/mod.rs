@@ -1,13 +1,15 @@
 //! Tries receiving calls and marking lost: the reference's answer and lent
 //! buffers against what is known about the call, and the product's against the
 //! reference's, with every lent byte and word after the call and the guards.
-//! The product's calls are made twice, by value and in place.
+//! The product's calls are made twice, by value and in place; those with a list
+//! of marked places by value, and with an empty list as those without one too.
 
 use crate::lent::{Lent, LentLog};
+use referee::erasures;
 use referee::header::{self, PLACES};
 use referee::log::{self, Entry, Note};
 use referee::receiver::{self, Answer, Receiver};
-use referee::refusal::{Cause, ReceiverCause};
+use referee::refusal::{self, Cause, ReceiverCause};
 use referee::rng::Rng;
 use std::collections::BTreeMap;
 use std::panic::{catch_unwind, resume_unwind, AssertUnwindSafe};
@@ -17,7 +19,16 @@ use std::panic::{catch_unwind, resume_unwind, AssertUnwindSafe};
 pub struct Loan {
     pub carry: Lent,
     pub pdu: Lent,
+    /// The list of marked places; none for a call that takes no list.
+    pub marks: Option<Lent>,
     pub log: LentLog,
+}
+
+impl Loan {
+    /// The places that are marked.
+    pub fn marks(&self) -> &[u8] {
+        self.marks.as_ref().map_or(&[], |marks| marks.bytes())
+    }
 }
 
 /// What an accepted call has to answer and to leave.
@@ -254,8 +265,9 @@ impl Class {
             let pdu = loan.pdu.bytes();
             let shown = &pdu[..pdu.len().min(128)];
             let hex: String = shown.iter().map(|byte| format!("{byte:02x}")).collect();
+            let marks = loan.marks.as_ref().map(|marks| marks.bytes());
             format!(
-                ", carry of {}, log of {}, PDU of {}: {hex}",
+                ", carry of {}, log of {}, marks {marks:?}, PDU of {}: {hex}",
                 loan.carry.bytes().len(),
                 loan.log.words().len(),
                 pdu.len()
@@ -285,10 +297,11 @@ impl Class {
 /// Makes the receiving call and compares.
 fn received(receiver: Receiver, before: &Loan, known: &Known) -> Tried {
     let mut loan = before.clone();
-    let answer = receiver::receive(
+    let answer = receiver::receive_marked(
         receiver,
         loan.carry.bytes_mut(),
         loan.pdu.bytes_mut(),
+        before.marks(),
         loan.log.words_mut(),
     );
     let tried = Tried { answer, loan };
@@ -301,7 +314,10 @@ fn received(receiver: Receiver, before: &Loan, known: &Known) -> Tried {
     if let Known::Taken(wanted) = known {
         check_wanted(wanted, &tried);
     }
-    against_product::receive(receiver, before, &tried);
+    match &before.marks {
+        None => against_product::receive(receiver, before, &tried),
+        Some(marks) => against_product::receive_marked(receiver, before, marks, &tried),
+    }
     tried
 }
 
@@ -325,8 +341,8 @@ fn marked(receiver: Receiver, before: &LentLog, known: &Known) -> (Answer, LentL
 
 /// Compares the reference's answer with what is known about the call.
 fn check_answer(receiver: &Receiver, answer: &Answer, known: &Known) {
-    let lowest = answer.causes.iter().map(|cause| cause.number()).min();
-    assert_eq!(answer.refusal, lowest.unwrap_or(0));
+    let first = refusal::first(answer.causes.iter().map(|cause| cause.number()));
+    assert_eq!(answer.refusal, first.unwrap_or(0));
     if answer.refusal != 0 {
         assert_eq!((answer.words, answer.receiver), (0, *receiver));
     }
@@ -343,7 +359,11 @@ fn check_accepted(before: &Loan, tried: &Tried) {
     let Tried { answer, loan } = tried;
     let pdu = loan.pdu.bytes();
     assert!(header::is_code_word(&header::header_of(pdu)));
-    assert!(altered(before, tried) <= header::MENDABLE);
+    assert!(erasures::within_bound(
+        &header::header_of(before.pdu.bytes()),
+        &header::header_of(pdu),
+        before.marks()
+    ));
     assert_eq!(pdu[PLACES..], before.pdu.bytes()[PLACES..]);
     assert!(answer.words <= 8_216, "more than the worst case");
     let words = loan.log.words();
@@ -369,7 +389,7 @@ fn check_wanted(wanted: &Wanted, tried: &Tried) {
 
 /// Compares the product's calls with the reference's.
 pub mod against_product {
-    use super::{Answer, LentLog, Loan, Receiver, Tried};
+    use super::{Answer, Lent, LentLog, Loan, Receiver, Tried};
     use crate::product::receiver::{self as product, Place};
     use referee::refusal;
 
@@ -405,6 +425,28 @@ pub mod against_product {
         let answer = answer_in_place(stepped, &place);
         compare_answers("in place", answer, &wanted.answer);
         compare_loans("in place", &loan, &wanted.loan, answer);
+    }
+
+    /// Makes the receiving call with marks, by value, and compares as above; an
+    /// empty list is compared with the call that takes none as well.
+    pub fn receive_marked(receiver: Receiver, before: &Loan, marks: &Lent, wanted: &Tried) {
+        let receiver = receiver_for(&receiver);
+        let mut loan = before.clone();
+        let Loan {
+            carry, pdu, log, ..
+        } = &mut loan;
+        let answer = product::receive_marked(receiver, carry, pdu, marks, log);
+        compare_answers("with marks", answer, &wanted.answer);
+        compare_loans("with marks", &loan, &wanted.loan, answer);
+        if marks.bytes().is_empty() {
+            let mut loan = before.clone();
+            let Loan {
+                carry, pdu, log, ..
+            } = &mut loan;
+            let answer = product::receive(receiver, carry, pdu, log);
+            compare_answers("without a list", answer, &wanted.answer);
+            compare_loans("without a list", &loan, &wanted.loan, answer);
+        }
     }
 
     /// Marks a PDU lost, by value and in place, and compares answer and log.
@@ -466,6 +508,7 @@ pub mod against_product {
             "PDU {how}, answer {answer:?}: {}",
             loan.pdu.differences(&right.pdu)
         );
+        assert!(loan.marks == right.marks, "marks {how}, answer {answer:?}");
         compare_logs(how, &loan.log, &right.log, answer);
     }
 

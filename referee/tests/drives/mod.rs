@@ -4,12 +4,17 @@
 //! header altered, with refused calls in between as well. What the logs have
 //! to hold is told from the writing calls alone. Along with each drive goes a
 //! receiver of the product that is stepped in place all the way.
+//!
+//! In a run with marks (document 02, Ask 3) each received PDU comes with its own
+//! marked places, and its header is altered within their bound. Stepping in
+//! place takes no marks, so no receiver goes along.
 
 use crate::attempt::{against_product, Class, Known, Loan};
 use crate::calls::{self, some_bytes, some_packet, Call};
 use crate::lent::{Lent, LentLog};
+use crate::noise::{self, Noise};
 use crate::product::receiver::{self as product, Place};
-use crate::receptions::{self, spoil_state, spoilable};
+use crate::receptions::{self, spoil_state, spoilable, NUMBERS, NUMBERS_MARKED};
 use crate::spoiling;
 use crate::told::{self, Kinds};
 use referee::header::{self, LONGEST, PLACES};
@@ -322,6 +327,8 @@ pub struct Seen {
     pub lost: u64,
     /// Received, by how many bytes of the header were altered.
     pub altered: BTreeMap<usize, u64>,
+    /// Received with marks, by how many, and how many other bytes were altered.
+    pub marked: BTreeMap<(usize, usize), u64>,
     /// Lost PDUs in a row, by how many, those over 12 as 13.
     pub in_a_row: BTreeMap<usize, u64>,
     /// Two lost in a row where there are two sequences.
@@ -350,7 +357,8 @@ struct Drive<'a> {
     log: LentLog,
     /// The accepted calls' logs, joined.
     joined: Vec<u32>,
-    along: Stepped,
+    /// None in a run with marks.
+    along: Option<Stepped>,
 }
 
 /// The product's receiver, stepped in place from a drive's first call to its
@@ -387,7 +395,9 @@ impl Stepped {
 
     /// Makes a receiving call with another loan that is refused.
     fn refused(&mut self, mut loan: Loan, number: u32) {
-        let Loan { carry, pdu, log } = &mut loan;
+        let Loan {
+            carry, pdu, log, ..
+        } = &mut loan;
         let answer = product::receive_in_place(&mut self.place, carry, pdu, log);
         assert_eq!(answer.refusal, number, "in place");
         self.calls += 1;
@@ -402,7 +412,32 @@ impl Stepped {
 }
 
 /// Goes through a run of the list's PDUs, of which some are lost.
+#[allow(dead_code)]
 pub fn drive(class: &mut Class, seen: &mut Seen, list: &List, run: Range<usize>, lost: &[bool]) {
+    through(class, seen, list, run, lost, false);
+}
+
+/// Goes through a run, each received PDU with marks.
+#[allow(dead_code)]
+pub fn run_with_marks(
+    class: &mut Class,
+    seen: &mut Seen,
+    list: &List,
+    run: Range<usize>,
+    lost: &[bool],
+) {
+    through(class, seen, list, run, lost, true);
+}
+
+/// Goes through a run, with marks or without.
+fn through(
+    class: &mut Class,
+    seen: &mut Seen,
+    list: &List,
+    run: Range<usize>,
+    lost: &[bool],
+    marked: bool,
+) {
     assert_eq!(lost.len(), run.len());
     let line = list.line;
     let carry = receptions::some_carry(&mut class.rng);
@@ -410,15 +445,16 @@ pub fn drive(class: &mut Class, seen: &mut Seen, list: &List, run: Range<usize>,
     let receiver = receiver::open(line.mode, line.stream).expect("a line of the table");
     let carry = Lent::of(&mut class.rng, &carry);
     let log = LentLog::random(&mut class.rng, log);
+    let along = Stepped {
+        place: Place::of(product::open(line.mode, line.stream).receiver),
+        carry: carry.clone(),
+        log: log.clone(),
+        joined: Vec::new(),
+        calls: 0,
+    };
     let mut drive = Drive {
         receiver,
-        along: Stepped {
-            place: Place::of(product::open(line.mode, line.stream).receiver),
-            carry: carry.clone(),
-            log: log.clone(),
-            joined: Vec::new(),
-            calls: 0,
-        },
+        along: (!marked).then_some(along),
         carry,
         log,
         joined: Vec::new(),
@@ -480,25 +516,49 @@ fn check(drive: u64, list: &List, run: &Range<usize>, lost: &[bool], joined: &[u
 }
 
 impl Drive<'_> {
-    /// Receives the PDU, with up to four bytes of its header altered.
+    /// Whether PDUs come with marks.
+    fn marked(&self) -> bool {
+        self.along.is_none()
+    }
+
+    /// What can be corrected: up to four bytes altered; with marks, what their
+    /// bound allows.
+    fn noise(&mut self) -> Noise {
+        let marked = self.marked();
+        let rng = &mut self.class.rng;
+        if marked {
+            return Noise::within_bound(rng);
+        }
+        Noise::unmarked([0, 0, 4, rng.within(1, 4)][rng.below(4)])
+    }
+
+    /// Receives the PDU, with its header altered.
     fn receive(&mut self, pdu: &[u8]) {
-        let altered = [0, 0, 4, self.class.rng.within(1, 4)][self.class.rng.below(4)];
-        let loan = self.loan(pdu, altered);
-        self.along.receive(loan.pdu.clone());
+        let noise = self.noise();
+        let loan = self.loan(pdu, &noise);
+        if let Some(along) = &mut self.along {
+            along.receive(loan.pdu.clone());
+        }
         let tried = self.class.receive(self.receiver, loan, &Known::Accepted);
         assert_eq!(tried.loan.pdu.bytes(), pdu);
         self.receiver = tried.answer.receiver;
         self.carry = tried.loan.carry;
         self.log = tried.loan.log;
         self.joined.extend(&self.log.words()[..tried.answer.words]);
-        *self.seen.altered.entry(altered).or_default() += 1;
+        *self.seen.altered.entry(noise.in_all()).or_default() += 1;
+        if noise.marks.is_some() {
+            let counts = (noise.list().len(), noise.altered);
+            *self.seen.marked.entry(counts).or_default() += 1;
+        }
     }
 
     /// Marks a PDU lost.
     fn lose(&mut self) {
         let log = self.log.clone();
         let known = &Known::Accepted;
-        self.along.lose();
+        if let Some(along) = &mut self.along {
+            along.lose();
+        }
         let (answer, log) = self.class.mark_lost(self.receiver, log, known);
         self.receiver = answer.receiver;
         self.joined.extend(&log.words()[..answer.words]);
@@ -508,7 +568,9 @@ impl Drive<'_> {
     /// The receiver that was stepped in place all the way logged the same and
     /// is left the same, with its carry and its log.
     fn check_along(&mut self) {
-        let along = &self.along;
+        let Some(along) = &self.along else {
+            return;
+        };
         assert!(along.joined == self.joined, "logs in place");
         let right = Place::of(against_product::receiver_for(&self.receiver));
         assert_eq!(along.place, right, "receiver in place");
@@ -517,72 +579,107 @@ impl Drive<'_> {
         self.seen.stepped += along.calls;
     }
 
-    /// The PDU, so many bytes of its header altered, with carry and log.
-    fn loan(&mut self, pdu: &[u8], altered: usize) -> Loan {
+    /// The PDU, its header altered, with marks, carry and log.
+    fn loan(&mut self, pdu: &[u8], noise: &Noise) -> Loan {
         let mut pdu = Lent::of(&mut self.class.rng, pdu);
-        for place in self.class.rng.places(altered, 0, PLACES - 1) {
-            pdu.bytes_mut()[place] ^= self.class.rng.nonzero_byte();
+        if pdu.bytes().len() >= PLACES {
+            noise.alter(&mut self.class.rng, pdu.bytes_mut());
         }
+        let marks = noise.marks.as_ref();
         Loan {
             carry: self.carry.clone(),
             pdu,
+            marks: marks.map(|marks| Lent::of(&mut self.class.rng, marks)),
             log: self.log.clone(),
+        }
+    }
+
+    /// The PDU as it was sent; with marks, its header altered within their
+    /// bound.
+    fn correctable(&mut self, pdu: &[u8]) -> Loan {
+        let noise = match self.marked() {
+            true => self.noise(),
+            false => Noise::default(),
+        };
+        self.loan(pdu, &noise)
+    }
+
+    /// The number of a refusal for the next call.
+    fn some_number(&mut self) -> u32 {
+        let numbers: &[u32] = match self.marked() {
+            true => &NUMBERS_MARKED,
+            false => &NUMBERS,
+        };
+        match numbers[self.class.rng.below(numbers.len())] {
+            // All sequences that three bits can say are in a range of eight.
+            refusal::SEQUENCE if self.line().sequences == 8 => refusal::PIECES,
+            number => number,
         }
     }
 
     /// A call that is refused, with any other arguments than the receiver and
     /// the carry, or with those wrong. The PDU is the next of the run.
     fn refused_call(&mut self, next: &[u8]) {
-        let line = self.line();
-        let number = match self.class.rng.within(1, 13) as u32 {
-            // All sequences that three bits can say are in a range of eight.
-            refusal::SEQUENCE if line.sequences == 8 => refusal::PIECES,
-            number => number,
-        };
-        let refused = match number {
-            refusal::STATE | refusal::LOG if self.class.rng.below(2) == 0 => {
-                self.refused_marking(number);
-                None
-            }
-            refusal::STATE => {
-                let mut receiver = self.receiver;
-                spoil_state(&mut self.class.rng, &mut receiver);
-                let loan = self.loan(next, 0);
-                Some((receiver, loan))
-            }
-            refusal::CARRY => {
-                let mut loan = self.loan(next, 0);
-                let short = [0, 1, 4_095][self.class.rng.below(3)];
-                let carry = &self.carry.bytes()[..short];
-                loan.carry = Lent::of(&mut self.class.rng, carry);
-                Some((self.receiver, loan))
-            }
-            refusal::LENGTH => {
-                let mut pdu = next.to_vec();
-                pdu.resize([0, 95, LONGEST + 1][self.class.rng.below(3)], 0);
-                Some((self.receiver, self.loan(&pdu, 0)))
-            }
-            refusal::BEYOND_MENDING => {
-                let altered = self.class.rng.within(5, 60);
-                let loan = self.loan(next, altered);
-                let beyond = header::correct(&header::header_of(loan.pdu.bytes())).is_none();
-                beyond.then_some((self.receiver, loan))
-            }
-            refusal::LOG => self.too_short_a_log(next),
-            _ => {
-                let pdu = self.spoiled_pdu(number);
-                Some((self.receiver, self.loan(&pdu, 0)))
-            }
-        };
-        let Some((receiver, loan)) = refused else {
+        let number = self.some_number();
+        if matches!(number, refusal::STATE | refusal::LOG) && self.class.rng.below(2) == 0 {
+            self.refused_marking(number);
+            return;
+        }
+        let mut receiver = self.receiver;
+        if number == refusal::STATE {
+            spoil_state(&mut self.class.rng, &mut receiver);
+        }
+        let Some(loan) = self.refused_loan(number, next) else {
             return;
         };
-        if receiver == self.receiver {
-            self.along.refused(loan.clone(), number);
+        match &mut self.along {
+            Some(along) if receiver == self.receiver => along.refused(loan.clone(), number),
+            _ => {}
         }
         let tried = self.class.receive(receiver, loan, &Known::Number(number));
         assert_eq!(tried.answer.receiver, receiver);
         *self.seen.refused.entry(number).or_default() += 1;
+    }
+
+    /// What is lent to a call that is refused with this number, if the next PDU
+    /// of the run can be.
+    fn refused_loan(&mut self, number: u32, next: &[u8]) -> Option<Loan> {
+        match number {
+            refusal::STATE => Some(self.correctable(next)),
+            refusal::CARRY => {
+                let mut loan = self.correctable(next);
+                let short = [0, 1, 4_095][self.class.rng.below(3)];
+                let carry = &self.carry.bytes()[..short];
+                loan.carry = Lent::of(&mut self.class.rng, carry);
+                Some(loan)
+            }
+            refusal::LENGTH => {
+                let mut pdu = next.to_vec();
+                pdu.resize([0, 95, LONGEST + 1][self.class.rng.below(3)], 0);
+                Some(self.correctable(&pdu))
+            }
+            refusal::MARKS => {
+                let mut noise = self.noise();
+                let cause = noise::some_cause(&mut self.class.rng);
+                noise.spoil(&mut self.class.rng, cause);
+                Some(self.loan(next, &noise))
+            }
+            refusal::BEYOND_MENDING if self.marked() => {
+                let noise = Noise::beyond(&mut self.class.rng);
+                Some(self.loan(next, &noise))
+            }
+            refusal::BEYOND_MENDING => {
+                let noise = Noise::unmarked(self.class.rng.within(5, 60));
+                let loan = self.loan(next, &noise);
+                let beyond = header::correct(&header::header_of(loan.pdu.bytes())).is_none();
+                beyond.then_some(loan)
+            }
+            refusal::LOG => self.too_short_a_log(next),
+            _ => {
+                let pdu = self.spoiled_pdu(number);
+                Some(self.correctable(&pdu))
+            }
+        }
     }
 
     /// Marking lost with a wrong state, or with no log.
@@ -593,7 +690,9 @@ impl Drive<'_> {
             spoil_state(&mut self.class.rng, &mut receiver);
         } else {
             log = LentLog::random(&mut self.class.rng, 0);
-            self.along.refused_marking(log.clone(), number);
+            if let Some(along) = &mut self.along {
+                along.refused_marking(log.clone(), number);
+            }
         }
         let known = &Known::Number(number);
         self.class.mark_lost(receiver, log, known);
@@ -602,19 +701,20 @@ impl Drive<'_> {
 
     /// The next PDU with a log of fewer words than it writes, if it writes
     /// any.
-    fn too_short_a_log(&mut self, next: &[u8]) -> Option<(Receiver, Loan)> {
-        let mut loan = self.loan(next, 0);
+    fn too_short_a_log(&mut self, next: &[u8]) -> Option<Loan> {
+        let mut loan = self.correctable(next);
         let mut tried = loan.clone();
-        let answer = receiver::receive(
+        let answer = receiver::receive_marked(
             self.receiver,
             tried.carry.bytes_mut(),
             tried.pdu.bytes_mut(),
+            loan.marks(),
             tried.log.words_mut(),
         );
         let short = answer.words.checked_sub(1)?;
         let count = [short, self.class.rng.within(0, short)][self.class.rng.below(2)];
         loan.log = LentLog::random(&mut self.class.rng, count);
-        Some((self.receiver, loan))
+        Some(loan)
     }
 
     /// A PDU that is refused with this number, 5 to 12.

@@ -82,6 +82,17 @@ extern "C" {
         log: *mut u32,
         log_length: usize,
     ) -> Received;
+    fn barzhilup_receive_marked(
+        receiver: Receiver,
+        carry: *mut u8,
+        carry_length: usize,
+        pdu: *mut u8,
+        pdu_length: usize,
+        marks: *const u8,
+        count: usize,
+        log: *mut u32,
+        log_length: usize,
+    ) -> Received;
     fn barzhilup_mark_lost(receiver: Receiver, log: *mut u32, log_length: usize) -> Received;
     fn barzhilup_receive_in_place(
         receiver: *mut Receiver,
@@ -121,6 +132,33 @@ pub fn receive(
             carry.len(),
             pdu.as_mut_ptr(),
             pdu.len(),
+            log.as_mut_ptr(),
+            log.len(),
+        )
+    }
+}
+
+/// Receives a PDU of whose header some places are marked.
+pub fn receive_marked(
+    receiver: Receiver,
+    carry: &mut Lent,
+    pdu: &mut Lent,
+    marks: &Lent,
+    log: &mut LentLog,
+) -> Received {
+    let carry = carry.bytes_mut();
+    let pdu = pdu.bytes_mut();
+    let marks = marks.bytes();
+    let log = log.words_mut();
+    unsafe {
+        barzhilup_receive_marked(
+            receiver,
+            carry.as_mut_ptr(),
+            carry.len(),
+            pdu.as_mut_ptr(),
+            pdu.len(),
+            marks.as_ptr(),
+            marks.len(),
             log.as_mut_ptr(),
             log.len(),
         )

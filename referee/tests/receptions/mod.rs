@@ -3,6 +3,7 @@
 
 use crate::attempt::{Loan, Wanted};
 use crate::lent::{Lent, LentLog};
+use crate::noise::{self, Noise};
 use crate::samples::{Sample, Wish};
 use crate::told;
 use referee::encode::{Field, Piece};
@@ -22,8 +23,8 @@ pub struct Reception {
     pub sample: Sample,
     /// Bytes of the PDU that belong to no part.
     pub background: u8,
-    /// How many bytes of the header are altered.
-    pub altered: usize,
+    /// Which bytes of the header are altered, and which marked.
+    pub noise: Noise,
     /// How many words the log has; as many as are needed and some where
     /// nothing is said.
     pub log: Option<usize>,
@@ -64,7 +65,7 @@ impl Reception {
             carry: some_carry(rng),
             sample,
             background: [0, 0, 0xFF, rng.byte()][rng.below(4)],
-            altered: [0, 0, rng.within(1, 4)][rng.below(3)],
+            noise: Noise::unmarked([0, 0, rng.within(1, 4)][rng.below(3)]),
             log: None,
             cut: None,
         };
@@ -191,9 +192,7 @@ impl Reception {
         let mut pdu = Lent::of(rng, &self.pdu());
         let reach = pdu.bytes().len().min(PLACES);
         if reach == PLACES {
-            for place in rng.places(self.altered, 0, PLACES - 1) {
-                pdu.bytes_mut()[place] ^= rng.nonzero_byte();
-            }
+            self.noise.alter(rng, pdu.bytes_mut());
         }
         let log = self.log.unwrap_or_else(|| match rng.below(16) {
             0..=7 => needed,
@@ -203,6 +202,7 @@ impl Reception {
         Loan {
             carry: Lent::of(rng, &self.carry),
             pdu,
+            marks: self.noise.marks.as_ref().map(|marks| Lent::of(rng, marks)),
             log: LentLog::random(rng, log),
         }
     }
@@ -278,6 +278,10 @@ pub fn with_lengths(rng: &mut Rng, line: Line, psd: usize, lengths: &[usize]) ->
 /// The numbers that receiving can answer.
 pub const NUMBERS: [u32; 13] = [1, 2, 3, 4, 5, 6, 7, 8, 9, 10, 11, 12, 13];
 
+/// The numbers that receiving with marks can answer, in the order in which they
+/// are checked.
+pub const NUMBERS_MARKED: [u32; 14] = [1, 2, 3, 19, 4, 5, 6, 7, 8, 9, 10, 11, 12, 13];
+
 /// A line that can be spoiled for each of these numbers: with a one-bit
 /// sequence if 7 is among them.
 pub fn some_line(rng: &mut Rng, numbers: &[u32]) -> Line {
@@ -316,7 +320,14 @@ pub fn spoil(rng: &mut Rng, reception: &mut Reception, number: u32) {
             let short = [0, 1, 94, 95, rng.below(96)][rng.below(5)];
             reception.cut = Some([long, short, short][rng.below(3)]);
         }
-        refusal::BEYOND_MENDING => reception.altered = rng.within(5, 60),
+        refusal::BEYOND_MENDING if reception.noise.marks.is_some() => {
+            reception.noise = Noise::beyond(rng);
+        }
+        refusal::BEYOND_MENDING => reception.noise.altered = rng.within(5, 60),
+        refusal::MARKS => {
+            let cause = noise::some_cause(rng);
+            reception.noise.spoil(rng, cause);
+        }
         refusal::NOT_THOSE_OPENED => open_another(rng, reception),
         refusal::LOG => {
             let short = reception.wanted().words.len() - 1;
