@@ -40,11 +40,10 @@ impl Search {
         let mut place_for = vec![[NONE; 256]; 256];
         for value in 0..=255 {
             let index = usize::from(value);
-            for place in 0..PLACES {
-                let times_power = product(value, power_of_a(place));
-                times[index][place] = times_power;
+            for (place, entry) in times[index].iter_mut().enumerate() {
+                *entry = product(value, power_of_a(place));
                 if value != 0 {
-                    place_for[index][usize::from(times_power)] = place as u8;
+                    place_for[index][usize::from(*entry)] = place as u8;
                 }
             }
         }
