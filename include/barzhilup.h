@@ -2,8 +2,9 @@
  * Barzhilup: the audio transport layer of HD Radio, as a C library (libcapi.a,
  * and libpanel.a for the panel's functions).
  *
- * "Document 01" below is the paper with the rules; "001" is 1017s Rev. H, the
- * standard it is taken from.
+ * "Document 01" below is the paper with the rules, "document 02" the one with
+ * what was asked for after it; "001" is 1017s Rev. H, the standard that document
+ * 01 is taken from.
  *
  * What holds for every function here:
  *  - It ends on every input, allocates nothing, keeps nothing between calls and
@@ -13,13 +14,16 @@
  *    other elements are aligned as C aligns them. Buffers of one call must not
  *    overlap where one of them is written.
  *  - A refused call returns a number of the table in document 01, "What is
- *    turned down", and leaves every byte lent to it as it was. If several causes
- *    apply, the lowest number is returned.
+ *    turned down", or of document 02, and leaves every byte lent to it as it
+ *    was. If several causes apply, the lowest number is returned, except that 19
+ *    comes directly after 3.
  *
  * Where document 01 has a word of its own, these are the usual ones:
  *    correct        for "mend",
  *    uncorrectable  for "beyond mending",
- *    syndromes      for "the eight sums" of a header.
+ *    syndromes      for "the eight sums" of a header,
+ *    marked place   for a place whose byte is "marked doubtful" (document 02, Ask
+ *                   3): an erasure.
  */
 #ifndef BARZHILUP_H
 #define BARZHILUP_H
@@ -42,9 +46,14 @@ extern "C" {
  * are. (Document 01, "Header code".) */
 #define BARZHILUP_PARITY_BYTES 8
 
-/* The most bytes of a header that are corrected. (Document 01, "Header
- * code".) */
+/* The most bytes of a header that are corrected where no place is marked.
+ * (Document 01, "Header code".) */
 #define BARZHILUP_CORRECTED_MAX 4
+
+/* The most places of a header that can be marked; also the most bytes of it that
+ * are corrected with marks. A longer list is refused with
+ * BARZHILUP_REFUSED_MARKS. (Document 02, Ask 3.) */
+#define BARZHILUP_MARKS_MAX 8
 
 /* The shortest and the longest PDU, in bytes. Outside them a call is refused
  * with BARZHILUP_REFUSED_PDU_LENGTH. (Document 01, "What is turned down".) */
@@ -75,7 +84,7 @@ extern "C" {
  * bits. */
 #define BARZHILUP_READING_PIECES 64
 
-/* ---- Refusal numbers (document 01, "What is turned down") --------------- */
+/* ---- Refusal numbers (document 01, "What is turned down"; document 02) --- */
 
 /* Not refused. */
 #define BARZHILUP_ACCEPTED 0
@@ -91,7 +100,8 @@ extern "C" {
 #define BARZHILUP_REFUSED_PDU_LENGTH 3
 
 /* No code word differs from the header in at most four bytes (document 01:
- * "beyond mending"). */
+ * "beyond mending"). With marks: for no code word is twice the differing unmarked
+ * bytes plus the count of marks at most eight. */
 #define BARZHILUP_REFUSED_UNCORRECTABLE 4
 
 /* Mode and stream are not in the table of document 01, "Modes". */
@@ -141,6 +151,11 @@ extern "C" {
  * the overhead. */
 #define BARZHILUP_REFUSED_ROOM 17
 
+/* More than eight marks, one over 95, or one repeated. Checked directly after
+ * BARZHILUP_REFUSED_PDU_LENGTH, and before BARZHILUP_REFUSED_UNCORRECTABLE.
+ * (Document 02, Ask 3.) */
+#define BARZHILUP_REFUSED_MARKS 19
+
 /* ---- Header code (document 01, "Header code"; 001, 5.2.3.1) -------------- */
 
 /*
@@ -165,10 +180,10 @@ typedef struct {
 /* What came of correcting a header. */
 typedef struct {
     /* BARZHILUP_ACCEPTED, BARZHILUP_REFUSED_PDU_LENGTH or
-     * BARZHILUP_REFUSED_UNCORRECTABLE. */
+     * BARZHILUP_REFUSED_UNCORRECTABLE; with marks also BARZHILUP_REFUSED_MARKS. */
     uint32_t refusal;
-    /* How many bytes were wrong and have been set right, 0 to 4. 0 if
-     * refused. */
+    /* How many bytes were wrong and have been set right, marked ones among them:
+     * 0 to 4, with marks 0 to 8. 0 if refused. */
     uint32_t corrected;
 } barzhilup_correction_answer;
 
@@ -207,6 +222,29 @@ uint32_t barzhilup_write_parity(uint8_t *pdu, size_t length);
  */
 barzhilup_correction_answer
 barzhilup_correct_header(uint8_t *pdu, size_t length);
+
+/*
+ * Corrects the header of a PDU of which some places are marked, because whoever
+ * demodulated it guessed their bytes (document 02, Ask 3): the first 96 bytes
+ * become the one code word for which twice the differing unmarked bytes plus
+ * `count` is at most eight. Marked bytes may hold anything. Each mark costs one,
+ * also where its byte turns out to be right: with four marks two other bytes can
+ * be wrong, with seven or eight none; a header with eight marks is never
+ * uncorrectable. Later bytes stay as they are.
+ *
+ * `marks` is a list of `count` places, each 0 to 95, at most eight and none twice,
+ * in any order; it is only read. With `count` 0 this is
+ * barzhilup_correct_header.
+ *
+ * `refusal` is BARZHILUP_ACCEPTED, and `corrected` says in how many bytes, marked
+ * or not, the header differed from the code word. Or it is, the first of these
+ * that applies, BARZHILUP_REFUSED_PDU_LENGTH, BARZHILUP_REFUSED_MARKS, or
+ * BARZHILUP_REFUSED_UNCORRECTABLE where there is no such code word; then no byte
+ * has changed.
+ */
+barzhilup_correction_answer
+barzhilup_correct_header_marked(uint8_t *pdu, size_t length,
+                                const uint8_t *marks, size_t count);
 
 /* ---- CRC-8 (document 01, "Expansion, PSD, pieces"; 001, 5.2.3.2) --------- */
 
@@ -469,7 +507,7 @@ typedef struct {
 /* What came of receiving a PDU or marking one lost. */
 typedef struct {
     /* BARZHILUP_ACCEPTED, or a BARZHILUP_REFUSED_ number: 1 to 13 for receiving,
-     * 1 or 13 for marking lost. */
+     * with marks also 19; 1 or 13 for marking lost. */
     uint32_t refusal;
     /* With BARZHILUP_REFUSED_LOCATOR, the number k of a wrong locator, from 0;
      * otherwise 0. */
@@ -504,6 +542,23 @@ barzhilup_received barzhilup_receive(barzhilup_receiver receiver,
                                      uint8_t *carry, size_t carry_length,
                                      uint8_t *pdu, size_t pdu_length,
                                      uint32_t *log, size_t log_length);
+
+/*
+ * As barzhilup_receive, for a PDU of whose header some places are marked
+ * (document 02, Ask 3): the header is corrected as
+ * barzhilup_correct_header_marked corrects it. `marks` is a list of `count`
+ * places, each 0 to 95, at most eight and none twice; it is only read. Every call
+ * has its own list: those of the PDUs before make no difference. With `count` 0
+ * this is barzhilup_receive.
+ *
+ * It is refused as barzhilup_receive is, in this order: 1, 2, 3, 19, 4, 5 to 13.
+ * If it is refused, no byte and no word has changed.
+ */
+barzhilup_received barzhilup_receive_marked(barzhilup_receiver receiver,
+                                            uint8_t *carry, size_t carry_length,
+                                            uint8_t *pdu, size_t pdu_length,
+                                            const uint8_t *marks, size_t count,
+                                            uint32_t *log, size_t log_length);
 
 /*
  * Marks a PDU lost, in its place in the row of PDUs: logs note 6, one word,
