@@ -161,6 +161,12 @@ mod c {
         pub fn barzhilup_parity(header: *const [u8; HEADER_BYTES]) -> Values;
         pub fn barzhilup_write_parity(pdu: *mut u8, length: usize) -> u32;
         pub fn barzhilup_correct_header(pdu: *mut u8, length: usize) -> Correction;
+        pub fn barzhilup_correct_header_marked(
+            pdu: *mut u8,
+            length: usize,
+            marks: *const u8,
+            count: usize,
+        ) -> Correction;
         pub fn barzhilup_crc8(bytes: *const u8, length: usize) -> u8;
         pub fn barzhilup_read(pdu: *mut u8, length: usize) -> Reading;
         pub fn barzhilup_open_writer(mode: u8, stream: u8) -> WriterOpened;
@@ -183,6 +189,17 @@ mod c {
             carry_length: usize,
             pdu: *mut u8,
             pdu_length: usize,
+            log: *mut u32,
+            log_length: usize,
+        ) -> Received;
+        pub fn barzhilup_receive_marked(
+            receiver: Receiver,
+            carry: *mut u8,
+            carry_length: usize,
+            pdu: *mut u8,
+            pdu_length: usize,
+            marks: *const u8,
+            count: usize,
             log: *mut u32,
             log_length: usize,
         ) -> Received;
@@ -216,6 +233,15 @@ pub(crate) fn write_parity(pdu: &mut [u8]) -> u32 {
 pub(crate) fn correct_header(pdu: &mut [u8]) -> Correction {
     // SAFETY: a slice with its length, borrowed alone.
     unsafe { c::barzhilup_correct_header(pdu.as_mut_ptr(), pdu.len()) }
+}
+
+/// Corrects a PDU's header with places marked.
+pub(crate) fn correct_header_marked(pdu: &mut [u8], marks: &[u8]) -> Correction {
+    // SAFETY: slices with their lengths; the PDU, which is written, is borrowed
+    // alone.
+    unsafe {
+        c::barzhilup_correct_header_marked(pdu.as_mut_ptr(), pdu.len(), marks.as_ptr(), marks.len())
+    }
 }
 
 /// The CRC-8 of the bytes.
@@ -290,6 +316,31 @@ pub(crate) fn receive(
             carry.len(),
             pdu.as_mut_ptr(),
             pdu.len(),
+            log.as_mut_ptr(),
+            log.len(),
+        )
+    }
+}
+
+/// Receives a PDU with places of its header marked.
+pub(crate) fn receive_marked(
+    receiver: Receiver,
+    carry: &mut [u8],
+    pdu: &mut [u8],
+    marks: &[u8],
+    log: &mut [u32],
+) -> Received {
+    // SAFETY: slices with their lengths; those that are written are each
+    // borrowed alone.
+    unsafe {
+        c::barzhilup_receive_marked(
+            receiver,
+            carry.as_mut_ptr(),
+            carry.len(),
+            pdu.as_mut_ptr(),
+            pdu.len(),
+            marks.as_ptr(),
+            marks.len(),
             log.as_mut_ptr(),
             log.len(),
         )

@@ -1,5 +1,5 @@
 //! The header code and the CRC-8 (document 01, "Header code" and "Expansion,
-//! PSD, pieces"; 001, 5.2.3.1 and 5.2.3.2).
+//! PSD, pieces"; document 02, Ask 3; 001, 5.2.3.1 and 5.2.3.2).
 
 use crate::{ffi, Refusal, HEADER_BYTES, PARITY_BYTES};
 
@@ -47,6 +47,44 @@ pub fn write_parity(pdu: &mut [u8]) -> Result<(), Refusal> {
 /// ```
 pub fn correct_header(pdu: &mut [u8]) -> Result<usize, Refusal> {
     let answer = ffi::correct_header(pdu);
+    Refusal::check(answer.refusal, 0)?;
+    Ok(answer.corrected as usize)
+}
+
+/// Corrects the header of a PDU of which some places are marked, because whoever
+/// demodulated it guessed their bytes: its first 96 bytes become the one code
+/// word for which twice the differing unmarked bytes plus the count of marks is
+/// at most eight. Marked bytes may hold anything. Answers in how many bytes,
+/// marked or not, they differed, 0 to 8. (Document 02, Ask 3.)
+///
+/// `marks` has the marked places, each 0 to 95, at most eight and none twice, in
+/// any order. Each costs one, also where its byte turns out to be right: with
+/// four marks two other bytes can be wrong, with seven or eight none. A header
+/// with eight marks is never uncorrectable. With none this is
+/// [`correct_header`].
+///
+/// # Errors
+///
+/// The first of these that applies:
+/// [`Refusal::PduLength`]: the PDU has not 96 to 20,480 bytes.
+/// [`Refusal::Marks`]: more than eight marks, one over 95, or one repeated.
+/// [`Refusal::Uncorrectable`]: there is no such code word.
+///
+/// # Example
+///
+/// ```
+/// use barzhilup::{correct_header, correct_header_marked, Refusal};
+///
+/// let mut pdu = [0; 96]; // zeros are a code word
+/// for place in [8, 9, 10, 11, 60, 95] {
+///     pdu[place] = 0x5A;
+/// }
+/// assert_eq!(correct_header(&mut pdu), Err(Refusal::Uncorrectable));
+/// assert_eq!(correct_header_marked(&mut pdu, &[8, 9, 10, 11]), Ok(6));
+/// assert_eq!(pdu, [0; 96]);
+/// ```
+pub fn correct_header_marked(pdu: &mut [u8], marks: &[u8]) -> Result<usize, Refusal> {
+    let answer = ffi::correct_header_marked(pdu, marks);
     Refusal::check(answer.refusal, 0)?;
     Ok(answer.corrected as usize)
 }

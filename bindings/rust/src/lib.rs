@@ -5,7 +5,8 @@
 //!
 //! This crate is a thin layer over the C library `libcapi.a` and `libpanel.a`,
 //! which does the work. "Document 01" in these pages is the paper with the
-//! rules; "001" is 1017s Rev. H, the standard that it is taken from.
+//! rules, "document 02" the one with what was asked for after it; "001" is 1017s
+//! Rev. H, the standard that document 01 is taken from.
 //!
 //! # Example
 //!
@@ -36,10 +37,10 @@
 //! # Refusals
 //!
 //! A call that can't be done is refused: it answers with a [`Refusal`], which
-//! has the number of document 01's table "What is turned down". A refused call
-//! changes nothing: the PDU, the list of pieces, the [`Writer`] and the
-//! [`Receiver`] are as they were. If several causes apply, the refusal has the
-//! lowest number.
+//! has the number of document 01's table "What is turned down" or of document
+//! 02. A refused call changes nothing: the PDU, the list of pieces, the
+//! [`Writer`] and the [`Receiver`] are as they were. If several causes apply, the
+//! refusal has the lowest number, except that 19 comes directly after 3.
 //!
 //! Every call ends, on every input, and none panics.
 //!
@@ -63,7 +64,7 @@ mod receiver;
 mod refusal;
 mod writer;
 
-pub use header::{correct_header, crc8, parity, syndromes, write_parity};
+pub use header::{correct_header, correct_header_marked, crc8, parity, syndromes, write_parity};
 pub use log::{Bytes, Cause, Data, Entries, Entry, Log, MalformedLog};
 pub use mode::{Mode, Stream};
 pub use reading::{list_pieces, read, ControlWord, Expansion, Piece, Reading};
@@ -79,8 +80,13 @@ pub const HEADER_BYTES: usize = 96;
 /// are. (Document 01, "Header code".)
 pub const PARITY_BYTES: usize = 8;
 
-/// The most bytes of a header that are corrected. (Document 01, "Header code".)
+/// The most bytes of a header that are corrected where no place is marked.
+/// (Document 01, "Header code".)
 pub const CORRECTED_MAX: usize = 4;
+
+/// The most places of a header that can be marked; also the most bytes of it that
+/// are corrected with marks. (Document 02, Ask 3.)
+pub const MARKS_MAX: usize = 8;
 
 /// The shortest PDU, in bytes. (Document 01, "What is turned down".)
 pub const PDU_MIN: usize = 96;

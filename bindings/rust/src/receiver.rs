@@ -1,4 +1,4 @@
-//! The PDU receiver (document 01, "Receiver").
+//! The PDU receiver (document 01, "Receiver"; document 02, Ask 3).
 
 use crate::{ffi, Log, Mode, Refusal, Stream, CARRY_BYTES, LOG_WORDS};
 use std::fmt;
@@ -128,6 +128,45 @@ impl Receiver {
     /// Refused with 3 to 12; then the receiver and the PDU are as they were.
     pub fn receive(&mut self, pdu: &mut [u8]) -> Result<Log<'_>, Refusal> {
         let answer = ffi::receive(self.state.to_c(), &mut self.carry, pdu, &mut self.log);
+        self.step(answer)
+    }
+
+    /// Receives one PDU of whose header some places are marked, as
+    /// [`Receiver::receive`] does; the header is corrected as
+    /// [`correct_header_marked`](crate::correct_header_marked) corrects it.
+    /// (Document 02, Ask 3.)
+    ///
+    /// `marks` has the marked places of this PDU, each 0 to 95, at most eight and
+    /// none twice; those of other PDUs make no difference. With none this is
+    /// [`Receiver::receive`].
+    ///
+    /// # Errors
+    ///
+    /// Refused with 3, 19 or 4 to 12, in this order; then the receiver and the PDU
+    /// are as they were.
+    ///
+    /// # Example
+    ///
+    /// ```
+    /// use barzhilup::{Mode, Receiver, Settings, Stream, Writer};
+    ///
+    /// # fn main() -> Result<(), barzhilup::Refusal> {
+    /// let mut writer = Writer::open(Mode::M0, Stream::Core)?;
+    /// let mut receiver = Receiver::open(Mode::M0, Stream::Core)?;
+    /// let mut pdu = [0; 96];
+    /// writer.write(&Settings::default(), b"", &[b"audio"], &mut pdu)?;
+    /// let guessed = [1, 8, 12, 13, 14, 16, 20, 95];
+    /// for place in guessed {
+    ///     pdu[usize::from(place)] = 0xEE; // whatever the demodulator guessed
+    /// }
+    /// let log = receiver.receive_marked(&mut pdu, &guessed)?;
+    /// assert_eq!(log.entries().count(), 1);
+    /// # Ok(())
+    /// # }
+    /// ```
+    pub fn receive_marked(&mut self, pdu: &mut [u8], marks: &[u8]) -> Result<Log<'_>, Refusal> {
+        let state = self.state.to_c();
+        let answer = ffi::receive_marked(state, &mut self.carry, pdu, marks, &mut self.log);
         self.step(answer)
     }
 

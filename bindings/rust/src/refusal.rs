@@ -1,12 +1,13 @@
-//! Why a call is refused (document 01, "What is turned down").
+//! Why a call is refused (document 01, "What is turned down"; document 02).
 
 use std::error::Error;
 use std::fmt;
 
-/// Why a call was refused: a row of document 01's table "What is turned down".
+/// Why a call was refused: a row of document 01's table "What is turned down", or
+/// a number of document 02.
 ///
 /// A refused call has changed nothing. If several causes applied, this is the
-/// one with the lowest number.
+/// one with the lowest number, except that 19 comes directly after 3.
 #[derive(Clone, Copy, Debug, PartialEq, Eq, Hash)]
 pub enum Refusal {
     /// 1: a field of a writer's or receiver's state is outside its range.
@@ -16,7 +17,9 @@ pub enum Refusal {
     /// 3: the PDU's length is not 96 to 20,480; for a writer with locators of 12
     /// bits, it is over 4,096.
     PduLength,
-    /// 4: no code word differs from the header in at most four bytes.
+    /// 4: no code word differs from the header in at most four bytes; with marks:
+    /// for none is twice the differing unmarked bytes plus the count of marks at
+    /// most eight.
     Uncorrectable,
     /// 5: the mode and stream are not in the table of document 01, "Modes".
     Mode,
@@ -57,10 +60,13 @@ pub enum Refusal {
     /// 17: there is no room for a piece of one byte; with no packet offered, none
     /// for the overhead.
     Room,
+    /// 19: more than eight marks, one over 95, or one repeated (document 02, Ask
+    /// 3).
+    Marks,
 }
 
 impl Refusal {
-    /// The number in document 01's table, 1 to 17.
+    /// The number in document 01's table, 1 to 17, or in document 02, 19.
     pub const fn number(self) -> u32 {
         match self {
             Refusal::State => 1,
@@ -80,6 +86,7 @@ impl Refusal {
             Refusal::Packets => 15,
             Refusal::Psd => 16,
             Refusal::Room => 17,
+            Refusal::Marks => 19,
         }
     }
 
@@ -105,6 +112,7 @@ impl Refusal {
             15 => Refusal::Packets,
             16 => Refusal::Psd,
             17 => Refusal::Room,
+            19 => Refusal::Marks,
             _ => unreachable!("the library has no refusal {number}"),
         })
     }
@@ -115,7 +123,7 @@ impl Refusal {
             Refusal::State => "a field of the state is outside its range",
             Refusal::CarryLength => "the carry buffer has under 4,096 bytes",
             Refusal::PduLength => "a PDU can't have this length",
-            Refusal::Uncorrectable => "more than four bytes of the header are wrong",
+            Refusal::Uncorrectable => "more bytes of the header are wrong than can be corrected",
             Refusal::Mode => "no such mode and stream",
             Refusal::OtherMode => "the PDU is of another mode or stream than the receiver",
             Refusal::Sequence => "the PDU sequence is outside its mode's range",
@@ -133,6 +141,7 @@ impl Refusal {
             }
             Refusal::Psd => "too much PSD and expansion for the mode and stream",
             Refusal::Room => "the PDU has no room for a byte of a packet, or for its overhead",
+            Refusal::Marks => "more than eight marks, one over 95, or one repeated",
         }
     }
 }

@@ -1,9 +1,10 @@
-//! Drives: PDUs that are lost, damaged in up to four header bytes, or not what
-//! they should be, and the log that a receiver makes of them (document 01,
-//! "Receiver"; demand 3).
+//! Drives: PDUs that are lost, damaged in up to four header bytes (with marks,
+//! within their bound), or not what they should be, and the log that a receiver
+//! makes of them (document 01, "Receiver"; demand 3; document 02, Ask 3).
 
 use barzhilup::{
     read, Cause, Entry, Log, Mode, Receiver, Refusal, Settings, Stream, Writer, WriterState,
+    MARKS_MAX,
 };
 use std::ops::Range;
 
@@ -71,8 +72,34 @@ fn whole(packets: &[Vec<u8>], received: &[bool]) -> Vec<(u8, Vec<u8>)> {
     found
 }
 
+/// Receives a PDU with up to four bytes of its header altered.
+fn receive<'a>(random: &mut Random, receiver: &'a mut Receiver, pdu: &mut [u8]) -> Log<'a> {
+    let count = random.below(5);
+    random.alter(pdu, count);
+    receiver.receive(pdu).unwrap()
+}
+
+/// Receives a PDU with places of its header marked, and as many other bytes
+/// altered as these marks leave room for.
+fn receive_marked<'a>(random: &mut Random, receiver: &'a mut Receiver, pdu: &mut [u8]) -> Log<'a> {
+    let sent = pdu.to_vec();
+    let count = random.below(MARKS_MAX + 1);
+    let (marks, _) = random.alter_marked(pdu, count, (MARKS_MAX - count) / 2);
+    let twice = [&marks[..], &marks].concat();
+    if !marks.is_empty() {
+        let answer = receiver.receive_marked(pdu, &twice);
+        assert_eq!(answer, Err(Refusal::Marks));
+    }
+    let log = receiver.receive_marked(pdu, &marks).unwrap();
+    assert_eq!(pdu, sent);
+    log
+}
+
+/// How a PDU of a drive is received.
+type Receive = for<'a> fn(&mut Random, &'a mut Receiver, &mut [u8]) -> Log<'a>;
+
 /// One drive; answers how many packets were offered and how many arrived.
-fn drive(random: &mut Random, row: Row) -> (usize, usize) {
+fn drive(random: &mut Random, row: Row, receive: Receive) -> (usize, usize) {
     let packets = random.packets(150, 300);
     let pdus = write_all(random, row, &packets);
     let mut received = vec![false; packets.iter().map(Vec::len).sum()];
@@ -84,9 +111,7 @@ fn drive(random: &mut Random, row: Row) -> (usize, usize) {
             continue;
         }
         assert_eq!(receiver.receive(&mut bytes[..95]), Err(Refusal::PduLength));
-        let count = random.below(5);
-        random.alter(&mut bytes, count);
-        words.extend_from_slice(receiver.receive(&mut bytes).unwrap().words());
+        words.extend_from_slice(receive(random, &mut receiver, &mut bytes).words());
         received[sent].fill(true);
     }
     let arrived = packets_of(Log::new(&words).unwrap());
@@ -94,18 +119,28 @@ fn drive(random: &mut Random, row: Row) -> (usize, usize) {
     (packets.len(), arrived.len())
 }
 
-#[test]
-fn the_log_holds_exactly_what_arrived_whole() {
-    let mut random = Random::new(3);
+/// Drives in each mode and stream, some packets of which arrive and some don't.
+fn drives(seed: u64, receive: Receive) {
+    let mut random = Random::new(seed);
     for row in TABLE {
         let (mut offered, mut arrived) = (0, 0);
         for _ in 0..10 {
-            let (some, whole) = drive(&mut random, row);
+            let (some, whole) = drive(&mut random, row, receive);
             offered += some;
             arrived += whole;
         }
         assert!(arrived > offered / 4 && arrived < offered, "{row:?}");
     }
+}
+
+#[test]
+fn the_log_holds_exactly_what_arrived_whole() {
+    drives(3, receive);
+}
+
+#[test]
+fn so_it_does_with_marks() {
+    drives(19, receive_marked);
 }
 
 /// A PDU of 96 bytes of mode 0, core, from this sequence, number and count of

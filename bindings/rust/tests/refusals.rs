@@ -1,9 +1,10 @@
-//! Each refusal of document 01, "What is turned down": its number, and that a
-//! refused call changes nothing.
+//! Each refusal of document 01, "What is turned down", and of document 02: its
+//! number, and that a refused call changes nothing.
 
 use barzhilup::{
-    correct_header, list_pieces, read, write_parity, Mode, Piece, ProgramType, Reading, Receiver,
-    ReceiverState, Refusal, Services, Settings, Stream, Writer, WriterState,
+    correct_header, correct_header_marked, list_pieces, read, write_parity, Mode, Piece,
+    ProgramType, Reading, Receiver, ReceiverState, Refusal, Services, Settings, Stream, Writer,
+    WriterState,
 };
 
 mod common;
@@ -223,6 +224,81 @@ fn n4_uncorrectable() {
         }
     }
     assert!(uncorrectable >= 90);
+}
+
+/// The refusal that correcting and receiving this PDU with these marks answer
+/// alike, with nothing changed.
+fn refused_marked(pdu: &[u8], marks: &[u8]) -> Refusal {
+    let mut lent = pdu.to_vec();
+    let refusal = correct_header_marked(&mut lent, marks).unwrap_err();
+    let mut receiver = receiver_in_the_midst();
+    let kept = receiver.clone();
+    assert_eq!(receiver.receive_marked(&mut lent, marks), Err(refusal));
+    assert_eq!(receiver, kept);
+    assert_eq!(receiver.carry(), kept.carry());
+    assert_eq!(lent, pdu);
+    refusal
+}
+
+/// Each count of marks with as many other bytes altered as the bound allows; of
+/// an odd count one more is always too much.
+#[test]
+fn n4_with_marks() {
+    let clean = two_pieces(plain());
+    let mut random = Random::new(34);
+    for marks in 0..=8 {
+        let most = (8 - marks) / 2;
+        for _ in 0..50 {
+            let mut pdu = clean;
+            let (list, altered) = random.alter_marked(&mut pdu, marks, most);
+            assert_eq!(correct_header_marked(&mut pdu, &list), Ok(altered));
+            assert_eq!(pdu, clean);
+            if marks % 2 == 1 {
+                let (list, _) = random.alter_marked(&mut pdu, marks, most + 1);
+                assert_eq!(refused_marked(&pdu, &list), Refusal::Uncorrectable);
+            }
+        }
+    }
+    // Marks on right bytes cost too.
+    let mut pdu = clean;
+    random.alter(&mut pdu, 4);
+    let right = (0..96).find(|&place| pdu[place] == clean[place]).unwrap() as u8;
+    assert_eq!(refused_marked(&pdu, &[right]), Refusal::Uncorrectable);
+    assert_eq!(correct_header(&mut pdu), Ok(4));
+}
+
+/// Nine marks, a place over 95, one repeated: directly after 3 and before 4, and
+/// also where the header is a code word.
+#[test]
+fn n19_marks() {
+    let clean = two_pieces(plain());
+    let mut beyond = clean;
+    beyond[20..60].fill(0xA7);
+    assert_eq!(refused(beyond.into()), Refusal::Uncorrectable);
+    let nine = [0, 1, 2, 3, 4, 5, 6, 7, 8];
+    let wrong: [&[u8]; 8] = [
+        &nine,
+        &[96],
+        &[255],
+        &[0, 1, 2, 3, 4, 5, 6, 96],
+        &[7, 7],
+        &[95, 3, 4, 5, 6, 7, 8, 95],
+        &[0, 9, 0],
+        &[40; 300],
+    ];
+    for marks in wrong {
+        for pdu in [clean, beyond] {
+            assert_eq!(refused_marked(&pdu, marks), Refusal::Marks, "{marks:?}");
+            let short = refused_marked(&pdu[..95], marks);
+            assert_eq!(short, Refusal::PduLength, "{marks:?}");
+        }
+    }
+    assert_eq!(refused_marked(&[1; 20_481], &nine), Refusal::PduLength);
+    let mut pdu = clean;
+    assert_eq!(correct_header_marked(&mut pdu, &nine[1..]), Ok(0));
+    assert_eq!(correct_header_marked(&mut pdu, &[95, 0]), Ok(0));
+    assert_eq!(Refusal::Marks.number(), 19);
+    assert!(Refusal::Marks.to_string().starts_with("refusal 19: "));
 }
 
 #[test]

@@ -1,8 +1,8 @@
 //! The worked examples of document 01, "Examples", by their letters.
 
 use barzhilup::{
-    correct_header, crc8, parity, read, syndromes, Entry, Log, Mode, Receiver, Refusal, Settings,
-    Stream, Writer, WriterState,
+    correct_header, correct_header_marked, crc8, parity, read, syndromes, Entry, Log, Mode,
+    Receiver, Refusal, Settings, Stream, Writer, WriterState,
 };
 
 /// A writer of mode 0, core, with PDUs of 96 bytes, and what it is offered.
@@ -106,6 +106,28 @@ fn h_i_generator_with_bytes_zeroed() {
         seen[count] += 1;
     }
     assert_eq!(seen, [126, 126]);
+}
+
+/// The same bytes zeroed and marked (document 02, Ask 3): the generator comes
+/// back, also from eight of its nine bytes.
+#[test]
+fn generator_with_marked_bytes_zeroed() {
+    let mut seen = [0; 9];
+    for choice in 0u32..1 << 9 {
+        let marks: Vec<u8> = (0..9).filter(|place| choice >> place & 1 == 1).collect();
+        if marks.len() == 9 {
+            continue;
+        }
+        let mut header = generator();
+        for &place in &marks {
+            header[usize::from(place)] = 0;
+        }
+        let answer = correct_header_marked(&mut header, &marks);
+        assert_eq!(answer, Ok(marks.len()), "{choice:b}");
+        assert_eq!(header, generator(), "{choice:b}");
+        seen[marks.len()] += 1;
+    }
+    assert_eq!(seen, [1, 9, 36, 84, 126, 126, 84, 36, 9]);
 }
 
 #[test]

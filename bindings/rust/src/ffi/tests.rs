@@ -217,6 +217,7 @@ fn sizes_are_as_in_c() {
         ("HEADER_BYTES", HEADER_BYTES),
         ("PARITY_BYTES", PARITY_BYTES),
         ("CORRECTED_MAX", crate::CORRECTED_MAX),
+        ("MARKS_MAX", crate::MARKS_MAX),
         ("PDU_MIN", crate::PDU_MIN),
         ("PDU_MAX", crate::PDU_MAX),
         ("PDU_MAX_12_BITS", crate::PDU_MAX_12_BITS),
@@ -247,7 +248,7 @@ fn c_name(refusal: Refusal) -> String {
 #[test]
 fn refusals_are_numbered_as_in_c() {
     let mut lines = Vec::new();
-    for number in 1..=17 {
+    for number in (1..=17).chain([19]) {
         let refusal = Refusal::check(number, 3).expect_err("a refusal");
         assert_eq!(refusal.number(), number);
         let name = c_name(refusal);

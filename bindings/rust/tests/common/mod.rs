@@ -72,6 +72,30 @@ impl Random {
             .collect()
     }
 
+    /// Marks so many places of a header, alters every other one of these, and so
+    /// many other bytes. Answers the marks, and how many bytes are altered.
+    pub fn alter_marked(
+        &mut self,
+        pdu: &mut [u8],
+        marks: usize,
+        others: usize,
+    ) -> (Vec<u8>, usize) {
+        let mut places = Vec::new();
+        while places.len() < marks + others {
+            let place = self.below(96);
+            if !places.contains(&place) {
+                places.push(place);
+            }
+        }
+        let (marked, unmarked) = places.split_at(marks);
+        let altered: Vec<usize> = marked.iter().step_by(2).chain(unmarked).copied().collect();
+        for &place in &altered {
+            pdu[place] ^= 1 + self.below(255) as u8;
+        }
+        let marked = marked.iter().map(|&place| place as u8).collect();
+        (marked, altered.len())
+    }
+
     /// Alters so many bytes of a header, each at another place.
     pub fn alter(&mut self, pdu: &mut [u8], count: usize) {
         let clean = pdu.to_vec();
