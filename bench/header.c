@@ -1,6 +1,7 @@
 /*
- * How fast the header code and the CRC-8 are, beside libfec and a table CRC; and
- * the eight sums beside the same with a power of a worked out for each byte.
+ * How fast the header code, with marked places and without, and the CRC-8 are,
+ * beside libfec and a table CRC; and the eight sums beside the same with a power
+ * of a worked out for each byte.
  *
  * Before anything is timed, the library and its peers are compared on random
  * inputs; if they disagree, the program stops with a message and status 1.
@@ -15,13 +16,18 @@
 
 #define HEADER BARZHILUP_HEADER_BYTES
 #define PARITY BARZHILUP_PARITY_BYTES
+#define MARKS BARZHILUP_MARKS_MAX
 #define POOL 64       /* headers in a row's inputs */
 #define COMPARED 1000 /* headers compared for each count of altered bytes */
 
-/* A row's headers, and the same ones as words for libfec. */
+/* A row's headers, each with as many marked places, and the same ones as words
+ * for libfec. */
 struct headers {
     uint8_t ours[POOL][HEADER];
     uint8_t fec[POOL][HEADER];
+    uint8_t marks[POOL][MARKS];
+    int erased[POOL][MARKS];
+    unsigned count;
 };
 
 /* A piece for the CRC-8. */
@@ -57,22 +63,32 @@ static uint32_t random_below(uint32_t n)
     return state % n;
 }
 
-/* A random code word with this many bytes altered, each at another place. */
-static void draw_header(uint8_t *header, unsigned wrong)
+/* A random code word with this many bytes altered, each at another place. The
+ * first of the places are told, as many as marks are asked for. */
+static void draw_marked(uint8_t *header, unsigned wrong, uint8_t *marks, unsigned count)
 {
     uint8_t altered[HEADER] = {0};
+    unsigned n = 0;
     size_t i;
     for (i = 0; i < HEADER; i++)
         header[i] = (uint8_t)random_below(256);
     barzhilup_write_parity(header, HEADER);
-    while (wrong > 0) {
+    while (n < wrong) {
         uint32_t place = random_below(HEADER);
         if (altered[place])
             continue;
         altered[place] = 1;
         header[place] ^= (uint8_t)(1 + random_below(255));
-        wrong--;
+        if (n < count)
+            marks[n] = (uint8_t)place;
+        n++;
     }
+}
+
+/* A random code word with this many bytes altered. */
+static void draw_header(uint8_t *header, unsigned wrong)
+{
+    draw_marked(header, wrong, NULL, 0);
 }
 
 /* The library's answer for a header, and the header it makes of it. */
@@ -100,6 +116,27 @@ static void draw_headers(struct headers *headers, unsigned wrong)
         else
             draw_header(headers->ours[i], wrong);
         fec_reverse(headers->ours[i], headers->fec[i]);
+    }
+}
+
+/* Where libfec counts these places: from the word's first byte. */
+static void erase(const uint8_t *marks, unsigned count, int *erased)
+{
+    unsigned i;
+    for (i = 0; i < count; i++)
+        erased[i] = HEADER - 1 - marks[i];
+}
+
+/* Headers with this many places marked, all of them wrong, and as many other bytes
+ * altered as the marks leave room for: twice these plus the marks is eight. */
+static void draw_all_marked(struct headers *headers, unsigned count)
+{
+    size_t i;
+    headers->count = count;
+    for (i = 0; i < POOL; i++) {
+        draw_marked(headers->ours[i], count + (MARKS - count) / 2, headers->marks[i], count);
+        fec_reverse(headers->ours[i], headers->fec[i]);
+        erase(headers->marks[i], count, headers->erased[i]);
     }
 }
 
@@ -142,6 +179,25 @@ static void compare_correction(const uint8_t *header)
         disagree("corrected header (libfec)");
 }
 
+/* Same count and same header, with as many marks, and others altered within their
+ * bound. */
+static void compare_marked(unsigned count, unsigned others)
+{
+    uint8_t ours[HEADER], word[HEADER], fec[HEADER], marks[MARKS];
+    barzhilup_correction_answer answer;
+    int erased[MARKS], corrected;
+    draw_marked(ours, count + others, marks, count);
+    fec_reverse(ours, word);
+    erase(marks, count, erased);
+    answer = barzhilup_correct_header_marked(ours, HEADER, marks, count);
+    corrected = fec_correct_erased(word, erased, (int)count);
+    fec_reverse(word, fec);
+    if (answer.refusal != 0 || corrected != (int)answer.corrected)
+        disagree("count of corrected bytes with marks (libfec)");
+    if (memcmp(ours, fec, HEADER) != 0)
+        disagree("corrected header with marks (libfec)");
+}
+
 static void compare_sums(void)
 {
     uint8_t header[HEADER];
@@ -166,6 +222,9 @@ static void compare_headers(void)
             compare_parity(header);
             compare_correction(header);
         }
+    for (wrong = 0; wrong <= MARKS; wrong++)
+        for (n = 0; n < COMPARED; n++)
+            compare_marked(wrong, n % ((MARKS - wrong) / 2 + 1));
 }
 
 static void compare_crc(const uint8_t *bytes, size_t most)
@@ -245,6 +304,32 @@ static void peer_correction(const void *inputs, size_t passes)
         }
 }
 
+static void our_marked(const void *inputs, size_t passes)
+{
+    const struct headers *h = inputs;
+    uint8_t work[HEADER];
+    size_t i;
+    while (passes-- > 0)
+        for (i = 0; i < POOL; i++) {
+            memcpy(work, h->ours[i], HEADER);
+            sink = barzhilup_correct_header_marked(work, HEADER, h->marks[i], h->count).corrected;
+        }
+}
+
+static void peer_marked(const void *inputs, size_t passes)
+{
+    const struct headers *h = inputs;
+    uint8_t work[HEADER];
+    int erased[MARKS];
+    size_t i;
+    while (passes-- > 0)
+        for (i = 0; i < POOL; i++) {
+            memcpy(work, h->fec[i], HEADER);
+            memcpy(erased, h->erased[i], sizeof erased);
+            sink = (unsigned)fec_correct_erased(work, erased, (int)h->count);
+        }
+}
+
 static void our_crc(const void *inputs, size_t passes)
 {
     const struct piece *piece = inputs;
@@ -270,24 +355,37 @@ static void peer_bit_crc(const void *inputs, size_t passes)
 
 #define SUM_ROWS 2
 #define HEADER_ROWS 6
+#define MARKED_ROWS 4
 #define CRC_ROWS 3
 #define FIRST_HEADER SUM_ROWS
-#define FIRST_CRC (FIRST_HEADER + HEADER_ROWS)
+#define FIRST_MARKED (FIRST_HEADER + HEADER_ROWS)
+#define FIRST_CRC (FIRST_MARKED + MARKED_ROWS)
 #define ROWS (FIRST_CRC + CRC_ROWS)
 
-static struct headers headers[SUM_ROWS + HEADER_ROWS];
+static struct headers headers[FIRST_CRC];
 static struct piece pieces[CRC_ROWS];
 static struct row rows[ROWS];
 
-static void header_row(size_t i, const char *name, unsigned wrong, timed_work ours,
-                       timed_work peer)
+static void name_row(size_t i, const char *name, timed_work ours, timed_work peer)
 {
-    draw_headers(&headers[i], wrong);
     rows[i].name = name;
     rows[i].work[0] = ours;
     rows[i].work[1] = peer;
     rows[i].inputs = &headers[i];
     rows[i].units = POOL;
+}
+
+static void header_row(size_t i, const char *name, unsigned wrong, timed_work ours,
+                       timed_work peer)
+{
+    draw_headers(&headers[i], wrong);
+    name_row(i, name, ours, peer);
+}
+
+static void marked_row(size_t i, const char *name, unsigned count)
+{
+    draw_all_marked(&headers[FIRST_MARKED + i], count);
+    name_row(FIRST_MARKED + i, name, our_marked, with_fec ? peer_marked : NULL);
 }
 
 static void crc_row(size_t i, const char *name, const uint8_t *bytes, size_t length)
@@ -315,6 +413,10 @@ static void make_rows(const uint8_t *bytes)
     header_row(5, "correct, 2 wrong bytes", 2, our_correction, correction);
     header_row(6, "correct, 4 wrong bytes", 4, our_correction, correction);
     header_row(7, "uncorrectable, 5 altered", 5, our_correction, correction);
+    marked_row(0, "0 marks, 4 wrong bytes", 0);
+    marked_row(1, "2 marks, 3 others wrong", 2);
+    marked_row(2, "4 marks, 2 others wrong", 4);
+    marked_row(3, "8 marks, no other wrong", 8);
     crc_row(0, "CRC-8, 64 bytes", bytes, 64);
     crc_row(1, "CRC-8, 1,024 bytes", bytes, 1024);
     crc_row(2, "CRC-8, 4,096 bytes", bytes, 4096);
@@ -362,8 +464,9 @@ static void print_notes(void)
     if (!with_fec)
         return;
     printf("libfec gets its headers backwards, as it wants them; turning them is not timed.\n"
-           "Compared before timing, %d headers each of 0 to 5 altered bytes: both give the same\n"
-           "parity, counts, corrected headers and refusals.\n",
+           "Marked bytes are all wrong; its list of them, which it writes to, is restored too.\n"
+           "Compared before timing, %d headers each of 0 to 5 altered bytes and of 0 to 8 marks:\n"
+           "both give the same parity, counts, corrected headers and refusals.\n",
            COMPARED);
 }
 

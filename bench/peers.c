@@ -32,6 +32,11 @@ int fec_correct(uint8_t word[96])
     return decode_rs_char(code, word, NULL, 0);
 }
 
+int fec_correct_erased(uint8_t word[96], int erased[8], int count)
+{
+    return decode_rs_char(code, word, erased, count);
+}
+
 #else
 
 int fec_open(void)
@@ -48,6 +53,14 @@ void fec_parity(const uint8_t word[96], uint8_t parity[8])
 int fec_correct(uint8_t word[96])
 {
     (void)word;
+    return -1;
+}
+
+int fec_correct_erased(uint8_t word[96], int erased[8], int count)
+{
+    (void)word;
+    (void)erased;
+    (void)count;
     return -1;
 }
 

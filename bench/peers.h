@@ -24,6 +24,11 @@ void fec_parity(const uint8_t word[96], uint8_t parity[8]);
  * uncorrectable. */
 int fec_correct(uint8_t word[96]);
 
+/* Corrects a word of which some places are erased: as above. `erased` has room
+ * for eight places, counted from the word's first byte; those that were wrong
+ * stand in it afterwards. */
+int fec_correct_erased(uint8_t word[96], int erased[8], int count);
+
 /* Fills the table of table_crc8. */
 void table_crc8_open(void);
 

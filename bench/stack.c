@@ -62,6 +62,8 @@ static uint8_t pdu[BARZHILUP_PDU_MAX], carry[BARZHILUP_CARRY_BYTES];
 static uint32_t log_words[BARZHILUP_LOG_WORDS];
 static barzhilup_receiver receiver;
 static barzhilup_piece pieces[64];
+static uint8_t marks[BARZHILUP_MARKS_MAX + 1];
+static size_t marked;
 static volatile unsigned sink;
 
 /* Every expansion field, for a drive's first PDU. */
@@ -85,6 +87,19 @@ static void arrive(void)
 {
     memcpy(pdu, drive->pdus + at * drive->pdu_length, drive->pdu_length);
     memcpy(pdu, drive->headers[at], HEADER);
+}
+
+/* Marks 0 to 9 places, the wrong ones first. Nine are refused. */
+static void mark(void)
+{
+    const uint8_t *sent = drive->pdus + at * drive->pdu_length;
+    size_t count = at % (BARZHILUP_MARKS_MAX + 2), place;
+    int wrong;
+    marked = 0;
+    for (wrong = 1; wrong >= 0; wrong--)
+        for (place = 0; place < HEADER && marked < count; place++)
+            if ((pdu[place] != sent[place]) == wrong)
+                marks[marked++] = (uint8_t)place;
 }
 
 /* ---- Calls --------------------------------------------------------------- */
@@ -112,6 +127,13 @@ static void write_parity(void)
 static void correct_header(void)
 {
     MEASURE(sink = barzhilup_correct_header(pdu, drive->pdu_length).corrected);
+}
+
+static void correct_header_marked(void)
+{
+    mark();
+    MEASURE(sink = barzhilup_correct_header_marked(pdu, drive->pdu_length, marks, marked)
+                       .corrected);
 }
 
 static void crc8(void)
@@ -147,6 +169,15 @@ static void receive(void)
 {
     MEASURE(receiver = barzhilup_receive(receiver, carry, sizeof carry, pdu, drive->pdu_length,
                                          log_words, BARZHILUP_LOG_WORDS)
+                           .receiver);
+}
+
+static void receive_marked(void)
+{
+    mark();
+    MEASURE(receiver = barzhilup_receive_marked(receiver, carry, sizeof carry, pdu,
+                                                drive->pdu_length, marks, marked, log_words,
+                                                BARZHILUP_LOG_WORDS)
                            .receiver);
 }
 
@@ -199,12 +230,14 @@ static const struct {
     {"barzhilup_parity", parity},
     {"barzhilup_write_parity", write_parity},
     {"barzhilup_correct_header", correct_header},
+    {"barzhilup_correct_header_marked", correct_header_marked},
     {"barzhilup_crc8", crc8},
     {"barzhilup_read", read_pdu},
     {"barzhilup_open_writer", open_writer},
     {"barzhilup_write", write_pdu},
     {"barzhilup_open_receiver", open_receiver},
     {"barzhilup_receive", receive},
+    {"barzhilup_receive_marked", receive_marked},
     {"barzhilup_mark_lost", mark_lost},
     {"barzhilup_list_pieces", list_pieces},
     {"barzhilup_receive_in_place", receive_in_place},
@@ -254,12 +287,12 @@ int main(void)
     if (posix_memalign(&room, 4096, STACK) != 0)
         return 1;
     stack = room;
-    printf("\n%-30s %8s\n", "bytes of stack, at most", "");
+    printf("\n%-31s %8s\n", "bytes of stack, at most", "");
     for (i = 0; i < sizeof calls / sizeof calls[0]; i++) {
         deepest = 0;
         for (pattern = 0x5a; pattern != 0; pattern = pattern == 0x5a ? 0xa5 : 0)
             in_thread(&calls[i].run);
-        printf("%-30s %8u\n", calls[i].name, (unsigned)deepest);
+        printf("%-31s %8u\n", calls[i].name, (unsigned)deepest);
     }
     return 0;
 }
