@@ -308,13 +308,13 @@ fn one_or_two_marks() {
 
 #[test]
 fn three_to_five_marks() {
-    let class = every_count("3 to 5 marks", 0x3A_0002, &[3, 4, 5], 6_700);
+    let class = every_count("3 to 5 marks", 0x3A_0002, &[3, 4, 5], 6_200);
     assert!(class.corrected[..=6].iter().all(|&cases| cases >= 1_000));
 }
 
 #[test]
 fn six_to_eight_marks() {
-    let class = every_count("6 to 8 marks", 0x3A_0003, &[6, 7, 8], 6_700);
+    let class = every_count("6 to 8 marks", 0x3A_0003, &[6, 7, 8], 6_200);
     assert!(class.corrected.iter().all(|&cases| cases >= 1_000));
 }
 
