@@ -4,17 +4,30 @@ pub mod dice;
 use dice::Dice;
 ghost use mathlib.Core.Path.{_≡_};
 ghost use Prim.Native.Nat.{_<_, _≤_, min};
-ghost use lib.ListN.{length, drop};
-ghost use Rattle.header.specs.Header.{distance};
-ghost use Rattle.damage.specs.Damage.{Turned};
+ghost use lib.ListN.{length, take, drop};
+ghost use Rattle.header.specs.Header.{headerOf, distance};
+ghost use Rattle.damage.specs.Damage.{Turned, differing};
 
 // The header's bytes.
 const HEADER: u64 = 96;
 
-// A header after damage: how many bytes have another value, and the dice.
+// The first `count` of these places.
+pub struct Places {
+    pub count: usize,
+    pub places: [u8; 96],
+}
+
+// A header after damage: how many bytes have another value, at which places, and the dice.
 pub struct Damage {
     pub altered: u64,
+    pub marks: Places,
     pub dice: Dice,
+}
+
+// How many bytes of a header have another value, and the dice.
+struct Alteration {
+    altered: u64,
+    dice: Dice,
 }
 
 // How many bytes are still to be altered, and the dice.
@@ -64,7 +77,7 @@ fn turn(pdu: &mut [u8], place: usize, places: u64, left: u64, dice: Dice) -> Res
 
 // Alters so many bytes of the header, or all of it where it has fewer: what is altered differs from before in as many places as it says, and
 // nothing after the header changes.
-pub fn damaged(pdu: &mut [u8], count: u64, dice: Dice) -> Damage
+fn alter(pdu: &mut [u8], count: u64, dice: Dice) -> Alteration
     ensures { λ r. ⌜ r .altered ≡ min count (min 96 (length (now (pdu .entry)))) ⌝ }
     ensures { λ r. ⌜ distance (now (pdu .exit)) (now (pdu .entry)) ≡ r .altered ⌝ }
     ensures { λ _. ⌜ drop 96 (now (pdu .exit)) ≡ drop 96 (now (pdu .entry)) ⌝ }
@@ -82,8 +95,50 @@ pub fn damaged(pdu: &mut [u8], count: u64, dice: Dice) -> Damage
         places -= 1;
         place += 1;
     }
-    Damage {
+    Alteration {
         altered: altered,
         dice: thrown,
+    }
+}
+
+// The places at which two headers differ, in order.
+fn differing_places(before: [u8; 96], after: [u8; 96]) -> Places
+    ensures { λ r. ⌜ (r .count ≤ length (r .places)) × (r .count ≡ length (take (r .count) (r .places))) ⌝ }
+    ensures { λ r. ⌜ take (r .count) (r .places) ≡ differing 0 before after ⌝ }
+{
+    let mut places = [0u8; 96];
+    let mut count: usize = 0;
+    let mut place: usize = 0;
+    while place < 96 {
+        if before[place] == after[place] {
+            place += 1;
+        } else {
+            places[count] = place as u8;
+            count += 1;
+            place += 1;
+        }
+    }
+    Places {
+        count: count,
+        places: places,
+    }
+}
+
+// Alters so many bytes of the header, or all of it where it has fewer: what is altered differs from before in as many places as it says, and
+// nothing after the header changes. The marks are the places altered, in order.
+pub fn damaged(pdu: &mut [u8], count: u64, dice: Dice) -> Damage
+    ensures { λ r. ⌜ r .altered ≡ min count (min 96 (length (now (pdu .entry)))) ⌝ }
+    ensures { λ r. ⌜ distance (now (pdu .exit)) (now (pdu .entry)) ≡ r .altered ⌝ }
+    ensures { λ _. ⌜ drop 96 (now (pdu .exit)) ≡ drop 96 (now (pdu .entry)) ⌝ }
+    ensures { λ r. ⌜ (r .marks .count ≤ length (r .marks .places)) × (r .marks .count ≡ length (take (r .marks .count) (r .marks .places))) ⌝ }
+    ensures { λ r. ⌜ take (r .marks .count) (r .marks .places) ≡ differing 0 (headerOf (now (pdu .entry))) (headerOf (now (pdu .exit))) ⌝ }
+{
+    let before = header::header_of(pdu);
+    let done = alter(&mut *pdu, count, dice);
+    let last = done.dice;
+    Damage {
+        altered: done.altered,
+        marks: differing_places(before, header::header_of(pdu)),
+        dice: last,
     }
 }
