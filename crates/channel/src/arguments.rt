@@ -7,13 +7,27 @@ ghost use Prim.Native.Nat.{_≤_};
 pub const PROGRAM: [u8; 17] = *b"barzhilup channel";
 
 // The options that are known.
-pub const KNOWN: [u8; 54] = *b"in=\0out=\0force\0seed=\0loss=\0burst=\0damage=\0bytes=\0help\0";
+pub const KNOWN: [u8; 61] =
+    *b"in=\0out=\0marks=\0force\0seed=\0loss=\0burst=\0damage=\0bytes=\0help\0";
 
 // What is asked for; ok where every option has a value in its range.
 pub struct Job {
     pub ok: bool,
     pub seed: u32,
     pub channel: Channel,
+}
+
+// Whether every option is one that is known, with its value, and PDUs and marks are not both to go to standard output; if not, says what is
+// wrong.
+pub fn check() -> bool {
+    if !options::check(&PROGRAM, &KNOWN) {
+        return false;
+    }
+    if files::is_shared(&KNOWN, b"marks", b"out") {
+        files::say(&PROGRAM, b": --marks: standard output has the PDUs\n");
+        return false;
+    }
+    true
 }
 
 fn number(name: &[u8], default: u32, low: u32, high: u32) -> Number

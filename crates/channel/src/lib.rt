@@ -13,7 +13,7 @@ pub fn program() -> i32 {
     if options::given(&arguments::KNOWN, b"help") {
         return files::status(&arguments::PROGRAM, report::usage());
     }
-    if !options::check(&arguments::PROGRAM, &arguments::KNOWN) {
+    if !arguments::check() {
         return files::WRONG;
     }
     let job = arguments::asked();
@@ -34,27 +34,58 @@ fn run(job: Job) -> bool {
     with_input(job, &from[..n], input)
 }
 
-// Opens the file that is written, and sends every PDU over the channel.
+// Opens the file of marks, where one is asked for.
 fn with_input(job: Job, from: &[u8], input: i32) -> bool {
+    if !options::given(&arguments::KNOWN, b"marks") {
+        return with_marks(job, from, input, b"", sending::NO_MARKS);
+    }
+    let mut label = files::label_buffer();
+    let n = files::put_label(
+        &mut label,
+        &arguments::PROGRAM,
+        &arguments::KNOWN,
+        b"marks",
+        b"standard output",
+    );
+    let marks = files::open_output(&arguments::KNOWN, b"marks", &label[..n]);
+    if marks < 0 {
+        return false;
+    }
+    with_marks(job, from, input, &label[..n], marks)
+}
+
+// Opens the file that is written, and sends every PDU over the channel. Where that file is not made, that of marks goes, too.
+fn with_marks(job: Job, from: &[u8], input: i32, marking: &[u8], marks: i32) -> bool {
     let mut onto = files::label_buffer();
     let n = files::put_output_label(&mut onto, &arguments::PROGRAM, &arguments::KNOWN);
     let output = files::open_output(&arguments::KNOWN, b"out", &onto[..n]);
     if output < 0 {
+        files::unmake(&arguments::KNOWN, b"marks");
         return false;
     }
     let channel = job.channel;
     let task = Task {
         input: input,
         output: output,
+        marks: marks,
         channel: channel,
     };
-    let run = sending::send_all(task, from, &onto[..n], dice::seeded(job.seed));
-    finish(run, output, &onto[..n])
+    let run = sending::send_all(task, dice::seeded(job.seed));
+    report::ends(run.status, from, &onto[..n], marking, run.pdus);
+    finish(run, task, &onto[..n], marking)
 }
 
-// Closes the file that is written, and says what the channel did.
-fn finish(run: Run, output: i32, onto: &[u8]) -> bool {
-    let closed = files::close(output, onto);
+// Closes the files that are written, and says what the channel did.
+fn finish(run: Run, task: Task, onto: &[u8], marking: &[u8]) -> bool {
+    let closed = files::close(task.output, onto);
+    let kept = close_marks(task.marks, marking);
     report::summary(run.pdus, run.missing, run.lost, run.damaged, run.altered);
-    run.ok & closed
+    (run.status == records::END) & closed & kept
+}
+
+fn close_marks(marks: i32, marking: &[u8]) -> bool {
+    if marks < 0 {
+        return true;
+    }
+    files::close(marks, marking)
 }

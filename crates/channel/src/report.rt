@@ -1,17 +1,20 @@
 // What the program says on standard error, a line in one write.
 use crate::arguments::PROGRAM;
+use crate::sending;
 use libc::STDERR_FILENO;
 
 fn say(line: &[u8]) {
     io::write_all(STDERR_FILENO, line);
 }
 
-// Why no more PDUs are read, after so many; nothing where the file ends after one. PDUs are counted from 0.
-pub fn input_ends(label: &[u8], status: u8, read: u64) {
+// Why no more PDUs are sent, after so many; nothing where all are. PDUs are counted from 0.
+pub fn ends(status: u8, from: &[u8], onto: &[u8], marking: &[u8], pdus: u64) {
     match status {
         records::END => {}
-        records::CUT => files::say_number(label, b": ends inside the record of PDU ", read, b"\n"),
-        _ => os::fail(label),
+        records::CUT => files::say_number(from, b": ends inside the record of PDU ", pdus, b"\n"),
+        sending::UNWRITTEN => os::fail(onto),
+        sending::UNMARKED => os::fail(marking),
+        _ => os::fail(from),
     }
 }
 
@@ -43,18 +46,21 @@ some have bytes of the header changed. A record of either file is its length in
 two bytes, low byte first, and then its bytes; a record of length 0 is a PDU
 marked lost, and stays so. The same seed gives the same damage.
 
-  --in FILE   PDUs (standard input, also for -)
-  --out FILE  the PDUs that come through (standard output, also for -)
-  --force     an existing FILE of --out is renamed FILE~ first
-  --seed N    0 to 4294967295 (1)
-  --loss N    how many PDUs in a thousand begin a burst of lost ones,
-              0 to 1000 (50)
-  --burst N   the longest burst, 1 to 64: each has 1 to N PDUs (4)
-  --damage N  how many PDUs in a thousand have a damaged header, 0 to 1000
-              (500)
-  --bytes N   the most bytes changed in a damaged header, 0 to 96: each has
-              1 to N among the PDU's first 96 bytes (4)
-  --help      prints this and does nothing else (also -h)
+  --in FILE     PDUs (standard input, also for -)
+  --out FILE    the PDUs that come through (standard output, also for -)
+  --marks FILE  for each PDU a record of the places that are changed, a byte
+                each, as \"barzhilup log --marks\" takes them (standard output
+                for -)
+  --force       an existing FILE of --out or --marks is renamed FILE~ first
+  --seed N      0 to 4294967295 (1)
+  --loss N      how many PDUs in a thousand begin a burst of lost ones,
+                0 to 1000 (50)
+  --burst N     the longest burst, 1 to 64: each has 1 to N PDUs (4)
+  --damage N    how many PDUs in a thousand have a damaged header, 0 to 1000
+                (500)
+  --bytes N     the most bytes changed in a damaged header, 0 to 96: each has
+                1 to N among the PDU's first 96 bytes (4)
+  --help        prints this and does nothing else (also -h)
 
 Standard error has the counts, and if not all PDUs are sent the last line
 \"barzhilup channel: stopped early\". The exit status is 0 if all are sent,

@@ -11,17 +11,25 @@ pub struct Channel {
     pub bytes: u64,
 }
 
-// Where PDUs come from, where they go, and the channel between.
+// Where PDUs come from, where they and the places of their altered bytes go, and the channel between.
 pub struct Task {
     pub input: i32,
     pub output: i32,
+    pub marks: i32,
     pub channel: Channel,
 }
 
-// A run so far: whether it goes on, whether nothing went wrong, the dice, and how many more PDUs the burst takes.
+// In place of a file of marks where none is asked for.
+pub const NO_MARKS: i32 = -1;
+
+// How a run stands where a PDU could not be written, or its marks.
+pub const UNWRITTEN: u8 = 5;
+
+pub const UNMARKED: u8 = 6;
+
+// A run so far: what came of the last reading, with END where all PDUs are sent, or of writing; the dice, and how many more PDUs the burst takes.
 pub struct Run {
-    pub going: bool,
-    pub ok: bool,
+    pub status: u8,
     pub dice: Dice,
     pub burst: u64,
     // How many PDUs there were, were marked lost before, were lost and were damaged, and how many bytes were altered.
@@ -49,8 +57,7 @@ struct Share {
 
 fn begin(dice: Dice) -> Run {
     Run {
-        going: true,
-        ok: true,
+        status: records::WHOLE,
         dice: dice,
         burst: 0,
         pdus: 0,
@@ -63,14 +70,14 @@ fn begin(dice: Dice) -> Run {
 
 // Sends every PDU over the channel. They are counted down from a number that no run uses up, since a proved loop has to end, and nothing says that
 // a file does.
-pub fn send_all(task: Task, from: &[u8], onto: &[u8], dice: Dice) -> Run {
+pub fn send_all(task: Task, dice: Dice) -> Run {
     let mut pdu = io::large_buffer();
     let mut run = begin(dice);
     let mut turns = u64::MAX;
     while 0 < turns {
-        let next = turn(task, from, onto, &mut pdu, run);
+        let next = turn(task, &mut pdu, run);
         run = next;
-        if !run.going {
+        if run.status != records::WHOLE {
             return run;
         }
         report::progress(run.pdus);
@@ -80,48 +87,35 @@ pub fn send_all(task: Task, from: &[u8], onto: &[u8], dice: Dice) -> Run {
 }
 
 // Reads a PDU and sends it; stops where none can be read.
-fn turn(task: Task, from: &[u8], onto: &[u8], buf: &mut [u8], run: Run) -> Run {
+fn turn(task: Task, buf: &mut [u8], run: Run) -> Run {
     let r = records::read(task.input, buf);
     if r.status != records::WHOLE {
-        report::input_ends(from, r.status, run.pdus);
-        return stopped(run, r.status == records::END);
+        return stopped(run, r.status);
     }
-    sent(task, onto, &mut buf[..r.length], run)
+    sent(task, &mut buf[..r.length], run)
 }
 
 // Sends a PDU: it is lost, or damaged, or comes through as it is.
-fn sent(task: Task, onto: &[u8], pdu: &mut [u8], run: Run) -> Run {
+fn sent(task: Task, pdu: &mut [u8], run: Run) -> Run {
     let channel = task.channel;
     let before = run.dice;
     let fate = fate_of(channel, run.burst, before);
     let dice = fate.dice;
     if pdu.len() == 0 {
-        return kept(
-            task.output,
-            onto,
-            b"",
-            run,
-            after(run, fate.burst, dice, came(1, 0, 0)),
-        );
+        let next = after(run, fate.burst, dice, came(1, 0, 0));
+        return kept(task, b"", b"", run, next);
     }
     if 0 < fate.burst {
-        return kept(
-            task.output,
-            onto,
-            b"",
-            run,
-            after(run, fate.burst, dice, came(0, 1, 0)),
-        );
+        let next = after(run, fate.burst, dice, came(0, 1, 0));
+        return kept(task, b"", b"", run, next);
     }
     let done = damage::damaged(pdu, fate.bytes, dice);
     let last = done.dice;
-    kept(
-        task.output,
-        onto,
-        pdu,
-        run,
-        after(run, 0, last, came(0, 0, done.altered)),
-    )
+    let marks = done.marks;
+    let places = marks.places;
+    let n = marks.count;
+    let next = after(run, 0, last, came(0, 0, done.altered));
+    kept(task, pdu, &places[..n], run, next)
 }
 
 // Draws a PDU's fate: four draws for each PDU, also where not all of them count.
@@ -186,8 +180,7 @@ fn any(n: u64) -> u64 {
 // The run after a PDU in a burst that takes so many from it on.
 fn after(run: Run, burst: u64, dice: Dice, share: Share) -> Run {
     Run {
-        going: true,
-        ok: true,
+        status: records::WHOLE,
         dice: dice,
         burst: fewer(burst),
         pdus: add(run.pdus, 1),
@@ -198,21 +191,25 @@ fn after(run: Run, burst: u64, dice: Dice, share: Share) -> Run {
     }
 }
 
-// Writes what came of a PDU, and answers the run after it; where that fails, says why and stops the run before it.
-fn kept(output: i32, onto: &[u8], pdu: &[u8], before: Run, next: Run) -> Run {
-    if !records::write(output, pdu) {
-        os::fail(onto);
-        return stopped(before, false);
+// Writes what came of a PDU, with the places of its altered bytes, and answers the run after it; where that fails, the run stops before it.
+fn kept(task: Task, pdu: &[u8], marks: &[u8], before: Run, next: Run) -> Run {
+    if !records::write(task.output, pdu) {
+        return stopped(before, UNWRITTEN);
+    }
+    if task.marks < 0 {
+        return next;
+    }
+    if !records::write(task.marks, marks) {
+        return stopped(before, UNMARKED);
     }
     next
 }
 
-// The run at its end, and whether all went well.
-fn stopped(run: Run, ok: bool) -> Run {
+// The run at its end, and how it stands.
+fn stopped(run: Run, status: u8) -> Run {
     let dice = run.dice;
     Run {
-        going: false,
-        ok: ok,
+        status: status,
         dice: dice,
         burst: run.burst,
         pdus: run.pdus,

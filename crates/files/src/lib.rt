@@ -34,6 +34,14 @@ fn is_named(known: &[u8], option: &[u8]) -> bool {
     !check::same(&path[..n], b"-")
 }
 
+// Whether an option and another one both stand for standard input, or output: it is given as a dash, and the other names no file.
+pub fn is_shared(known: &[u8], option: &[u8], other: &[u8]) -> bool {
+    if !options::given(known, option) {
+        return false;
+    }
+    !is_named(known, option) & !is_named(known, other)
+}
+
 // The program's name and that of a file: the value of the option that names it, or the other name where it names none.
 pub fn put_label(out: &mut [u8], program: &[u8], known: &[u8], option: &[u8], other: &[u8]) -> usize
     ensures { λ r. ⌜ Counts r (now (out .exit)) ⌝ }
@@ -240,6 +248,16 @@ pub fn open_output(known: &[u8], option: &[u8], label: &[u8]) -> i32 {
     let mut path = io::buffer();
     let n = options::value(known, option, &mut path);
     make_named(known, &path[..n], label)
+}
+
+// Removes the file that was made for an option, where it names one.
+pub fn unmake(known: &[u8], option: &[u8]) {
+    if !is_named(known, option) {
+        return;
+    }
+    let mut path = io::buffer();
+    let n = options::value(known, option, &mut path);
+    os::unlink(&path[..n]);
 }
 
 // Closes a file. Answers whether that went well; if not, says why.
