@@ -88,14 +88,44 @@ unmarked-triangle marks w b c l =
     rw l (keep-sum (λ i. not (isMarked marks i || eqb (getD b i 0) (getD c i 0))) (λ i. not (isMarked marks i || eqb (getD w i 0) (getD b i 0)))
     (λ i. not (isMarked marks i || eqb (getD w i 0) (getD c i 0))) (length w) (λ i h. triangle-test (isMarked marks i) (getD w i 0) (getD b i 0) (getD c i 0)))
 
-pub within-only : (marks w b c : List ℕ) → length w ≡ 96 → Within marks w b → Within marks w c → b ≡ c
-within-only marks w b c l m n =
+-- c is a code word that differs from w in at most h unmarked bytes
+pub record Reached (marks : List ℕ) (h : ℕ) (w c : List ℕ) : Type 0 where
+  pub right : isCodeWord c ≡ true
+  pub close : unmarkedDistance marks w c ≤ h
+  pub long : length c ≡ length w
+  pub bytes : All (λ x. x < 256) c
+
+-- one code word at most differs in so few
+pub reached-only : (marks w b c : List ℕ) (g h : ℕ) → length w ≡ 96 → g + h + length marks ≤ 8 → Reached marks g w b → Reached marks h w c → b ≡ c
+reached-only marks w b c g h l few m n =
     let lb : length b ≡ length w = m .long in
     let lc : length c ≡ length w = n .long in
     let t : unmarkedDistance marks b c ≤ unmarkedDistance marks w b + unmarkedDistance marks w c = unmarked-triangle marks w b c lb in
     let e : unmarkedDistance marks b c ≡ distance (adopted marks b c) c = unmarked-adopted marks b c (lc ∙ sym lb) in
     let d : distance b c ≤ length marks + distance (adopted marks b c) c = adopted-close marks b c in
     code-words-apart b c (lb ∙ l) (lc ∙ l) (m .bytes) (n .bytes) (m .right) (n .right) (omega (arith, m .close, n .close))
+
+module _ (marks : List ℕ) (few : length marks ≤ 8) (w c : List ℕ) where
+  pub within-reached : Within marks w c → Reached marks (spare marks) w c
+  within-reached n = record { right = n .right; close = omega (arith, n .close); long = n .long; bytes = n .bytes }
+
+  pub reached-within : Reached marks (spare marks) w c → Within marks w c
+  reached-within n = record { right = n .right; close = omega (arith, n .close); long = n .long; bytes = n .bytes }
+
+pub within-only : (marks w b c : List ℕ) → length w ≡ 96 → Within marks w b → Within marks w c → b ≡ c
+within-only marks w b c l m n =
+    let few : length marks ≤ 8 = omega (arith, m .close) in
+    reached-only marks w b c (spare marks) (spare marks) l (omega arith) (within-reached marks few w b m) (within-reached marks few w c n)
+
+-- where twice the differing unmarked bytes plus the marks is nine for one code word, none is within reach
+pub nine-beyond : (marks w c : List ℕ) → length w ≡ 96 → Reached marks (unmarkedDistance marks w c) w c → 2 * unmarkedDistance marks w c + length marks ≡ 9
+    → (b : List ℕ) → ¬ Within marks w b
+nine-beyond marks w c l r nine b n =
+    let few : length marks ≤ 8 = omega (arith, n .close) in
+    let m : Reached marks (spare marks) w b = within-reached marks few w b n in
+    let e : b ≡ c = reached-only marks w b c (spare marks) (unmarkedDistance marks w c) l (omega arith) m r in
+    let d : unmarkedDistance marks w c ≤ spare marks = subst (λ (u : List ℕ). unmarkedDistance marks w u ≤ spare marks) e (m .close) in
+    omega arith
 
 -- ---- the search finds it
 
@@ -110,13 +140,6 @@ unmarked-set i marks w c v =
     go : (j : ℕ) (b : Bool) → eqb i j ≡ b → one (not (b || isMarked marks j || eqb (getD w j 0) (getD c j 0))) ≤ one (not (isMarked marks j || eqb (getD (set w i v) j 0) (getD c j 0)))
     go j true e = omega arith
     go j false e = let q : getD (set w i v) j 0 ≡ getD w j 0 = getD-set-other w i j v 0 (λ p. eqb-false i j e (sym p)) in rw q (omega arith)
-
--- c is a code word that differs from w in at most h unmarked bytes
-pub record Reached (marks : List ℕ) (h : ℕ) (w c : List ℕ) : Type 0 where
-  pub right : isCodeWord c ≡ true
-  pub close : unmarkedDistance marks w c ≤ h
-  pub long : length c ≡ length w
-  pub bytes : All (λ x. x < 256) c
 
 pub marks-sound : (marks : List ℕ) (h : ℕ) (w c : List ℕ) → All (λ x. x < 256) w → atMarks marks (λ u. near h u) w ≡ some c → Reached marks h w c
 marks-sound [] h w c a e =
@@ -151,13 +174,6 @@ unmarked-self marks w = keep-none (λ i. not (isMarked marks i || eqb (getD w i 
     at : (m : Bool) (x : ℕ) → not (m || eqb x x) ≡ false
     at true x = refl
     at false x = ap not (eq-eqb x x refl)
-
-module _ (marks : List ℕ) (few : length marks ≤ 8) (w c : List ℕ) where
-  pub within-reached : Within marks w c → Reached marks (spare marks) w c
-  within-reached n = record { right = n .right; close = omega (arith, n .close); long = n .long; bytes = n .bytes }
-
-  pub reached-within : Reached marks (spare marks) w c → Within marks w c
-  reached-within n = record { right = n .right; close = omega (arith, n .close); long = n .long; bytes = n .bytes }
 
 module _ (marks : List ℕ) (few : length marks ≤ 8) (w : List ℕ) (l : length w ≡ 96) (a : All (λ x. x < 256) w) where
   -- the corrected header is a code word within reach
