@@ -1,6 +1,6 @@
 -- The four by four system of the filtered syndromes for at most h errors with its right side beside it as column 4, and its elimination as far
 -- as the first column with no pivot: what each step does, entry by entry.
--- What private steps of the decoder promise each other; the promise of `correct` is in Correction.antt alone.
+-- What private steps of the decoder promise each other; the promises of `correct` and `correct_marked` are in Correction.antt and Marks.antt alone.
 use mathlib.Core.Path.{_≡_}
 use mathlib.Core.Bool.{cond}
 use mathlib.Core.List.{List, [], _∷_, map}

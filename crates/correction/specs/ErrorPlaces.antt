@@ -1,5 +1,5 @@
 -- The places below 96 that are marked, or at whose points the locator is zero.
--- What private steps of the decoder promise each other; the promise of `correct` is in Correction.antt alone.
+-- What private steps of the decoder promise each other; the promises of `correct` and `correct_marked` are in Correction.antt and Marks.antt alone.
 use mathlib.Core.Path.{_≡_}
 use mathlib.Core.Bool.{Bool, _||_}
 use mathlib.Core.List.{List, [], _∷_, _++_}

@@ -1,5 +1,5 @@
 -- The error value at one of several places, from the syndromes filtered by the points of the others.
--- What private steps of the decoder promise each other; the promise of `correct` is in Correction.antt alone.
+-- What private steps of the decoder promise each other; the promises of `correct` and `correct_marked` are in Correction.antt and Marks.antt alone.
 use mathlib.Core.Path.{_≡_}
 use mathlib.Core.List.{List, [], _∷_, _++_, map}
 use Prim.Native.Nat.{ℕ, zero, suc, _+_, _<_}

@@ -1,6 +1,6 @@
 -- Document 00, demand 3, by document 01, "Demand 3 is a single claim about whole lists of calls". The claim is of a receiver (`Demand3For`), with
 -- opening and writing as writer/specs/Writing.antt defines them. `Demand3` is its case at the receiver of receiver/specs/Receiving.antt: the
--- contracts say that the code does what these two define.
+-- contracts say that the code does what these two define. Calls have marked places (document 02, Ask 3); with none it is document 00's claim.
 use mathlib.Core.Path.{_≡_}
 use mathlib.Core.Bool.{Bool, true, false, not, _&&_, _||_, cond}
 use mathlib.Core.List.{List, [], _∷_, _++_, map}
@@ -119,7 +119,7 @@ pub record Behaviour : Type 0 where
   pub carry : Station → Call → List ℕ
   pub log : Station → Call → List ℕ
 
--- the receiver of document 01
+-- the receiver of document 01, with the marks of document 02
 abbrev pub answerOf : Station → Call → Received
 answerOf x (receive k marks pdu log) = receiveAnswer marks (x .carry) pdu log (x .receiver) k
 answerOf x (markLost log) = lostAnswer log (x .receiver)

@@ -94,7 +94,7 @@ listingOf c = listing (c .mode) (c .stream)
 abbrev pub correctedTests : ControlWord → List ℕ → List (Bool × ℕ)
 correctedTests c y = (not (eqb (numberOf (listingOf c)) 0), 5) ∷ readerTests (modeIn (listingOf c)) c y
 
--- no code word differs from the header in at most four bytes
+-- correction found no code word
 abbrev pub uncorrectable : Option (List ℕ) → Bool
 uncorrectable none = true
 uncorrectable (some c) = false

@@ -141,7 +141,7 @@ module _ (marks carry pdu log : List ℕ) (r : Receiver) where
       ∷ (not (eqb (c .mode) (r .mode) && eqb (c .stream) (r .stream)), 6)  -- not those opened
       ∷ (readerTests (modeIn (listingOf c)) c y ++ (ltb (length log) (length receivedWords), 13) ∷ [])  -- 7 to 12; log shorter than the words
 
-  -- the lowest number that applies, 0 where the PDU is accepted
+  -- the number of the first row that applies, 0 where the PDU is accepted
   unfoldable pub receiveNumber : ℕ
   receiveNumber = firstOf receiveTests
 

@@ -82,7 +82,7 @@ module _ (range : ℕ) (said : Said) (r : Receiver) (carry log : List ℕ) where
 abbrev pub streamTests : Receiver → ControlWord → List (Bool × ℕ)
 streamTests r c = (not (eqb (numberOf (listingOf c)) 0), 5) ∷ (not (eqb (c .mode) (r .mode) && eqb (c .stream) (r .stream)), 6) ∷ []
 
--- the lowest number that applies, for a receiver of a mode
+-- the number of the first row from 5 on that applies, for a receiver of a mode
 unfoldable pub correctedNumber : Mode → Receiver → List ℕ → List ℕ → List ℕ → ℕ
 correctedNumber m r carry y log =
     let c = controlAt y in

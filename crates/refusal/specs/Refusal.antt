@@ -1,9 +1,9 @@
--- Document 01, "What is turned down": the lowest applying number is returned.
+-- Document 01, "What is turned down": the lowest applying number is returned, but where document 02 gives a number another place.
 use mathlib.Core.Bool.{Bool, true, false, _||_, cond}
 use mathlib.Core.List.{List, [], _∷_}
 use Prim.Native.Nat.{ℕ}
 
--- the number of the first cause that applies, 0 for none; the list stands in the table's order
+-- the number of the first cause that applies, 0 for none; the list stands in the order of the checks
 abbrev pub firstOf : List (Bool × ℕ) → ℕ
 firstOf [] = 0
 firstOf (t ∷ ts) = cond (t .0) (t .1) (firstOf ts)
