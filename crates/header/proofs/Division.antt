@@ -225,7 +225,7 @@ remainder-value j h (b ∷ m) hm =
     (ap (shift (suc j)) (remainder-value j h m (λ i. hm (suc i))) ∙ shift-shift (suc j) (8 * suc j) (value (suc j) m))
     ∙ sym (shift-xor (8 * suc j) b (shift (suc j) (value (suc j) m)))
 
-bytes-append : (u v : List ℕ) → Bytes u → Bytes v → Bytes (u ++ v)
+pub bytes-append : (u v : List ℕ) → Bytes u → Bytes v → Bytes (u ++ v)
 bytes-append [] v hu hv = hv
 bytes-append (x ∷ u) v hu hv = bytes-cons x (u ++ v) (hu 0) (bytes-append u v (λ i. hu (suc i)) hv)
 

@@ -1,11 +1,12 @@
 // The header code: syndromes, and parity by division with the generator (document 01, "Header code").
 ghost use mathlib.Core.Path.{_≡_};
-ghost use Prim.Native.Nat.{_-_, _/_, _%_, _^_, _<_};
-ghost use lib.ListN.{length, getD};
-ghost use Rattle.field.specs.Field.{mul, pow, Powers, Logarithms};
+ghost use mathlib.Core.List.{map};
+ghost use Prim.Native.Nat.{_+_, _/_, _%_, _<_, _≤_};
+ghost use lib.ListN.{length, getD, take, drop};
+ghost use Rattle.field.specs.Field.{pow, timesA, Powers, Logarithms};
 ghost use Rattle.header.specs.Horner.{points, horner as hornerAt, hornerStep, values};
-ghost use Rattle.header.specs.Packed.{pack, multipleOf, Multiples, packedStep, unpacked};
-ghost use Rattle.header.specs.Header.{syndromes as syndromesOf, distance, exponents, parityOf, headerOf, allZero, isCodeWord, frontReplaced, lengthRefusal, withParity};
+ghost use Rattle.header.specs.Packed.{pack, unpacked, lowCoefficients, timesAll, leftOf, LeftOver};
+ghost use Rattle.header.specs.Header.{syndromes as syndromesOf, distance, exponents, divideStep, parityOf, headerOf, allZero, isCodeWord, frontReplaced, lengthRefusal, withParity};
 
 // The exponents of the generator's nine coefficients, the constant's first.
 const EXPONENTS: [u8; 9] = [36, 203, 3, 220, 253, 211, 240, 176, 0];
@@ -80,122 +81,187 @@ fn wide(b: u8) -> u64
     b as u64
 }
 
-// The generator's coefficient k times a^j.
-fn coefficient(powers: &[u8; 510], k: usize, j: usize) -> u64
+// The generator's coefficient k.
+fn coefficient(powers: &[u8; 510], k: usize) -> u64
     requires { ⌜ Powers (now powers) ⌝ }
     requires { ⌜ k < 9 ⌝ }
-    requires { ⌜ j < 8 ⌝ }
-    ensures { λ r. ⌜ (r ≡ mul (pow (getD exponents k 0)) (2 ^ j)) × (r < 256) ⌝ }
+    ensures { λ r. ⌜ (r ≡ pow (getD exponents k 0)) × (r < 256) ⌝ }
 {
-    wide(powers[exponent(k) + j])
+    wide(powers[exponent(k)])
 }
 
-// The generator's low eight coefficients times a^j, packed.
-fn coefficients(powers: &[u8; 510], j: usize) -> u64
+// The generator's low eight coefficients, packed.
+fn coefficients(powers: &[u8; 510]) -> u64
     requires { ⌜ Powers (now powers) ⌝ }
-    requires { ⌜ j < 8 ⌝ }
-    ensures { λ r. ⌜ r ≡ pack (multipleOf (2 ^ j)) ⌝ }
+    ensures { λ r. ⌜ r ≡ pack lowCoefficients ⌝ }
 {
-    coefficient(powers, 0, j)
-        + coefficient(powers, 1, j) * 256
-        + coefficient(powers, 2, j) * 65536
-        + coefficient(powers, 3, j) * 16777216
-        + coefficient(powers, 4, j) * 4294967296
-        + coefficient(powers, 5, j) * 1099511627776
-        + coefficient(powers, 6, j) * 281474976710656
-        + coefficient(powers, 7, j) * 72057594037927936
+    coefficient(powers, 0)
+        + coefficient(powers, 1) * 256
+        + coefficient(powers, 2) * 65536
+        + coefficient(powers, 3) * 16777216
+        + coefficient(powers, 4) * 4294967296
+        + coefficient(powers, 5) * 1099511627776
+        + coefficient(powers, 6) * 281474976710656
+        + coefficient(powers, 7) * 72057594037927936
 }
 
-// The generator's low eight coefficients times n a^j, packed, for n from 0 to 15: sums of those for four powers.
-fn multiples(powers: &[u8; 510], j: usize) -> [u64; 16]
-    requires { ⌜ Powers (now powers) ⌝ }
-    requires { ⌜ j < 5 ⌝ }
-    ensures { λ r. ⌜ Multiples (2 ^ j) r ⌝ }
+// X^8 modulo the generator, packed: its low coefficients, as the one at X^8 is 1.
+fn x8() -> u64
+    ensures { λ r. ⌜ unpacked r ≡ leftOf 0 ⌝ }
 {
-    let a = coefficients(powers, j);
-    let b = coefficients(powers, j + 1);
-    let c = coefficients(powers, j + 2);
-    let d = coefficients(powers, j + 3);
-    [
-        0,
-        a,
-        b,
-        b ^ a,
-        c,
-        c ^ a,
-        c ^ b,
-        c ^ b ^ a,
-        d,
-        d ^ a,
-        d ^ b,
-        d ^ b ^ a,
-        d ^ c,
-        d ^ c ^ a,
-        d ^ c ^ b,
-        d ^ c ^ b ^ a,
-    ]
+    let powers = field::powers();
+    coefficients(&powers)
 }
 
-// The low four bits of a byte.
-fn low_half(f: u8) -> usize
-    ensures { λ r. ⌜ (r ≡ f % 16) × (r < 16) ⌝ }
+// Each of the eight bytes of a word times a: bits 0 to 6 move up by one, and bit 7 becomes a^8.
+fn doubled(w: u64) -> u64
+    ensures { λ r. ⌜ unpacked r ≡ map timesA (unpacked w) ⌝ }
 {
-    (f % 16) as usize
+    ((w & 0x7f7f7f7f7f7f7f7f) * 2) ^ ((w & 0x8080808080808080) / 128 * 29)
 }
 
-// The high four bits of a byte.
-fn high_half(f: u8) -> usize
-    ensures { λ r. ⌜ (r ≡ f / 16) × (r < 16) ⌝ }
+// Each of the eight bytes of a word times n, a number of four bits.
+fn by_half(w: u64, n: u64) -> u64
+    requires { ⌜ n < 16 ⌝ }
+    ensures { λ r. ⌜ unpacked r ≡ timesAll n (unpacked w) ⌝ }
 {
-    (f / 16) as usize
+    let b = doubled(w);
+    let c = doubled(b);
+    let d = doubled(c);
+    match n {
+        0 => 0,
+        1 => w,
+        2 => b,
+        3 => b ^ w,
+        4 => c,
+        5 => c ^ w,
+        6 => c ^ b,
+        7 => c ^ b ^ w,
+        8 => d,
+        9 => d ^ w,
+        10 => d ^ b,
+        11 => d ^ b ^ w,
+        12 => d ^ c,
+        13 => d ^ c ^ w,
+        14 => d ^ c ^ b,
+        _ => d ^ c ^ b ^ w,
+    }
 }
 
-// The generator's low eight coefficients times f, packed, from the lent multiples by n and by 16 n.
-fn multiple(low: &[u64; 16], high: &[u64; 16], f: u8) -> u64
-    requires { ⌜ Multiples 1 (now low) ⌝ }
-    requires { ⌜ Multiples 16 (now high) ⌝ }
-    ensures { λ r. ⌜ r ≡ pack (multipleOf f) ⌝ }
+// Each of the eight bytes of a word times a byte.
+fn by_byte(w: u64, b: u64) -> u64
+    requires { ⌜ b < 256 ⌝ }
+    ensures { λ r. ⌜ unpacked r ≡ timesAll b (unpacked w) ⌝ }
 {
-    low[low_half(f)] ^ high[high_half(f)]
+    let high = doubled(doubled(doubled(doubled(w))));
+    by_half(w, b % 16) ^ by_half(high, b / 16)
 }
 
-// The highest coefficient of a packed register.
-fn top(r: u64) -> u8
-    ensures { λ b. ⌜ b ≡ r / 72057594037927936 ⌝ }
+// X times a packed remainder, modulo the generator.
+fn next(r: u64) -> u64
+    ensures { λ s. ⌜ unpacked s ≡ divideStep (unpacked r) 0 ⌝ }
 {
-    (r / 72057594037927936) as u8
+    (r % 72057594037927936 * 256) ^ by_byte(x8(), r / 72057594037927936)
 }
 
-// X times r, plus b at X^8, modulo the generator; all packed.
-fn divide_step(low: &[u64; 16], high: &[u64; 16], r: u64, b: u8) -> u64
-    requires { ⌜ Multiples 1 (now low) ⌝ }
-    requires { ⌜ Multiples 16 (now high) ⌝ }
-    ensures { λ s. ⌜ s ≡ packedStep r b ⌝ }
+// X^9 modulo the generator, packed.
+fn x9() -> u64
+    ensures { λ r. ⌜ unpacked r ≡ leftOf 1 ⌝ }
 {
-    let f = b ^ top(r);
-    (r % 72057594037927936 * 256) ^ multiple(low, high, f)
+    next(x8())
 }
 
-// The byte that step k of the division takes: the highest coefficient first.
-fn place(k: usize) -> usize
-    requires { ⌜ k < 88 ⌝ }
-    ensures { λ r. ⌜ r ≡ 95 - k ⌝ }
+// X^10 modulo the generator, packed.
+fn x10() -> u64
+    ensures { λ r. ⌜ unpacked r ≡ leftOf 2 ⌝ }
 {
-    95 - k
+    next(x9())
 }
 
-// The remainder of bytes 8 to 95 by the generator, packed, from the lent multiples.
-fn remainder(low: &[u64; 16], high: &[u64; 16], header: &[u8]) -> u64
-    requires { ⌜ Multiples 1 (now low) ⌝ }
-    requires { ⌜ Multiples 16 (now high) ⌝ }
+// X^11 modulo the generator, packed.
+fn x11() -> u64
+    ensures { λ r. ⌜ unpacked r ≡ leftOf 3 ⌝ }
+{
+    next(x10())
+}
+
+// X^12 modulo the generator, packed.
+fn x12() -> u64
+    ensures { λ r. ⌜ unpacked r ≡ leftOf 4 ⌝ }
+{
+    next(x11())
+}
+
+// X^13 modulo the generator, packed.
+fn x13() -> u64
+    ensures { λ r. ⌜ unpacked r ≡ leftOf 5 ⌝ }
+{
+    next(x12())
+}
+
+// X^14 modulo the generator, packed.
+fn x14() -> u64
+    ensures { λ r. ⌜ unpacked r ≡ leftOf 6 ⌝ }
+{
+    next(x13())
+}
+
+// X^15 modulo the generator, packed.
+fn x15() -> u64
+    ensures { λ r. ⌜ unpacked r ≡ leftOf 7 ⌝ }
+{
+    next(x14())
+}
+
+// Eight bytes of a header from byte i on, packed.
+fn word(header: &[u8], i: usize) -> u64
+    requires { ⌜ i + 8 ≤ length (now header) ⌝ }
+    ensures { λ r. ⌜ unpacked r ≡ take 8 (drop i (now (header .entry))) ⌝ }
+{
+    let a = wide(header[i]) | (wide(header[i + 1]) * 256);
+    let b = a | (wide(header[i + 2]) * 65536);
+    let c = b | (wide(header[i + 3]) * 16777216);
+    let d = c | (wide(header[i + 4]) * 4294967296);
+    let e = d | (wide(header[i + 5]) * 1099511627776);
+    let f = e | (wide(header[i + 6]) * 281474976710656);
+    f | (wide(header[i + 7]) * 72057594037927936)
+}
+
+// X^8 times v modulo the generator, packed: byte k of v times X^(8 + k), from those of a to h.
+fn step(a: u64, b: u64, c: u64, d: u64, e: u64, f: u64, g: u64, h: u64, v: u64) -> u64
+    requires { ⌜ (unpacked a ≡ leftOf 0) × (unpacked b ≡ leftOf 1) × (unpacked c ≡ leftOf 2) × (unpacked d ≡ leftOf 3) ⌝ }
+    requires { ⌜ (unpacked e ≡ leftOf 4) × (unpacked f ≡ leftOf 5) × (unpacked g ≡ leftOf 6) × (unpacked h ≡ leftOf 7) ⌝ }
+    ensures { λ r. ⌜ LeftOver r (unpacked v) ⌝ }
+{
+    by_byte(a, v % 256)
+        ^ by_byte(b, v / 256 % 256)
+        ^ by_byte(c, v / 65536 % 256)
+        ^ by_byte(d, v / 16777216 % 256)
+        ^ by_byte(e, v / 4294967296 % 256)
+        ^ by_byte(f, v / 1099511627776 % 256)
+        ^ by_byte(g, v / 281474976710656 % 256)
+        ^ by_byte(h, v / 72057594037927936 % 256)
+}
+
+// The remainder of bytes 8 to 95 by the generator, packed: eight bytes a step, the highest first.
+fn remainder(header: &[u8]) -> u64
     requires { ⌜ length (now header) ≡ 96 ⌝ }
     ensures { λ r. ⌜ unpacked r ≡ parityOf (now (header .entry)) ⌝ }
 {
+    let a = x8();
+    let b = x9();
+    let c = x10();
+    let d = x11();
+    let e = x12();
+    let f = x13();
+    let g = x14();
+    let h = x15();
     let mut r: u64 = 0;
-    let mut k: usize = 0;
-    while k < 88 {
-        r = divide_step(low, high, r, header[place(k)]);
-        k += 1;
+    let mut i: usize = 96;
+    while 8 < i {
+        i -= 8;
+        let v = r ^ word(header, i);
+        r = step(a, b, c, d, e, f, g, h, v);
     }
     r
 }
@@ -228,31 +294,16 @@ fn unpack(r: u64) -> [u8; 8]
 pub fn parity(header: &[u8; 96]) -> [u8; 8]
     ensures { λ r. ⌜ r ≡ parityOf (now (header .entry)) ⌝ }
 {
-    let powers = field::powers();
-    let low = multiples(&powers, 0);
-    let high = multiples(&powers, 4);
-    let r = remainder(&low, &high, header);
+    let r = remainder(header);
     unpack(r)
 }
 
 // The remainder of a header by the generator: its parity bytes plus what they should be. It has the header's syndromes.
-fn rest(low: &[u64; 16], high: &[u64; 16], header: &[u8]) -> [u8; 8]
-    requires { ⌜ Multiples 1 (now low) ⌝ }
-    requires { ⌜ Multiples 16 (now high) ⌝ }
+fn rest(header: &[u8]) -> [u8; 8]
     requires { ⌜ length (now header) ≡ 96 ⌝ }
     ensures { λ r. ⌜ values r ≡ syndromesOf (now (header .entry)) ⌝ }
 {
-    let p = unpack(remainder(low, high, header));
-    [
-        header[0] ^ p[0],
-        header[1] ^ p[1],
-        header[2] ^ p[2],
-        header[3] ^ p[3],
-        header[4] ^ p[4],
-        header[5] ^ p[5],
-        header[6] ^ p[6],
-        header[7] ^ p[7],
-    ]
+    unpack(word(header, 0) ^ remainder(header))
 }
 
 // The eight syndromes of a header, those of its remainder, from the lent tables.
@@ -261,10 +312,7 @@ pub fn syndromes_by(powers: &[u8; 510], logarithms: &[u8; 256], header: &[u8; 96
     requires { ⌜ Logarithms (now logarithms) ⌝ }
     ensures { λ r. ⌜ r ≡ syndromesOf (now (header .entry)) ⌝ }
 {
-    let own = field::powers();
-    let low = multiples(&own, 0);
-    let high = multiples(&own, 4);
-    let e = rest(&low, &high, header);
+    let e = rest(header);
     if all_zero(e) {
         return [0; 8];
     }

@@ -1,13 +1,11 @@
+-- `header::coefficient` meets its contract.
 use native.Mathlib.Omega.{arith}
 use mathlib.Core.Path.{_≡_, refl, ap, sym, _∙_}
 use Prim.Native.Nat.{ℕ, _+_, _-_, _*_, _≤_, _<_}
 use lib.ListN.{length, take, drop, getD, set, length-set}
 use mathlib.Core.List.{List, [], _∷_, _++_}
 use borrow.Author.Needs.{needs}
-use Rattle.field.specs.Field.{mul, pow}
-use Rattle.field.proofs.Laws.{pow-add}
 use Rattle.header.specs.Header.{exponents}
-use Rattle.header.proofs.Packed.{power-two}
 use Rattle.header.proofs.coefficient.Statement.{statement}
 use Rattle.header.proofs.coefficient.Tie as tie
 use Rattle.header.proofs.coefficient.Reads as reads
@@ -15,36 +13,21 @@ use Rattle.header.proofs.coefficient.Lts as lts
 use Rattle.header.proofs.exponent.Reads as exponent-reads
 use Rattle.header.proofs.wide.Reads as wide-reads
 
--- src/lib.rt:90:17
 exponent-requires : tie.Need-exponent-requires
 exponent-requires c κs = search needs
 
--- src/lib.rt:90:17
-add-wide : tie.Need-add-wide
-add-wide c = search needs
-
--- src/lib.rt:90:10
 element-copy-out-wide : tie.Need-element-copy-out-wide
 element-copy-out-wide c = search needs
 
--- src/lib.rt:90:5
 wide-requires : tie.Need-wide-requires
 wide-requires c κs = search needs
 
--- src/lib.rt:84:1
 returns : tie.Need-returns
 returns c =
     let s = c .before .before .before in
     let e = c .before .before .exponent in
-    let k : ℕ = getD exponents (s .args .k) 0 in (
-      c .wide .ensures .0
-          ∙ ap (λ (n : ℕ). getD (s .args .powers .now) (n + s .args .j) 0) (e .ensures .0)
-          ∙ s .pre .0 .entry (k + s .args .j) (omega (arith, e .ensures .0, e .ensures .1))
-          ∙ pow-add k (s .args .j)
-          ∙ ap (mul (pow k)) (power-two (s .args .j) (omega arith)),
-      c .wide .ensures .1,
-    )
+    (c .wide .ensures .0 ∙ ap (λ (n : ℕ). getD (s .args .powers .now) n 0) (e .ensures .0) ∙ s .pre .0 .entry (getD exponents (s .args .k) 0) (omega (arith, e .ensures .0, e .ensures .1)), c .wide .ensures .1)
 
 pub coefficient-spec : {M : Type 1} → statement M
 coefficient-spec =
-    tie.close (tie.spec exponent-requires add-wide element-copy-out-wide wide-requires returns)
+    tie.close (tie.spec exponent-requires element-copy-out-wide wide-requires returns)

@@ -4,15 +4,6 @@ use borrow.Author.Needs.{needs}
 use Rattle.header.proofs.parity.Statement.{statement}
 use Rattle.header.proofs.parity.Tie as tie
 
-powers-requires : tie.Need-powers-requires
-powers-requires c κs = search needs
-
-multiples-requires : tie.Need-multiples-requires
-multiples-requires c κs = search needs
-
-multiples-requires-2 : tie.Need-multiples-requires-2
-multiples-requires-2 c κs = search needs
-
 remainder-requires : tie.Need-remainder-requires
 remainder-requires c κs = search needs
 
@@ -23,4 +14,4 @@ returns : tie.Need-returns
 returns c = c .unpack .ensures ∙ c .before .remainder .ensures
 
 pub parity-spec : {M : Type 1} → statement M
-parity-spec = tie.close (tie.spec powers-requires multiples-requires multiples-requires-2 remainder-requires unpack-requires returns)
+parity-spec = tie.close (tie.spec remainder-requires unpack-requires returns)

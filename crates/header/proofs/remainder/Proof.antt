@@ -1,89 +1,94 @@
--- `header::remainder` meets its contract: before each turn it has the packed remainder of the bytes above.
-use mathlib.Core.Path.{_≡_, ap, sym, _∙_}
-use mathlib.Core.List.{List}
-use Prim.Native.Nat.{ℕ, suc, _+_, _-_, _≤_, _<_}
-use native.Mathlib.Omega.{arith}
-use lib.ListN.{length, getD}
-use lib.Seq.{slice, slice-cons, slice-empty, take-all, getD-drop}
-use Rattle.header.specs.Header.{remainder, divideStep, parityOf}
-use Rattle.header.specs.Packed.{pack, packedStep, unpacked}
-use Rattle.header.proofs.CodeWords.{Bytes}
-use Rattle.header.proofs.Division.{remainder-length, remainder-bytes}
-use Rattle.header.proofs.Packed.{packed-step, unpacked-pack}
+-- `header::remainder` meets its contract: before each turn it has what is left of the bytes above.
 use borrow.Author.Needs.{needs}
+use denote.Ref.{now}
+use Rattle.header.specs.Packed.{LeftOver}
+use Rattle.header.proofs.Lanes.{nothing-left, eight-more, parity-left}
+use native.Mathlib.Omega.{arith}
+use mathlib.Core.Path.{_≡_, refl, ap, sym, _∙_, subst}
+use Prim.Native.Nat.{ℕ, _+_, _-_, _*_, _%_, _≤_, _<_}
+use lib.ListN.{length, take, drop, getD, set, length-set}
+use mathlib.Core.List.{List, [], _∷_, _++_}
 use Rattle.header.proofs.remainder.Statement.{statement}
 use Rattle.header.proofs.remainder.Tie as tie
 use Rattle.header.proofs.remainder.Reads as reads
 use Rattle.header.proofs.remainder.Lts as lts
-use Rattle.header.proofs.divide_step.Reads as divide-step-reads
-use Rattle.header.proofs.place.Reads as place-reads
-
--- the bytes from a place on are bytes
-slice-bytes : (w : List ℕ) (f : ℕ) → length w ≡ 96 → Bytes w → Bytes (slice f 96 w)
-slice-bytes w f l h i = rw (take-all 96 w (omega arith), getD-drop f w i 0) (h (f + i))
-
--- one byte more, from the top
-more : (w : List ℕ) (r k p : ℕ) → k < 88 → length w ≡ 96 → Bytes w → p ≡ 95 - k → r ≡ pack (remainder (slice (96 - k) 96 w))
-    → packedStep r (getD w p 0) ≡ pack (remainder (slice (96 - (k + 1)) 96 w))
-unfolding remainder
-more w r k p h l hw ep e =
-    let n : suc (95 - k) ≡ 96 - k = omega arith in
-    let m : 96 - (k + 1) ≡ 95 - k = omega arith in
-    let above : List ℕ = slice (suc (95 - k)) 96 w in
-    rw (m, ep)
-    (ap (λ (x : ℕ). packedStep x (getD w (95 - k) 0)) (e ∙ ap (λ (i : ℕ). pack (remainder (slice i 96 w))) (sym n))
-    ∙ packed-step (remainder above) (getD w (95 - k) 0) (remainder-length above) (remainder-bytes above (slice-bytes w (suc (95 - k)) l hw)) (hw (95 - k))
-    ∙ ap (λ (x : List ℕ). pack (remainder x)) (sym (slice-cons (95 - k) 96 w 0 (omega arith) (omega arith))))
+use Rattle.header.proofs.step.Reads as step-reads
+use Rattle.header.proofs.word.Reads as word-reads
+use Rattle.header.proofs.x10.Reads as x10-reads
+use Rattle.header.proofs.x11.Reads as x11-reads
+use Rattle.header.proofs.x12.Reads as x12-reads
+use Rattle.header.proofs.x13.Reads as x13-reads
+use Rattle.header.proofs.x14.Reads as x14-reads
+use Rattle.header.proofs.x15.Reads as x15-reads
+use Rattle.header.proofs.x8.Reads as x8-reads
+use Rattle.header.proofs.x9.Reads as x9-reads
 
 abbrev Inv-loop : tie.InvT-loop
-Inv-loop low high header r₀ k₀ r k = (k ≤ 88) × (r ≡ pack (remainder (slice (96 - k) 96 header)))
+Inv-loop header a b c d e f g h r₀ i₀ r i = (8 ≤ i) × (i ≤ 96) × (i % 8 ≡ 0) × LeftOver r (drop i header)
 
 abbrev μ-loop : tie.MeasureT-loop
-μ-loop low high header r₀ k₀ r k = 88 - k
+μ-loop header a b c d e f g h r₀ i₀ r i = i
 
--- src/lib.rt:161:5
+abbrev header : tie.At-loop Inv-loop μ-loop → List ℕ
+header l = now (l .before .before .before .before .before .before .before .before .before .before .args .header)
+
+x8-requires : tie.Need-x8-requires Inv-loop μ-loop
+x8-requires c κs = search needs
+
+x9-requires : tie.Need-x9-requires Inv-loop μ-loop
+x9-requires c κs = search needs
+
+x10-requires : tie.Need-x10-requires Inv-loop μ-loop
+x10-requires c κs = search needs
+
+x11-requires : tie.Need-x11-requires Inv-loop μ-loop
+x11-requires c κs = search needs
+
+x12-requires : tie.Need-x12-requires Inv-loop μ-loop
+x12-requires c κs = search needs
+
+x13-requires : tie.Need-x13-requires Inv-loop μ-loop
+x13-requires c κs = search needs
+
+x14-requires : tie.Need-x14-requires Inv-loop μ-loop
+x14-requires c κs = search needs
+
+x15-requires : tie.Need-x15-requires Inv-loop μ-loop
+x15-requires c κs = search needs
+
 loop-holds : tie.Need-loop-holds Inv-loop μ-loop
-unfolding remainder pack
-loop-holds c = (omega arith, sym (ap (λ (x : List ℕ). pack (remainder x)) (slice-empty 96 (c .before .args .header .now))))
+loop-holds c = (omega arith, omega arith, refl, nothing-left (now (c .before .before .before .before .before .before .before .before .before .args .header)) (omega arith))
 
--- src/lib.rt:162:42
-place-requires : tie.Need-place-requires Inv-loop μ-loop
-place-requires c κs = search needs
+sub-i : tie.Need-sub-i Inv-loop μ-loop
+sub-i c = search needs
 
--- src/lib.rt:162:35
-shared-slice-read-divide-step : tie.Need-shared-slice-read-divide-step Inv-loop μ-loop
-shared-slice-read-divide-step c = search needs
+word-requires : tie.Need-word-requires Inv-loop μ-loop
+word-requires c κs = search needs
 
--- src/lib.rt:162:9
-divide-step-requires : tie.Need-divide-step-requires Inv-loop μ-loop
-divide-step-requires c κs = search needs
+step-requires : tie.Need-step-requires Inv-loop μ-loop
+step-requires c κs =
+    let l = c .before .before .before in
+    ((l .before .before .before .before .before .before .before .x8 .ensures, l .before .before .before .before .before .before .x9 .ensures, l .before .before .before .before .before .x10 .ensures, l .before .before .before .before .x11 .ensures), (l .before .before .before .x12 .ensures, l .before .before .x13 .ensures, l .before .x14 .ensures, l .x15 .ensures))
 
--- src/lib.rt:163:9
-add-k : tie.Need-add-k Inv-loop μ-loop
-add-k c = search needs
-
--- src/lib.rt:161:5
 loop-less : tie.Need-loop-less Inv-loop μ-loop
 loop-less c = search needs
 
--- src/lib.rt:161:5
 loop-again : tie.Need-loop-again Inv-loop μ-loop
 loop-again c =
-    let l = c .before .before .before .before in (
+    let l = c .before .before .before in
+    let n : l .loop .i - 8 + 8 ≡ l .loop .i = omega (arith, l .loop .inv .0) in (
       omega arith,
-      c .divide-step .ensures
-          ∙ more (l .before .before .args .header .now) (l .loop .r) (l .loop .k) _ (omega arith) (omega arith) (λ i. l .before .shared-slice-known .given i .fits) (c .before .before .place .ensures) (l .loop .inv .1),
+      omega arith,
+      omega arith,
+      eight-more (header l) (l .loop .i - 8) (l .loop .r) (c .before .word .result) (c .step .result) (omega arith)
+          (subst (λ (k : ℕ). LeftOver (l .loop .r) (drop k (header l))) (sym n) (l .loop .inv .3)) (c .before .word .ensures) (c .step .ensures),
     )
 
--- src/lib.rt:155:1
 returns : tie.Need-returns Inv-loop μ-loop
-unfolding parityOf
 returns c =
     let l = c .before in
-    let w = l .before .before .args .header .now in
-    let e : l .loop .k ≡ 88 = omega arith in
-    ap unpacked (l .loop .inv .1 ∙ ap (λ (n : ℕ). pack (remainder (slice (96 - n) 96 w))) e)
-    ∙ unpacked-pack (remainder (slice 8 96 w)) (remainder-length (slice 8 96 w)) (remainder-bytes (slice 8 96 w) (slice-bytes w 8 (omega arith) (λ i. l .before .shared-slice-known .given i .fits)))
+    let e : l .loop .i ≡ 8 = omega arith in
+    parity-left (header l) (l .loop .r) (omega arith) (λ k. l .before .before .before .before .before .before .before .before .before .shared-slice-known .given k .fits) (subst (λ (k : ℕ). LeftOver (l .loop .r) (drop k (header l))) e (l .loop .inv .3))
 
 pub remainder-spec : {M : Type 1} → statement M
 remainder-spec =
@@ -91,11 +96,18 @@ remainder-spec =
     (tie.spec
     Inv-loop
     μ-loop
+    x8-requires
+    x9-requires
+    x10-requires
+    x11-requires
+    x12-requires
+    x13-requires
+    x14-requires
+    x15-requires
     loop-holds
-    place-requires
-    shared-slice-read-divide-step
-    divide-step-requires
-    add-k
+    sub-i
+    word-requires
+    step-requires
     loop-less
     loop-again
     returns)

@@ -6,15 +6,6 @@ use borrow.Author.Needs.{needs}
 use Rattle.header.proofs.syndromes_by.Statement.{statement}
 use Rattle.header.proofs.syndromes_by.Tie as tie
 
-powers-requires : tie.Need-powers-requires
-powers-requires c κs = search needs
-
-multiples-requires : tie.Need-multiples-requires
-multiples-requires c κs = search needs
-
-multiples-requires-2 : tie.Need-multiples-requires-2
-multiples-requires-2 c κs = search needs
-
 rest-requires : tie.Need-rest-requires
 rest-requires c κs = search needs
 
@@ -39,9 +30,6 @@ pub syndromes-by-spec : {M : Type 1} → statement M
 syndromes-by-spec =
     tie.close
     (tie.spec
-    powers-requires
-    multiples-requires
-    multiples-requires-2
     rest-requires
     all-zero-requires
     returns

@@ -1,0 +1,57 @@
+-- `header::by_byte` meets its contract.
+use native.Mathlib.Omega.{arith}
+use mathlib.Core.Path.{_≡_, refl, ap, sym, _∙_}
+use Prim.Native.Nat.{ℕ, _+_, _-_, _*_, _≤_, _<_}
+use lib.ListN.{length, take, drop, getD, set, length-set}
+use mathlib.Core.List.{List, [], _∷_, _++_}
+use borrow.Author.Needs.{needs}
+use lib.Dec.{lit<}
+use Rattle.field.specs.Field.{timesA}
+use Rattle.header.proofs.Lanes.{once, twice, halves}
+use Rattle.header.proofs.by_byte.Statement.{statement}
+use Rattle.header.proofs.by_byte.Tie as tie
+use Rattle.header.proofs.by_byte.Reads as reads
+use Rattle.header.proofs.by_byte.Lts as lts
+use Rattle.header.proofs.by_half.Reads as by-half-reads
+use Rattle.header.proofs.doubled.Reads as doubled-reads
+
+doubled-requires : tie.Need-doubled-requires
+doubled-requires c κs = search needs
+
+doubled-requires-2 : tie.Need-doubled-requires-2
+doubled-requires-2 c κs = search needs
+
+doubled-requires-3 : tie.Need-doubled-requires-3
+doubled-requires-3 c κs = search needs
+
+doubled-requires-4 : tie.Need-doubled-requires-4
+doubled-requires-4 c κs = search needs
+
+by-half-requires : tie.Need-by-half-requires
+by-half-requires c κs = search needs
+
+by-half-requires-2 : tie.Need-by-half-requires-2
+by-half-requires-2 c κs = search needs
+
+returns : tie.Need-returns
+unfolding timesA
+returns c =
+    let w = c .before .before .before .before .before .before .args .w in
+    let h = c .before .before .doubled4 in
+    let e = twice w _ (h .result) 8 (lit< tt) (h .ensures)
+    (twice w _ _ 4 (lit< tt) (c .before .before .before .doubled3 .ensures)
+    (twice w _ _ 2 (lit< tt) (c .before .before .before .before .doubled2 .ensures)
+    (twice w w _ 1 (lit< tt) (c .before .before .before .before .before .doubled .ensures) (once w)))) in
+    halves w (h .result) (c .before .before .before .before .before .before .args .b) (c .before .by-half .result) (c .by-half2 .result) (omega arith) e (c .before .by-half .ensures) (c .by-half2 .ensures)
+
+pub by-byte-spec : {M : Type 1} → statement M
+by-byte-spec =
+    tie.close
+    (tie.spec
+    doubled-requires
+    doubled-requires-2
+    doubled-requires-3
+    doubled-requires-4
+    by-half-requires
+    by-half-requires-2
+    returns)

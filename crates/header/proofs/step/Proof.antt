@@ -1,0 +1,65 @@
+-- `header::step` meets its contract.
+use native.Mathlib.Omega.{arith}
+use mathlib.Core.Path.{_≡_, refl, ap, sym, _∙_}
+use Prim.Native.Nat.{ℕ, _+_, _-_, _*_, _≤_, _<_}
+use lib.ListN.{length, take, drop, getD, set, length-set}
+use mathlib.Core.List.{List, [], _∷_, _++_}
+use borrow.Author.Needs.{needs}
+use Rattle.header.specs.Packed.{timesAll}
+use Rattle.header.proofs.Lanes.{eight-parts}
+use Rattle.header.proofs.step.Statement.{statement}
+use Rattle.header.proofs.step.Tie as tie
+use Rattle.header.proofs.step.Reads as reads
+use Rattle.header.proofs.step.Lts as lts
+use Rattle.header.proofs.by_byte.Reads as by-byte-reads
+
+by-byte-requires : tie.Need-by-byte-requires
+by-byte-requires c κs = search needs
+
+by-byte-requires-2 : tie.Need-by-byte-requires-2
+by-byte-requires-2 c κs = search needs
+
+by-byte-requires-3 : tie.Need-by-byte-requires-3
+by-byte-requires-3 c κs = search needs
+
+by-byte-requires-4 : tie.Need-by-byte-requires-4
+by-byte-requires-4 c κs = search needs
+
+by-byte-requires-5 : tie.Need-by-byte-requires-5
+by-byte-requires-5 c κs = search needs
+
+by-byte-requires-6 : tie.Need-by-byte-requires-6
+by-byte-requires-6 c κs = search needs
+
+by-byte-requires-7 : tie.Need-by-byte-requires-7
+by-byte-requires-7 c κs = search needs
+
+by-byte-requires-8 : tie.Need-by-byte-requires-8
+by-byte-requires-8 c κs = search needs
+
+returns : tie.Need-returns
+returns c =
+    let s = c .before .before .before .before .before .before .before .before in
+    eight-parts (s .args .v) (c .before .before .before .before .before .before .before .by-byte .result) (c .before .before .before .before .before .before .by-byte2 .result) (c .before .before .before .before .before .by-byte3 .result) (c .before .before .before .before .by-byte4 .result) (c .before .before .before .by-byte5 .result) (c .before .before .by-byte6 .result) (c .before .by-byte7 .result) (c .by-byte8 .result)
+    (c .before .before .before .before .before .before .before .by-byte .ensures ∙ ap (timesAll _) (s .pre .0 .0))
+    (c .before .before .before .before .before .before .by-byte2 .ensures ∙ ap (timesAll _) (s .pre .0 .1))
+    (c .before .before .before .before .before .by-byte3 .ensures ∙ ap (timesAll _) (s .pre .0 .2))
+    (c .before .before .before .before .by-byte4 .ensures ∙ ap (timesAll _) (s .pre .0 .3))
+    (c .before .before .before .by-byte5 .ensures ∙ ap (timesAll _) (s .pre .1 .0))
+    (c .before .before .by-byte6 .ensures ∙ ap (timesAll _) (s .pre .1 .1))
+    (c .before .by-byte7 .ensures ∙ ap (timesAll _) (s .pre .1 .2))
+    (c .by-byte8 .ensures ∙ ap (timesAll _) (s .pre .1 .3))
+
+pub step-spec : {M : Type 1} → statement M
+step-spec =
+    tie.close
+    (tie.spec
+    by-byte-requires
+    by-byte-requires-2
+    by-byte-requires-3
+    by-byte-requires-4
+    by-byte-requires-5
+    by-byte-requires-6
+    by-byte-requires-7
+    by-byte-requires-8
+    returns)
