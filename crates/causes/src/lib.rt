@@ -1,10 +1,10 @@
-// The causes of refusals and of notes (document 01, "What is turned down" and "Receiver"), in words that have no comma, so that they stand in a
-// column.
+// The causes of refusals and of notes (document 01, "What is turned down" and "Receiver"; document 02), in words that have no comma, so that they
+// stand in a column.
 ghost use Rattle.io.specs.Counts.{Counts};
 
-// The causes of the receiver's refusals by their numbers, from 0 on, which none has.
-const REFUSALS: [u8; 311] =
-    *b"unknown\0wrong receiver state\0carry buffer too short\0length not 96 to 20480\0header beyond correction\0mode and stream not in the table\0mode and stream not those asked for\0sequence outside its range\0wrong count of pieces\0La out of place\0wrong expansion\0locator out of place\0displacement out of place\0log too short\0";
+// The causes of the receiver's refusals by their numbers, from 0 on, which none has, to 13; and then that of 19 (document 02, Ask 3).
+const REFUSALS: [u8; 355] =
+    *b"unknown\0wrong receiver state\0carry buffer too short\0length not 96 to 20480\0header beyond correction\0mode and stream not in the table\0mode and stream not those asked for\0sequence outside its range\0wrong count of pieces\0La out of place\0wrong expansion\0locator out of place\0displacement out of place\0log too short\0over eight marks or one over 95 or repeated\0";
 
 // The causes of notes by their numbers, from 0 on, which none has.
 const NOTES: [u8; 68] =
@@ -18,11 +18,19 @@ fn listed(number: u32, last: u32) -> u32 {
     number
 }
 
+// The place of a refusal's cause among those of refusals.
+fn refusal_place(number: u32) -> u32 {
+    if number == 19 {
+        return 14;
+    }
+    listed(number, 13)
+}
+
 // The cause of a refusal of the receiver's.
 pub fn put_refusal(out: &mut [u8], at: usize, number: u32) -> usize
     ensures { λ r. ⌜ Counts r (now (out .exit)) ⌝ }
 {
-    text::put(out, at, text::entry(&REFUSALS, listed(number, 13)))
+    text::put(out, at, text::entry(&REFUSALS, refusal_place(number)))
 }
 
 // The cause of a note.

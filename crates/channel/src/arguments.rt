@@ -17,19 +17,6 @@ pub struct Job {
     pub channel: Channel,
 }
 
-// Whether every option is one that is known, with its value, and PDUs and marks are not both to go to standard output; if not, says what is
-// wrong.
-pub fn check() -> bool {
-    if !options::check(&PROGRAM, &KNOWN) {
-        return false;
-    }
-    if files::is_shared(&KNOWN, b"marks", b"out") {
-        files::say(&PROGRAM, b": --marks: standard output has the PDUs\n");
-        return false;
-    }
-    true
-}
-
 fn number(name: &[u8], default: u32, low: u32, high: u32) -> Number
     ensures { λ r. ⌜ r .value ≤ high ⌝ }
 {

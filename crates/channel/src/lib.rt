@@ -7,13 +7,20 @@ use arguments::Job;
 use damage::dice;
 use sending::Run;
 use sending::Task;
+ghost use Rattle.io.specs.Counts.{Counts};
 
 // The subcommand `channel`: answers the exit status.
 pub fn program() -> i32 {
     if options::given(&arguments::KNOWN, b"help") {
         return files::status(&arguments::PROGRAM, report::usage());
     }
-    if !arguments::check() {
+    if !files::check(
+        &arguments::PROGRAM,
+        &arguments::KNOWN,
+        b"marks",
+        b"out",
+        b": --marks: standard output has the PDUs\n",
+    ) {
         return files::WRONG;
     }
     let job = arguments::asked();
@@ -34,39 +41,56 @@ fn run(job: Job) -> bool {
     with_input(job, &from[..n], input)
 }
 
-// Opens the file of marks, where one is asked for.
+// A file that is written: its number, -1 where it is not made, and how long its label is.
+struct File {
+    fd: i32,
+    length: usize,
+}
+
+// Makes the file of an option, standard output where it names none, and puts its label.
+fn made(option: &[u8], label: &mut [u8]) -> File
+    ensures { λ r. ⌜ Counts (r .length) (now (label .exit)) ⌝ }
+{
+    let n = files::put_label(
+        label,
+        &arguments::PROGRAM,
+        &arguments::KNOWN,
+        option,
+        b"standard output",
+    );
+    File {
+        fd: files::open_output(&arguments::KNOWN, option, &label[..n]),
+        length: n,
+    }
+}
+
+// Makes the file of marks, where one is asked for.
 fn with_input(job: Job, from: &[u8], input: i32) -> bool {
     if !options::given(&arguments::KNOWN, b"marks") {
         return with_marks(job, from, input, b"", sending::NO_MARKS);
     }
     let mut label = files::label_buffer();
-    let n = files::put_label(
-        &mut label,
-        &arguments::PROGRAM,
-        &arguments::KNOWN,
-        b"marks",
-        b"standard output",
-    );
-    let marks = files::open_output(&arguments::KNOWN, b"marks", &label[..n]);
-    if marks < 0 {
+    let marks = made(b"marks", &mut label);
+    if marks.fd < 0 {
         return false;
     }
-    with_marks(job, from, input, &label[..n], marks)
+    let n = marks.length;
+    with_marks(job, from, input, &label[..n], marks.fd)
 }
 
-// Opens the file that is written, and sends every PDU over the channel. Where that file is not made, that of marks goes, too.
+// Makes the file that is written, and sends every PDU over the channel. Where that file is not made, that of marks goes, too.
 fn with_marks(job: Job, from: &[u8], input: i32, marking: &[u8], marks: i32) -> bool {
     let mut onto = files::label_buffer();
-    let n = files::put_output_label(&mut onto, &arguments::PROGRAM, &arguments::KNOWN);
-    let output = files::open_output(&arguments::KNOWN, b"out", &onto[..n]);
-    if output < 0 {
+    let pdus = made(b"out", &mut onto);
+    if pdus.fd < 0 {
         files::unmake(&arguments::KNOWN, b"marks");
         return false;
     }
+    let n = pdus.length;
     let channel = job.channel;
     let task = Task {
         input: input,
-        output: output,
+        output: pdus.fd,
         marks: marks,
         channel: channel,
     };

@@ -26,19 +26,19 @@ const REFUSED: usize = 6;
 const OTHERS: usize = 12;
 
 // How many numbers there are of refusals.
-const REFUSALS: u32 = 18;
+const REFUSALS: u32 = 20;
 
 // The place for the notes of cause 0; those of the other causes follow.
-const NOTES: usize = 24;
+const NOTES: usize = 26;
 
 // How many causes there are of notes.
 const CAUSES: u32 = 8;
 
 // Every count 0.
-pub fn none() -> [u64; 32]
-    ensures { λ r. ⌜ 32 ≡ length r ⌝ }
+pub fn none() -> [u64; 34]
+    ensures { λ r. ⌜ 34 ≡ length r ⌝ }
 {
-    [0; 32]
+    [0; 34]
 }
 
 fn at(counts: &[u64], place: usize) -> u64 {
@@ -57,7 +57,7 @@ fn add(counts: &mut [u64], place: usize, more: u64) {
 
 // The place of a number among so many that follow a place.
 fn place_of(first: usize, number: u32, many: u32) -> usize
-    requires { ⌜ first < 32 ⌝ }
+    requires { ⌜ first < 34 ⌝ }
 {
     if number < many {
         return first + number as usize;
@@ -103,7 +103,7 @@ pub fn add_log(counts: &mut [u64], log: &[u32]) {
 
 // The sum of so many counts from a place on.
 fn sum(counts: &[u64], first: usize, many: u32) -> u64
-    requires { ⌜ first < 32 ⌝ }
+    requires { ⌜ first < 34 ⌝ }
 {
     let mut total: u64 = 0;
     let mut k: u32 = 0;
@@ -167,7 +167,7 @@ fn put_line(out: &mut [u8], at: usize, first: usize, number: u32, count: u64) ->
 
 // A line for each count but 0 of so many from a place on: refusals, or notes.
 fn put_lines(out: &mut [u8], start: usize, counts: &[u64], first: usize, many: u32) -> usize
-    requires { ⌜ first < 32 ⌝ }
+    requires { ⌜ first < 34 ⌝ }
     ensures { λ r. ⌜ Counts r (now (out .exit)) ⌝ }
 {
     let mut n = text::put(out, start, b"");

@@ -35,11 +35,24 @@ fn is_named(known: &[u8], option: &[u8]) -> bool {
 }
 
 // Whether an option and another one both stand for standard input, or output: it is given as a dash, and the other names no file.
-pub fn is_shared(known: &[u8], option: &[u8], other: &[u8]) -> bool {
+fn is_shared(known: &[u8], option: &[u8], other: &[u8]) -> bool {
     if !options::given(known, option) {
         return false;
     }
     !is_named(known, option) & !is_named(known, other)
+}
+
+// Whether every argument is right, as `options::check` has it, and an option does not share standard input or output with another one; if not, says
+// what is wrong, for the latter in the words given.
+pub fn check(program: &[u8], known: &[u8], option: &[u8], other: &[u8], words: &[u8]) -> bool {
+    if !options::check(program, known) {
+        return false;
+    }
+    if is_shared(known, option, other) {
+        say(program, words);
+        return false;
+    }
+    true
 }
 
 // The program's name and that of a file: the value of the option that names it, or the other name where it names none.

@@ -3,7 +3,7 @@ use text::Number;
 ghost use Prim.Native.Nat.{_≤_};
 
 // The options that are known.
-pub const KNOWN: [u8; 42] = *b"in=\0out=\0force\0mode=\0stream=\0format=\0help\0";
+pub const KNOWN: [u8; 49] = *b"in=\0out=\0marks=\0force\0mode=\0stream=\0format=\0help\0";
 
 // What is asked for; ok where mode, stream and format are given as they can be.
 pub struct Job {

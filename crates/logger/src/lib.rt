@@ -5,15 +5,23 @@ mod report;
 use arguments::Job;
 use logging::Run;
 use logging::Task;
+use logging::marks;
 use logging::output::Sink;
 use receiver::Receiver;
+ghost use Rattle.io.specs.Counts.{Counts};
 
 // The program: answers its exit status. What went wrong is said.
 pub fn program() -> i32 {
     if options::given(&arguments::KNOWN, b"help") {
         return files::status(b"barzhilup log", report::usage());
     }
-    if !options::check(b"barzhilup log", &arguments::KNOWN) {
+    if !files::check(
+        b"barzhilup log",
+        &arguments::KNOWN,
+        b"marks",
+        b"in",
+        b": --marks: standard input has the PDUs\n",
+    ) {
         return files::WRONG;
     }
     let job = arguments::asked();
@@ -36,17 +44,61 @@ fn with_job(job: Job) -> bool {
 
 // Opens the file of PDUs.
 fn with_receiver(job: Job, receiver: Receiver) -> bool {
-    let mut from = files::label_buffer();
-    let n = files::put_input_label(&mut from, b"barzhilup log", &arguments::KNOWN);
-    let input = files::open_input(&arguments::KNOWN, b"in", &from[..n]);
-    if input < 0 {
+    let mut label = files::label_buffer();
+    let pdus = opened(b"in", &mut label);
+    if pdus.fd < 0 {
         return false;
     }
-    with_input(job, receiver, &from[..n], input)
+    let n = pdus.length;
+    with_input(job, receiver, &label[..n], pdus.fd)
+}
+
+// Opens the file of marks, where one is given.
+fn with_input(job: Job, receiver: Receiver, from: &[u8], input: i32) -> bool {
+    if !options::given(&arguments::KNOWN, b"marks") {
+        return with_marks(job, receiver, from, input, b"", marks::NONE);
+    }
+    let mut label = files::label_buffer();
+    let places = opened(b"marks", &mut label);
+    if places.fd < 0 {
+        return false;
+    }
+    let n = places.length;
+    with_marks(job, receiver, from, input, &label[..n], places.fd)
+}
+
+// A file that is read: its number, -1 where it cannot be opened, and how long its label is.
+struct File {
+    fd: i32,
+    length: usize,
+}
+
+// Opens the file of an option that is read, standard input where it names none, and puts its label.
+fn opened(option: &[u8], label: &mut [u8]) -> File
+    ensures { λ r. ⌜ Counts (r .length) (now (label .exit)) ⌝ }
+{
+    let n = files::put_label(
+        label,
+        b"barzhilup log",
+        &arguments::KNOWN,
+        option,
+        b"standard input",
+    );
+    File {
+        fd: files::open_input(&arguments::KNOWN, option, &label[..n]),
+        length: n,
+    }
 }
 
 // Opens the file of the log, and logs.
-fn with_input(job: Job, receiver: Receiver, from: &[u8], input: i32) -> bool {
+fn with_marks(
+    job: Job,
+    receiver: Receiver,
+    from: &[u8],
+    input: i32,
+    marking: &[u8],
+    marks: i32,
+) -> bool {
     let mut onto = files::label_buffer();
     let n = files::put_output_label(&mut onto, b"barzhilup log", &arguments::KNOWN);
     let output = files::open_output(&arguments::KNOWN, b"out", &onto[..n]);
@@ -55,6 +107,7 @@ fn with_input(job: Job, receiver: Receiver, from: &[u8], input: i32) -> bool {
     }
     let task = Task {
         input: input,
+        marks: marks,
         sink: Sink {
             fd: output,
             format: job.format,
@@ -62,7 +115,7 @@ fn with_input(job: Job, receiver: Receiver, from: &[u8], input: i32) -> bool {
     };
     let mut counts = counts::none();
     let run = logging::log_all(task, receiver, &mut counts);
-    report::ends(run.status, from, &onto[..n], run.pdus);
+    report::ends(run.status, from, marking, &onto[..n], run.pdus);
     finish(job, run, output, &onto[..n], &counts)
 }
 

@@ -1,17 +1,35 @@
 // What the program says on standard error, a line or more in one write.
 use libc::STDERR_FILENO;
+use logging::marks;
 
 fn say(line: &[u8]) {
     io::write_all(STDERR_FILENO, line);
 }
 
 // Why no more PDUs are logged, after so many; nothing where all are. PDUs are counted from 0.
-pub fn ends(status: u8, from: &[u8], onto: &[u8], pdus: u64) {
+pub fn ends(status: u8, from: &[u8], marking: &[u8], onto: &[u8], pdus: u64) {
     match status {
         records::END => {}
         records::CUT => files::say_number(from, b": ends inside the record of PDU ", pdus, b"\n"),
         logging::UNWRITTEN => os::fail(onto),
+        marks::MISSING | marks::CUT | marks::UNREAD | marks::LEFT => {
+            marks_end(status, marking, pdus)
+        }
         _ => os::fail(from),
+    }
+}
+
+// What is wrong with the file of marks, after so many PDUs.
+fn marks_end(status: u8, marking: &[u8], pdus: u64) {
+    match status {
+        marks::MISSING => {
+            files::say_number(marking, b": ends before the marks of PDU ", pdus, b"\n")
+        }
+        marks::CUT => files::say_number(marking, b": ends inside the marks of PDU ", pdus, b"\n"),
+        marks::LEFT => {
+            files::say_number(marking, b": has marks of more than the ", pdus, b" PDUs\n")
+        }
+        _ => os::fail(marking),
     }
 }
 
@@ -71,11 +89,17 @@ that is marked lost.
 
   --in FILE       PDUs (standard input, also for -)
   --out FILE      the packet log (standard output, also for -)
+  --marks FILE    the places of doubtful header bytes (standard input for -)
   --force         an existing FILE of --out is renamed FILE~ first
   --mode N        0, 1, 2, 3, 10 or 13 (0)
   --stream N      0 core, 1 enhanced (0)
   --format F      words, text or csv (text)
   --help          prints this and does nothing else (also -h)
+
+Marks: a record for each record of PDUs, in the same form; each of its bytes is
+a place, 0 to 95. Without marks up to four wrong header bytes are corrected;
+with s marked places, any values there and up to (8 - s) / 2 wrong bytes
+elsewhere. More than eight places, one over 95 or one twice: refused with 19.
 
 Formats:
   words           the log's words, each in four bytes, low byte first

@@ -1,21 +1,24 @@
-// A run: each turn reads a PDU, gives it to the receiver, and writes its log.
+// A run: each turn reads a PDU and its marks, gives it to the receiver, and writes its log.
+pub mod marks;
 pub mod output;
 
 use outcome::Outcome;
 use output::Sink;
 use receiver::Receiver;
+ghost use Rattle.io.specs.Counts.{Counts};
 
-// Where PDUs come from, and where their log goes.
+// Where PDUs come from, where their marks do, and where their log goes.
 pub struct Task {
     pub input: i32,
+    pub marks: i32,
     pub sink: Sink,
 }
 
 // How a run stands where the log could not be written.
 pub const UNWRITTEN: u8 = 5;
 
-// A run so far: what came of the last reading, with END where all PDUs are read and logged, or UNWRITTEN; its receiver, and how many PDUs were
-// logged.
+// A run so far: what came of the last reading, with END where all PDUs are read and logged, or UNWRITTEN, or how it stands by its marks; its
+// receiver, and how many PDUs were logged.
 pub struct Run {
     pub status: u8,
     pub receiver: Receiver,
@@ -42,6 +45,7 @@ fn written(log: &[u32], words: usize) -> &[u32] {
 pub fn log_all(task: Task, receiver: Receiver, counts: &mut [u64]) -> Run {
     let mut carry = [0u8; 4096];
     let mut pdu = [0u8; 65535];
+    let mut places = [0u8; 65535];
     let mut log = [0u32; 8400];
     let mut block = io::large_buffer();
     let sink = task.sink;
@@ -53,6 +57,7 @@ pub fn log_all(task: Task, receiver: Receiver, counts: &mut [u64]) -> Run {
         task,
         &mut carry,
         &mut pdu,
+        &mut places,
         &mut log,
         &mut block,
         counts,
@@ -83,6 +88,7 @@ fn all_turns(
     task: Task,
     carry: &mut [u8],
     pdu: &mut [u8],
+    places: &mut [u8],
     log: &mut [u32],
     block: &mut [u8],
     counts: &mut [u64],
@@ -91,7 +97,7 @@ fn all_turns(
     let mut run = start;
     let mut turns = u64::MAX;
     while 0 < turns {
-        let next = turn(task, carry, pdu, log, block, counts, run);
+        let next = turn(task, carry, pdu, places, log, block, counts, run);
         run = next;
         if run.status != records::WHOLE {
             return run;
@@ -102,34 +108,80 @@ fn all_turns(
     run
 }
 
-// Reads a PDU and takes it; stops where none can be read.
+// What came of reading a PDU and its marks, and how many bytes and marked places it has.
+struct Incoming {
+    status: u8,
+    length: usize,
+    marks: usize,
+}
+
+// Reads a PDU and its marked places, each to its buffer's start.
+fn read(task: Task, pdu: &mut [u8], places: &mut [u8]) -> Incoming
+    ensures { λ r. ⌜ Counts (r .length) (now (pdu .exit)) ⌝ }
+    ensures { λ r. ⌜ Counts (r .marks) (now (places .exit)) ⌝ }
+{
+    let r = records::read(task.input, pdu);
+    if r.status != records::WHOLE {
+        return Incoming {
+            status: marks::last(task.marks, places, r.status),
+            length: r.length,
+            marks: 0,
+        };
+    }
+    let m = marks::next(task.marks, places);
+    Incoming {
+        status: m.status,
+        length: r.length,
+        marks: m.length,
+    }
+}
+
+// Reads a PDU and takes it; stops where it cannot be read.
 fn turn(
     task: Task,
     carry: &mut [u8],
     pdu: &mut [u8],
+    places: &mut [u8],
+    log: &mut [u32],
+    block: &mut [u8],
+    counts: &mut [u64],
+    run: Run,
+) -> Run {
+    let r = read(task, pdu, places);
+    if r.status != records::WHOLE {
+        let receiver = run.receiver;
+        return run_of(r.status, receiver, run.pdus);
+    }
+    let n = r.length;
+    let k = r.marks;
+    let sink = task.sink;
+    received(
+        sink,
+        carry,
+        &mut pdu[..n],
+        &places[..k],
+        log,
+        block,
+        counts,
+        run,
+    )
+}
+
+// Receives a PDU with its marked places, and writes what came of it.
+fn received(
+    sink: Sink,
+    carry: &mut [u8],
+    pdu: &mut [u8],
+    places: &[u8],
     log: &mut [u32],
     block: &mut [u8],
     counts: &mut [u64],
     run: Run,
 ) -> Run {
     let receiver = run.receiver;
-    let r = records::read(task.input, pdu);
-    if r.status != records::WHOLE {
-        return run_of(r.status, receiver, run.pdus);
-    }
-    let n = r.length;
     let refused = counts::refused(counts);
     let others = counts::others(counts);
-    let o = reception::receive(
-        receiver,
-        carry,
-        &mut pdu[..n],
-        log,
-        run.pdus,
-        refused,
-        others,
-    );
-    let sink = task.sink;
+    let o = reception::receive(receiver, carry, pdu, places, log, run.pdus, refused, others);
     taken(sink, o, log, block, counts, run.pdus)
 }
 

@@ -8,8 +8,7 @@ use lib.Dec.{eqb}
 use lib.ListN.{length}
 use borrow.Author.Tests.{eq-eqb, ne-eqb, eqb-true}
 use Rattle.header.specs.Header.{headerOf, distance}
-use Rattle.pdu.specs.Reading.{WrongOne}
-use Rattle.receiver.specs.Receiving.{refusedAnswer, receiveNumber, receiveAnswer, carryAfter, pduAfter, logAfter, lostTests, lostNumber, lostAnswer, logAfterLost}
+use Rattle.receiver.specs.Receiving.{WrongOneWith, refusedAnswer, receiveNumber, receiveAnswer, carryAfter, pduAfter, logAfter, lostTests, lostNumber, lostAnswer, logAfterLost}
 use Rattle.receiver.specs.declared.Receiver.{Receiver}
 use Rattle.receiver.specs.declared.Received.{Received}
 use Rattle.outcome.specs.Logging.{outcomeOf, recordNumber, recordOutcome, recordCarry, recordPdu, recordLog}
@@ -86,72 +85,72 @@ lost-by false n m k a o l w q = q ∙ parts 2 n n 0 k 0 m a a refl w l refl
 
 -- ---- a record
 
-module _ (carry pdu log : List ℕ) (r : Receiver) where
-  receive-number : (k : ℕ) → receiveAnswer [] carry pdu log r k .refusal ≡ receiveNumber [] carry pdu log r
+module _ (marks carry pdu log : List ℕ) (r : Receiver) where
+  receive-number : (k : ℕ) → receiveAnswer marks carry pdu log r k .refusal ≡ receiveNumber marks carry pdu log r
   unfolding receiveAnswer
-  receive-number k = number-by (eqb (receiveNumber [] carry pdu log r) 0) (receiveNumber [] carry pdu log r) _ r k refl refl
+  receive-number k = number-by (eqb (receiveNumber marks carry pdu log r) 0) (receiveNumber marks carry pdu log r) _ r k refl refl
 
   -- what is promised of the outcome, and of the carry, the record and the log after it
   abbrev pub Comes : Outcome → List ℕ → List ℕ → List ℕ → Type 0
   Comes o carryEnd pduEnd logEnd =
-      (o ≡ recordOutcome carry pdu log r (o .wrong)) × (WrongOne pdu (recordNumber carry pdu log r) (o .wrong) × ((carryEnd ≡ recordCarry carry pdu log r) × ((pduEnd ≡ recordPdu carry pdu log r) × (logEnd ≡ recordLog carry pdu log r))))
+      (o ≡ recordOutcome marks carry pdu log r (o .wrong)) × (WrongOneWith marks pdu (recordNumber marks carry pdu log r) (o .wrong) × ((carryEnd ≡ recordCarry marks carry pdu log r) × ((pduEnd ≡ recordPdu marks carry pdu log r) × (logEnd ≡ recordLog marks carry pdu log r))))
 
   pub empty-record : (o : Outcome) (logEnd : List ℕ) → length pdu ≡ 0 → Lost log r o → logEnd ≡ logAfterLost log r → Comes o carry pdu logEnd
   unfolding recordOutcome recordNumber recordCarry recordPdu recordLog
   empty-record o logEnd l q e =
       let t : eqb (length pdu) 0 ≡ true = eq-eqb (length pdu) 0 l in
       let w : o .wrong ≡ 0 = lost-k (eqb (lostNumber log r) 0) (lostNumber log r) (lostAnswer log r) o q in
-      let other : recordNumber carry pdu log r ≡ 11 → ⊥ = rw t (lost-not-11 log r) in (
+      let other : recordNumber marks carry pdu log r ≡ 11 → ⊥ = rw t (lost-not-11 log r) in (
         rw t (lost-by (eqb (lostNumber log r) 0) (lostNumber log r) (length pdu) (o .wrong) (lostAnswer log r) o (sym l) (sym w) q),
         (record { inside = λ z. absurd (other z); wrong = λ z. absurd (other z); none = λ _. w }, (rw t, (rw t, rw t (e ∙ neither (eqb (lostNumber log r) 0))))),
       )
     where
-      neither : (s : Bool) → logAfterLost log r ≡ cond (s && false) (logAfter [] carry pdu log r) (logAfterLost log r)
+      neither : (s : Bool) → logAfterLost log r ≡ cond (s && false) (logAfter marks carry pdu log r) (logAfterLost log r)
       neither true = refl
       neither false = refl
 
   -- the answer of receiving a PDU that is not empty, and the three buffers after it
-  module _ (full : length pdu ≡ 0 → ⊥) (a : Received) (carryEnd pduEnd logMid : List ℕ) (ea : a ≡ receiveAnswer [] carry pdu log r (a .wrong)) (wrong : WrongOne pdu (a .refusal) (a .wrong))
-      (ec : carryEnd ≡ carryAfter [] carry pdu log r) (ep : pduEnd ≡ pduAfter [] carry pdu log r) (el : logMid ≡ logAfter [] carry pdu log r) (n : ℕ) (long : n ≡ length pdu) (o : Outcome) where
-    number : a .refusal ≡ receiveNumber [] carry pdu log r
+  module _ (full : length pdu ≡ 0 → ⊥) (a : Received) (carryEnd pduEnd logMid : List ℕ) (ea : a ≡ receiveAnswer marks carry pdu log r (a .wrong)) (wrong : WrongOneWith marks pdu (a .refusal) (a .wrong))
+      (ec : carryEnd ≡ carryAfter marks carry pdu log r) (ep : pduEnd ≡ pduAfter marks carry pdu log r) (el : logMid ≡ logAfter marks carry pdu log r) (n : ℕ) (long : n ≡ length pdu) (o : Outcome) where
+    number : a .refusal ≡ receiveNumber marks carry pdu log r
     number = ap (λ (x : Received). x .refusal) ea ∙ receive-number (a .wrong)
 
     some : eqb (length pdu) 0 ≡ false
     some = ne-eqb (length pdu) 0 full
 
     -- the k, and the buffers that are as receiving leaves them
-    k-is : o .wrong ≡ a .wrong → WrongOne pdu (recordNumber carry pdu log r) (o .wrong)
+    k-is : o .wrong ≡ a .wrong → WrongOneWith marks pdu (recordNumber marks carry pdu log r) (o .wrong)
     unfolding recordNumber
-    k-is e = rw some (subst (λ (x : ℕ). WrongOne pdu (receiveNumber [] carry pdu log r) x) (sym e) (subst (λ (x : ℕ). WrongOne pdu x (a .wrong)) number wrong))
+    k-is e = rw some (subst (λ (x : ℕ). WrongOneWith marks pdu (receiveNumber marks carry pdu log r) x) (sym e) (subst (λ (x : ℕ). WrongOneWith marks pdu x (a .wrong)) number wrong))
 
-    carry-is : carryEnd ≡ recordCarry carry pdu log r
+    carry-is : carryEnd ≡ recordCarry marks carry pdu log r
     unfolding recordCarry
     carry-is = rw some ec
 
-    pdu-is : pduEnd ≡ recordPdu carry pdu log r
+    pdu-is : pduEnd ≡ recordPdu marks carry pdu log r
     unfolding recordPdu
     pdu-is = rw some ep
 
     pub refused-record : (last : Received) (logEnd : List ℕ) → (a .refusal ≡ 0 → ⊥) → o ≡ outcomeOf 2 (a .refusal) (a .wrong) n last → last ≡ lostAnswer logMid (a .receiver) → logEnd ≡ logAfterLost logMid (a .receiver) → Comes o carryEnd pduEnd logEnd
     unfolding recordOutcome recordNumber recordLog receiveAnswer logAfter
     refused-record last logEnd d q f e =
-        let t : eqb (receiveNumber [] carry pdu log r) 0 ≡ false = ne-eqb (receiveNumber [] carry pdu log r) 0 (λ z. d (number ∙ z)) in
-        let kept : a ≡ refusedAnswer r (receiveNumber [] carry pdu log r) (a .wrong) = rw t at ea in
+        let t : eqb (receiveNumber marks carry pdu log r) 0 ≡ false = ne-eqb (receiveNumber marks carry pdu log r) 0 (λ z. d (number ∙ z)) in
+        let kept : a ≡ refusedAnswer r (receiveNumber marks carry pdu log r) (a .wrong) = rw t at ea in
         let same : logMid ≡ log = rw t at el in
         let known : a .receiver ≡ r = ap (λ (x : Received). x .receiver) kept in
         let lost : last ≡ lostAnswer log r = f ∙ ap₂ lostAnswer same known in
         let w : o .wrong ≡ a .wrong = k-of o 2 (a .refusal) (a .wrong) n last q in (
-          rw (some, t) (q ∙ parts 2 (a .refusal) (receiveNumber [] carry pdu log r) (a .wrong) (o .wrong) n (length pdu) last (lostAnswer log r) number (sym w) long lost),
+          rw (some, t) (q ∙ parts 2 (a .refusal) (receiveNumber marks carry pdu log r) (a .wrong) (o .wrong) n (length pdu) last (lostAnswer log r) number (sym w) long lost),
           (k-is w, (carry-is, (pdu-is, rw (some, t) (e ∙ ap₂ logAfterLost same known)))),
         )
 
     pub accepted-record : (before after : List ℕ) (count : ℕ) → a .refusal ≡ 0 → before ≡ headerOf pdu → after ≡ headerOf pduEnd → count ≡ distance before after → o ≡ outcomeOf 0 count 0 n a → Comes o carryEnd pduEnd logMid
     unfolding recordOutcome recordNumber recordLog
     accepted-record before after count z eb eh en q =
-        let t : eqb (receiveNumber [] carry pdu log r) 0 ≡ true = eq-eqb (receiveNumber [] carry pdu log r) 0 (sym number ∙ z) in
+        let t : eqb (receiveNumber marks carry pdu log r) 0 ≡ true = eq-eqb (receiveNumber marks carry pdu log r) 0 (sym number ∙ z) in
         let none : a .wrong ≡ 0 = wrong .none (λ f. omega (arith, z, f)) in
-        let d : count ≡ distance (headerOf pdu) (headerOf (pduAfter [] carry pdu log r)) = en ∙ ap₂ distance eb (eh ∙ ap headerOf ep) in
-        let same : a ≡ receiveAnswer [] carry pdu log r 0 = ea ∙ ap (receiveAnswer [] carry pdu log r) none in (
-          rw (some, t) (q ∙ parts 0 count _ 0 0 n (length pdu) a (receiveAnswer [] carry pdu log r 0) d refl long same),
+        let d : count ≡ distance (headerOf pdu) (headerOf (pduAfter marks carry pdu log r)) = en ∙ ap₂ distance eb (eh ∙ ap headerOf ep) in
+        let same : a ≡ receiveAnswer marks carry pdu log r 0 = ea ∙ ap (receiveAnswer marks carry pdu log r) none in (
+          rw (some, t) (q ∙ parts 0 count _ 0 0 n (length pdu) a (receiveAnswer marks carry pdu log r 0) d refl long same),
           (k-is (k-of o 0 count 0 n a q ∙ sym none), (carry-is, (pdu-is, rw (some, t) el))),
         )

@@ -5,10 +5,9 @@ use receiver::Receiver;
 ghost use mathlib.Core.Path.{_≡_};
 ghost use mathlib.Core.Bool.{cond};
 ghost use lib.Dec.{eqb};
-ghost use Rattle.correction.specs.Correction.{correctedPdu};
+ghost use Rattle.correction.specs.Marks.{correctedPduWith};
 ghost use Rattle.layout.specs.Control.{controlAt};
-ghost use Rattle.pdu.specs.Reading.{WrongOne};
-ghost use Rattle.receiver.specs.Receiving.{lostNumber, lostAnswer, logAfterLost};
+ghost use Rattle.receiver.specs.Receiving.{WrongOneWith, lostNumber, lostAnswer, logAfterLost};
 ghost use Rattle.outcome.specs.Logging.{outcomeOf, recordNumber, recordOutcome, recordCarry, recordPdu, recordLog};
 
 // The kinds of outcomes.
@@ -67,19 +66,25 @@ fn passed_over(r: Received, log: &mut [u32]) -> Received
     receiver.mark_lost(log)
 }
 
-// Receives a PDU; an empty record is one that is lost.
-pub fn of_record(receiver: Receiver, carry: &mut [u8], pdu: &mut [u8], log: &mut [u32]) -> Outcome
-    ensures { λ o. ⌜ o ≡ recordOutcome (now (carry .entry)) (now (pdu .entry)) (now (log .entry)) receiver (o .wrong) ⌝ }
-    ensures { λ o. ⌜ WrongOne (now (pdu .entry)) (recordNumber (now (carry .entry)) (now (pdu .entry)) (now (log .entry)) receiver) (o .wrong) ⌝ }
-    ensures { λ _. ⌜ now (carry .exit) ≡ recordCarry (now (carry .entry)) (now (pdu .entry)) (now (log .entry)) receiver ⌝ }
-    ensures { λ _. ⌜ now (pdu .exit) ≡ recordPdu (now (carry .entry)) (now (pdu .entry)) (now (log .entry)) receiver ⌝ }
-    ensures { λ _. ⌜ now (log .exit) ≡ recordLog (now (carry .entry)) (now (pdu .entry)) (now (log .entry)) receiver ⌝ }
+// Receives a PDU with its marked places; an empty record is one that is lost.
+pub fn of_record(
+    receiver: Receiver,
+    carry: &mut [u8],
+    pdu: &mut [u8],
+    marks: &[u8],
+    log: &mut [u32],
+) -> Outcome
+    ensures { λ o. ⌜ o ≡ recordOutcome (now (marks .entry)) (now (carry .entry)) (now (pdu .entry)) (now (log .entry)) receiver (o .wrong) ⌝ }
+    ensures { λ o. ⌜ WrongOneWith (now (marks .entry)) (now (pdu .entry)) (recordNumber (now (marks .entry)) (now (carry .entry)) (now (pdu .entry)) (now (log .entry)) receiver) (o .wrong) ⌝ }
+    ensures { λ _. ⌜ now (carry .exit) ≡ recordCarry (now (marks .entry)) (now (carry .entry)) (now (pdu .entry)) (now (log .entry)) receiver ⌝ }
+    ensures { λ _. ⌜ now (pdu .exit) ≡ recordPdu (now (marks .entry)) (now (carry .entry)) (now (pdu .entry)) (now (log .entry)) receiver ⌝ }
+    ensures { λ _. ⌜ now (log .exit) ≡ recordLog (now (marks .entry)) (now (carry .entry)) (now (pdu .entry)) (now (log .entry)) receiver ⌝ }
 {
     if pdu.len() == 0 {
         return marked_lost(receiver, log);
     }
     let before = header::header_of(pdu);
-    let r = receiver.receive(carry, &mut *pdu, &mut *log);
+    let r = receiver.receive_marked(carry, &mut *pdu, marks, &mut *log);
     if r.refusal != 0 {
         let lost = passed_over(r, log);
         return outcome_of(REFUSED, r.refusal, r.wrong, pdu.len(), lost);
@@ -88,11 +93,11 @@ pub fn of_record(receiver: Receiver, carry: &mut [u8], pdu: &mut [u8], log: &mut
     outcome_of(RECEIVED, header::difference(before, after), 0, pdu.len(), r)
 }
 
-// The control word of a PDU whose header is corrected in place; where it cannot be corrected, the PDU is left as it came.
-pub fn control_of(pdu: &mut [u8]) -> ControlWord
+// The control word of a PDU whose header is corrected in place, with its marked places; where it cannot be corrected, the PDU is left as it came.
+pub fn control_of(pdu: &mut [u8], marks: &[u8]) -> ControlWord
     ensures { λ c. ⌜ c ≡ controlAt (now (pdu .exit)) ⌝ }
-    ensures { λ _. ⌜ now (pdu .exit) ≡ correctedPdu (now (pdu .entry)) ⌝ }
+    ensures { λ _. ⌜ now (pdu .exit) ≡ correctedPduWith (now (marks .entry)) (now (pdu .entry)) ⌝ }
 {
-    correction::correct(pdu);
+    correction::correct_marked(pdu, marks);
     layout::control_word(pdu)
 }

@@ -5,11 +5,11 @@ use Rattle.logging.proofs.all_turns.Statement.{statement}
 use Rattle.logging.proofs.all_turns.Tie as tie
 
 abbrev Inv-loop : tie.InvT-loop
-Inv-loop task carry₀ pdu₀ log₀ block₀ counts₀ run₀ turns₀ carry pdu log block counts run turns =
-    (length carry ≡ length carry₀) × (length pdu ≡ length pdu₀) × (length log ≡ length log₀) × (length block ≡ length block₀) × (length counts ≡ length counts₀)
+Inv-loop task carry₀ pdu₀ places₀ log₀ block₀ counts₀ run₀ turns₀ carry pdu places log block counts run turns =
+    (length carry ≡ length carry₀) × (length pdu ≡ length pdu₀) × (length places ≡ length places₀) × (length log ≡ length log₀) × (length block ≡ length block₀) × (length counts ≡ length counts₀)
 
 abbrev μ-loop : tie.MeasureT-loop
-μ-loop task carry₀ pdu₀ log₀ block₀ counts₀ run₀ turns₀ carry pdu log block counts run turns =
+μ-loop task carry₀ pdu₀ places₀ log₀ block₀ counts₀ run₀ turns₀ carry pdu places log block counts run turns =
     turns
 
 loop-holds : tie.Need-loop-holds Inv-loop μ-loop
@@ -33,6 +33,9 @@ same-length-4 c = search needs
 same-length-5 : tie.Need-same-length-5 Inv-loop μ-loop
 same-length-5 c = search needs
 
+same-length-6 : tie.Need-same-length-6 Inv-loop μ-loop
+same-length-6 c = search needs
+
 returns : tie.Need-returns Inv-loop μ-loop
 returns c = search needs
 
@@ -48,9 +51,6 @@ loop-less c = search needs
 loop-again : tie.Need-loop-again Inv-loop μ-loop
 loop-again c = search needs
 
-same-length-6 : tie.Need-same-length-6 Inv-loop μ-loop
-same-length-6 c = search needs
-
 same-length-7 : tie.Need-same-length-7 Inv-loop μ-loop
 same-length-7 c = search needs
 
@@ -62,6 +62,12 @@ same-length-9 c = search needs
 
 same-length-10 : tie.Need-same-length-10 Inv-loop μ-loop
 same-length-10 c = search needs
+
+same-length-11 : tie.Need-same-length-11 Inv-loop μ-loop
+same-length-11 c = search needs
+
+same-length-12 : tie.Need-same-length-12 Inv-loop μ-loop
+same-length-12 c = search needs
 
 returns-2 : tie.Need-returns-2 Inv-loop μ-loop
 returns-2 c = search needs
@@ -79,14 +85,16 @@ all-turns-spec =
     same-length-3
     same-length-4
     same-length-5
+    same-length-6
     returns
     progress-requires
     sub-turns
     loop-less
     loop-again
-    same-length-6
     same-length-7
     same-length-8
     same-length-9
     same-length-10
+    same-length-11
+    same-length-12
     returns-2)

@@ -10,7 +10,7 @@ use Rattle.header.proofs.header_of.Reads as header-of-reads
 use Rattle.outcome.proofs.marked_lost.Reads as marked-lost-reads
 use Rattle.outcome.proofs.outcome_of.Reads as outcome-of-reads
 use Rattle.outcome.proofs.passed_over.Reads as passed-over-reads
-use Rattle.receiver.proofs.Receiver.receive.Reads as receive-reads
+use Rattle.receiver.proofs.Receiver.receive_marked.Reads as receive-marked-reads
 
 marked-lost-requires : tie.Need-marked-lost-requires
 marked-lost-requires c κs = search needs
@@ -22,14 +22,14 @@ returns : tie.Need-returns
 returns c =
     let h = c .before .before in
     let e = h .before .before in
-    let a = e .before .before .before .before .args in
-    empty-record (now (a .carry)) (now (a .pdu)) (now (a .log)) (a .receiver) (h .marked-lost .result) _ (e .if1 .taken) (h .marked-lost .ensures .0) (h .marked-lost .ensures .1)
+    let a = e .before .before .before .before .before .args in
+    empty-record (a .marks .now) (now (a .carry)) (now (a .pdu)) (now (a .log)) (a .receiver) (h .marked-lost .result) _ (e .if1 .taken) (h .marked-lost .ensures .0) (h .marked-lost .ensures .1)
 
 header-of-requires : tie.Need-header-of-requires
 header-of-requires c κs = search needs
 
-receive-requires : tie.Need-receive-requires
-receive-requires c κs = search needs
+receive-marked-requires : tie.Need-receive-marked-requires
+receive-marked-requires c κs = search needs
 
 passed-over-requires : tie.Need-passed-over-requires
 passed-over-requires c κs = search needs
@@ -53,9 +53,9 @@ returns-2 c =
     let f = i .before .before .before .before .before .before .before .before in
     let b = f .before .before .before .before in
     let e = b .before .before in
-    let a = e .before .before .before .before .args in
-    let h = f .receive in
-    refused-record (now (a .carry)) (now (a .pdu)) (now (a .log)) (a .receiver) (e .if1 .left) (h .result) _ _ _ (h .ensures .0) (h .ensures .1 .0) (h .ensures .1 .1 .0) (h .ensures .1 .1 .1 .0) (h .ensures .1 .1 .1 .1) _ (h .kept .1 .1 .0) (c .outcome-of .result) (p .passed-over .result) _ (i .if2 .taken) (c .outcome-of .ensures) (p .passed-over .ensures .0) (p .passed-over .ensures .1)
+    let a = e .before .before .before .before .before .args in
+    let h = f .receive-marked in
+    refused-record (a .marks .now) (now (a .carry)) (now (a .pdu)) (now (a .log)) (a .receiver) (e .if1 .left) (h .result) _ _ _ (h .ensures .0) (h .ensures .1 .0) (h .ensures .1 .1 .0) (h .ensures .1 .1 .1 .0) (h .ensures .1 .1 .1 .1) _ (h .kept .1 .1 .0) (c .outcome-of .result) (p .passed-over .result) _ (i .if2 .taken) (c .outcome-of .ensures) (p .passed-over .ensures .0) (p .passed-over .ensures .1)
 
 header-of-requires-2 : tie.Need-header-of-requires-2
 header-of-requires-2 c κs = search needs
@@ -83,9 +83,9 @@ returns-3 c =
     let f = i .before .before .before .before .before .before .before .before in
     let b = f .before .before .before .before in
     let e = b .before .before in
-    let a = e .before .before .before .before .args in
-    let h = f .receive in
-    accepted-record (now (a .carry)) (now (a .pdu)) (now (a .log)) (a .receiver) (e .if1 .left) (h .result) _ _ _ (h .ensures .0) (h .ensures .1 .0) (h .ensures .1 .1 .0) (h .ensures .1 .1 .1 .0) (h .ensures .1 .1 .1 .1) _ (h .kept .1 .1 .0) (c .outcome-of2 .result) (b .header-of .result) (g .header-of2 .result) (d .difference .result) (i .if2 .left) (b .header-of .ensures) (g .header-of2 .ensures) (d .difference .ensures) (c .outcome-of2 .ensures)
+    let a = e .before .before .before .before .before .args in
+    let h = f .receive-marked in
+    accepted-record (a .marks .now) (now (a .carry)) (now (a .pdu)) (now (a .log)) (a .receiver) (e .if1 .left) (h .result) _ _ _ (h .ensures .0) (h .ensures .1 .0) (h .ensures .1 .1 .0) (h .ensures .1 .1 .1 .0) (h .ensures .1 .1 .1 .1) _ (h .kept .1 .1 .0) (c .outcome-of2 .result) (b .header-of .result) (g .header-of2 .result) (d .difference .result) (i .if2 .left) (b .header-of .ensures) (g .header-of2 .ensures) (d .difference .ensures) (c .outcome-of2 .ensures)
 
 pub of-record-spec : {M : Type 1} → statement M
 of-record-spec =
@@ -95,7 +95,7 @@ of-record-spec =
     same-length
     returns
     header-of-requires
-    receive-requires
+    receive-marked-requires
     passed-over-requires
     outcome-of-requires
     same-length-2
