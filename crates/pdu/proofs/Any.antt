@@ -6,7 +6,7 @@ use native.Mathlib.Decide.{ℕ-discrete}
 use native.Mathlib.Numerals.{add-one}
 use native.Mathlib.Omega.{arith}
 use lib.Dec.{ltb}
-use borrow.Author.Tests.{lt-ltb, le-ltb}
+use borrow.Author.Tests.{lt-ltb}
 use Rattle.pdu.specs.Reading.{anyBelow}
 
 or-true : (a : Bool) → (a || true) ≡ true
@@ -32,9 +32,6 @@ any-next t k a e = ap (λ (n : ℕ). anyBelow n t) (add-one k) ∙ ap₂ _||_ a 
 
 pub any-found : (t : ℕ → Bool) (n k : ℕ) → k < n → t k ≡ true → anyBelow n t ≡ ltb k n
 any-found t n k h e = found t n k h e ∙ sym (lt-ltb k n h)
-
-pub any-none : (t : ℕ → Bool) (n k : ℕ) → k ≡ n → anyBelow k t ≡ false → anyBelow n t ≡ ltb n n
-any-none t n k e a = ap (λ (m : ℕ). anyBelow m t) (sym e) ∙ a ∙ sym (le-ltb n n (omega arith))
 
 -- tests that agree below a bound
 pub any-same : (t u : ℕ → Bool) (n : ℕ) → ((k : ℕ) → k < n → t k ≡ u k) → anyBelow n t ≡ anyBelow n u

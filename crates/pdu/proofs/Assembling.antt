@@ -19,7 +19,7 @@ use Rattle.layout.specs.declared.ControlWord.{ControlWord}
 use Rattle.layout.specs.Locators.{locatorSize}
 use Rattle.expansion.specs.Expansion.{nothing}
 use Rattle.expansion.specs.declared.Interpreted.{Interpreted}
-use Rattle.pdu.specs.Reading.{expansionBytes, fieldsOf, startAt, lengthAt, entries, answered, psdOf, accepted, noControl, refused, wrongLocator, anyBelow, wrongPieces, wrongLa, wrongDisplacement, readerTests, WrongIn, listedReading, modeIn, widthOf, judged, judgedReading}
+use Rattle.pdu.specs.Reading.{expansionBytes, fieldsOf, startAt, lengthAt, entries, answered, psdOf, accepted, noControl, refused, wrongLocator, anyBelow, wrongPieces, wrongLa, wrongDisplacement, readerTests, wrongWith, listedReading, modeIn, widthOf, judged, wrongOf, readingBy}
 use Rattle.pdu.specs.declared.ExpansionFields.{ExpansionFields}
 use Rattle.pdu.specs.declared.Part.{Part}
 use Rattle.pdu.specs.declared.Reading.{Reading}
@@ -64,32 +64,15 @@ module _ (m : Mode) (c : ControlWord) (y : List ℕ) where
       go false false false false true d e = absurd (omega arith)
       go false false false false false d e = refl
 
-  pub listed-accepted : (r : Reading) → firstOf (readerTests m c y) ≡ 0 → r ≡ accepted (m .width) c y
-      → (r ≡ listedReading m c y (r .wrong)) × WrongIn (m .width) c y (r .refusal) (r .wrong)
-  unfolding listedReading accepted
-  listed-accepted r e q = (
-    q ∙ sym (rw e),
-    record {
-      inside = λ z. absurd (zero z);
-      wrong = λ z. absurd (zero z);
-      none = λ z. ap (λ (x : Reading). x .wrong) q;
-    },
-  )
-    where
-      zero : r .refusal ≡ 11 → ⊥
-      zero z = let a : r .refusal ≡ 0 = ap (λ (x : Reading). x .refusal) q in omega arith
+  pub listed-accepted : (r : Reading) → firstOf (readerTests m c y) ≡ 0 → r ≡ accepted (m .width) c y → r ≡ listedReading m c y
+  unfolding listedReading
+  listed-accepted r e q = q ∙ sym (rw e)
 
-  pub listed-refused : (r : Reading) (n k : ℕ) → n ≡ firstOf (readerTests m c y) → ¬ (n ≡ 0) → WrongIn (m .width) c y n k → r ≡ refused n k
-      → (r ≡ listedReading m c y (r .wrong)) × WrongIn (m .width) c y (r .refusal) (r .wrong)
-  unfolding listedReading refused
+  pub listed-refused : (r : Reading) (n k : ℕ) → n ≡ firstOf (readerTests m c y) → ¬ (n ≡ 0) → k ≡ wrongWith (m .width) c y n → r ≡ refused n k → r ≡ listedReading m c y
+  unfolding listedReading
   listed-refused r n k e d w q =
       let t : eqb (firstOf (readerTests m c y)) 0 ≡ false = ne-eqb _ _ (λ z. d (e ∙ z)) in
-      let a : r .refusal ≡ n = ap (λ (x : Reading). x .refusal) q in
-      let b : r .wrong ≡ k = ap (λ (x : Reading). x .wrong) q in
-      (q ∙ ap₂ (λ (i j : ℕ). refused i j) e (sym b) ∙ sym (rw t), subst₂ a b)
-    where
-      subst₂ : r .refusal ≡ n → r .wrong ≡ k → WrongIn (m .width) c y (r .refusal) (r .wrong)
-      subst₂ a b = rw (a, b) w
+      q ∙ ap (refused n) w ∙ ap (λ (i : ℕ). refused i (wrongWith (m .width) c y i)) e ∙ sym (rw t)
 
 -- ---- a corrected PDU
 
@@ -106,23 +89,13 @@ module _ (y : List ℕ) where
   unfolding widthOf
   width-listed m e = ap (λ (l : Listing). modeIn l .width) e
 
-  pub judged-listed : (m : Mode) (r : Reading) → listing (controlAt y .mode) (controlAt y .stream) ≡ Listed m
-      → (r ≡ listedReading m (controlAt y) y (r .wrong)) × WrongIn (m .width) (controlAt y) y (r .refusal) (r .wrong)
-      → (r ≡ judgedReading y (r .wrong)) × WrongIn (widthOf y) (controlAt y) y (r .refusal) (r .wrong)
-  unfolding judgedReading listedReading
-  judged-listed m r e q = (q .0 ∙ sym (rw (number-listed m e, width-listed m e)), rw (width-listed m e) (q .1))
+  pub judged-listed : (m : Mode) (r : Reading) → listing (controlAt y .mode) (controlAt y .stream) ≡ Listed m → r ≡ listedReading m (controlAt y) y → r ≡ readingBy y (judged y)
+  unfolding readingBy wrongOf listedReading
+  judged-listed m r e q = q ∙ sym (rw (number-listed m e, width-listed m e))
 
-  pub judged-refused : (n : ℕ) (r : Reading) → listing (controlAt y .mode) (controlAt y .stream) ≡ Refused n → r ≡ refused n 0
-      → (r ≡ judgedReading y (r .wrong)) × WrongIn (widthOf y) (controlAt y) y (r .refusal) (r .wrong)
-  unfolding judgedReading judged refused
+  pub judged-refused : (n : ℕ) (r : Reading) → listing (controlAt y .mode) (controlAt y .stream) ≡ Refused n → r ≡ refused n 0 → r ≡ readingBy y (judged y)
+  unfolding readingBy wrongOf judged
   judged-refused n r e q =
       let f : n ≡ 5 = refusal-five _ _ n e in
-      let a : r .refusal ≡ n = ap (λ (x : Reading). x .refusal) q in
-      let b : r .wrong ≡ 0 = ap (λ (x : Reading). x .wrong) q in
-      let t : eqb n 0 ≡ false = ne-eqb n 0 (λ z. omega arith) in (
-        q ∙ ap₂ (λ (i j : ℕ). refused i j) f (sym b) ∙ sym (rw (e, t)),
-        record { inside = λ z. absurd (omega arith); wrong = λ z. absurd (five a f z); none = λ z. b },
-      )
-    where
-      five : r .refusal ≡ n → n ≡ 5 → r .refusal ≡ 11 → ⊥
-      five a f z = omega arith
+      let t : eqb n 0 ≡ false = ne-eqb n 0 (λ z. omega arith) in
+      q ∙ ap (λ (i : ℕ). refused i 0) f ∙ sym (rw (e, t))

@@ -72,10 +72,11 @@ or-right : (a b : Bool) → (a || b) ≡ false → b ≡ false
 or-right true b e = absurd (true≢false e)
 or-right false b e = e
 
-none-below : (t : ℕ → Bool) (n k : ℕ) → anyBelow n t ≡ false → k < n → t k ≡ false
+-- where no number below n passes a test, each of them fails it
+pub each-fails : (t : ℕ → Bool) (n k : ℕ) → anyBelow n t ≡ false → k < n → t k ≡ false
 unfolding anyBelow
-none-below t zero k e h = absurd (omega arith)
-none-below t (suc n) k e h = go (ℕ-discrete k n) (λ l. none-below t n k (or-left (anyBelow n t) (t n) e) l)
+each-fails t zero k e h = absurd (omega arith)
+each-fails t (suc n) k e h = go (ℕ-discrete k n) (λ l. each-fails t n k (or-left (anyBelow n t) (t n) e) l)
   where
     go : Dec (k ≡ n) → (k < n → t k ≡ false) → t k ≡ false
     go (yes q) rec = ap t q ∙ or-right (anyBelow n t) (t n) e
@@ -86,4 +87,4 @@ pub past-start : (width : ℕ) (c : ControlWord) (y : List ℕ) (k : ℕ) → an
 unfolding wrongLocator
 past-start width c y k e h =
     ltb-false (locatorAt width y k) (startAt width c y k + 1)
-    (or-left (ltb (locatorAt width y k) (startAt width c y k + 1)) (leb (length y) (locatorAt width y k)) (none-below (wrongLocator width c y) (c .nop) k e h))
+    (or-left (ltb (locatorAt width y k) (startAt width c y k + 1)) (leb (length y) (locatorAt width y k)) (each-fails (wrongLocator width c y) (c .nop) k e h))

@@ -22,9 +22,9 @@ use Rattle.correction.specs.declared.Correction.the-variants.{Corrected}
 use Rattle.expansion.specs.Expansion.{nothing, chainLength, interpretation, expansionLength, septetsAt, expansionAt}
 use Rattle.expansion.specs.declared.Interpreted.{Interpreted}
 use Rattle.expansion.proofs.Chains.{outside, expansion-there}
-use Rattle.pdu.specs.Reading.{afterLocators, expansionBytes, fieldsOf, markAt, startAt, lengthAt, wrongLocator, anyBelow, wrongPieces, wrongLa, wrongDisplacement, readerTests, modeIn, listingOf, correctedTests, entries, answered, accepted, refused, judged, widthOf, readingWith}
-use Rattle.pdu.specs.declared.Reading.{Reading}
+use Rattle.pdu.specs.Reading.{afterLocators, expansionBytes, fieldsOf, markAt, startAt, lengthAt, wrongLocator, anyBelow, wrongPieces, wrongLa, wrongDisplacement, readerTests, modeIn, listingOf, correctedTests, entries, answered, accepted, refused, judged, widthOf, readNumber, lowestWrong, wrongOf, readingBy, readingOf}
 use Rattle.pdu.proofs.Any.{any-same}
+use Rattle.pdu.proofs.Lowest.{lowest-same}
 use Rattle.pdu.proofs.Filling.{entries-same, or-left}
 use Rattle.pdu.proofs.Restoring.{corrected-number}
 
@@ -129,9 +129,9 @@ pub record Alike (y z : List ℕ) : Type 0 where
   pub locators : (k : ℕ) → k < controlAt y .nop → locatorAt (widthOf y) y k ≡ locatorAt (widthOf y) z k
   pub middle : drop (afterLocators (widthOf y) (controlAt y)) (take (controlAt y .la + 1) y) ≡ drop (afterLocators (widthOf y) (controlAt y)) (take (controlAt y .la + 1) z)
 
--- two corrected PDUs are refused with the same number, and hold the same where they are accepted
+-- two corrected PDUs are refused with the same number and the same k, and hold the same where they are accepted
 abbrev pub SameAnswer : List ℕ → List ℕ → Type 0
-SameAnswer y z = (judged y ≡ judged z) × (accepted (widthOf y) (controlAt y) y ≡ accepted (widthOf z) (controlAt z) z)
+SameAnswer y z = (judged y ≡ judged z) × (accepted (widthOf y) (controlAt y) y ≡ accepted (widthOf z) (controlAt z) z) × (lowestWrong (widthOf y) (controlAt y) y ≡ lowestWrong (widthOf z) (controlAt z) z)
 
 pub alike : (y z : List ℕ) → Alike y z → SameAnswer y z
 unfolding judged widthOf
@@ -142,14 +142,16 @@ alike y z a =
           ∙ ap (λ (d : ControlWord). firstOf (correctedTests d z)) (a .control),
       accepted-same m c y z (a .long) (a .locators) (a .middle)
           ∙ ap (λ (d : ControlWord). accepted (modeIn (listingOf d) .width) d z) (a .control),
+      lowest-same (wrongLocator (m .width) c y) (wrongLocator (m .width) c z) (c .nop) (wrong-same m c y z (a .long) (a .locators) (a .middle))
+          ∙ ap (λ (d : ControlWord). lowestWrong (modeIn (listingOf d) .width) d z) (a .control),
     )
 
 -- and two PDUs whose headers can be corrected are answered alike, where that holds of them once corrected
-pub reading-same : (p q : List ℕ) (m n k : ℕ) → correctionOf p ≡ Corrected m → correctionOf q ≡ Corrected n → SameAnswer (correctedPdu p) (correctedPdu q)
-    → readingWith k p ≡ readingWith k q
-unfolding readingWith
-reading-same p q m n k ep eq s =
-    ap₂ (λ (number : ℕ) (r : Reading). cond (eqb number 0) r (refused number k)) (corrected-number p m ep ∙ s .0 ∙ sym (corrected-number q n eq)) (s .1)
+pub reading-same : (p q : List ℕ) (m n : ℕ) → correctionOf p ≡ Corrected m → correctionOf q ≡ Corrected n → SameAnswer (correctedPdu p) (correctedPdu q) → readingOf p ≡ readingOf q
+unfolding readingBy wrongOf
+reading-same p q m n ep eq s =
+    let e : readNumber p ≡ readNumber q = corrected-number p m ep ∙ s .0 ∙ sym (corrected-number q n eq) in
+    λ i. cond (eqb (e i) 0) (s .1 i) (refused (e i) (cond (eqb (e i) 11) (s .2 i) 0))
 
 -- ---- a locator is read from its own bytes
 

@@ -1,22 +1,23 @@
 -- The lowest number that applies, test by test.
-use mathlib.Core.Path.{_≡_, refl, sym, ap, _∙_, subst}
+use mathlib.Core.Path.{_≡_, sym, _∙_}
 use mathlib.Core.Bool.{Bool, true, false, not, cond}
 use mathlib.Core.List.{List}
-use Prim.Native.Nat.{ℕ, _<_}
+use Prim.Native.Nat.{ℕ}
 use native.Mathlib.Omega.{arith}
-use lib.Dec.{leb}
+use lib.Dec.{eqb, leb}
+use borrow.Author.Tests.{ne-eqb}
 use Rattle.refusal.specs.Refusal.{firstOf}
 use Rattle.modes.specs.declared.Mode.{Mode}
 use Rattle.layout.specs.declared.ControlWord.{ControlWord}
-use Rattle.pdu.specs.Reading.{fieldsOf, wrongLocator, anyBelow, wrongPieces, wrongLa, wrongDisplacement, readerTests, WrongIn}
+use Rattle.pdu.specs.Reading.{fieldsOf, wrongLocator, anyBelow, wrongPieces, wrongLa, wrongDisplacement, readerTests, lowestWrong, wrongWith}
 
 module _ (m : Mode) (c : ControlWord) (y : List ℕ) where
   -- the number n and the k beside it are the right ones
   abbrev pub Judged : ℕ → ℕ → Type 0
-  Judged n k = (n ≡ firstOf (readerTests m c y)) × WrongIn (m .width) c y n k
+  Judged n k = (n ≡ firstOf (readerTests m c y)) × (k ≡ wrongWith (m .width) c y n)
 
-  without-k : (n k : ℕ) → ¬ (n ≡ 11) → k ≡ 0 → WrongIn (m .width) c y n k
-  without-k n k d e = record { inside = λ q. absurd (d q); wrong = λ q. absurd (d q); none = λ q. e }
+  without-k : (n k : ℕ) → ¬ (n ≡ 11) → k ≡ 0 → k ≡ wrongWith (m .width) c y n
+  without-k n k d e = let t : eqb n 11 ≡ false = ne-eqb n 11 d in e ∙ sym (rw t)
 
   pub number-7 : leb (m .sequences) (c .sequence) ≡ true → (n k : ℕ) → n ≡ 7 → k ≡ 0 → Judged n k
   number-7 t n k en ek = (en ∙ sym (rw t), without-k n k (λ q. omega arith) ek)
@@ -34,8 +35,8 @@ module _ (m : Mode) (c : ControlWord) (y : List ℕ) where
         number-10 t n k en ek = (en ∙ sym (rw (s, p, l, t)), without-k n k (λ q. omega arith) ek)
 
         module _ (x : fieldsOf (m .width) c y .right ≡ true) where
-          pub number-11 : anyBelow (c .nop) (wrongLocator (m .width) c y) ≡ true → (k : ℕ) → k < c .nop → wrongLocator (m .width) c y k ≡ true → Judged 11 k
-          number-11 t k h w = (sym (rw (s, p, l, x, t)), record { inside = λ q. h; wrong = λ q. w; none = λ d. absurd (d refl) })
+          pub number-11 : anyBelow (c .nop) (wrongLocator (m .width) c y) ≡ true → (k : ℕ) → k ≡ lowestWrong (m .width) c y → Judged 11 k
+          number-11 t k e = (sym (rw (s, p, l, x, t)), e)
 
           module _ (a : anyBelow (c .nop) (wrongLocator (m .width) c y) ≡ false) where
             pub number-12 : wrongDisplacement (m .width) c y (fieldsOf (m .width) c y) ≡ true → (n k : ℕ) → n ≡ 12 → k ≡ 0 → Judged n k

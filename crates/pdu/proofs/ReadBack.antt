@@ -26,7 +26,7 @@ use Rattle.expansion.proofs.ExpansionLaw.{expansion-law, none-sent}
 use Rattle.correction.specs.Correction.{correctedPdu}
 use Rattle.crc.specs.Crc.{crcFrom}
 use Rattle.contents.specs.Contents.{firstPiece, locatorsOf, contents}
-use Rattle.pdu.specs.Reading.{afterLocators, expansionBytes as expansionCount, fieldsOf, markAt, startAt, lengthAt, wrongLocator, anyBelow, wrongPieces, wrongLa, wrongDisplacement, readerTests, listingOf, modeIn, correctedTests, judged, widthOf, psdOf, answered, accepted, refused, readNumber, readingWith, readPdu}
+use Rattle.pdu.specs.Reading.{afterLocators, expansionBytes as expansionCount, fieldsOf, markAt, startAt, lengthAt, wrongLocator, anyBelow, wrongPieces, wrongLa, wrongDisplacement, readerTests, listingOf, modeIn, correctedTests, judged, widthOf, psdOf, answered, accepted, refused, readNumber, wrongOf, readingBy, readingOf, readPdu}
 use Rattle.pdu.specs.PieceRead.{PieceRead}
 use Rattle.pdu.specs.declared.Part.{Part}
 use Rattle.pdu.proofs.ContentsLaw.{locators-back, locators-below, written-length, expansion-back, psd-back, pieces-back}
@@ -213,12 +213,12 @@ module _ (m : Mode) (c : ControlWord) (x : Fields) (psd : List ℕ) (ps : List (
 
 -- the answer for a PDU that is accepted, and what is left of it
 pub read-accepted : (q p : List ℕ) (width : ℕ) (c : ControlWord) → readNumber q ≡ 0 → correctedPdu q ≡ p → widthOf p ≡ width → controlAt p ≡ c
-    → (readPdu q ≡ p) × ((k : ℕ) → readingWith k q ≡ accepted width c p)
-unfolding readPdu readingWith
+    → (readPdu q ≡ p) × (readingOf q ≡ accepted width c p)
+unfolding readPdu readingBy
 read-accepted q p width c z e d o =
     let t : eqb (readNumber q) 0 ≡ true = eq-eqb (readNumber q) 0 z in (
       ap (λ (b : Bool). cond b (correctedPdu q) q) t ∙ e,
-      λ k. ap (λ (b : Bool). cond b (accepted (widthOf (correctedPdu q)) (controlAt (correctedPdu q)) (correctedPdu q)) (refused (readNumber q) k)) t
+      ap (λ (b : Bool). cond b (accepted (widthOf (correctedPdu q)) (controlAt (correctedPdu q)) (correctedPdu q)) (refused (readNumber q) (wrongOf (correctedPdu q) (readNumber q)))) t
           ∙ ap (λ (r : List ℕ). accepted (widthOf r) (controlAt r) r) e
           ∙ ap₂ (λ (i : ℕ) (j : ControlWord). accepted i j p) d o,
     )

@@ -1,5 +1,5 @@
 -- A whole call: what correction answers, what is read, and what is put back.
-use mathlib.Core.Path.{_≡_, refl, sym, ap, _∙_, subst}
+use mathlib.Core.Path.{_≡_, refl, sym, ap, ap₂, _∙_, subst}
 use mathlib.Core.Bool.{Bool, true, false, not, _&&_, cond}
 use mathlib.Core.List.{List, _∷_}
 use mathlib.Core.Logic.{_⊎_, inl, inr, ⊎-elim}
@@ -16,26 +16,26 @@ use Rattle.correction.specs.declared.Correction.{Correction}
 use Rattle.correction.specs.declared.Correction.the-variants.{Corrected, Refused}
 use Rattle.correction.proofs.Answers.{refused-unchanged, corrected-allowed, header-put-back}
 use Rattle.layout.specs.Control.{controlAt}
-use Rattle.pdu.specs.Reading.{accepted, refused, correctedTests, uncorrectable, judged, judgedReading, widthOf, readNumber, readingWith, WrongIn, WrongOne, readPdu}
+use Rattle.pdu.specs.Reading.{accepted, refused, correctedTests, uncorrectable, judged, widthOf, readNumber, wrongOf, readingBy, readingOf, readPdu}
 use Rattle.pdu.specs.declared.Reading.{Reading}
 
 -- ---- the number that is read
 
-judged-number : (y : List ℕ) (k : ℕ) → judgedReading y k .refusal ≡ judged y
-unfolding judgedReading accepted refused
-judged-number y k = go (eqb (judged y) 0) refl
+number-by : (y : List ℕ) (n : ℕ) → readingBy y n .refusal ≡ n
+unfolding readingBy accepted refused
+number-by y n = go (eqb n 0) refl
   where
-    go : (b : Bool) → eqb (judged y) 0 ≡ b → cond b (accepted (widthOf y) (controlAt y) y) (refused (judged y) k) .refusal ≡ judged y
-    go true e = sym (eqb-true (judged y) 0 e)
+    go : (b : Bool) → eqb n 0 ≡ b → cond b (accepted (widthOf y) (controlAt y) y) (refused n (wrongOf y n)) .refusal ≡ n
+    go true e = sym (eqb-true n 0 e)
     go false e = refl
 
-pub read-number : (y : List ℕ) (r : Reading) → r ≡ judgedReading y (r .wrong) → r .refusal ≡ judged y
-read-number y r e = ap (λ (x : Reading). x .refusal) e ∙ judged-number y (r .wrong)
+pub read-number : (y : List ℕ) (r : Reading) → r ≡ readingBy y (judged y) → r .refusal ≡ judged y
+read-number y r e = ap (λ (x : Reading). x .refusal) e ∙ number-by y (judged y)
 
-pub kept : (y v : List ℕ) (r : Reading) → r ≡ judgedReading y (r .wrong) → r .refusal ≡ 0 → y ≡ cond (eqb (judged y) 0) y v
+pub kept : (y v : List ℕ) (r : Reading) → r ≡ readingBy y (judged y) → r .refusal ≡ 0 → y ≡ cond (eqb (judged y) 0) y v
 kept y v r e z = let n : judged y ≡ 0 = sym (read-number y r e) ∙ z in rw n
 
-pub put-back : (y v : List ℕ) (r : Reading) → r ≡ judgedReading y (r .wrong) → ¬ (r .refusal ≡ 0) → v ≡ cond (eqb (judged y) 0) y v
+pub put-back : (y v : List ℕ) (r : Reading) → r ≡ readingBy y (judged y) → ¬ (r .refusal ≡ 0) → v ≡ cond (eqb (judged y) 0) y v
 put-back y v r e d = let t : eqb (judged y) 0 ≡ false = ne-eqb (judged y) 0 (λ z. d (read-number y r e ∙ z)) in rw t
 
 -- ---- the numbers that correction answers
@@ -55,7 +55,7 @@ three-or-four p = go (eqb (lengthRefusal (length p)) 0) (corrected (take 96 p))
 
 -- what `read` promises of its answer r, and of the PDU q after the call
 abbrev pub Promised : List ℕ → Reading → List ℕ → Type 0
-Promised p r q = (r ≡ readingWith (r .wrong) p) × (WrongOne p (r .refusal) (r .wrong) × (q ≡ readPdu p))
+Promised p r q = (r ≡ readingOf p) × (q ≡ readPdu p)
 
 -- rows 3 and 4 of the table are correction's numbers; the others are asked of a corrected PDU
 pub by-correction : (p : List ℕ) → readNumber p ≡ cond (eqb (numberOf (correctionOf p)) 0) (judged (correctedPdu p)) (numberOf (correctionOf p))
@@ -80,33 +80,23 @@ module _ (p : List ℕ) where
 
   -- correction refuses it
   pub turned-down : (n : ℕ) (r : Reading) (q : List ℕ) → correctionOf p ≡ Refused n → r ≡ refused n 0 → q ≡ correctedPdu p → Promised p r q
-  unfolding refusalIn readingWith readPdu refused
+  unfolding refusalIn readingBy wrongOf readPdu
   turned-down n r q e er eq =
       let c : (n ≡ 3) ⊎ (n ≡ 4) = subst (λ (x : Correction). (refusalIn x ≡ 3) ⊎ (refusalIn x ≡ 4)) e (three-or-four p) in
       let t : eqb n 0 ≡ false = ne-eqb n 0 (λ z. ⊎-elim (λ (u : n ≡ 3). absurd (omega arith)) (λ (u : n ≡ 4). absurd (omega arith)) c) in
+      let d : eqb n 11 ≡ false = ne-eqb n 11 (λ z. ⊎-elim (λ (u : n ≡ 3). absurd (omega arith)) (λ (u : n ≡ 4). absurd (omega arith)) c) in
       let m : readNumber p ≡ n = refused-number n e t in
-      let a : r .refusal ≡ n = ap (λ (x : Reading). x .refusal) er in
-      let b : r .wrong ≡ 0 = ap (λ (x : Reading). x .wrong) er in
-      let d : ¬ (r .refusal ≡ 11) = λ z. ⊎-elim (λ (u : n ≡ 3). absurd (omega arith)) (λ (u : n ≡ 4). absurd (omega arith)) c in (
-        er ∙ ap (refused n) (sym b) ∙ sym (rw (m, t)),
-        (
-          record { inside = λ z. absurd (d z); wrong = λ z. absurd (d z); none = λ z. b },
-          eq ∙ refused-unchanged p n e ∙ sym (rw (m, t)),
-        ),
-      )
+      (er ∙ sym (rw (m, t, d)), eq ∙ refused-unchanged p n e ∙ sym (rw (m, t)))
 
   -- correction takes it, and w is its header before
   pub taken : (n : ℕ) (r : Reading) (y q w : List ℕ) → ((i : ℕ) → getD p i 0 < 256) → correctionOf p ≡ Corrected n → w ≡ headerOf p → y ≡ correctedPdu p
-      → r ≡ judgedReading y (r .wrong) → WrongIn (widthOf y) (controlAt y) y (r .refusal) (r .wrong) → q ≡ cond (eqb (judged y) 0) y (frontReplaced y w)
+      → r ≡ readingBy y (judged y) → q ≡ cond (eqb (judged y) 0) y (frontReplaced y w)
       → Promised p r q
-  unfolding readingWith readPdu judgedReading
-  taken n r y q w b e ew ey er wr eq =
+  unfolding readPdu
+  taken n r y q w b e ew ey er eq =
       let l : (96 ≤ length p) × (length p ≤ 20480) = corrected-allowed p n e in
       let m : readNumber p ≡ judged (correctedPdu p) = corrected-number n e in
       let u : frontReplaced y w ≡ p = rw (ew, ey) (header-put-back p (l .0) (l .1) b) in (
-        er ∙ rw (m, ey),
-        (
-          subst (λ (x : List ℕ). WrongIn (widthOf x) (controlAt x) x (r .refusal) (r .wrong)) ey wr,
-          eq ∙ ap (λ (x : List ℕ). cond (eqb (judged y) 0) y x) u ∙ rw (m, ey),
-        ),
+        er ∙ ap₂ readingBy ey (ap judged ey ∙ sym m),
+        eq ∙ ap (λ (x : List ℕ). cond (eqb (judged y) 0) y x) u ∙ rw (m, ey),
       )

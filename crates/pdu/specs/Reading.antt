@@ -4,7 +4,7 @@ use mathlib.Core.Path.{_≡_}
 use mathlib.Core.Bool.{Bool, true, false, not, _&&_, _||_, cond}
 use mathlib.Core.List.{List, [], _∷_}
 use mathlib.Core.Option.{Option, none, some}
-use Prim.Native.Nat.{ℕ, zero, suc, _+_, _-_, _<_}
+use Prim.Native.Nat.{ℕ, zero, suc, _+_, _-_}
 use lib.Dec.{eqb, ltb, leb}
 use lib.ListN.{length, take, replicate}
 use Rattle.refusal.specs.Refusal.{firstOf, anyOf}
@@ -54,6 +54,15 @@ wrongLocator width c y k = ltb (locatorAt width y k) (startAt width c y k + 1) |
 unfoldable pub anyBelow : ℕ → (ℕ → Bool) → Bool
 anyBelow zero t = false
 anyBelow (suc n) t = anyBelow n t || t n
+
+-- the smallest number below n that passes a test, n where none does
+unfoldable pub lowestBelow : ℕ → (ℕ → Bool) → ℕ
+lowestBelow zero t = 0
+lowestBelow (suc n) t = cond (t 0) 0 (suc (lowestBelow n (λ k. t (suc k))))
+
+-- the smallest k whose locator is wrong (document 02, Ask 6)
+abbrev pub lowestWrong : ℕ → ControlWord → List ℕ → ℕ
+lowestWrong width c y = lowestBelow (c .nop) (wrongLocator width c y)
 
 -- ---- what is turned down, 7 to 12
 
@@ -106,11 +115,9 @@ readTests p =
     ∷ (uncorrectable (corrected (take 96 p)), 4)  -- the paper's beyond mending
     ∷ correctedTests (controlAt (correctedPdu p)) (correctedPdu p)
 
--- k is that of a wrong locator where the number is 11, else 0
-pub record WrongIn (width : ℕ) (c : ControlWord) (y : List ℕ) (number k : ℕ) : Type 0 where
-  pub inside : number ≡ 11 → k < c .nop
-  pub wrong : number ≡ 11 → wrongLocator width c y k ≡ true
-  pub none : ¬ (number ≡ 11) → k ≡ 0
+-- the k that comes with a number: with 11 the smallest whose locator is wrong, else 0
+abbrev pub wrongWith : ℕ → ControlWord → List ℕ → ℕ → ℕ
+wrongWith width c y number = cond (eqb number 11) (lowestWrong width c y) 0
 
 -- ---- the answer
 
@@ -158,9 +165,11 @@ refused number k = record {
   lengths = replicate 64 0;
 }
 
--- the answer for a mode, with whatever k comes with 11
-unfoldable pub listedReading : Mode → ControlWord → List ℕ → ℕ → Reading
-listedReading m c y k = cond (eqb (firstOf (readerTests m c y)) 0) (accepted (m .width) c y) (refused (firstOf (readerTests m c y)) k)
+-- the answer for a mode
+unfoldable pub listedReading : Mode → ControlWord → List ℕ → Reading
+listedReading m c y =
+    let number = firstOf (readerTests m c y) in
+    cond (eqb number 0) (accepted (m .width) c y) (refused number (wrongWith (m .width) c y number))
 
 -- the lowest number from 5 to 12 that applies to a corrected PDU, 0 where it is accepted
 unfoldable pub judged : List ℕ → ℕ
@@ -170,21 +179,21 @@ judged y = firstOf (correctedTests (controlAt y) y)
 unfoldable pub widthOf : List ℕ → ℕ
 widthOf y = modeIn (listingOf (controlAt y)) .width
 
--- the answer for a corrected PDU, with whatever k comes with 11
-unfoldable pub judgedReading : List ℕ → ℕ → Reading
-judgedReading y k = cond (eqb (judged y) 0) (accepted (widthOf y) (controlAt y) y) (refused (judged y) k)
+-- the k that comes with a number for a corrected PDU
+unfoldable pub wrongOf : List ℕ → ℕ → ℕ
+wrongOf y number = wrongWith (widthOf y) (controlAt y) y number
+
+-- the answer for a corrected PDU, by the lowest number that applies, 0 where none does
+unfoldable pub readingBy : List ℕ → ℕ → Reading
+readingBy y number = cond (eqb number 0) (accepted (widthOf y) (controlAt y) y) (refused number (wrongOf y number))
 
 -- the lowest number that applies to a PDU, 0 where it is accepted
 unfoldable pub readNumber : List ℕ → ℕ
 readNumber p = firstOf (readTests p)
 
--- the answer, with whatever k comes with 11
-unfoldable pub readingWith : ℕ → List ℕ → Reading
-readingWith k p = cond (eqb (readNumber p) 0) (accepted (widthOf (correctedPdu p)) (controlAt (correctedPdu p)) (correctedPdu p)) (refused (readNumber p) k)
-
--- k is that of a wrong locator of the corrected PDU where the number is 11, else 0
-abbrev pub WrongOne : List ℕ → ℕ → ℕ → Type 0
-WrongOne p number k = WrongIn (widthOf (correctedPdu p)) (controlAt (correctedPdu p)) (correctedPdu p) number k
+-- the answer
+abbrev pub readingOf : List ℕ → Reading
+readingOf p = readingBy (correctedPdu p) (readNumber p)
 
 -- the PDU after the call: corrected, or as it was
 unfoldable pub readPdu : List ℕ → List ℕ

@@ -8,13 +8,12 @@ use modes::Mode;
 ghost use mathlib.Core.Path.{_≡_};
 ghost use Prim.Native.Nat.{_+_, _-_, _<_, _≤_};
 ghost use mathlib.Core.Bool.{true, false, cond};
-ghost use lib.Dec.{ltb, eqb};
+ghost use lib.Dec.{eqb};
 ghost use Rattle.header.specs.Header.{frontReplaced};
 ghost use Rattle.refusal.specs.Refusal.{firstOf};
 ghost use lib.ListN.{length};
-ghost use Rattle.layout.specs.Control.{controlAt};
 ghost use Rattle.layout.specs.Locators.{locatorSize};
-ghost use Rattle.pdu.specs.Reading.{afterLocators, expansionBytes, fieldsOf, markAt, wrongLocator, wrongPieces, wrongLa, wrongDisplacement, anyBelow, readerTests, WrongIn, entries, startAt, lengthAt, answered, accepted, noControl, refused, listedReading, widthOf, judged, judgedReading, readingWith, WrongOne, readPdu};
+ghost use Rattle.pdu.specs.Reading.{afterLocators, expansionBytes, fieldsOf, markAt, wrongLocator, wrongPieces, wrongLa, wrongDisplacement, anyBelow, lowestWrong, readerTests, wrongWith, entries, startAt, lengthAt, answered, accepted, noControl, refused, listedReading, judged, readingBy, readingOf, readPdu};
 
 // Expansion fields: 0 where not sent or not interpreted.
 #[repr(C)]
@@ -39,7 +38,7 @@ pub struct Part {
 #[repr(C)]
 pub struct Reading {
     pub refusal: u32,
-    // With refusal 11, k of a wrong locator.
+    // With refusal 11, the smallest k whose locator is wrong.
     pub wrong: u32,
     pub control: ControlWord,
     pub fields: ExpansionFields,
@@ -140,10 +139,9 @@ fn wrong_displacement(y: &[u8], width: u8, c: ControlWord, x: Interpreted) -> bo
     false
 }
 
-// The first wrong locator, or NOP where none is wrong.
+// The smallest k whose locator is wrong, or NOP where none is.
 fn first_wrong(y: &[u8], width: u8, c: ControlWord) -> u8
-    ensures { λ r. ⌜ anyBelow (c .nop) (wrongLocator width c (now (y .entry))) ≡ ltb r (c .nop) ⌝ }
-    ensures { λ r. ⌜ ((r < c .nop) → wrongLocator width c (now (y .entry)) r ≡ true) ⌝ }
+    ensures { λ r. ⌜ r ≡ lowestWrong width c (now (y .entry)) ⌝ }
 {
     let nop = c.nop;
     let mut k: u8 = 0;
@@ -156,7 +154,7 @@ fn first_wrong(y: &[u8], width: u8, c: ControlWord) -> u8
     nop
 }
 
-// A refusal number from 7 to 12 or 0, and with 11 the k of a wrong locator.
+// A refusal number from 7 to 12 or 0, and with 11 the smallest k whose locator is wrong.
 pub struct Verdict {
     pub number: u32,
     pub wrong: u8,
@@ -174,7 +172,7 @@ fn plain(number: u32) -> Verdict
 // The lowest number from 7 to 12 that applies.
 pub fn judge(y: &[u8], c: ControlWord, m: Mode) -> Verdict
     ensures { λ r. ⌜ r .number ≡ firstOf (readerTests m c (now (y .entry))) ⌝ }
-    ensures { λ r. ⌜ WrongIn (m .width) c (now (y .entry)) (r .number) (r .wrong) ⌝ }
+    ensures { λ r. ⌜ r .wrong ≡ wrongWith (m .width) c (now (y .entry)) (r .number) ⌝ }
 {
     if m.sequences <= c.sequence {
         return plain(7);
@@ -335,8 +333,7 @@ pub fn refused_reading(number: u32, k: u32) -> Reading
 // What a corrected PDU of a mode holds, or its refusal from 7 to 12.
 fn read_listed(y: &[u8], c: ControlWord, m: Mode) -> Reading
     requires { ⌜ c .nop < 64 ⌝ }
-    ensures { λ r. ⌜ r ≡ listedReading m c (now (y .entry)) (r .wrong) ⌝ }
-    ensures { λ r. ⌜ WrongIn (m .width) c (now (y .entry)) (r .refusal) (r .wrong) ⌝ }
+    ensures { λ r. ⌜ r ≡ listedReading m c (now (y .entry)) ⌝ }
 {
     let v = judge(y, c, m);
     if v.number == 0 {
@@ -347,8 +344,7 @@ fn read_listed(y: &[u8], c: ControlWord, m: Mode) -> Reading
 
 // What a corrected PDU holds, or its refusal from 5 on.
 fn read_corrected(y: &[u8]) -> Reading
-    ensures { λ r. ⌜ r ≡ judgedReading (now (y .entry)) (r .wrong) ⌝ }
-    ensures { λ r. ⌜ WrongIn (widthOf (now (y .entry))) (controlAt (now (y .entry))) (now (y .entry)) (r .refusal) (r .wrong) ⌝ }
+    ensures { λ r. ⌜ r ≡ readingBy (now (y .entry)) (judged (now (y .entry))) ⌝ }
 {
     let c = layout::control_word(y);
     let listing = modes::look_up(c.mode, c.stream);
@@ -360,8 +356,7 @@ fn read_corrected(y: &[u8]) -> Reading
 
 // Reads a corrected PDU; where it is refused, the header that it had before is put back.
 fn read_or_restore(pdu: &mut [u8], before: [u8; 96]) -> Reading
-    ensures { λ r. ⌜ r ≡ judgedReading (now (pdu .entry)) (r .wrong) ⌝ }
-    ensures { λ r. ⌜ WrongIn (widthOf (now (pdu .entry))) (controlAt (now (pdu .entry))) (now (pdu .entry)) (r .refusal) (r .wrong) ⌝ }
+    ensures { λ r. ⌜ r ≡ readingBy (now (pdu .entry)) (judged (now (pdu .entry))) ⌝ }
     ensures { λ _. ⌜ now (pdu .exit) ≡ cond (eqb (judged (now (pdu .entry))) 0) (now (pdu .entry)) (frontReplaced (now (pdu .entry)) before) ⌝ }
 {
     let r = read_corrected(pdu);
@@ -374,8 +369,7 @@ fn read_or_restore(pdu: &mut [u8], before: [u8; 96]) -> Reading
 
 // Reads a PDU without a receiver: its header is corrected in place, or it is refused with 3 to 5 or 7 to 12 and left as it was.
 pub fn read(pdu: &mut [u8]) -> Reading
-    ensures { λ r. ⌜ r ≡ readingWith (r .wrong) (now (pdu .entry)) ⌝ }
-    ensures { λ r. ⌜ WrongOne (now (pdu .entry)) (r .refusal) (r .wrong) ⌝ }
+    ensures { λ r. ⌜ r ≡ readingOf (now (pdu .entry)) ⌝ }
     ensures { λ _. ⌜ now (pdu .exit) ≡ readPdu (now (pdu .entry)) ⌝ }
 {
     let before = header::header_of(pdu);

@@ -51,9 +51,16 @@ never n [] z w e = absurd (subst T (sym (sym z ∙ eq-eqb n 0 (sym e))) tt)
 never n ((true, k) ∷ ts) z w e = absurd (other k n (without n ts) w .0 e)
 never n ((false, k) ∷ ts) z w e = never n ts z (other k n (without n ts) w .1) e
 
+-- where the number of one row is given, that row applies
+pub row-on : (b : Bool) (n : ℕ) (ts us : List (Bool × ℕ)) → eqb n 0 ≡ false → without n ts ≡ true → without n us ≡ true → firstOf (ts ++ (b, n) ∷ us) ≡ n → b ≡ true
+row-on b n ts us z w v e = go b (passed n ts ((b, n) ∷ us) w e .1)
+  where
+    go : (t : Bool) → firstOf ((t, n) ∷ us) ≡ n → t ≡ true
+    go true h = refl
+    go false h = absurd (never n us z v h)
+
 pub last-on : (b : Bool) (n : ℕ) → eqb n 0 ≡ false → firstOf ((b, n) ∷ []) ≡ n → b ≡ true
-last-on true n z e = refl
-last-on false n z e = absurd (subst T (sym (sym z ∙ eq-eqb n 0 (sym e))) tt)
+last-on b n z e = row-on b n [] [] z refl refl e
 
 -- none of several causes applies
 pub none-at : (ts : List Bool) (k : ℕ) → anyOf ts ≡ false → getD ts k false ≡ false

@@ -7,7 +7,8 @@ use mathlib.Core.List.{List, [], _∷_, _++_}
 use denote.Ref.{now}
 use mathlib.Core.Bool.{true, false}
 use Rattle.pdu.specs.Reading.{anyBelow, wrongLocator}
-use Rattle.pdu.proofs.Any.{any-start, any-next, any-found, any-none}
+use Rattle.pdu.proofs.Any.{any-start, any-next}
+use Rattle.pdu.proofs.Lowest.{lowest-found, lowest-none}
 use Rattle.pdu.proofs.first_wrong.Statement.{statement}
 use Rattle.pdu.proofs.first_wrong.Tie as tie
 use Rattle.pdu.proofs.first_wrong.Reads as reads
@@ -31,7 +32,7 @@ returns c =
     let p = c .before .before .before in
     let a = p .before .before .args in
     let e : wrongLocator (a .width) (a .c) (now (a .y)) (p .loop .k) ≡ true = sym (c .before .wrong-locator .ensures) ∙ c .if1 .taken in
-    (any-found (wrongLocator (a .width) (a .c) (now (a .y))) (a .c .nop) (p .loop .k) (omega arith) e, λ h. e)
+    lowest-found (wrongLocator (a .width) (a .c) (now (a .y))) (a .c .nop) (p .loop .k) (omega arith) e (p .loop .inv .1)
 
 add-k : tie.Need-add-k Inv-loop μ-loop
 add-k c = search needs
@@ -49,7 +50,7 @@ returns-2 : tie.Need-returns-2 Inv-loop μ-loop
 returns-2 c =
     let p = c .before in
     let a = p .before .before .args in
-    (any-none (wrongLocator (a .width) (a .c) (now (a .y))) (a .c .nop) (p .loop .k) (omega arith) (p .loop .inv .1), λ h. absurd (omega arith))
+    lowest-none (wrongLocator (a .width) (a .c) (now (a .y))) (a .c .nop) (p .loop .k) (omega arith) (p .loop .inv .1)
 
 pub first-wrong-spec : {M : Type 1} → statement M
 first-wrong-spec =

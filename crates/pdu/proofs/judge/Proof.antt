@@ -10,6 +10,7 @@ use lib.Dec.{leb, ltb}
 use borrow.Author.Tests.{lt-ltb, le-ltb, le-leb, lt-leb, not-true, not-false}
 use Rattle.expansion.specs.declared.Interpreted.{Interpreted}
 use Rattle.pdu.specs.Reading.{fieldsOf, wrongLocator, anyBelow, wrongPieces, wrongLa, wrongDisplacement}
+use Rattle.pdu.proofs.Lowest.{any-lowest}
 use Rattle.pdu.proofs.Numbers.{number-7, number-8, number-9, number-10, number-11, number-12, number-0}
 use Rattle.pdu.proofs.judge.Statement.{statement}
 use Rattle.pdu.proofs.judge.Tie as tie
@@ -39,7 +40,10 @@ fields-right : (e : tie.Else4) → fieldsOf (e .before .before .before .before .
 fields-right e = ap (λ (x : Interpreted). x .right) (sym (fields-same (e .before))) ∙ not-false _ (e .if4 .left)
 
 none-wrong : (e : tie.Else5) → anyBelow (e .before .before .before .before .before .before .before .before .before .before .before .before .before .before .before .args .c .nop) (wrongLocator (e .before .before .before .before .before .before .before .before .before .before .before .before .before .before .before .args .m .width) (e .before .before .before .before .before .before .before .before .before .before .before .before .before .before .before .args .c) (now (e .before .before .before .before .before .before .before .before .before .before .before .before .before .before .before .args .y))) ≡ false
-none-wrong e = e .before .before .first-wrong .ensures .0 ∙ le-ltb (e .before .before .first-wrong .result) (e .before .before .before .before .before .before .before .before .before .before .before .before .before .before .before .args .c .nop) (e .if5 .left)
+none-wrong e =
+    let a = e .before .before .before .before .before .before .before .before .before .before .before .before .before .before .before .args in
+    let w = e .before .before .first-wrong in
+    any-lowest (wrongLocator (a .m .width) (a .c) (now (a .y))) (a .c .nop) ∙ ap (λ (k : ℕ). ltb k (a .c .nop)) (sym (w .ensures)) ∙ le-ltb (w .result) (a .c .nop) (e .if5 .left)
 
 plain-requires : tie.Need-plain-requires
 plain-requires c κs = search needs
@@ -92,7 +96,7 @@ returns-5 c = let a = c .before .before .before .before .before .before .before 
     let e2 = e3 .before .before in
     let w = c .before .before .first-wrong in
     number-11 (a .m) (a .c) (now (a .y)) (sequence-right (e2 .before .before)) (pieces-right e2) (la-right e3) (fields-right e4)
-    (w .ensures .0 ∙ lt-ltb (w .result) (a .c .nop) (c .if5 .taken)) (w .result) (c .if5 .taken) (w .ensures .1 (c .if5 .taken))
+    (any-lowest (wrongLocator (a .m .width) (a .c) (now (a .y))) (a .c .nop) ∙ ap (λ (k : ℕ). ltb k (a .c .nop)) (sym (w .ensures)) ∙ lt-ltb (w .result) (a .c .nop) (c .if5 .taken)) (w .result) (w .ensures)
 
 wrong-displacement-requires : tie.Need-wrong-displacement-requires
 wrong-displacement-requires c κs = search needs

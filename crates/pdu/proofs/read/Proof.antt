@@ -43,7 +43,7 @@ returns c =
     let k = g .before .before .before .before in
     let h = k .before .before in
     taken _ _ _ _ _ _ (λ i. h .before .before .slice-known .given i .fits) (sym (k .correct .ensures .0) ∙ g .enum-told .given .1) (h .header-of .ensures) (k .correct .ensures .1)
-    (f .read-or-restore .ensures .0) (f .read-or-restore .ensures .1 .0) (f .read-or-restore .ensures .1 .1)
+    (f .read-or-restore .ensures .0) (f .read-or-restore .ensures .1)
 
 same-length-2 : tie.Need-same-length-2
 same-length-2 c = search needs

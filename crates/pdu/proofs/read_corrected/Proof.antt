@@ -11,7 +11,7 @@ use Rattle.modes.specs.declared.Mode.{Mode}
 use Rattle.modes.specs.declared.Listing.{Listing}
 use Rattle.layout.specs.Control.{controlAt}
 use Rattle.layout.specs.declared.ControlWord.{ControlWord}
-use Rattle.pdu.specs.Reading.{listedReading, WrongIn}
+use Rattle.pdu.specs.Reading.{listedReading}
 use Rattle.pdu.specs.declared.Reading.{Reading}
 use Rattle.pdu.proofs.Assembling.{nop-small, judged-listed, judged-refused}
 use Rattle.pdu.proofs.read_corrected.Statement.{statement}
@@ -26,10 +26,8 @@ use Rattle.pdu.proofs.refused_reading.Reads as refused-reading-reads
 listed-here : (y : List ℕ) (c : ControlWord) (l x : Listing) → c ≡ controlAt y → l ≡ listing (c .mode) (c .stream) → l ≡ x → listing (controlAt y .mode) (controlAt y .stream) ≡ x
 listed-here y c l x ec el ex = ap (λ (w : ControlWord). listing (w .mode) (w .stream)) (sym ec) ∙ sym el ∙ ex
 
-same-word : (y : List ℕ) (c : ControlWord) (m : Mode) (r : Reading) → c ≡ controlAt y
-    → (r ≡ listedReading m c y (r .wrong)) × WrongIn (m .width) c y (r .refusal) (r .wrong)
-    → (r ≡ listedReading m (controlAt y) y (r .wrong)) × WrongIn (m .width) (controlAt y) y (r .refusal) (r .wrong)
-same-word y c m r e q = subst (λ (w : ControlWord). (r ≡ listedReading m w y (r .wrong)) × WrongIn (m .width) w y (r .refusal) (r .wrong)) e q
+same-word : (y : List ℕ) (c : ControlWord) (m : Mode) (r : Reading) → c ≡ controlAt y → r ≡ listedReading m c y → r ≡ listedReading m (controlAt y) y
+same-word y c m r e q = q ∙ ap (λ (w : ControlWord). listedReading m w y) e
 
 control-word-requires : tie.Need-control-word-requires
 control-word-requires c κs = search needs

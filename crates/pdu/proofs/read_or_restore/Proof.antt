@@ -22,7 +22,7 @@ same-length c = search needs
 returns : tie.Need-returns
 returns c =
     let j = c .before .before in
-    (j .read-corrected .ensures .0, (j .read-corrected .ensures .1, kept _ _ _ (j .read-corrected .ensures .0) (omega (arith, c .if1 .taken))))
+    (j .read-corrected .ensures, kept _ _ _ (j .read-corrected .ensures) (omega (arith, c .if1 .taken)))
 
 slice-aggregate-put-front : tie.Need-slice-aggregate-put-front
 slice-aggregate-put-front c = search needs
@@ -36,10 +36,8 @@ same-length-2 c = search needs
 returns-2 : tie.Need-returns-2
 returns-2 c =
     let f = c .before .before in
-    let j = f .before .before .before .before .before in (
-      j .read-corrected .ensures .0,
-      (j .read-corrected .ensures .1, f .put-front .ensures ∙ put-back _ _ _ (j .read-corrected .ensures .0) (omega (arith, f .before .before .before .if1 .left))),
-    )
+    let j = f .before .before .before .before .before in
+    (j .read-corrected .ensures, f .put-front .ensures ∙ put-back _ _ _ (j .read-corrected .ensures) (omega (arith, f .before .before .before .if1 .left)))
 
 pub read-or-restore-spec : {M : Type 1} → statement M
 read-or-restore-spec =
