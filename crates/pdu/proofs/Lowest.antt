@@ -7,7 +7,7 @@ use native.Mathlib.Decide.{decLt}
 use native.Mathlib.Omega.{arith}
 use lib.Dec.{eqb, ltb}
 use lib.ListN.{take, drop}
-use borrow.Author.Tests.{le-ltb, ltb-true}
+use borrow.Author.Tests.{le-ltb, ltb-true, ne-eqb}
 use Rattle.refusal.proofs.Rows.{row-on}
 use Rattle.correction.specs.Correction.{correctedPdu}
 use Rattle.layout.specs.Control.{controlAt}
@@ -116,6 +116,11 @@ with-eleven y e = record {
   wrong = lowest-wrong (widthOf y) (controlAt y) y e;
   below = none-below (widthOf y) (controlAt y) y;
 }
+
+-- with another number it is 0
+pub without-eleven : (y : List ℕ) (n : ℕ) → ¬ (n ≡ 11) → wrongOf y n ≡ 0
+unfolding wrongOf
+without-eleven y n d = let t : eqb n 11 ≡ false = ne-eqb n 11 d in rw t
 
 -- what reading answers with 11
 pub reading-lowest : (p : List ℕ) → readNumber p ≡ 11 → Lowest (correctedPdu p) (readingOf p .wrong)

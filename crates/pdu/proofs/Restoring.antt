@@ -18,6 +18,7 @@ use Rattle.correction.proofs.Answers.{refused-unchanged, corrected-allowed, hea
 use Rattle.layout.specs.Control.{controlAt}
 use Rattle.pdu.specs.Reading.{accepted, refused, correctedTests, uncorrectable, judged, widthOf, readNumber, wrongOf, readingBy, readingOf, readPdu}
 use Rattle.pdu.specs.declared.Reading.{Reading}
+use Rattle.pdu.proofs.Lowest.{without-eleven}
 
 -- ---- the number that is read
 
@@ -80,11 +81,11 @@ module _ (p : List ℕ) where
 
   -- correction refuses it
   pub turned-down : (n : ℕ) (r : Reading) (q : List ℕ) → correctionOf p ≡ Refused n → r ≡ refused n 0 → q ≡ correctedPdu p → Promised p r q
-  unfolding refusalIn readingBy wrongOf readPdu
+  unfolding refusalIn readingBy readPdu
   turned-down n r q e er eq =
       let c : (n ≡ 3) ⊎ (n ≡ 4) = subst (λ (x : Correction). (refusalIn x ≡ 3) ⊎ (refusalIn x ≡ 4)) e (three-or-four p) in
       let t : eqb n 0 ≡ false = ne-eqb n 0 (λ z. ⊎-elim (λ (u : n ≡ 3). absurd (omega arith)) (λ (u : n ≡ 4). absurd (omega arith)) c) in
-      let d : eqb n 11 ≡ false = ne-eqb n 11 (λ z. ⊎-elim (λ (u : n ≡ 3). absurd (omega arith)) (λ (u : n ≡ 4). absurd (omega arith)) c) in
+      let d : wrongOf (correctedPdu p) n ≡ 0 = without-eleven (correctedPdu p) n (λ z. ⊎-elim (λ (u : n ≡ 3). absurd (omega arith)) (λ (u : n ≡ 4). absurd (omega arith)) c) in
       let m : readNumber p ≡ n = refused-number n e t in
       (er ∙ sym (rw (m, t, d)), eq ∙ refused-unchanged p n e ∙ sym (rw (m, t)))
 

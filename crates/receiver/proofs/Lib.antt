@@ -3,6 +3,7 @@ pub mod Bounds
 pub mod Calling
 pub mod Enough
 pub mod Losing
+pub mod Lowest
 pub mod Marks
 pub mod Opening
 pub mod Parsing

@@ -76,11 +76,11 @@ module _ {m : Mode} {c : ControlWord} {y marks causes : List ℕ} {r : Receiver}
 
     -- the log is too short
     pub too-short : (a : Received) → length log < words → a ≡ refusedAnswer r 13 0
-        → Answered (m .sequences) (saidBy (m .width) c y) r carry log (cond (noRoom (m .sequences) (saidBy (m .width) c y) r carry log) 13 0) a carry log × (a .wrong ≡ 0)
+        → Answered (m .sequences) (saidBy (m .width) c y) r carry log (cond (noRoom (m .sequences) (saidBy (m .width) c y) r carry log) 13 0) 0 a carry log
     too-short a h q =
         let t : noRoom (m .sequences) (saidBy (m .width) c y) r carry log ≡ true =
         lt-ltb (length log) (length (logWords (outcomeOf (m .sequences) (saidBy (m .width) c y) r carry log .entries))) (omega (arith, counted-here)) in
-        (rw t (answered-refused (m .sequences) (saidBy (m .width) c y) r carry log 13 a 0 (λ z. omega arith) q), ap (λ (x : Received). x .wrong) q)
+        rw t (answered-refused (m .sequences) (saidBy (m .width) c y) r carry log 13 0 a (λ z. omega arith) q)
 
     module _ (h : words ≤ length log) where
       pub accepts : (state .last < 255) × (((state .held ≤ 4096) × (state .held ≡ 0 → state .number ≡ 0)) × ((4096 ≤ length carry) × (Parsed head y marks × Room Accepts 0 log)))
@@ -116,11 +116,11 @@ module _ {m : Mode} {c : ControlWord} {y marks causes : List ℕ} {r : Receiver}
             }
 
         pub taken : (a : Received) → a ≡ acceptedAfter r (c .sequence) run
-            → Answered (m .sequences) (saidBy (m .width) c y) r carry log (cond (noRoom (m .sequences) (saidBy (m .width) c y) r carry log) 13 0) a carryAfter logAfter × (a .wrong ≡ 0)
+            → Answered (m .sequences) (saidBy (m .width) c y) r carry log (cond (noRoom (m .sequences) (saidBy (m .width) c y) r carry log) 13 0) 0 a carryAfter logAfter
         unfolding keeps writes
         taken a q =
             let t : noRoom (m .sequences) (saidBy (m .width) c y) r carry log ≡ false =
             le-ltb (length log) (length (logWords (outcomeOf (m .sequences) (saidBy (m .width) c y) r carry log .entries))) (omega (arith, counted-here)) in
             let k = did .carry in
             let l = did .log in
-            (rw t (answered-accepted (m .sequences) (saidBy (m .width) c y) r carry log 0 a carryAfter logAfter refl (q ∙ run-answer) (rw same at k) (rw same at l)), ap (λ (x : Received). x .wrong) q)
+            rw t (answered-accepted (m .sequences) (saidBy (m .width) c y) r carry log 0 0 a carryAfter logAfter refl (q ∙ run-answer) (rw same at k) (rw same at l))

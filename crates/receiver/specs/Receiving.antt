@@ -17,7 +17,7 @@ use Rattle.layout.specs.declared.ControlWord.{ControlWord}
 use Rattle.layout.specs.Locators.{locatorAt}
 use Rattle.log.specs.Log.{logWords}
 use Rattle.correction.specs.Marks.{marksRefusal, correctedWith, correctedPduWith}
-use Rattle.pdu.specs.Reading.{startAt, lengthAt, psdOf, readerTests, listingOf, modeIn, uncorrectable, widthOf, WrongIn}
+use Rattle.pdu.specs.Reading.{startAt, lengthAt, psdOf, readerTests, listingOf, modeIn, uncorrectable, wrongOf}
 use Rattle.reassembly.specs.Reassembly.{Piece, Said, Memory, Outcome, received, remembered, lostEntries, forgotten}
 use Rattle.reassembly.specs.Run.{bytesOf, numberOf as partialNumber, partialOf, lastOf}
 use Rattle.receiver.specs.declared.Receiver.{Receiver}
@@ -106,7 +106,7 @@ wrongFields m r =
 abbrev pub wrongState : Receiver → List Bool
 wrongState r = not (eqb (numberOf (listing (r .mode) (r .stream))) 0) ∷ wrongFields (modeOf r) r
 
--- a refusal leaves the receiver as it was; k comes with 11
+-- a refusal leaves the receiver as it was; k is 0 but with 11
 abbrev pub refusedAnswer : Receiver → ℕ → ℕ → Received
 refusedAnswer r number k = record { refusal = number; wrong = k; words = 0; receiver = r }
 
@@ -145,10 +145,11 @@ module _ (marks carry pdu log : List ℕ) (r : Receiver) where
   unfoldable pub receiveNumber : ℕ
   receiveNumber = firstOf receiveTests
 
-  -- the answer, with whatever k comes with 11
-  unfoldable pub receiveAnswer : ℕ → Received
-  receiveAnswer k =
-      cond (eqb receiveNumber 0) (record { refusal = 0; wrong = 0; words = length receivedWords; receiver = remembering r memoryAfter }) (refusedAnswer r receiveNumber k)
+  -- the answer
+  unfoldable pub receiveAnswer : Received
+  receiveAnswer =
+      cond (eqb receiveNumber 0) (record { refusal = 0; wrong = 0; words = length receivedWords; receiver = remembering r memoryAfter })
+      (refusedAnswer r receiveNumber (wrongOf (correctedPduWith marks pdu) receiveNumber))
 
   -- the buffers after the call: what is held stands first in the carry, the PDU is corrected, the words stand in the log from its first
   -- word on; all other bytes and words are as they were
@@ -160,10 +161,6 @@ module _ (marks carry pdu log : List ℕ) (r : Receiver) where
 
   unfoldable pub logAfter : List ℕ
   logAfter = cond (eqb receiveNumber 0) (putAt log 0 receivedWords) log
-
--- k is that of a wrong locator of the corrected PDU where the number is 11, else 0
-abbrev pub WrongOneWith : List ℕ → List ℕ → ℕ → ℕ → Type 0
-WrongOneWith marks p number k = WrongIn (widthOf (correctedPduWith marks p)) (controlAt (correctedPduWith marks p)) (correctedPduWith marks p) number k
 
 -- ---- marking a PDU lost, which takes no PDU and no carry
 

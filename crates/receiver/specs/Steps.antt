@@ -59,7 +59,7 @@ abbrev pub forgetful : Receiver → ℕ → Received
 forgetful r words =
     record { refusal = 0; wrong = 0; words = words; receiver = record { mode = r .mode; stream = r .stream; known = false; sequence = 0; held = 0; number = 0 } }
 
--- ---- the answer and the buffers after a step, by the lowest number that applies, 0 where there is none
+-- ---- the answer and the buffers after a step, by the lowest number that applies, 0 where there is none, and the k that comes with it
 
 module _ (range : ℕ) (said : Said) (r : Receiver) (carry log : List ℕ) where
   abbrev pub outcomeOf : Outcome
@@ -71,8 +71,8 @@ module _ (range : ℕ) (said : Said) (r : Receiver) (carry log : List ℕ) where
   abbrev pub acceptedAnswer : Received
   acceptedAnswer = record { refusal = 0; wrong = 0; words = length (logWords (outcomeOf .entries)); receiver = remembering r (remembered range (memoryOf r carry) said) }
 
-  pub record Answered (n : ℕ) (a : Received) (carryAfter logAfter : List ℕ) : Type 0 where
-    pub answer : a ≡ cond (eqb n 0) acceptedAnswer (refusedAnswer r n (a .wrong))
+  pub record Answered (n k : ℕ) (a : Received) (carryAfter logAfter : List ℕ) : Type 0 where
+    pub answer : a ≡ cond (eqb n 0) acceptedAnswer (refusedAnswer r n k)
     pub held : carryAfter ≡ cond (eqb n 0) (putAt carry 0 (bytesOf (outcomeOf .partial))) carry
     pub logged : logAfter ≡ cond (eqb n 0) (putAt log 0 (logWords (outcomeOf .entries))) log
 

@@ -17,9 +17,9 @@ ghost use Rattle.modes.specs.Modes.{listing};
 ghost use Rattle.modes.specs.declared.Listing.the-variants.{Listed};
 ghost use Rattle.header.specs.Header.{frontReplaced};
 ghost use Rattle.layout.specs.Control.{controlAt};
-ghost use Rattle.pdu.specs.Reading.{readerTests, widthOf, WrongIn, WrongOne};
+ghost use Rattle.pdu.specs.Reading.{readerTests, wrongOf};
 ghost use Rattle.reassembly.specs.Run.{placeAt, Marked};
-ghost use Rattle.receiver.specs.Receiving.{saidBy, opened, wrongFields, refusedAnswer, WrongOneWith, receiveAnswer, carryAfter, pduAfter, logAfter, lostAnswer, logAfterLost};
+ghost use Rattle.receiver.specs.Receiving.{saidBy, opened, wrongFields, refusedAnswer, receiveAnswer, carryAfter, pduAfter, logAfter, lostAnswer, logAfterLost};
 ghost use Rattle.receiver.specs.Steps.{MarksOf, causeAt, CausesOf, headOf, stateOf, Usable, acceptedAfter, noRoom, Answered, streamTests, correctedNumber, forgetful};
 
 // What a receiver remembers. A field not known or not held is 0; held length 0 means nothing held.
@@ -216,8 +216,7 @@ fn receive_read(
     requires { ⌜ Usable r (now carry) ⌝ }
     requires { ⌜ length (now y) ≤ 20480 ⌝ }
     requires { ⌜ firstOf (readerTests m c (now y)) ≡ 0 ⌝ }
-    ensures { λ a. ⌜ Answered (m .sequences) (saidBy (m .width) c (now (y .entry))) r (now (carry .entry)) (now (log .entry)) (cond (noRoom (m .sequences) (saidBy (m .width) c (now (y .entry))) r (now (carry .entry)) (now (log .entry))) 13 0) a (now (carry .exit)) (now (log .exit)) ⌝ }
-    ensures { λ a. ⌜ a .wrong ≡ 0 ⌝ }
+    ensures { λ a. ⌜ Answered (m .sequences) (saidBy (m .width) c (now (y .entry))) r (now (carry .entry)) (now (log .entry)) (cond (noRoom (m .sequences) (saidBy (m .width) c (now (y .entry))) r (now (carry .entry)) (now (log .entry))) 13 0) 0 a (now (carry .exit)) (now (log .exit)) ⌝ }
 {
     let marks = marks_of(y, m.width, c);
     let causes = causes_of(y, marks, c.nop as usize);
@@ -268,8 +267,7 @@ fn receive_corrected(r: Receiver, m: Mode, carry: &mut [u8], y: &[u8], log: &mut
     requires { ⌜ listing (r .mode) (r .stream) ≡ Listed m ⌝ }
     requires { ⌜ Usable r (now carry) ⌝ }
     requires { ⌜ length (now y) ≤ 20480 ⌝ }
-    ensures { λ a. ⌜ Answered (m .sequences) (saidBy (m .width) (controlAt (now (y .entry))) (now (y .entry))) r (now (carry .entry)) (now (log .entry)) (correctedNumber m r (now (carry .entry)) (now (y .entry)) (now (log .entry))) a (now (carry .exit)) (now (log .exit)) ⌝ }
-    ensures { λ a. ⌜ WrongIn (widthOf (now (y .entry))) (controlAt (now (y .entry))) (now (y .entry)) (a .refusal) (a .wrong) ⌝ }
+    ensures { λ a. ⌜ Answered (m .sequences) (saidBy (m .width) (controlAt (now (y .entry))) (now (y .entry))) r (now (carry .entry)) (now (log .entry)) (correctedNumber m r (now (carry .entry)) (now (y .entry)) (now (log .entry))) (wrongOf (now (y .entry)) (correctedNumber m r (now (carry .entry)) (now (y .entry)) (now (log .entry)))) a (now (carry .exit)) (now (log .exit)) ⌝ }
 {
     let c = layout::control_word(y);
     let n = wrong_stream(r, c);
@@ -295,8 +293,7 @@ fn receive_or_restore(
     requires { ⌜ listing (r .mode) (r .stream) ≡ Listed m ⌝ }
     requires { ⌜ Usable r (now carry) ⌝ }
     requires { ⌜ length (now pdu) ≤ 20480 ⌝ }
-    ensures { λ a. ⌜ Answered (m .sequences) (saidBy (m .width) (controlAt (now (pdu .entry))) (now (pdu .entry))) r (now (carry .entry)) (now (log .entry)) (correctedNumber m r (now (carry .entry)) (now (pdu .entry)) (now (log .entry))) a (now (carry .exit)) (now (log .exit)) ⌝ }
-    ensures { λ a. ⌜ WrongIn (widthOf (now (pdu .entry))) (controlAt (now (pdu .entry))) (now (pdu .entry)) (a .refusal) (a .wrong) ⌝ }
+    ensures { λ a. ⌜ Answered (m .sequences) (saidBy (m .width) (controlAt (now (pdu .entry))) (now (pdu .entry))) r (now (carry .entry)) (now (log .entry)) (correctedNumber m r (now (carry .entry)) (now (pdu .entry)) (now (log .entry))) (wrongOf (now (pdu .entry)) (correctedNumber m r (now (carry .entry)) (now (pdu .entry)) (now (log .entry)))) a (now (carry .exit)) (now (log .exit)) ⌝ }
     ensures { λ _. ⌜ now (pdu .exit) ≡ cond (eqb (correctedNumber m r (now (carry .entry)) (now (pdu .entry)) (now (log .entry))) 0) (now (pdu .entry)) (frontReplaced (now (pdu .entry)) before) ⌝ }
 {
     let a = receive_corrected(r, m, &mut *carry, pdu, &mut *log);
@@ -317,8 +314,7 @@ fn receive_listed(
     log: &mut [u32],
 ) -> Received
     requires { ⌜ listing (r .mode) (r .stream) ≡ Listed m ⌝ }
-    ensures { λ a. ⌜ a ≡ receiveAnswer (now (marks .entry)) (now (carry .entry)) (now (pdu .entry)) (now (log .entry)) r (a .wrong) ⌝ }
-    ensures { λ a. ⌜ WrongOneWith (now (marks .entry)) (now (pdu .entry)) (a .refusal) (a .wrong) ⌝ }
+    ensures { λ a. ⌜ a ≡ receiveAnswer (now (marks .entry)) (now (carry .entry)) (now (pdu .entry)) (now (log .entry)) r ⌝ }
     ensures { λ _. ⌜ now (carry .exit) ≡ carryAfter (now (marks .entry)) (now (carry .entry)) (now (pdu .entry)) (now (log .entry)) r ⌝ }
     ensures { λ _. ⌜ now (pdu .exit) ≡ pduAfter (now (marks .entry)) (now (carry .entry)) (now (pdu .entry)) (now (log .entry)) r ⌝ }
     ensures { λ _. ⌜ now (log .exit) ≡ logAfter (now (marks .entry)) (now (carry .entry)) (now (pdu .entry)) (now (log .entry)) r ⌝ }
@@ -381,8 +377,7 @@ impl Receiver {
         marks: &[u8],
         log: &mut [u32],
     ) -> Received
-        ensures { λ a. ⌜ a ≡ receiveAnswer (now (marks .entry)) (now (carry .entry)) (now (pdu .entry)) (now (log .entry)) self (a .wrong) ⌝ }
-        ensures { λ a. ⌜ WrongOneWith (now (marks .entry)) (now (pdu .entry)) (a .refusal) (a .wrong) ⌝ }
+        ensures { λ a. ⌜ a ≡ receiveAnswer (now (marks .entry)) (now (carry .entry)) (now (pdu .entry)) (now (log .entry)) self ⌝ }
         ensures { λ _. ⌜ now (carry .exit) ≡ carryAfter (now (marks .entry)) (now (carry .entry)) (now (pdu .entry)) (now (log .entry)) self ⌝ }
         ensures { λ _. ⌜ now (pdu .exit) ≡ pduAfter (now (marks .entry)) (now (carry .entry)) (now (pdu .entry)) (now (log .entry)) self ⌝ }
         ensures { λ _. ⌜ now (log .exit) ≡ logAfter (now (marks .entry)) (now (carry .entry)) (now (pdu .entry)) (now (log .entry)) self ⌝ }
@@ -396,8 +391,7 @@ impl Receiver {
     // Receives a PDU (document 01, "Receiver"): its header is corrected in place, log words are written from the log's first word on, and
     // what is held stands first in the carry buffer; or it is refused with 1 to 13, and nothing is changed.
     pub fn receive(self, carry: &mut [u8], pdu: &mut [u8], log: &mut [u32]) -> Received
-        ensures { λ a. ⌜ a ≡ receiveAnswer [] (now (carry .entry)) (now (pdu .entry)) (now (log .entry)) self (a .wrong) ⌝ }
-        ensures { λ a. ⌜ WrongOne (now (pdu .entry)) (a .refusal) (a .wrong) ⌝ }
+        ensures { λ a. ⌜ a ≡ receiveAnswer [] (now (carry .entry)) (now (pdu .entry)) (now (log .entry)) self ⌝ }
         ensures { λ _. ⌜ now (carry .exit) ≡ carryAfter [] (now (carry .entry)) (now (pdu .entry)) (now (log .entry)) self ⌝ }
         ensures { λ _. ⌜ now (pdu .exit) ≡ pduAfter [] (now (carry .entry)) (now (pdu .entry)) (now (log .entry)) self ⌝ }
         ensures { λ _. ⌜ now (log .exit) ≡ logAfter [] (now (carry .entry)) (now (pdu .entry)) (now (log .entry)) self ⌝ }

@@ -85,7 +85,7 @@ returns-3 c =
     let w = e .before .before in
     let s = w .before .before .before .before .before in
     let a = s .args in
-    corrected-call (a .marks .now) (now (a .carry)) (now (a .pdu)) (now (a .log)) (a .r) (a .m) (s .pre) (w .wrong-state .result) (w .wrong-state .ensures) (e .before .if1 .left) (e .if2 .left) _ (f .receive-or-restore .result) (k .correct-marked .last .0) (h .header-of .result) (f .receive-or-restore .last .1 .1 .0) (f .receive-or-restore .last .1 .1 .1 .0) (f .receive-or-restore .last .1 .1 .1 .1 .0) (λ i. w .before .before .before .slice-known2 .given i .fits) (sym (k .correct-marked .ensures .0) ∙ g .enum-told .given .1) (h .header-of .ensures) (k .correct-marked .ensures .1) (f .receive-or-restore .ensures .0) (f .receive-or-restore .ensures .1 .0) (f .receive-or-restore .ensures .1 .1)
+    corrected-call (a .marks .now) (now (a .carry)) (now (a .pdu)) (now (a .log)) (a .r) (a .m) (s .pre) (w .wrong-state .result) (w .wrong-state .ensures) (e .before .if1 .left) (e .if2 .left) _ (f .receive-or-restore .result) (k .correct-marked .last .0) (h .header-of .result) (f .receive-or-restore .last .1 .1 .0) (f .receive-or-restore .last .1 .1 .1 .0) (f .receive-or-restore .last .1 .1 .1 .1 .0) (λ i. w .before .before .before .slice-known2 .given i .fits) (sym (k .correct-marked .ensures .0) ∙ g .enum-told .given .1) (h .header-of .ensures) (k .correct-marked .ensures .1) (f .receive-or-restore .ensures .0) (f .receive-or-restore .ensures .1)
 
 same-length-4 : tie.Need-same-length-4
 same-length-4 c = search needs

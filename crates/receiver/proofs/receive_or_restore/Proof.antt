@@ -30,7 +30,7 @@ returns c =
     let s = f .before .before .before .before .before .before .before in
     let a = s .args in
     let h = f .receive-corrected in
-    (h .ensures .0, (h .ensures .1, kept (a .m) (a .r) (now (a .carry)) (now (a .pdu)) (now (a .log)) (h .result) (h .last .1 .1 .0) (h .last .1 .1 .1 .1 .0) (h .ensures) (frontReplaced (now (a .pdu)) (a .t6)) (omega (arith, c .if1 .taken))))
+    (h .ensures, kept (a .m) (a .r) (now (a .carry)) (now (a .pdu)) (now (a .log)) (h .result) (h .last .1 .1 .0) (h .last .1 .1 .1 .1 .0) (h .ensures) (frontReplaced (now (a .pdu)) (a .t6)) (omega (arith, c .if1 .taken)))
 
 slice-aggregate-put-front : tie.Need-slice-aggregate-put-front
 slice-aggregate-put-front c =
@@ -59,7 +59,7 @@ returns-2 c =
     let s = f .before .before .before .before .before .before .before in
     let a = s .args in
     let h = f .receive-corrected in
-    (h .ensures .0, (h .ensures .1, p .put-front .ensures ∙ put-back (a .m) (a .r) (now (a .carry)) (now (a .pdu)) (now (a .log)) (h .result) (h .last .1 .1 .0) (h .last .1 .1 .1 .1 .0) (h .ensures) (frontReplaced (now (a .pdu)) (a .t6)) (omega (arith, e .if1 .left))))
+    (h .ensures, p .put-front .ensures ∙ put-back (a .m) (a .r) (now (a .carry)) (now (a .pdu)) (now (a .log)) (h .result) (h .last .1 .1 .0) (h .last .1 .1 .1 .1 .0) (h .ensures) (frontReplaced (now (a .pdu)) (a .t6)) (omega (arith, e .if1 .left)))
 
 pub receive-or-restore-spec : {M : Type 1} → statement M
 receive-or-restore-spec =

@@ -4,10 +4,6 @@ use Prim.Native.Nat.{ℕ, _+_, _-_, _*_, _≤_, _<_}
 use lib.ListN.{length, take, drop, getD, set, length-set}
 use mathlib.Core.List.{List, [], _∷_, _++_}
 use borrow.Author.Needs.{needs}
-use mathlib.Core.Path.{subst}
-use Rattle.layout.specs.Control.{controlAt}
-use Rattle.pdu.specs.Reading.{widthOf, WrongIn}
-use Rattle.correction.proofs.Answers.{no-marks-pdu}
 use Rattle.receiver.proofs.Receiver.receive.Statement.{statement}
 use Rattle.receiver.proofs.Receiver.receive.Tie as tie
 use Rattle.receiver.proofs.Receiver.receive.Reads as reads
@@ -40,10 +36,7 @@ same-length-3 c = search needs
 
 -- src/lib.rt:395:5
 returns : tie.Need-returns
-returns c =
-    let m = c .before .before .before .before .before .before .receive-marked in
-    let e = m .ensures in
-    (e .0, (subst (λ (y : List ℕ). WrongIn (widthOf y) (controlAt y) y (m .result .refusal) (m .result .wrong)) (no-marks-pdu _) (e .1 .0), e .1 .1))
+returns c = c .before .before .before .before .before .before .receive-marked .ensures
 
 pub receive-spec : {M : Type 1} → statement M
 receive-spec =
