@@ -13,9 +13,9 @@ ghost use lib.ListN.{length};
 ghost use Rattle.field.specs.Field.{mul};
 ghost use Rattle.crc.specs.Crc.{crcFrom};
 ghost use Rattle.header.specs.Header.{syndromes, parityOf, lengthRefusal, withParity};
-ghost use Rattle.pdu.specs.Reading.{readingWith, WrongOne, readPdu};
+ghost use Rattle.pdu.specs.Reading.{readingOf, readPdu};
 ghost use Rattle.writer.specs.Writing.{opened, writeAnswer, writtenPdu};
-ghost use Rattle.receiver.specs.Receiving.{opened as receiverOpened, WrongOneWith, receiveAnswer, carryAfter, pduAfter, logAfter, lostAnswer, logAfterLost};
+ghost use Rattle.receiver.specs.Receiving.{opened as receiverOpened, receiveAnswer, carryAfter, pduAfter, logAfter, lostAnswer, logAfterLost};
 ghost use Rattle.correction.specs.Marks.{correctionWith, correctedPduWith};
 ghost use Rattle.correction.specs.Correction.{correctionOf, correctedPdu, numberOf, countOf};
 
@@ -123,8 +123,7 @@ pub extern "C" fn barzhilup_crc8(bytes: &[u8]) -> u8
 // Reads a PDU without a receiver: its header is corrected in place, or it is refused with 3 to 5 or 7 to 12 and left as it was.
 #[no_mangle]
 pub extern "C" fn barzhilup_read(pdu: &mut [u8]) -> Reading
-    ensures { λ r. ⌜ r ≡ readingWith (r .wrong) (now (pdu .entry)) ⌝ }
-    ensures { λ r. ⌜ WrongOne (now (pdu .entry)) (r .refusal) (r .wrong) ⌝ }
+    ensures { λ r. ⌜ r ≡ readingOf (now (pdu .entry)) ⌝ }
     ensures { λ _. ⌜ now (pdu .exit) ≡ readPdu (now (pdu .entry)) ⌝ }
 {
     pdu::read(pdu)
@@ -172,8 +171,7 @@ pub extern "C" fn barzhilup_receive(
     pdu: &mut [u8],
     log: &mut [u32],
 ) -> Received
-    ensures { λ r. ⌜ r ≡ receiveAnswer [] (now (carry .entry)) (now (pdu .entry)) (now (log .entry)) receiver (r .wrong) ⌝ }
-    ensures { λ r. ⌜ WrongOne (now (pdu .entry)) (r .refusal) (r .wrong) ⌝ }
+    ensures { λ r. ⌜ r ≡ receiveAnswer [] (now (carry .entry)) (now (pdu .entry)) (now (log .entry)) receiver ⌝ }
     ensures { λ _. ⌜ now (carry .exit) ≡ carryAfter [] (now (carry .entry)) (now (pdu .entry)) (now (log .entry)) receiver ⌝ }
     ensures { λ _. ⌜ now (pdu .exit) ≡ pduAfter [] (now (carry .entry)) (now (pdu .entry)) (now (log .entry)) receiver ⌝ }
     ensures { λ _. ⌜ now (log .exit) ≡ logAfter [] (now (carry .entry)) (now (pdu .entry)) (now (log .entry)) receiver ⌝ }
@@ -190,8 +188,7 @@ pub extern "C" fn barzhilup_receive_marked(
     marks: &[u8],
     log: &mut [u32],
 ) -> Received
-    ensures { λ r. ⌜ r ≡ receiveAnswer (now (marks .entry)) (now (carry .entry)) (now (pdu .entry)) (now (log .entry)) receiver (r .wrong) ⌝ }
-    ensures { λ r. ⌜ WrongOneWith (now (marks .entry)) (now (pdu .entry)) (r .refusal) (r .wrong) ⌝ }
+    ensures { λ r. ⌜ r ≡ receiveAnswer (now (marks .entry)) (now (carry .entry)) (now (pdu .entry)) (now (log .entry)) receiver ⌝ }
     ensures { λ _. ⌜ now (carry .exit) ≡ carryAfter (now (marks .entry)) (now (carry .entry)) (now (pdu .entry)) (now (log .entry)) receiver ⌝ }
     ensures { λ _. ⌜ now (pdu .exit) ≡ pduAfter (now (marks .entry)) (now (carry .entry)) (now (pdu .entry)) (now (log .entry)) receiver ⌝ }
     ensures { λ _. ⌜ now (log .exit) ≡ logAfter (now (marks .entry)) (now (carry .entry)) (now (pdu .entry)) (now (log .entry)) receiver ⌝ }

@@ -19,9 +19,10 @@ use Rattle.correction.proofs.Answers.{header-put-back}
 use Rattle.layout.specs.Control.{controlAt}
 use Rattle.layout.specs.declared.ControlWord.{ControlWord}
 use Rattle.layout.specs.Locators.{locatorAt}
-use Rattle.pdu.specs.Reading.{startAt, lengthAt, readTests, correctedTests, modeIn, listingOf, entriesFrom as filledFrom, accepted, refused, judged, widthOf, readNumber, readingWith, WrongOne, readPdu}
+use Rattle.pdu.specs.Reading.{startAt, lengthAt, readTests, correctedTests, modeIn, listingOf, entriesFrom as filledFrom, accepted, refused, judged, widthOf, wrongOf, readNumber, readingBy, readingOf, readPdu}
 use Rattle.pdu.specs.declared.Reading.{Reading}
 use Rattle.pdu.proofs.Sizes.{Sized, sized}
+use Rattle.pdu.proofs.Lowest.{without-eleven}
 use Rattle.panel.specs.Panel.{listNumber, listReading, listedPdu, entryAt, entriesFrom, listAfter}
 use Rattle.panel.specs.declared.Piece.{Piece}
 
@@ -50,13 +51,13 @@ module _ (p : List ℕ) where
 
   -- ---- what reading without a receiver answered
 
-  module _ (r : Reading) (er : r ≡ readingWith (r .wrong) p) where
+  module _ (r : Reading) (er : r ≡ readingOf p) where
     read-accepted : readNumber p ≡ 0 → r ≡ whole
-    unfolding readingWith
+    unfolding readingBy
     read-accepted z = er ∙ rw z
 
-    read-refused : ¬ (readNumber p ≡ 0) → r ≡ refused (readNumber p) (r .wrong)
-    unfolding readingWith
+    read-refused : ¬ (readNumber p ≡ 0) → r ≡ refused (readNumber p) (wrongOf y (readNumber p))
+    unfolding readingBy
     read-refused d = let t : eqb (readNumber p) 0 ≡ false = ne-eqb (readNumber p) 0 d in er ∙ rw t
 
     nop-accepted : readNumber p ≡ 0 → r .control .nop ≡ controlAt y .nop
@@ -87,15 +88,14 @@ module _ (p : List ℕ) where
 
   -- what `read_for` promises of its answer r, and of the PDU q after the call
   abbrev pub Answered : ℕ → Reading → List ℕ → Type 0
-  Answered room r q = (r ≡ listReading (r .wrong) p room) × (WrongOne p (r .refusal) (r .wrong) × (q ≡ listedPdu p room))
+  Answered room r q = (r ≡ listReading p room) × (q ≡ listedPdu p room)
 
   -- NOP entries fit
-  pub with-room : (room : ℕ) (r : Reading) (q : List ℕ) → r ≡ readingWith (r .wrong) p → WrongOne p (r .refusal) (r .wrong) → q ≡ readPdu p → r .control .nop ≤ room
-      → Answered room r q
-  unfolding listReading listedPdu readingWith readPdu
-  with-room room r q er w eq h =
+  pub with-room : (room : ℕ) (r : Reading) (q : List ℕ) → r ≡ readingOf p → q ≡ readPdu p → r .control .nop ≤ room → Answered room r q
+  unfolding listedPdu readPdu
+  with-room room r q er eq h =
       let m : listNumber p room ≡ readNumber p = number-same r er room h in
-      (er ∙ sym (rw m), (w, eq ∙ sym (rw m)))
+      (er ∙ ap (readingBy y) (sym m), eq ∙ sym (rw m))
 
   length-allowed : readNumber p ≡ 0 → (96 ≤ length p) × (length p ≤ 20480)
   unfolding readNumber
@@ -107,9 +107,9 @@ module _ (p : List ℕ) where
       go false b ea eb e = absurd (true≢false e)
 
   -- they don't: w is the header before, s what reading answered, v the PDU after it
-  pub without-room : (room : ℕ) (w v q : List ℕ) (s r : Reading) → ((i : ℕ) → getD p i 0 < 256) → w ≡ headerOf p → s ≡ readingWith (s .wrong) p → v ≡ readPdu p
+  pub without-room : (room : ℕ) (w v q : List ℕ) (s r : Reading) → ((i : ℕ) → getD p i 0 < 256) → w ≡ headerOf p → s ≡ readingOf p → v ≡ readPdu p
       → room < s .control .nop → q ≡ frontReplaced v w → r ≡ refused 13 0 → Answered room r q
-  unfolding listReading listedPdu readPdu refused
+  unfolding readingBy listedPdu readPdu
   without-room room w v q s r b ew es ev h eq er =
       let z : readNumber p ≡ 0 = was-accepted s es (omega arith) in
       let n : s .control .nop ≡ controlAt y .nop = nop-accepted s es z in
@@ -118,14 +118,8 @@ module _ (p : List ℕ) where
       let l : (96 ≤ length p) × (length p ≤ 20480) = length-allowed z in
       let ey : v ≡ y = ev ∙ rw z in
       let u : frontReplaced v w ≡ p = rw (ew, ey) (header-put-back p (l .0) (l .1) b) in
-      let k : r .wrong ≡ 0 = ap (λ (x : Reading). x .wrong) er in
-      let f : r .refusal ≡ 13 = ap (λ (x : Reading). x .refusal) er in (
-        er ∙ ap (refused 13) (sym k) ∙ sym (rw m),
-        (record { inside = λ e. absurd (omega arith); wrong = λ e. absurd (never f e); none = λ e. k }, eq ∙ u ∙ sym (rw m)),
-      )
-    where
-      never : r .refusal ≡ 13 → r .refusal ≡ 11 → ⊥
-      never f e = omega arith
+      let k : wrongOf y 13 ≡ 0 = without-eleven y 13 (λ e. absurd (omega arith)) in
+      (er ∙ sym (rw (m, k)), eq ∙ u ∙ sym (rw m))
 
 -- ---- one entry
 
@@ -248,12 +242,12 @@ module _ (p : List ℕ) where
         go false e h = ltb-false room (controlAt (correctedPdu p) .nop) e
 
     -- r is the answer, q the PDU after the call
-    module _ (r : Reading) (q : List ℕ) (er : r ≡ listReading (r .wrong) p room) (eq : q ≡ listedPdu p room) where
+    module _ (r : Reading) (q : List ℕ) (er : r ≡ listReading p room) (eq : q ≡ listedPdu p room) where
       abbrev nop : ℕ
       nop = r .control .nop
 
       accepted-with : listNumber p room ≡ 0 → r ≡ accepted (widthOf q) (controlAt q) q
-      unfolding listReading listedPdu
+      unfolding readingBy listedPdu
       accepted-with z =
           let e : q ≡ correctedPdu p = eq ∙ rw z in
           let a : r ≡ accepted (widthOf (correctedPdu p)) (controlAt (correctedPdu p)) (correctedPdu p) = er ∙ rw z in
@@ -268,10 +262,10 @@ module _ (p : List ℕ) where
       same-pdu z = eq ∙ rw z
 
       nop-none : ¬ (listNumber p room ≡ 0) → nop ≡ 0
-      unfolding listReading refused
+      unfolding readingBy refused
       nop-none d =
           let t : eqb (listNumber p room) 0 ≡ false = ne-eqb (listNumber p room) 0 d in
-          let a : r ≡ refused (listNumber p room) (r .wrong) = er ∙ rw t in
+          let a : r ≡ refused (listNumber p room) (wrongOf (correctedPdu p) (listNumber p room)) = er ∙ rw t in
           ap (λ (x : Reading). x .control .nop) a
 
       pub ready : 0 < nop → (judged q ≡ 0) × (r ≡ accepted (widthOf q) (controlAt q) q) × (nop ≡ controlAt q .nop)

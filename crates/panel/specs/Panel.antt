@@ -10,7 +10,7 @@ use Rattle.crc.specs.Crc.{crcFrom}
 use Rattle.layout.specs.Control.{controlAt}
 use Rattle.layout.specs.Locators.{locatorAt}
 use Rattle.correction.specs.Correction.{correctedPdu}
-use Rattle.pdu.specs.Reading.{startAt, lengthAt, readTests, widthOf, accepted, refused}
+use Rattle.pdu.specs.Reading.{startAt, lengthAt, readTests, widthOf, readingBy}
 use Rattle.pdu.specs.declared.Reading.{Reading}
 use Rattle.receiver.specs.declared.Received.{Received}
 use Rattle.panel.specs.declared.Piece.{Piece}
@@ -25,10 +25,9 @@ listTests p room = readTests p ++ (ltb room (controlAt (correctedPdu p) .nop), 1
 unfoldable pub listNumber : List ℕ → ℕ → ℕ
 listNumber p room = firstOf (listTests p room)
 
--- the answer, as that of reading without a receiver, with whatever k comes with 11
-unfoldable pub listReading : ℕ → List ℕ → ℕ → Reading
-listReading k p room =
-    cond (eqb (listNumber p room) 0) (accepted (widthOf (correctedPdu p)) (controlAt (correctedPdu p)) (correctedPdu p)) (refused (listNumber p room) k)
+-- the answer, as that of reading without a receiver
+abbrev pub listReading : List ℕ → ℕ → Reading
+listReading p room = readingBy (correctedPdu p) (listNumber p room)
 
 -- the PDU after the call: corrected, or as it was
 unfoldable pub listedPdu : List ℕ → ℕ → List ℕ

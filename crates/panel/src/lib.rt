@@ -7,7 +7,7 @@ ghost use mathlib.Core.List.{List, [], _++_};
 ghost use Prim.Native.Nat.{ℕ, _+_, _<_, _≤_};
 ghost use lib.ListN.{length, getD, take, drop};
 ghost use Rattle.layout.specs.Control.{controlAt};
-ghost use Rattle.pdu.specs.Reading.{WrongOne, accepted, judged, widthOf};
+ghost use Rattle.pdu.specs.Reading.{accepted, judged, widthOf};
 ghost use Rattle.panel.specs.declared.Piece.{Piece};
 ghost use Rattle.receiver.specs.Receiving.{receiveAnswer, carryAfter, pduAfter, logAfter, lostAnswer, logAfterLost};
 ghost use Rattle.panel.specs.Panel.{listReading, listedPdu, entryAt, entriesFrom, listAfter, steppedOf};
@@ -20,8 +20,8 @@ pub struct Piece {
     pub right: bool,
 }
 
-// The answer of a receiver that was stepped in place: the refusal number, 0 where there is none, with the k of a wrong locator where it is 11, and
-// the count of log words written.
+// The answer of a receiver that was stepped in place: the refusal number, 0 where there is none, with the smallest k whose locator is wrong where
+// it is 11, and the count of log words written.
 #[repr(C)]
 pub struct Stepped {
     pub refusal: u32,
@@ -39,8 +39,7 @@ struct Told {
 // Reads a PDU without a receiver, for a list of so many entries: refused also with 13, for a list under NOP entries, and then its header is put
 // back. The NOP of a refused reading is 0.
 fn read_for(pdu: &mut [u8], room: usize) -> Reading
-    ensures { λ r. ⌜ r ≡ listReading (r .wrong) (now (pdu .entry)) room ⌝ }
-    ensures { λ r. ⌜ WrongOne (now (pdu .entry)) (r .refusal) (r .wrong) ⌝ }
+    ensures { λ r. ⌜ r ≡ listReading (now (pdu .entry)) room ⌝ }
     ensures { λ _. ⌜ now (pdu .exit) ≡ listedPdu (now (pdu .entry)) room ⌝ }
 {
     let before = header::header_of(pdu);
@@ -92,7 +91,7 @@ fn pieces_of(y: &[u8], r: Reading, nop: usize) -> [Piece; 64]
 
 // Reads a PDU for a list of so many entries, with what the list is to hold.
 fn read_pieces(pdu: &mut [u8], room: usize) -> Told
-    ensures { λ t. ⌜ (t .reading ≡ listReading (t .reading .wrong) (now (pdu .entry)) room) × WrongOne (now (pdu .entry)) (t .reading .refusal) (t .reading .wrong) × (now (pdu .exit) ≡ listedPdu (now (pdu .entry)) room) × (t .count ≤ room) × (t .count ≤ length (t .pieces)) × ((l : List Piece) → length l ≡ room → take (t .count) (t .pieces) ++ drop (t .count) l ≡ listAfter l (now (pdu .entry))) ⌝ }
+    ensures { λ t. ⌜ (t .reading ≡ listReading (now (pdu .entry)) room) × (now (pdu .exit) ≡ listedPdu (now (pdu .entry)) room) × (t .count ≤ room) × (t .count ≤ length (t .pieces)) × ((l : List Piece) → length l ≡ room → take (t .count) (t .pieces) ++ drop (t .count) l ≡ listAfter l (now (pdu .entry))) ⌝ }
 {
     let r = read_for(&mut *pdu, room);
     let c = r.control;
@@ -141,8 +140,7 @@ fn fill(list: &mut [Piece], t: Told, n: usize)
 // and then nothing is changed.
 #[no_mangle]
 pub extern "C" fn barzhilup_list_pieces(pdu: &mut [u8], list: &mut [Piece]) -> Reading
-    ensures { λ r. ⌜ r ≡ listReading (r .wrong) (now (pdu .entry)) (length (now (list .entry))) ⌝ }
-    ensures { λ r. ⌜ WrongOne (now (pdu .entry)) (r .refusal) (r .wrong) ⌝ }
+    ensures { λ r. ⌜ r ≡ listReading (now (pdu .entry)) (length (now (list .entry))) ⌝ }
     ensures { λ _. ⌜ now (pdu .exit) ≡ listedPdu (now (pdu .entry)) (length (now (list .entry))) ⌝ }
     ensures { λ _. ⌜ now (list .exit) ≡ listAfter (now (list .entry)) (now (pdu .entry)) ⌝ }
 {
@@ -176,9 +174,8 @@ pub extern "C" fn barzhilup_receive_in_place(
     pdu: &mut [u8],
     log: &mut [u32],
 ) -> Stepped
-    ensures { λ a. ⌜ a ≡ steppedOf (receiveAnswer [] (now (carry .entry)) (now (pdu .entry)) (now (log .entry)) (now (receiver .entry)) (a .wrong)) ⌝ }
-    ensures { λ a. ⌜ WrongOne (now (pdu .entry)) (a .refusal) (a .wrong) ⌝ }
-    ensures { λ a. ⌜ now (receiver .exit) ≡ receiveAnswer [] (now (carry .entry)) (now (pdu .entry)) (now (log .entry)) (now (receiver .entry)) (a .wrong) .receiver ⌝ }
+    ensures { λ a. ⌜ a ≡ steppedOf (receiveAnswer [] (now (carry .entry)) (now (pdu .entry)) (now (log .entry)) (now (receiver .entry))) ⌝ }
+    ensures { λ _. ⌜ now (receiver .exit) ≡ receiveAnswer [] (now (carry .entry)) (now (pdu .entry)) (now (log .entry)) (now (receiver .entry)) .receiver ⌝ }
     ensures { λ _. ⌜ now (carry .exit) ≡ carryAfter [] (now (carry .entry)) (now (pdu .entry)) (now (log .entry)) (now (receiver .entry)) ⌝ }
     ensures { λ _. ⌜ now (pdu .exit) ≡ pduAfter [] (now (carry .entry)) (now (pdu .entry)) (now (log .entry)) (now (receiver .entry)) ⌝ }
     ensures { λ _. ⌜ now (log .exit) ≡ logAfter [] (now (carry .entry)) (now (pdu .entry)) (now (log .entry)) (now (receiver .entry)) ⌝ }

@@ -32,7 +32,7 @@ use Rattle.settings.specs.Settings.{fieldsFor}
 use Rattle.settings.specs.declared.Settings.{Settings}
 use Rattle.packing.specs.Packing.{overhead}
 use Rattle.contents.specs.Contents.{contents}
-use Rattle.pdu.specs.Reading.{fieldsOf, psdOf, judged, widthOf, accepted, readNumber, readingWith, readPdu, answered}
+use Rattle.pdu.specs.Reading.{fieldsOf, psdOf, judged, widthOf, accepted, readNumber, readPdu, answered}
 use Rattle.pdu.specs.declared.Reading.{Reading}
 use Rattle.pdu.proofs.Restoring.{corrected-number}
 use Rattle.pdu.specs.PieceRead.{PieceRead}

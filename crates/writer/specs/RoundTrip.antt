@@ -20,7 +20,7 @@ use Rattle.settings.specs.Settings.{fieldsFor}
 use Rattle.settings.specs.declared.Settings.{Settings}
 use Rattle.refusal.specs.Refusal.{firstOf}
 use Rattle.pieces.specs.Pieces.{total}
-use Rattle.pdu.specs.Reading.{readNumber, readingWith, readPdu, accepted, answered}
+use Rattle.pdu.specs.Reading.{readNumber, readingOf, readPdu, accepted, answered}
 use Rattle.pdu.specs.PieceRead.{PieceRead}
 use Rattle.writer.specs.Writing.{expansionOf, piecesOf, placed, controlFor, writerTests, writeAnswer, writtenPdu}
 use Rattle.writer.specs.declared.Writer.{Writer}
@@ -38,11 +38,11 @@ pub record Altered (p q : List ℕ) : Type 0 where
 -- a writing call's arguments: settings, PSD, lengths and joined bytes of the packets offered, the PDU length R, and the writer
 module _ (settings : Settings) (psd lengths bytes : List ℕ) (size : ℕ) (w : Writer) where
   -- p, the PDU that the call wrote, is read from q as it was written: the PDU is accepted and left as p, and the answer has the control word,
-  -- the expansion fields, the PSD's place and each piece's, for every choice of the k that comes with 11
+  -- the expansion fields, the PSD's place and each piece's
   pub record ReadBack (m : Mode) (p q : List ℕ) : Type 0 where
     pub number : readNumber q ≡ 0
     pub pdu : readPdu q ≡ p
-    pub answer : (k : ℕ) → readingWith k q ≡ accepted (m .width) (controlFor settings psd lengths bytes size m w) p
+    pub answer : readingOf q ≡ accepted (m .width) (controlFor settings psd lengths bytes size m w) p
     pub fields : accepted (m .width) (controlFor settings psd lengths bytes size m w) p .fields ≡ answered (interpretedOf (fieldsFor settings size))
     pub place : accepted (m .width) (controlFor settings psd lengths bytes size m w) p .psd
         ≡ record { start = 14 + locatorSize (m .width) (length (piecesOf settings psd lengths bytes size m w)) + length (expansionOf settings psd lengths bytes size); length = length psd }

@@ -40,7 +40,6 @@ use denote.Triple.Clauses.{ensured, lasts}
 use denote.Triple.Spec.{Meets, tripleOf}
 use denote.Triple.Table.{entered, cited}
 use denote.Triple.Walked.{Stays, stay-ref, gave-slice, walkOf, goes-gave-slice, goes-ref, Walks, ends-at, walked, walk-meets}
-use Rattle.pdu.specs.Reading.{WrongOne}
 use Rattle.receiver.specs.Receiving.{receiveAnswer, carryAfter, pduAfter, logAfter}
 use Rattle.receiver.specs.declared.Receiver.{Receiver}
 use Rattle.receiver.specs.declared.Received.{Received}
@@ -124,14 +123,14 @@ module _ {M : Type 1} (𝓤 : URA M) (H : Heap 𝓤) (A : Atoms 𝓤) (W : Given
       ‵ (N.the-row .own (made u) (N′.lowered (made u) ∷ [])) ∷ ‵ (fobs γ (T.the-row .coded .code (u .receiver))) ∷ ‵ (fbor κ (Body (mem T.the-row) b o γ)) ∷ ‵ (flft κ q)
       ∷ tokens ∷ ‵ (finally u8 γ₁ xs) ∷ ‵ (finally u8 γ₂ us) ∷ ‵ (finally u32 γ₃ ws) ∷ []
 
-  exits : (u : Received) (xs us ws : List ℕ) → u ≡ receiveAnswer [] cs ps ys h (u .wrong) → WrongOne ps (u .refusal) (u .wrong)
+  exits : (u : Received) (xs us ws : List ℕ) → u ≡ receiveAnswer [] cs ps ys h
       → xs ≡ carryAfter [] cs ps ys h → us ≡ pduAfter [] cs ps ys h → ws ≡ logAfter [] cs ps ys h → length xs ≡ length cs → length us ≡ length ps → length ws ≡ length ys
       → ent 𝓤 (⋆ 𝓤 H A (held u xs us ws)) (Post (N′.lowered (made u)))
-  exits u xs us ws e₁ e₂ e₃ e₄ e₅ n₁ n₂ n₃ =
+  exits u xs us ws e₁ e₂ e₃ e₄ n₁ n₂ n₃ =
       qed W (held u xs us ws) ∵
       suffices ! _ (ends-at 𝓤 H A self.ended stayed (self.clauses 𝓤 H A at-mem run) W (((κ, (κ₁, (κ₂, (κ₃, tt)))), (q, (q₁, (q₂, (q₃, tt)))), tt, x, at), tt) (N′.lowered (made u)) (made u)
       (u .receiver, (xs, (us, (ws, tt)))) (tt, (n₁, (n₂, (n₃, tt))))) $
-      says-all ! (first ! (ap steppedOf e₁) $ first ! e₂ $ first ! (ap (λ (t : Received). t .receiver) e₁) $ first ! e₃ $ first ! e₄ $ last ! e₅) $
+      says-all ! (first ! (ap steppedOf e₁) $ first ! (ap (λ (t : Received). t .receiver) e₁) $ first ! e₂ $ first ! e₃ $ last ! e₄) $
       move ! (3 ∷ 4 ∷ []) $ join ! $ frame ! $ move ! (1 ∷ 2 ∷ []) $ feqI ! (List Val) (vptr b o ∷ []) (vptr b o ∷ []) refl $ fjoin3 ! $
       nothing ! $ move ! (5 ∷ 0 ∷ []) $ fjoin ! $ move ! (4 ∷ 0 ∷ []) $ fjoin ! $ move ! (3 ∷ 0 ∷ []) $ fjoin ! $ move ! (1 ∷ 0 ∷ []) $ fjoin ! $ done !
 
@@ -164,16 +163,14 @@ module _ {M : Type 1} (𝓤 : URA M) (H : Heap 𝓤) (A : Atoms 𝓤) (W : Given
         (and-then ! (load ! (from ! (stop !)) (look ! 17 refl)) (and-then ! (load ! (from ! (stop !)) (look ! 13 refl)) (and-then ! (load ! (from ! (stop !)) (look ! 9 refl)) (and-then ! (load ! (from ! (stop !)) (look ! 5 refl)) (no-more !))))) (λ w.
         use1 W (later (some (λ (u : Received). (tokens ⊛ ‵ (O.the-row .own u (w ∷ []))) ⊛ raw (ensured 𝓤 H A step.ended (step.clauses 𝓤 H A at-mem run) (κ₁, (κ₂, (κ₃, tt))) (h, (carry, (pdu, (log, tt)))) tt u)))) (id⊢ 𝓤 _) $ await ! tt $ pick ! (λ u.
         split ! $ move ! (1 ∷ []) $ use1 W (some (λ (zs : Unit {0} × (List ℕ × (List ℕ × (List ℕ × Unit {0})))). ‵ (lasts step.ended (κ₁, (κ₂, (κ₃, tt))) (h, (carry, (pdu, (log, tt)))) zs)
-        ⊛ raw (fact 𝓤 (u ≡ receiveAnswer [] cs ps ys h (u .wrong)))
-        ⊛ raw (fact 𝓤 (WrongOne ps (u .refusal) (u .wrong)))
+        ⊛ raw (fact 𝓤 (u ≡ receiveAnswer [] cs ps ys h))
         ⊛ raw (fact 𝓤 (zs .1 .0 ≡ carryAfter [] cs ps ys h))
         ⊛ raw (fact 𝓤 (zs .1 .1 .0 ≡ pduAfter [] cs ps ys h))
         ⊛ raw (fact 𝓤 (zs .1 .1 .1 .0 ≡ logAfter [] cs ps ys h)))) (id⊢ 𝓤 _) $ pick ! (λ zs.
-        split ! $ move ! (1 ∷ []) $ split ! $ heard ! (u ≡ receiveAnswer [] cs ps ys h (u .wrong)) (λ e₁.
-        split ! $ heard ! (WrongOne ps (u .refusal) (u .wrong)) (λ e₂.
-        split ! $ heard ! (zs .1 .0 ≡ carryAfter [] cs ps ys h) (λ e₃.
-        split ! $ heard ! (zs .1 .1 .0 ≡ pduAfter [] cs ps ys h) (λ e₄.
-        heard ! (zs .1 .1 .1 .0 ≡ logAfter [] cs ps ys h) (λ e₅.
+        split ! $ move ! (1 ∷ []) $ split ! $ heard ! (u ≡ receiveAnswer [] cs ps ys h) (λ e₁.
+        split ! $ heard ! (zs .1 .0 ≡ carryAfter [] cs ps ys h) (λ e₂.
+        split ! $ heard ! (zs .1 .1 .0 ≡ pduAfter [] cs ps ys h) (λ e₃.
+        heard ! (zs .1 .1 .1 .0 ≡ logAfter [] cs ps ys h) (λ e₄.
         -- each slice's last list, and that it is as long as the list passed
         fsplit ! $ drop ! $ fsplit ! $ fsplit ! $ move ! (1 ∷ []) $ feqL ! (λ n₁.
         move ! (1 ∷ []) $ fsplit ! $ fsplit ! $ move ! (1 ∷ []) $ feqL ! (λ n₂.
@@ -199,7 +196,7 @@ module _ {M : Type 1} (𝓤 : URA M) (H : Heap 𝓤) (A : Atoms 𝓤) (W : Given
         move ! (22 ∷ 23 ∷ []) $ free1 ! $ move ! (20 ∷ 21 ∷ []) $ free1 ! $ move ! (18 ∷ 19 ∷ []) $ free1 ! $ move ! (16 ∷ 17 ∷ []) $ free1 ! $ move ! (14 ∷ 15 ∷ []) $ free1 ! $
         move ! (12 ∷ 13 ∷ []) $ free1 ! $ move ! (10 ∷ 11 ∷ []) $ free1 ! $ move ! (8 ∷ 9 ∷ []) $ free1 ! $ free0 ! $
         owned ! N.the-row (Is N.the-row) ((LL.makes N.the-type N′.the-plain) 𝓤 H A) (made u) _ (made-is u (w ∷ []) is) $
-        keep ! (0 ∷ 1 ∷ 2 ∷ 3 ∷ 4 ∷ 8 ∷ 7 ∷ 5 ∷ []) $ by ! (exits u (zs .1 .0) (zs .1 .1 .0) (zs .1 .1 .1 .0) e₁ e₂ e₃ e₄ e₅ n₁ n₂ n₃))))))))))))))))))))))))))))
+        keep ! (0 ∷ 1 ∷ 2 ∷ 3 ∷ 4 ∷ 8 ∷ 7 ∷ 5 ∷ []) $ by ! (exits u (zs .1 .0) (zs .1 .1 .0) (zs .1 .1 .1 .0) e₁ e₂ e₃ e₄ n₁ n₂ n₃)))))))))))))))))))))))))))
 
 module _ {M : Type 1} (𝓤 : URA M) (H : Heap 𝓤) (A : Atoms 𝓤) (W : Given 𝓤 H A) (at-mem : Memory → SProp 𝓤) (run : Routine → Fun 𝓤) where
   walks : (C : Calls 𝓤 H) (Λ : Loops 𝓤 H) → FmC 𝓤 H (W .laws) C → Triple 𝓤 (C #step) (Step 𝓤 H A at-mem run) → Walks 𝓤 H A self.ended stayed (WpFn 𝓤 H C Λ code.function) (self.clauses 𝓤 H A at-mem run)

@@ -34,7 +34,7 @@ returns c =
     let h = f .before .before in
     let a = h .before .before .before .args in
     let short : a .room < f .read .result .control .nop = omega (arith, i .if1 .taken) in
-    without-room _ _ _ _ _ _ _ (λ i. h .before .before .slice-known .given i .fits) (h .header-of .ensures) (f .read .ensures .0) (f .read .ensures .1 .1) short
+    without-room _ _ _ _ _ _ _ (λ i. h .before .before .slice-known .given i .fits) (h .header-of .ensures) (f .read .ensures .0) (f .read .ensures .1) short
     (t .put-front .ensures) (c .refused-reading .ensures)
 
 same-length-2 : tie.Need-same-length-2
@@ -45,7 +45,7 @@ returns-2 c =
     let f = c .before .before .before .before .before in
     let a = f .before .before .before .before .before .args in
     let room : f .read .result .control .nop ≤ a .room = omega (arith, c .if1 .left) in
-    with-room _ _ _ _ (f .read .ensures .0) (f .read .ensures .1 .0) (f .read .ensures .1 .1) room
+    with-room _ _ _ _ (f .read .ensures .0) (f .read .ensures .1) room
 
 pub read-for-spec : {M : Type 1} → statement M
 read-for-spec =

@@ -13,7 +13,7 @@ cast-nop c = search needs
 pieces-of-requires : tie.Need-pieces-of-requires
 pieces-of-requires c κs =
     let f = c .before .before .before .before .before in
-    ready _ _ (f .read-for .result) (f .read-for .last .0) (f .read-for .ensures .0) (f .read-for .ensures .1 .1)
+    ready _ _ (f .read-for .result) (f .read-for .last .0) (f .read-for .ensures .0) (f .read-for .ensures .1)
 
 same-length : tie.Need-same-length
 same-length c = search needs
@@ -22,9 +22,9 @@ returns : tie.Need-returns
 returns c =
     let f = c .before .before .before .before .before .before in
     let e = f .read-for .ensures in
-    let w = nop-few _ _ (f .read-for .result) (f .read-for .last .0) (e .0) (e .1 .1) in
-    let h = nop-fits _ _ (f .read-for .result) (f .read-for .last .0) (e .0) (e .1 .1) in
-    (e .0, e .1 .0, e .1 .1, omega (arith, h), omega (arith, w, c .pieces-of .ok), λ l h. list-end _ _ (f .read-for .result) (f .read-for .last .0) (e .0) (e .1 .1) (c .pieces-of .result) l (c .pieces-of .ensures) h)
+    let w = nop-few _ _ (f .read-for .result) (f .read-for .last .0) (e .0) (e .1) in
+    let h = nop-fits _ _ (f .read-for .result) (f .read-for .last .0) (e .0) (e .1) in
+    (e .0, e .1, omega (arith, h), omega (arith, w, c .pieces-of .ok), λ l h. list-end _ _ (f .read-for .result) (f .read-for .last .0) (e .0) (e .1) (c .pieces-of .result) l (c .pieces-of .ensures) h)
 
 pub read-pieces-spec : {M : Type 1} → statement M
 read-pieces-spec =
