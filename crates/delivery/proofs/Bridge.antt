@@ -49,10 +49,10 @@ carry-by false n a r k c d e z h = refl
 
 station-kept : (x : Station) (c : Call) → ¬ (answerOf x c .refusal ≡ 0) → stationAfter defined x c ≡ x
 unfolding receiveAnswer carryAfter lostAnswer
-station-kept x (receive k n q log) h =
+station-kept x (receive n q log) h =
     ap₂ (λ (r : Receiver) (c : List ℕ). record { receiver = r; carry = c })
-    (kept-by (eqb (receiveNumber n (x .carry) q log (x .receiver)) 0) (receiveNumber n (x .carry) q log (x .receiver)) _ (x .receiver) k refl refl h)
-    (carry-by (eqb (receiveNumber n (x .carry) q log (x .receiver)) 0) (receiveNumber n (x .carry) q log (x .receiver)) _ (x .receiver) k _ (x .carry) refl refl h)
+    (kept-by (eqb (receiveNumber n (x .carry) q log (x .receiver)) 0) (receiveNumber n (x .carry) q log (x .receiver)) _ (x .receiver) _ refl refl h)
+    (carry-by (eqb (receiveNumber n (x .carry) q log (x .receiver)) 0) (receiveNumber n (x .carry) q log (x .receiver)) _ (x .receiver) _ _ (x .carry) refl refl h)
 station-kept x (markLost log) h =
     ap (λ (r : Receiver). record { receiver = r; carry = x .carry })
     (kept-by (eqb (lostNumber log (x .receiver)) 0) (lostNumber log (x .receiver)) _ (x .receiver) 0 refl refl h)
@@ -74,7 +74,7 @@ asSent k = 0
 
 -- How a call hands over PDUs of a run. A new kind of call is a new line here, and a case of `serves`.
 pub data Handing (width : ℕ) (x : Station) : Call → List (List ℕ) → List Way → Type 0 where
-  copied : {k : ℕ} {marks p q log : List ℕ} {sound : ℕ → Bool} → Copy width p marks q sound → 8400 ≤ length log → Handing width x (receive k marks q log) (p ∷ []) (here (causesFor sound) ∷ [])
+  copied : {marks p q log : List ℕ} {sound : ℕ → Bool} → Copy width p marks q sound → 8400 ≤ length log → Handing width x (receive marks q log) (p ∷ []) (here (causesFor sound) ∷ [])
   losing : {p log : List ℕ} → 8400 ≤ length log → Handing width x (markLost log) (p ∷ []) (gone ∷ [])
   refusing : {c : Call} → ¬ (answerOf x c .refusal ≡ 0) → Handing width x c [] []
 
@@ -178,18 +178,18 @@ module _ (mode stream : ℕ) (m : Mode) (l : listing mode stream ≡ Listed m) (
   unfolding heard
   serves x y c ps ws [] s (copied a b) g = absurd g
   serves x y c ps ws (d ∷ e ∷ ds) s (copied a b) g = absurd (g .1)
-  serves x y c ps ws (d ∷ []) s (copied {k = k} {marks = n} {p = p} {q = q} {log = log} {sound = sound} a big) g =
+  serves x y c ps ws (d ∷ []) s (copied {marks = n} {p = p} {q = q} {log = log} {sound = sound} a big) g =
       let u : Said = read p d (g .0) n q sound a in
       let b = all-bytes q (a .header .bytes) in
       let hq = heard-copy p d (g .0) n q sound a in
       let sn = sane-copy p d (g .0) n q sound a in
       let lo = copy-below p d (g .0) n q sound a in
       let er = copy-received p d (g .0) n q sound a (y .memory) in (
-        receive-accepted mode stream m l range x (y .memory) s k n q log u hq sn lo b big,
-        serves-one everything (m .sequences) stations StandsFor x y (receive k n q log) (came (d (causesFor sound)))
-            (receive-logged mode stream m l range x (y .memory) s k n q log u hq sn lo b big ∙ ap (λ (o : Outcome). logWords (o .entries)) er)
+        receive-accepted mode stream m l range x (y .memory) s n q log u hq sn lo b big,
+        serves-one everything (m .sequences) stations StandsFor x y (receive n q log) (came (d (causesFor sound)))
+            (receive-logged mode stream m l range x (y .memory) s n q log u hq sn lo b big ∙ ap (λ (o : Outcome). logWords (o .entries)) er)
             (subst (λ (o : Outcome). FitAll (o .entries)) er (fit-received (m .sequences) (y .memory) u (s .sane) sn .0))
-            (subst (λ (z : Memory). Shows mode stream m l range (stationAfter defined x (receive k n q log)) z) (copy-remembered p d (g .0) n q sound a (y .memory)) (receive-shows mode stream m l range x (y .memory) s k n q log u hq sn lo b big)),
+            (subst (λ (z : Memory). Shows mode stream m l range (stationAfter defined x (receive n q log)) z) (copy-remembered p d (g .0) n q sound a (y .memory)) (receive-shows mode stream m l range x (y .memory) s n q log u hq sn lo b big)),
       )
   serves x y c ps ws [] s (losing b) g = absurd g
   serves x y c ps ws (d ∷ e ∷ ds) s (losing b) g = absurd (g .1)

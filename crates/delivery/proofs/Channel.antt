@@ -107,13 +107,13 @@ plain-lies range (c ∷ cs) (here f ∷ ws) q g s kept ps rest j =
 -- the ways of a list of calls
 abbrev waysBy : List Step → List Way
 waysBy [] = []
-waysBy (receives k n q log v ∷ ss) = here (causesFor v) ∷ waysBy ss
+waysBy (receives n q log v ∷ ss) = here (causesFor v) ∷ waysBy ss
 waysBy (loses log ∷ ss) = gone ∷ waysBy ss
 waysBy (refuses c ∷ ss) = waysBy ss
 
 fates-are : (ss : List Step) → plainFates (waysBy ss) ≡ fates ss
 fates-are [] = refl
-fates-are (receives k n q log v ∷ ss) = ap (λ (l : List Fate). read false (causesFor v) ∷ l) (fates-are ss)
+fates-are (receives n q log v ∷ ss) = ap (λ (l : List Fate). read false (causesFor v) ∷ l) (fates-are ss)
 fates-are (loses log ∷ ss) = ap (λ (l : List Fate). lose ∷ l) (fates-are ss)
 fates-are (refuses c ∷ ss) = fates-are ss
 
@@ -129,8 +129,8 @@ module _ (mode stream : ℕ) (m : Mode) (l : listing mode stream ≡ Listed m) (
 
   parts : List Step → List (List ℕ) → Parts
   parts [] pdus = []
-  parts (receives k n q log v ∷ ss) [] = []
-  parts (receives k n q log v ∷ ss) (p ∷ pdus) = record { call = receive k n q log; pdus = p ∷ []; ways = here (causesFor v) ∷ [] } ∷ parts ss pdus
+  parts (receives n q log v ∷ ss) [] = []
+  parts (receives n q log v ∷ ss) (p ∷ pdus) = record { call = receive n q log; pdus = p ∷ []; ways = here (causesFor v) ∷ [] } ∷ parts ss pdus
   parts (loses log ∷ ss) [] = []
   parts (loses log ∷ ss) (p ∷ pdus) = record { call = markLost log; pdus = p ∷ []; ways = gone ∷ [] } ∷ parts ss pdus
   parts (refuses c ∷ ss) pdus = record { call = c; pdus = []; ways = [] } ∷ parts ss pdus
@@ -146,14 +146,14 @@ module _ (mode stream : ℕ) (m : Mode) (l : listing mode stream ≡ Listed m) (
   unfolding parts
   parted [] x [] t = record { through = tt; pdus′ = refl; ways = refl; logs = refl; good = λ g. tt }
   parted [] x (p ∷ pdus) t = absurd t
-  parted (receives k n q log v ∷ ss) x [] t = absurd t
-  parted (receives k n q log v ∷ ss) x (p ∷ pdus) t =
-      let r = parted ss (stationAfter defined x (receive k n q log)) pdus (t .2) in
+  parted (receives n q log v ∷ ss) x [] t = absurd t
+  parted (receives n q log v ∷ ss) x (p ∷ pdus) t =
+      let r = parted ss (stationAfter defined x (receive n q log)) pdus (t .2) in
       record {
         through = (copied (t .0) (t .1), r .through);
         pdus′ = ap (λ (l : List (List ℕ)). p ∷ l) (r .pdus′);
         ways = ap (λ (l : List Way). here (causesFor v) ∷ l) (r .ways);
-        logs = ap (λ (w : List ℕ). loggedBy defined x (receive k n q log) ++ w) (r .logs);
+        logs = ap (λ (w : List ℕ). loggedBy defined x (receive n q log) ++ w) (r .logs);
         good = λ g. (g .0, r .good (g .1));
       }
   parted (loses log ∷ ss) x [] t = absurd t

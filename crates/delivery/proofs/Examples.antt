@@ -30,6 +30,6 @@ unfolding wholePackets
 number-again = refl
 
 -- over a channel, the second PDU lost
-pub second-missing : wholeByMarks (lies three fourSpans (fates (receives 0 [] [] [] (λ k. true) ∷ loses [] ∷ receives 0 [] [] [] (λ k. true) ∷ receives 0 [] [] [] (λ k. true) ∷ []))) 0 0 three ≡ packet 2 (8 ∷ 9 ∷ 10 ∷ []) ∷ []
+pub second-missing : wholeByMarks (lies three fourSpans (fates (receives [] [] [] (λ k. true) ∷ loses [] ∷ receives [] [] [] (λ k. true) ∷ receives [] [] [] (λ k. true) ∷ []))) 0 0 three ≡ packet 2 (8 ∷ 9 ∷ 10 ∷ []) ∷ []
 unfolding wholeByMarks
 second-missing = refl

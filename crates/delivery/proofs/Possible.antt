@@ -60,7 +60,7 @@ module _ (marks : List ℕ) (alter : List ℕ → List ℕ) where
   unfoldable pub stepsFor : List Step → List (List ℕ) → List Bool → List Step
   stepsFor last [] bs = last
   stepsFor last (p ∷ ps) [] = loses words ∷ stepsFor last ps []
-  stepsFor last (p ∷ ps) (true ∷ bs) = receives 0 marks (alter p) words ∷ stepsFor last ps bs
+  stepsFor last (p ∷ ps) (true ∷ bs) = receives marks (alter p) words ∷ stepsFor last ps bs
   stepsFor last (p ∷ ps) (false ∷ bs) = loses words ∷ stepsFor last ps bs
 
   -- which PDUs are received: as told, and those not told of are lost
@@ -77,7 +77,7 @@ module _ (marks : List ℕ) (alter : List ℕ → List ℕ) where
     unfolding stepsFor
     goes-through last [] bs x t h = t x
     goes-through last (p ∷ ps) [] x t h = ((let r = log-room in omega (arith, r)), goes-through last ps [] (stationAfter b x (markLost words)) t (h .1))
-    goes-through last (p ∷ ps) (true ∷ bs) x t h = (right p (h .0), (let r = log-room in omega (arith, r)), goes-through last ps bs (stationAfter b x (receive 0 marks (alter p) words)) t (h .1))
+    goes-through last (p ∷ ps) (true ∷ bs) x t h = (right p (h .0), (let r = log-room in omega (arith, r)), goes-through last ps bs (stationAfter b x (receive marks (alter p) words)) t (h .1))
     goes-through last (p ∷ ps) (false ∷ bs) x t h = ((let r = log-room in omega (arith, r)), goes-through last ps bs (stationAfter b x (markLost words)) t (h .1))
 
 all-drop : (n : ℕ) (l : List (List ℕ)) → All Usable l → All Usable (drop n l)

@@ -22,10 +22,11 @@ use Rattle.settings.specs.declared.Settings.{Settings}
 use Rattle.correction.specs.Correction.{correctedPdu}
 use Rattle.header.proofs.Distances.{distance-self}
 use Rattle.contents.proofs.Putting.{cut-count}
-use Rattle.pdu.specs.Reading.{startAt, lengthAt, psdOf, accepted, widthOf, correctedTests, judged, readTests, readNumber, readingWith, readPdu, refused}
+use Rattle.pdu.specs.Reading.{startAt, lengthAt, psdOf, accepted, widthOf, correctedTests, judged, readTests, readNumber, readPdu}
 use Rattle.pdu.specs.declared.Part.{Part}
 use Rattle.pdu.specs.declared.Reading.{Reading}
 use Rattle.pdu.specs.PieceRead.{PieceRead}
+use Rattle.pdu.proofs.ReadBack.{read-accepted}
 use Rattle.reassembly.specs.Reassembly.{Piece, Said}
 use Rattle.receiver.specs.Receiving.{pieceIn, piecesIn, saidBy}
 use Rattle.writer.specs.Writing.{writerTests, piecesOf, partOf, placed, controlFor, pduOf}
@@ -71,13 +72,6 @@ corrected-is : (p : List ℕ) → readNumber p ≡ 0 → readPdu p ≡ p → cor
 unfolding readPdu
 corrected-is p z e = let t : eqb (readNumber p) 0 ≡ true = eq-eqb (readNumber p) 0 z in sym (ap (λ (b : Bool). cond b (correctedPdu p) p) t) ∙ e
 
-answer-is : (p : List ℕ) (k : ℕ) → readNumber p ≡ 0 → correctedPdu p ≡ p → readingWith k p ≡ accepted (widthOf p) (controlAt p) p
-unfolding readingWith
-answer-is p k z e =
-    let t : eqb (readNumber p) 0 ≡ true = eq-eqb (readNumber p) 0 z in
-    ap (λ (b : Bool). cond b (accepted (widthOf (correctedPdu p)) (controlAt (correctedPdu p)) (correctedPdu p)) (refused (readNumber p) k)) t
-    ∙ ap (λ (y : List ℕ). accepted (widthOf y) (controlAt y) y) e
-
 reads-is : (p : List ℕ) → readNumber p ≡ 0 → correctedPdu p ≡ p → judged p ≡ 0
 unfolding readNumber judged
 reads-is p z e = ap (λ (y : List ℕ). firstOf (correctedTests (controlAt y) y)) (sym e) ∙ rest-off (readTests p) 2 refl z
@@ -120,7 +114,7 @@ module _ (settings : Settings) (psd lengths bytes : List ℕ) (size : ℕ) (m : 
   pub control-back : controlAt p ≡ c
   control-back =
       sym (control-of (widthOf p) (controlAt p) p)
-      ∙ ap (λ (r : Reading). r .control) (sym (answer-is p 0 (back .number) itself) ∙ back .answer 0)
+      ∙ ap (λ (r : Reading). r .control) (sym (read-accepted p p (widthOf p) (controlAt p) (back .number) itself refl refl .1) ∙ back .answer)
       ∙ control-of (m .width) c p
 
   pub at-least : 96 ≤ length p

@@ -102,7 +102,7 @@ module _ (mode stream : ℕ) (m : Mode) (l : listing mode stream ≡ Listed m) (
 
   -- ---- receiving
 
-  module _ (x : Station) (y : Memory) (v : Shows x y) (k : ℕ) (marks q log : List ℕ) (d : Said) (h : Heard mode stream (m .width) marks q d) (s : SaneSaid d) (below : d .sequence < m .sequences)
+  module _ (x : Station) (y : Memory) (v : Shows x y) (marks q log : List ℕ) (d : Said) (h : Heard mode stream (m .width) marks q d) (s : SaneSaid d) (below : d .sequence < m .sequences)
       (bytes : (i : ℕ) → getD q i 0 < 256) (big : 8400 ≤ length log) where
     abbrev r : Receiver
     r = x .receiver
@@ -145,13 +145,13 @@ module _ (mode stream : ℕ) (m : Mode) (l : listing mode stream ≡ Listed m) (
         let z : ltb (length log) (length (receivedWords marks carry q log r)) ≡ false = le-ltb (length log) (length (receivedWords marks carry q log r)) (omega (arith, n, big)) in
         past (firstTwelve marks carry q log r) ((ltb (length log) (length (receivedWords marks carry q log r)), 13) ∷ []) refl first-twelve ∙ ap (λ (b : Bool). cond b 13 0) z
 
-    answer-is : receiveAnswer marks carry q log r k ≡ record { refusal = 0; wrong = 0; words = length (receivedWords marks carry q log r); receiver = remembering r (memoryAfter marks carry q log r) }
+    answer-is : receiveAnswer marks carry q log r ≡ record { refusal = 0; wrong = 0; words = length (receivedWords marks carry q log r); receiver = remembering r (memoryAfter marks carry q log r) }
     unfolding receiveAnswer
     answer-is =
         let t : eqb (receiveNumber marks carry q log r) 0 ≡ true = eq-eqb (receiveNumber marks carry q log r) 0 accepts in
-        ap (λ (b : Bool). cond b (record { refusal = 0; wrong = 0; words = length (receivedWords marks carry q log r); receiver = remembering r (memoryAfter marks carry q log r) }) (refusedAnswer r (receiveNumber marks carry q log r) k)) t
+        ap (λ (b : Bool). cond b (record { refusal = 0; wrong = 0; words = length (receivedWords marks carry q log r); receiver = remembering r (memoryAfter marks carry q log r) }) _) t
 
-    pub receive-accepted : answerOf x (receive k marks q log) .refusal ≡ 0
+    pub receive-accepted : answerOf x (receive marks q log) .refusal ≡ 0
     receive-accepted = ap (λ (a : Received). a .refusal) answer-is
 
     log-is : logAfter marks carry q log r ≡ putAt log 0 (receivedWords marks carry q log r)
@@ -166,17 +166,17 @@ module _ (mode stream : ℕ) (m : Mode) (l : listing mode stream ≡ Listed m) (
         let t : eqb (receiveNumber marks carry q log r) 0 ≡ true = eq-eqb (receiveNumber marks carry q log r) 0 accepts in
         ap (λ (b : Bool). cond b (putAt carry 0 (bytesOf (outcome marks carry q log r .partial))) carry) t
 
-    pub receive-logged : loggedBy defined x (receive k marks q log) ≡ logWords (received (m .sequences) y d .entries)
+    pub receive-logged : loggedBy defined x (receive marks q log) ≡ logWords (received (m .sequences) y d .entries)
     receive-logged =
         ap₂ (λ (a : Received) (w : List ℕ). cond (eqb (a .refusal) 0) (take (a .words) w) []) answer-is log-is
         ∙ take-put log (receivedWords marks carry q log r)
         ∙ words-are
 
-    pub receive-shows : Shows (stationAfter defined x (receive k marks q log)) (remembered (m .sequences) y d)
+    pub receive-shows : Shows (stationAfter defined x (receive marks q log)) (remembered (m .sequences) y d)
     unfolding remembered
     receive-shows =
         let z = remembered (m .sequences) y d in
-        let e : stationAfter defined x (receive k marks q log) ≡ put r carry z =
+        let e : stationAfter defined x (receive marks q log) ≡ put r carry z =
         ap₂ (λ (a : Received) (c : List ℕ). record { receiver = a .receiver; carry = c }) answer-is carry-is
         ∙ ap₂ (λ (n : Memory) (o : Outcome). record { receiver = remembering r n; carry = putAt carry 0 (bytesOf (o .partial)) }) after-is outcome-is in
         subst (λ (t : Station). Shows t z) (sym e) (shows-put r carry z (v .sameMode) (v .sameStream) (v .room) below (fit-received (m .sequences) y d (v .sane) s .1))

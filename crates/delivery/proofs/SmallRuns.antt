@@ -227,7 +227,7 @@ headers-altered p h = four-altered p (altered p) (h .1) (record {
 
 -- a PDU of no bytes, and a log of no words
 abbrev pub emptyPdu : Call
-emptyPdu = receive 0 [] [] []
+emptyPdu = receive [] [] []
 
 abbrev pub noLog : Call
 noLog = markLost []
@@ -247,7 +247,7 @@ empty-number x = number (anyOf (wrongState (x .receiver))) (ltb (length (x .carr
 
 pub empty-refused : (x : Station) → ¬ (answerOf x emptyPdu .refusal ≡ 0)
 unfolding receiveAnswer
-empty-refused x = refused-by (receiveNumber [] (x .carry) [] [] (x .receiver)) _ (x .receiver) 0 (empty-number x)
+empty-refused x = refused-by (receiveNumber [] (x .carry) [] [] (x .receiver)) _ (x .receiver) _ (empty-number x)
 
 pub no-log-refused : (x : Station) → ¬ (answerOf x noLog .refusal ≡ 0)
 unfolding lostAnswer

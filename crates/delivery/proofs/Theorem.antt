@@ -21,15 +21,15 @@ use Rattle.delivery.proofs.Channel.{channel-delivers, made-right}
 -- the same calls
 abbrev overChannel : List Step → List ChannelStep
 overChannel [] = []
-overChannel (receives k n q log ∷ ss) = takes k n q log (λ k. true) ∷ overChannel ss
+overChannel (receives n q log ∷ ss) = takes n q log (λ k. true) ∷ overChannel ss
 overChannel (loses log ∷ ss) = misses log ∷ overChannel ss
 overChannel (refuses c ∷ ss) = declines c ∷ overChannel ss
 
 goes : (width : ℕ) (ss : List Step) (x : Station) (pdus : List (List ℕ)) → Through defined x pdus ss → Goes width x pdus (overChannel ss)
 goes width [] x [] t = tt
 goes width [] x (p ∷ pdus) t = absurd t
-goes width (receives k n q log ∷ ss) x [] t = absurd t
-goes width (receives k n q log ∷ ss) x (p ∷ pdus) t = (altered-copy width n p q (t .0), (let r = t .1 in omega (arith, r)), goes width ss (stationAfter defined x (receive k n q log)) pdus (t .2))
+goes width (receives n q log ∷ ss) x [] t = absurd t
+goes width (receives n q log ∷ ss) x (p ∷ pdus) t = (altered-copy width n p q (t .0), (let r = t .1 in omega (arith, r)), goes width ss (stationAfter defined x (receive n q log)) pdus (t .2))
 goes width (loses log ∷ ss) x [] t = absurd t
 goes width (loses log ∷ ss) x (p ∷ pdus) t = (t .0, goes width ss (stationAfter defined x (markLost log)) pdus (t .1))
 goes width (refuses c ∷ ss) x [] t = (t .0, goes width ss (stationAfter defined x c) [] (t .1))
@@ -37,27 +37,27 @@ goes width (refuses c ∷ ss) x (p ∷ pdus) t = (t .0, goes width ss (stationAf
 
 same-logs : (ss : List Step) (x : Station) → channelLogs x (overChannel ss) ≡ logsFrom defined x ss
 same-logs [] x = refl
-same-logs (receives k n q log ∷ ss) x = ap (λ (l : List ℕ). loggedBy defined x (receive k n q log) ++ l) (same-logs ss (stationAfter defined x (receive k n q log)))
+same-logs (receives n q log ∷ ss) x = ap (λ (l : List ℕ). loggedBy defined x (receive n q log) ++ l) (same-logs ss (stationAfter defined x (receive n q log)))
 same-logs (loses log ∷ ss) x = ap (λ (l : List ℕ). loggedBy defined x (markLost log) ++ l) (same-logs ss (stationAfter defined x (markLost log)))
 same-logs (refuses c ∷ ss) x = ap (λ (l : List ℕ). loggedBy defined x c ++ l) (same-logs ss (stationAfter defined x c))
 
 same-answers : (ss : List Step) (x : Station) → ChannelAccepted x (overChannel ss) → NoneRefused defined x ss
 same-answers [] x a = tt
-same-answers (receives k n q log ∷ ss) x a = (a .0, same-answers ss (stationAfter defined x (receive k n q log)) (a .1))
+same-answers (receives n q log ∷ ss) x a = (a .0, same-answers ss (stationAfter defined x (receive n q log)) (a .1))
 same-answers (loses log ∷ ss) x a = (a .0, same-answers ss (stationAfter defined x (markLost log)) (a .1))
 same-answers (refuses c ∷ ss) x a = same-answers ss (stationAfter defined x c) a
 
 same-fates : (ss : List Step) → fates (overChannel ss) ≡ fatesBy (receptions ss)
 same-fates [] = refl
-same-fates (receives k n q log ∷ ss) = ap (λ (l : List Fate). read false (λ k. 0) ∷ l) (same-fates ss)
+same-fates (receives n q log ∷ ss) = ap (λ (l : List Fate). read false (λ k. 0) ∷ l) (same-fates ss)
 same-fates (loses log ∷ ss) = ap (λ (l : List Fate). lose ∷ l) (same-fates ss)
 same-fates (refuses c ∷ ss) = same-fates ss
 
 one-each : (ss : List Step) (x : Station) (pdus : List (List ℕ)) → Through defined x pdus ss → length (receptions ss) ≡ length pdus
 one-each [] x [] t = refl
 one-each [] x (p ∷ pdus) t = absurd t
-one-each (receives k n q log ∷ ss) x [] t = absurd t
-one-each (receives k n q log ∷ ss) x (p ∷ pdus) t = ap suc (one-each ss (stationAfter defined x (receive k n q log)) pdus (t .2))
+one-each (receives n q log ∷ ss) x [] t = absurd t
+one-each (receives n q log ∷ ss) x (p ∷ pdus) t = ap suc (one-each ss (stationAfter defined x (receive n q log)) pdus (t .2))
 one-each (loses log ∷ ss) x [] t = absurd t
 one-each (loses log ∷ ss) x (p ∷ pdus) t = ap suc (one-each ss (stationAfter defined x (markLost log)) pdus (t .1))
 one-each (refuses c ∷ ss) x [] t = one-each ss (stationAfter defined x c) [] (t .1)

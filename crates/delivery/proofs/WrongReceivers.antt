@@ -102,7 +102,7 @@ zeros-logged [] bs x = tt
 zeros-logged (p ∷ ps) [] x =
     zeros-append (loggedBy untouched x (markLost words)) _ (zeros-if (eqb (answerOf x (markLost words) .refusal) 0) _ (zeros-take (answerOf x (markLost words) .words) 8400)) (zeros-logged ps [] (stationAfter untouched x (markLost words)))
 zeros-logged (p ∷ ps) (true ∷ bs) x =
-    zeros-append (loggedBy untouched x (receive 0 [] p words)) _ (zeros-if (eqb (answerOf x (receive 0 [] p words) .refusal) 0) _ (zeros-take (answerOf x (receive 0 [] p words) .words) 8400)) (zeros-logged ps bs (stationAfter untouched x (receive 0 [] p words)))
+    zeros-append (loggedBy untouched x (receive [] p words)) _ (zeros-if (eqb (answerOf x (receive [] p words) .refusal) 0) _ (zeros-take (answerOf x (receive [] p words) .words) 8400)) (zeros-logged ps bs (stationAfter untouched x (receive [] p words)))
 zeros-logged (p ∷ ps) (false ∷ bs) x =
     zeros-append (loggedBy untouched x (markLost words)) _ (zeros-if (eqb (answerOf x (markLost words) .refusal) 0) _ (zeros-take (answerOf x (markLost words) .words) 8400)) (zeros-logged ps bs (stationAfter untouched x (markLost words)))
 
@@ -130,8 +130,8 @@ fixed-wrong number bytes fits claim =
     go (p ∷ q ∷ ps) n a e = absurd (omega (arith, n))
     go (p ∷ []) n a e =
         let w : List ℕ = fixedWords number bytes in
-        let t : eqb (answerOf (freshStation defined 0 0 carry) (receive 0 [] p words) .refusal) 0 ≡ true = eq-eqb _ 0 (a .0) in
-        let l : logsFrom (fixed number bytes) (freshStation defined 0 0 carry) (receives 0 [] p words ∷ []) ≡ w ++ [] =
+        let t : eqb (answerOf (freshStation defined 0 0 carry) (receive [] p words) .refusal) 0 ≡ true = eq-eqb _ 0 (a .0) in
+        let l : logsFrom (fixed number bytes) (freshStation defined 0 0 carry) (receives [] p words ∷ []) ≡ w ++ [] =
         ap (λ (b : Bool). cond b (take (length w) (putAt words 0 w)) [] ++ []) t ∙ ap (λ (l : List ℕ). l ++ []) (take-put words w) in
         let h : w ≡ [] = sym (packet-words false (packet number bytes ∷ []) (fits, tt)) ∙ ap packetWords (sym (append-nil w)) ∙ ap packetWords (sym l) ∙ e in
         let z : _≡_ {A = ℕ} (length w) 0 = ap length h in
@@ -139,19 +139,19 @@ fixed-wrong number bytes fits claim =
 
 -- ---- joins in the first PDU, and then only advances
 
-known-after : (x : Station) (k : ℕ) (marks p log : List ℕ) → answerOf x (receive k marks p log) .refusal ≡ 0 → answerOf x (receive k marks p log) .receiver .known ≡ true
+known-after : (x : Station) (marks p log : List ℕ) → answerOf x (receive marks p log) .refusal ≡ 0 → answerOf x (receive marks p log) .receiver .known ≡ true
 unfolding receiveAnswer remembering remembered
-known-after x k marks p log = go (eqb (receiveNumber marks (x .carry) p log (x .receiver)) 0) refl
+known-after x marks p log = go (eqb (receiveNumber marks (x .carry) p log (x .receiver)) 0) refl
   where
-    go : (b : Bool) → eqb (receiveNumber marks (x .carry) p log (x .receiver)) 0 ≡ b → answerOf x (receive k marks p log) .refusal ≡ 0 → answerOf x (receive k marks p log) .receiver .known ≡ true
+    go : (b : Bool) → eqb (receiveNumber marks (x .carry) p log (x .receiver)) 0 ≡ b → answerOf x (receive marks p log) .refusal ≡ 0 → answerOf x (receive marks p log) .receiver .known ≡ true
     go true e h = rw e refl
     go false e h = absurd (eqb-false (receiveNumber marks (x .carry) p log (x .receiver)) 0 e (rw e at h))
 
-known-kept : (x : Station) (k : ℕ) (marks p log : List ℕ) → x .receiver .known ≡ true → answerOf x (receive k marks p log) .receiver .known ≡ true
+known-kept : (x : Station) (marks p log : List ℕ) → x .receiver .known ≡ true → answerOf x (receive marks p log) .receiver .known ≡ true
 unfolding receiveAnswer remembering remembered
-known-kept x k marks p log h = go (eqb (receiveNumber marks (x .carry) p log (x .receiver)) 0) refl
+known-kept x marks p log h = go (eqb (receiveNumber marks (x .carry) p log (x .receiver)) 0) refl
   where
-    go : (b : Bool) → eqb (receiveNumber marks (x .carry) p log (x .receiver)) 0 ≡ b → answerOf x (receive k marks p log) .receiver .known ≡ true
+    go : (b : Bool) → eqb (receiveNumber marks (x .carry) p log (x .receiver)) 0 ≡ b → answerOf x (receive marks p log) .receiver .known ≡ true
     go true e = rw e refl
     go false e = rw e h
 
@@ -161,9 +161,9 @@ only-advances n [] x l h = refl
 only-advances zero (p ∷ ps) x l h = absurd (not-suc-le-zero l)
 only-advances (suc n) (p ∷ ps) x l h =
     ap₂ (λ (l m : List ℕ). l ++ m)
-    (ap (λ (b : Bool). cond (eqb (cond b (withWords 0 (answerOf x (receive 0 [] p words))) (answerOf x (receive 0 [] p words)) .refusal) 0) (take (cond b (withWords 0 (answerOf x (receive 0 [] p words))) (answerOf x (receive 0 [] p words)) .words) (logOf x (receive 0 [] p words))) []) h
-    ∙ nothing-counted (eqb (answerOf x (receive 0 [] p words) .refusal) 0) (logOf x (receive 0 [] p words)))
-    (only-advances n ps (stationAfter advancing x (receive 0 [] p words)) (le-of-suc-le-suc l) (ap (λ (b : Bool). cond b (withWords 0 (answerOf x (receive 0 [] p words))) (answerOf x (receive 0 [] p words)) .receiver .known) h ∙ known-kept x 0 [] p words h))
+    (ap (λ (b : Bool). cond (eqb (cond b (withWords 0 (answerOf x (receive [] p words))) (answerOf x (receive [] p words)) .refusal) 0) (take (cond b (withWords 0 (answerOf x (receive [] p words))) (answerOf x (receive [] p words)) .words) (logOf x (receive [] p words))) []) h
+    ∙ nothing-counted (eqb (answerOf x (receive [] p words) .refusal) 0) (logOf x (receive [] p words)))
+    (only-advances n ps (stationAfter advancing x (receive [] p words)) (le-of-suc-le-suc l) (ap (λ (b : Bool). cond b (withWords 0 (answerOf x (receive [] p words))) (answerOf x (receive [] p words)) .receiver .known) h ∙ known-kept x [] p words h))
 
 first-asked : askedFor 0 1 (true ∷ []) ≡ logWords (packet 0 (replicate 20 1) ∷ [])
 unfolding wholePackets
@@ -186,11 +186,11 @@ advancing-wrong claim =
         → ¬ (packetWords (logsFrom advancing fresh (stepsFor [] asSent [] (runOf 0 5 ps) all)) ≡ askedFor 0 5 all)
     go [] n a l e = absurd (omega (arith, n))
     go (p ∷ ps) n a l e =
-        let c : Call = receive 0 [] p words in
+        let c : Call = receive [] p words in
         let first : loggedBy advancing fresh c ≡ loggedBy defined fresh c =
         ap (λ (b : Bool). cond (eqb (cond b (withWords 0 (answerOf fresh c)) (answerOf fresh c) .refusal) 0) (take (cond b (withWords 0 (answerOf fresh c)) (answerOf fresh c) .words) (logOf fresh c)) []) fresh-unknown in
         let known : stationAfter advancing fresh c .receiver .known ≡ true =
-        ap (λ (b : Bool). cond b (withWords 0 (answerOf fresh c)) (answerOf fresh c) .receiver .known) fresh-unknown ∙ known-after fresh 0 [] p words (a .0) in
+        ap (λ (b : Bool). cond b (withWords 0 (answerOf fresh c)) (answerOf fresh c) .receiver .known) fresh-unknown ∙ known-after fresh [] p words (a .0) in
         let few : length (take 4 ps) ≤ 4 = (let t = length-take 4 ps in omega (arith, t)) in
         let logs : logsFrom advancing fresh (stepsFor [] asSent [] (runOf 0 5 (p ∷ ps)) all) ≡ loggedBy defined fresh c ++ [] =
         ap₂ (λ (u v : List ℕ). u ++ v) first (only-advances 4 (take 4 ps) (stationAfter advancing fresh c) few known) in
@@ -292,14 +292,14 @@ lost-words x log = go (eqb (lostNumber log (x .receiver)) 0) refl
 
 -- after the first PDU
 abbrev begun : Station
-begun = stationAfter defined fresh (receive 0 [] (writtenAt long 0 0) words)
+begun = stationAfter defined fresh (receive [] (writtenAt long 0 0) words)
 
 -- what is logged of the first PDU, and of the last one after it
 abbrev firstLog : List ℕ
-firstLog = loggedBy defined fresh (receive 0 [] (writtenAt long 0 0) words)
+firstLog = loggedBy defined fresh (receive [] (writtenAt long 0 0) words)
 
 abbrev lastLog : List ℕ
-lastLog = loggedBy defined begun (receive 0 [] (writtenAt long 1 237) words)
+lastLog = loggedBy defined begun (receive [] (writtenAt long 1 237) words)
 
 first-none : packetWords firstLog ≡ []
 unfolding stepsFor wholePackets logWords

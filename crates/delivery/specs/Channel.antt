@@ -16,12 +16,12 @@ use Rattle.delivery.specs.Copies.{Copy, causesFor}
 
 -- a call of the list: for the next PDU of the run, received with these marks and these pieces sound, or marked lost; or another, a refused one
 pub data Step : Type 0 where
-  receives : (k : ℕ) (marks pdu log : List ℕ) (sound : ℕ → Bool) → Step
+  receives : (marks pdu log : List ℕ) (sound : ℕ → Bool) → Step
   loses : (log : List ℕ) → Step
   refuses : Call → Step
 
 abbrev pub callOf : Step → Call
-callOf (receives k marks pdu log sound) = receive k marks pdu log
+callOf (receives marks pdu log sound) = receive marks pdu log
 callOf (loses log) = markLost log
 callOf (refuses c) = c
 
@@ -29,8 +29,8 @@ callOf (refuses c) = c
 abbrev pub Through : ℕ → Station → List (List ℕ) → List Step → Type 0
 Through width x [] [] = Unit {0}
 Through width x (p ∷ ps) [] = ⊥
-Through width x [] (receives k marks q log s ∷ ss) = ⊥
-Through width x (p ∷ ps) (receives k marks q log s ∷ ss) = Copy width p marks q s × (8400 ≤ length log) × Through width (stationAfter defined x (receive k marks q log)) ps ss
+Through width x [] (receives marks q log s ∷ ss) = ⊥
+Through width x (p ∷ ps) (receives marks q log s ∷ ss) = Copy width p marks q s × (8400 ≤ length log) × Through width (stationAfter defined x (receive marks q log)) ps ss
 Through width x [] (loses log ∷ ss) = ⊥
 Through width x (p ∷ ps) (loses log ∷ ss) = (8400 ≤ length log) × Through width (stationAfter defined x (markLost log)) ps ss
 Through width x [] (refuses c ∷ ss) = (¬ (answerOf x c .refusal ≡ 0)) × Through width (stationAfter defined x c) [] ss
@@ -39,7 +39,7 @@ Through width x (p ∷ ps) (refuses c ∷ ss) = (¬ (answerOf x c .refusal ≡ 0
 -- what came of each PDU of the run
 abbrev pub fates : List Step → List Fate
 fates [] = []
-fates (receives k marks pdu log sound ∷ ss) = read false (causesFor sound) ∷ fates ss
+fates (receives marks pdu log sound ∷ ss) = read false (causesFor sound) ∷ fates ss
 fates (loses log ∷ ss) = lose ∷ fates ss
 fates (refuses c ∷ ss) = fates ss
 
@@ -50,7 +50,7 @@ logsFrom x (s ∷ ss) = loggedBy defined x (callOf s) ++ logsFrom (stationAfter 
 -- no call for a PDU of the run is refused
 abbrev pub NoneRefused : Station → List Step → Type 0
 NoneRefused x [] = Unit {0}
-NoneRefused x (receives k marks q log s ∷ ss) = (answerOf x (receive k marks q log) .refusal ≡ 0) × NoneRefused (stationAfter defined x (receive k marks q log)) ss
+NoneRefused x (receives marks q log s ∷ ss) = (answerOf x (receive marks q log) .refusal ≡ 0) × NoneRefused (stationAfter defined x (receive marks q log)) ss
 NoneRefused x (loses log ∷ ss) = (answerOf x (markLost log) .refusal ≡ 0) × NoneRefused (stationAfter defined x (markLost log)) ss
 NoneRefused x (refuses c ∷ ss) = NoneRefused (stationAfter defined x c) ss
 

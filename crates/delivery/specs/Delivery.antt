@@ -107,9 +107,9 @@ pub record Station : Type 0 where
   pub receiver : Receiver
   pub carry : List ℕ
 
--- a call's arguments besides: the marked places, and the lent PDU and log, as they were before the call. k is whichever comes with an answer of 11
+-- a call's arguments besides: the marked places, and the lent PDU and log, as they were before the call
 pub data Call : Type 0 where
-  receive : (k : ℕ) (marks pdu log : List ℕ) → Call
+  receive : (marks pdu log : List ℕ) → Call
   markLost : (log : List ℕ) → Call
 
 -- a receiver as its calls show it: what opening hands back, what a call answers, and the carry and the log after it
@@ -121,15 +121,15 @@ pub record Behaviour : Type 0 where
 
 -- the receiver of document 01, with the marks of document 02
 abbrev pub answerOf : Station → Call → Received
-answerOf x (receive k marks pdu log) = receiveAnswer marks (x .carry) pdu log (x .receiver) k
+answerOf x (receive marks pdu log) = receiveAnswer marks (x .carry) pdu log (x .receiver)
 answerOf x (markLost log) = lostAnswer log (x .receiver)
 
 abbrev pub carryOf : Station → Call → List ℕ
-carryOf x (receive k marks pdu log) = carryAfter marks (x .carry) pdu log (x .receiver)
+carryOf x (receive marks pdu log) = carryAfter marks (x .carry) pdu log (x .receiver)
 carryOf x (markLost log) = x .carry
 
 abbrev pub logOf : Station → Call → List ℕ
-logOf x (receive k marks pdu log) = logAfter marks (x .carry) pdu log (x .receiver)
+logOf x (receive marks pdu log) = logAfter marks (x .carry) pdu log (x .receiver)
 logOf x (markLost log) = logAfterLost log (x .receiver)
 
 abbrev pub defined : Behaviour
@@ -152,19 +152,19 @@ pub record HeaderAltered (marks p q : List ℕ) : Type 0 where
 
 -- a call of the list: for the next PDU of the run, received or marked lost; or another, a refused one
 pub data Step : Type 0 where
-  receives : (k : ℕ) (marks pdu log : List ℕ) → Step
+  receives : (marks pdu log : List ℕ) → Step
   loses : (log : List ℕ) → Step
   refuses : Call → Step
 
 abbrev pub callOf : Step → Call
-callOf (receives k marks pdu log) = receive k marks pdu log
+callOf (receives marks pdu log) = receive marks pdu log
 callOf (loses log) = markLost log
 callOf (refuses c) = c
 
 -- which PDUs of the run are received
 abbrev pub receptions : List Step → List Bool
 receptions [] = []
-receptions (receives k marks pdu log ∷ ss) = true ∷ receptions ss
+receptions (receives marks pdu log ∷ ss) = true ∷ receptions ss
 receptions (loses log ∷ ss) = false ∷ receptions ss
 receptions (refuses c ∷ ss) = receptions ss
 
@@ -180,8 +180,8 @@ module _ (b : Behaviour) where
   abbrev pub Through : Station → List (List ℕ) → List Step → Type 0
   Through x [] [] = Unit {0}
   Through x (p ∷ ps) [] = ⊥
-  Through x [] (receives k marks q log ∷ ss) = ⊥
-  Through x (p ∷ ps) (receives k marks q log ∷ ss) = HeaderAltered marks p q × (8400 ≤ length log) × Through (stationAfter x (receive k marks q log)) ps ss
+  Through x [] (receives marks q log ∷ ss) = ⊥
+  Through x (p ∷ ps) (receives marks q log ∷ ss) = HeaderAltered marks p q × (8400 ≤ length log) × Through (stationAfter x (receive marks q log)) ps ss
   Through x [] (loses log ∷ ss) = ⊥
   Through x (p ∷ ps) (loses log ∷ ss) = (8400 ≤ length log) × Through (stationAfter x (markLost log)) ps ss
   Through x [] (refuses c ∷ ss) = (¬ (b .answer x c .refusal ≡ 0)) × Through (stationAfter x c) [] ss
@@ -190,7 +190,7 @@ module _ (b : Behaviour) where
   -- no call for a PDU of the run is refused
   abbrev pub NoneRefused : Station → List Step → Type 0
   NoneRefused x [] = Unit {0}
-  NoneRefused x (receives k marks q log ∷ ss) = (b .answer x (receive k marks q log) .refusal ≡ 0) × NoneRefused (stationAfter x (receive k marks q log)) ss
+  NoneRefused x (receives marks q log ∷ ss) = (b .answer x (receive marks q log) .refusal ≡ 0) × NoneRefused (stationAfter x (receive marks q log)) ss
   NoneRefused x (loses log ∷ ss) = (b .answer x (markLost log) .refusal ≡ 0) × NoneRefused (stationAfter x (markLost log)) ss
   NoneRefused x (refuses c ∷ ss) = NoneRefused (stationAfter x c) ss
 

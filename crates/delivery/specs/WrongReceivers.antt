@@ -19,7 +19,7 @@ withReceiver r a = record { refusal = a .refusal; wrong = a .wrong; words = a .w
 
 -- the log as it was lent
 abbrev pub lentLog : Call → List ℕ
-lentLog (receive k marks pdu log) = log
+lentLog (receive marks pdu log) = log
 lentLog (markLost log) = log
 
 -- an empty log for everything
@@ -36,11 +36,11 @@ module _ (number : ℕ) (bytes : List ℕ) where
   fixedWords = logWords (packet number bytes ∷ [])
 
   abbrev pub fixedAnswer : Station → Call → Received
-  fixedAnswer x (receive k marks pdu log) = withWords (length fixedWords) (answerOf x (receive k marks pdu log))
+  fixedAnswer x (receive marks pdu log) = withWords (length fixedWords) (answerOf x (receive marks pdu log))
   fixedAnswer x (markLost log) = answerOf x (markLost log)
 
   abbrev pub fixedLog : Station → Call → List ℕ
-  fixedLog x (receive k marks pdu log) = putAt log 0 fixedWords
+  fixedLog x (receive marks pdu log) = putAt log 0 fixedWords
   fixedLog x (markLost log) = logOf x (markLost log)
 
   abbrev pub fixed : Behaviour
@@ -48,7 +48,7 @@ module _ (number : ℕ) (bytes : List ℕ) where
 
 -- it joins in the first PDU, and then only advances
 abbrev pub advancingAnswer : Station → Call → Received
-advancingAnswer x (receive k marks pdu log) = cond (x .receiver .known) (withWords 0 (answerOf x (receive k marks pdu log))) (answerOf x (receive k marks pdu log))
+advancingAnswer x (receive marks pdu log) = cond (x .receiver .known) (withWords 0 (answerOf x (receive marks pdu log))) (answerOf x (receive marks pdu log))
 advancingAnswer x (markLost log) = answerOf x (markLost log)
 
 abbrev pub advancing : Behaviour
@@ -56,7 +56,7 @@ advancing = record { opening = defined .opening; answer = advancingAnswer; carry
 
 -- marking lost leaves it as it was, so that the one-bit sequence may fit again
 abbrev pub joiningAnswer : Station → Call → Received
-joiningAnswer x (receive k marks pdu log) = answerOf x (receive k marks pdu log)
+joiningAnswer x (receive marks pdu log) = answerOf x (receive marks pdu log)
 joiningAnswer x (markLost log) = withReceiver (x .receiver) (answerOf x (markLost log))
 
 abbrev pub joining : Behaviour

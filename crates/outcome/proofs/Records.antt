@@ -1,5 +1,5 @@
 -- What comes of a record, case by case: it is empty, or the PDU is refused, or it is accepted.
-use mathlib.Core.Path.{_≡_, refl, sym, ap, ap₂, subst, _∙_}
+use mathlib.Core.Path.{_≡_, refl, sym, ap, ap₂, _∙_}
 use mathlib.Core.Bool.{Bool, true, false, _&&_, cond}
 use mathlib.Core.List.{List, [], _∷_}
 use Prim.Native.Nat.{ℕ}
@@ -8,16 +8,16 @@ use lib.Dec.{eqb}
 use lib.ListN.{length}
 use borrow.Author.Tests.{eq-eqb, ne-eqb, eqb-true}
 use Rattle.header.specs.Header.{headerOf, distance}
-use Rattle.receiver.specs.Receiving.{WrongOneWith, refusedAnswer, receiveNumber, receiveAnswer, carryAfter, pduAfter, logAfter, lostTests, lostNumber, lostAnswer, logAfterLost}
+use Rattle.correction.specs.Marks.{correctedPduWith}
+use Rattle.pdu.specs.Reading.{wrongOf}
+use Rattle.pdu.proofs.Lowest.{without-eleven}
+use Rattle.receiver.specs.Receiving.{refusedAnswer, receiveNumber, receiveAnswer, carryAfter, pduAfter, logAfter, lostTests, lostNumber, lostAnswer, logAfterLost}
 use Rattle.receiver.specs.declared.Receiver.{Receiver}
 use Rattle.receiver.specs.declared.Received.{Received}
 use Rattle.outcome.specs.Logging.{outcomeOf, recordNumber, recordOutcome, recordCarry, recordPdu, recordLog}
 use Rattle.outcome.specs.declared.Outcome.{Outcome}
 
 -- ---- the parts of an outcome
-
-k-of : (o : Outcome) (kind number k n : ℕ) (a : Received) → o ≡ outcomeOf kind number k n a → o .wrong ≡ k
-k-of o kind number k n a q = ap (λ (x : Outcome). x .wrong) q
 
 -- an outcome of equal parts
 parts : (kind m n k l i j : ℕ) (a b : Received) → m ≡ n → k ≡ l → i ≡ j → a ≡ b → outcomeOf kind m k i a ≡ outcomeOf kind n l j b
@@ -74,11 +74,7 @@ module _ (log : List ℕ) (r : Receiver) where
         let t : eqb (lostNumber log r) 0 ≡ true = eq-eqb (lostNumber log r) 0 (sym number-lost ∙ z) in
         rw t (q ∙ ap (outcomeOf 1 0 0 0) e)
 
--- by the number n, for a record of length m
-lost-k : (t : Bool) (n : ℕ) (a : Received) (o : Outcome) → o ≡ cond t (outcomeOf 1 0 0 0 a) (outcomeOf 2 n 0 0 a) → o .wrong ≡ 0
-lost-k true n a o q = k-of o 1 0 0 0 a q
-lost-k false n a o q = k-of o 2 n 0 0 a q
-
+-- by the number n with its k, for a record of length m
 lost-by : (t : Bool) (n m k : ℕ) (a : Received) (o : Outcome) → 0 ≡ m → 0 ≡ k → o ≡ cond t (outcomeOf 1 0 0 0 a) (outcomeOf 2 n 0 0 a) → o ≡ cond t (outcomeOf 1 0 0 0 a) (outcomeOf 2 n k m a)
 lost-by true n m k a o l w q = q
 lost-by false n m k a o l w q = q ∙ parts 2 n n 0 k 0 m a a refl w l refl
@@ -86,23 +82,26 @@ lost-by false n m k a o l w q = q ∙ parts 2 n n 0 k 0 m a a refl w l refl
 -- ---- a record
 
 module _ (marks carry pdu log : List ℕ) (r : Receiver) where
-  receive-number : (k : ℕ) → receiveAnswer marks carry pdu log r k .refusal ≡ receiveNumber marks carry pdu log r
+  -- the k that comes with a number
+  abbrev kOf : ℕ → ℕ
+  kOf = wrongOf (correctedPduWith marks pdu)
+
+  receive-number : receiveAnswer marks carry pdu log r .refusal ≡ receiveNumber marks carry pdu log r
   unfolding receiveAnswer
-  receive-number k = number-by (eqb (receiveNumber marks carry pdu log r) 0) (receiveNumber marks carry pdu log r) _ r k refl refl
+  receive-number = number-by (eqb (receiveNumber marks carry pdu log r) 0) (receiveNumber marks carry pdu log r) _ r _ refl refl
 
   -- what is promised of the outcome, and of the carry, the record and the log after it
   abbrev pub Comes : Outcome → List ℕ → List ℕ → List ℕ → Type 0
   Comes o carryEnd pduEnd logEnd =
-      (o ≡ recordOutcome marks carry pdu log r (o .wrong)) × (WrongOneWith marks pdu (recordNumber marks carry pdu log r) (o .wrong) × ((carryEnd ≡ recordCarry marks carry pdu log r) × ((pduEnd ≡ recordPdu marks carry pdu log r) × (logEnd ≡ recordLog marks carry pdu log r))))
+      (o ≡ recordOutcome marks carry pdu log r) × ((carryEnd ≡ recordCarry marks carry pdu log r) × ((pduEnd ≡ recordPdu marks carry pdu log r) × (logEnd ≡ recordLog marks carry pdu log r)))
 
   pub empty-record : (o : Outcome) (logEnd : List ℕ) → length pdu ≡ 0 → Lost log r o → logEnd ≡ logAfterLost log r → Comes o carry pdu logEnd
   unfolding recordOutcome recordNumber recordCarry recordPdu recordLog
   empty-record o logEnd l q e =
       let t : eqb (length pdu) 0 ≡ true = eq-eqb (length pdu) 0 l in
-      let w : o .wrong ≡ 0 = lost-k (eqb (lostNumber log r) 0) (lostNumber log r) (lostAnswer log r) o q in
-      let other : recordNumber marks carry pdu log r ≡ 11 → ⊥ = rw t (lost-not-11 log r) in (
-        rw t (lost-by (eqb (lostNumber log r) 0) (lostNumber log r) (length pdu) (o .wrong) (lostAnswer log r) o (sym l) (sym w) q),
-        (record { inside = λ z. absurd (other z); wrong = λ z. absurd (other z); none = λ _. w }, (rw t, (rw t, rw t (e ∙ neither (eqb (lostNumber log r) 0))))),
+      let k : 0 ≡ kOf (lostNumber log r) = sym (without-eleven (correctedPduWith marks pdu) (lostNumber log r) (lost-not-11 log r)) in (
+        rw t (lost-by (eqb (lostNumber log r) 0) (lostNumber log r) (length pdu) (kOf (lostNumber log r)) (lostAnswer log r) o (sym l) k q),
+        (rw t, (rw t, rw t (e ∙ neither (eqb (lostNumber log r) 0)))),
       )
     where
       neither : (s : Bool) → logAfterLost log r ≡ cond (s && false) (logAfter marks carry pdu log r) (logAfterLost log r)
@@ -110,18 +109,13 @@ module _ (marks carry pdu log : List ℕ) (r : Receiver) where
       neither false = refl
 
   -- the answer of receiving a PDU that is not empty, and the three buffers after it
-  module _ (full : length pdu ≡ 0 → ⊥) (a : Received) (carryEnd pduEnd logMid : List ℕ) (ea : a ≡ receiveAnswer marks carry pdu log r (a .wrong)) (wrong : WrongOneWith marks pdu (a .refusal) (a .wrong))
+  module _ (full : length pdu ≡ 0 → ⊥) (a : Received) (carryEnd pduEnd logMid : List ℕ) (ea : a ≡ receiveAnswer marks carry pdu log r)
       (ec : carryEnd ≡ carryAfter marks carry pdu log r) (ep : pduEnd ≡ pduAfter marks carry pdu log r) (el : logMid ≡ logAfter marks carry pdu log r) (n : ℕ) (long : n ≡ length pdu) (o : Outcome) where
     number : a .refusal ≡ receiveNumber marks carry pdu log r
-    number = ap (λ (x : Received). x .refusal) ea ∙ receive-number (a .wrong)
+    number = ap (λ (x : Received). x .refusal) ea ∙ receive-number
 
     some : eqb (length pdu) 0 ≡ false
     some = ne-eqb (length pdu) 0 full
-
-    -- the k, and the buffers that are as receiving leaves them
-    k-is : o .wrong ≡ a .wrong → WrongOneWith marks pdu (recordNumber marks carry pdu log r) (o .wrong)
-    unfolding recordNumber
-    k-is e = rw some (subst (λ (x : ℕ). WrongOneWith marks pdu (receiveNumber marks carry pdu log r) x) (sym e) (subst (λ (x : ℕ). WrongOneWith marks pdu x (a .wrong)) number wrong))
 
     carry-is : carryEnd ≡ recordCarry marks carry pdu log r
     unfolding recordCarry
@@ -135,22 +129,20 @@ module _ (marks carry pdu log : List ℕ) (r : Receiver) where
     unfolding recordOutcome recordNumber recordLog receiveAnswer logAfter
     refused-record last logEnd d q f e =
         let t : eqb (receiveNumber marks carry pdu log r) 0 ≡ false = ne-eqb (receiveNumber marks carry pdu log r) 0 (λ z. d (number ∙ z)) in
-        let kept : a ≡ refusedAnswer r (receiveNumber marks carry pdu log r) (a .wrong) = rw t at ea in
+        let kept : a ≡ refusedAnswer r (receiveNumber marks carry pdu log r) (kOf (receiveNumber marks carry pdu log r)) = rw t at ea in
         let same : logMid ≡ log = rw t at el in
         let known : a .receiver ≡ r = ap (λ (x : Received). x .receiver) kept in
-        let lost : last ≡ lostAnswer log r = f ∙ ap₂ lostAnswer same known in
-        let w : o .wrong ≡ a .wrong = k-of o 2 (a .refusal) (a .wrong) n last q in (
-          rw (some, t) (q ∙ parts 2 (a .refusal) (receiveNumber marks carry pdu log r) (a .wrong) (o .wrong) n (length pdu) last (lostAnswer log r) number (sym w) long lost),
-          (k-is w, (carry-is, (pdu-is, rw (some, t) (e ∙ ap₂ logAfterLost same known)))),
+        let k : a .wrong ≡ kOf (receiveNumber marks carry pdu log r) = ap (λ (x : Received). x .wrong) kept in
+        let lost : last ≡ lostAnswer log r = f ∙ ap₂ lostAnswer same known in (
+          rw (some, t) (q ∙ parts 2 (a .refusal) (receiveNumber marks carry pdu log r) (a .wrong) (kOf (receiveNumber marks carry pdu log r)) n (length pdu) last (lostAnswer log r) number k long lost),
+          (carry-is, (pdu-is, rw (some, t) (e ∙ ap₂ logAfterLost same known))),
         )
 
     pub accepted-record : (before after : List ℕ) (count : ℕ) → a .refusal ≡ 0 → before ≡ headerOf pdu → after ≡ headerOf pduEnd → count ≡ distance before after → o ≡ outcomeOf 0 count 0 n a → Comes o carryEnd pduEnd logMid
     unfolding recordOutcome recordNumber recordLog
     accepted-record before after count z eb eh en q =
         let t : eqb (receiveNumber marks carry pdu log r) 0 ≡ true = eq-eqb (receiveNumber marks carry pdu log r) 0 (sym number ∙ z) in
-        let none : a .wrong ≡ 0 = wrong .none (λ f. omega (arith, z, f)) in
-        let d : count ≡ distance (headerOf pdu) (headerOf (pduAfter marks carry pdu log r)) = en ∙ ap₂ distance eb (eh ∙ ap headerOf ep) in
-        let same : a ≡ receiveAnswer marks carry pdu log r 0 = ea ∙ ap (receiveAnswer marks carry pdu log r) none in (
-          rw (some, t) (q ∙ parts 0 count _ 0 0 n (length pdu) a (receiveAnswer marks carry pdu log r 0) d refl long same),
-          (k-is (k-of o 0 count 0 n a q ∙ sym none), (carry-is, (pdu-is, rw (some, t) el))),
+        let d : count ≡ distance (headerOf pdu) (headerOf (pduAfter marks carry pdu log r)) = en ∙ ap₂ distance eb (eh ∙ ap headerOf ep) in (
+          rw (some, t) (q ∙ parts 0 count _ 0 0 n (length pdu) a (receiveAnswer marks carry pdu log r) d refl long ea),
+          (carry-is, (pdu-is, rw (some, t) el)),
         )

@@ -6,6 +6,8 @@ use Prim.Native.Nat.{ℕ}
 use lib.Dec.{eqb}
 use lib.ListN.{length}
 use Rattle.header.specs.Header.{headerOf, distance}
+use Rattle.correction.specs.Marks.{correctedPduWith}
+use Rattle.pdu.specs.Reading.{wrongOf}
 use Rattle.receiver.specs.Receiving.{receiveNumber, receiveAnswer, carryAfter, pduAfter, logAfter, lostNumber, lostAnswer, logAfterLost}
 use Rattle.receiver.specs.declared.Receiver.{Receiver}
 use Rattle.receiver.specs.declared.Received.{Received}
@@ -35,15 +37,14 @@ module _ (marks carry pdu log : List ℕ) (r : Receiver) where
   lostOutcome = outcomeOf 1 0 0 0 (lostAnswer log r)
 
   abbrev pub receivedOutcome : Outcome
-  receivedOutcome = outcomeOf 0 correctedBytes 0 (length pdu) (receiveAnswer marks carry pdu log r 0)
+  receivedOutcome = outcomeOf 0 correctedBytes 0 (length pdu) (receiveAnswer marks carry pdu log r)
 
-  -- reported with its number, and marked lost; where that is refused too, no word is logged and the receiver is as it was
-  abbrev pub refusedOutcome : ℕ → Outcome
-  refusedOutcome k = outcomeOf 2 recordNumber k (length pdu) (lostAnswer log r)
+  -- reported with its number and k, and marked lost; where that is refused too, no word is logged and the receiver is as it was
+  abbrev pub refusedOutcome : Outcome
+  refusedOutcome = outcomeOf 2 recordNumber (wrongOf (correctedPduWith marks pdu) recordNumber) (length pdu) (lostAnswer log r)
 
-  -- with whatever k comes with 11
-  unfoldable pub recordOutcome : ℕ → Outcome
-  recordOutcome k = cond accepted (cond empty lostOutcome receivedOutcome) (refusedOutcome k)
+  unfoldable pub recordOutcome : Outcome
+  recordOutcome = cond accepted (cond empty lostOutcome receivedOutcome) refusedOutcome
 
   -- the log after it: all but an accepted PDU is marked lost
   unfoldable pub recordLog : List ℕ

@@ -7,8 +7,8 @@ ghost use mathlib.Core.Bool.{cond};
 ghost use lib.Dec.{eqb};
 ghost use Rattle.correction.specs.Marks.{correctedPduWith};
 ghost use Rattle.layout.specs.Control.{controlAt};
-ghost use Rattle.receiver.specs.Receiving.{WrongOneWith, lostNumber, lostAnswer, logAfterLost};
-ghost use Rattle.outcome.specs.Logging.{outcomeOf, recordNumber, recordOutcome, recordCarry, recordPdu, recordLog};
+ghost use Rattle.receiver.specs.Receiving.{lostNumber, lostAnswer, logAfterLost};
+ghost use Rattle.outcome.specs.Logging.{outcomeOf, recordOutcome, recordCarry, recordPdu, recordLog};
 
 // The kinds of outcomes.
 pub const RECEIVED: u8 = 0;
@@ -20,7 +20,7 @@ pub const REFUSED: u8 = 2;
 // The outcome of a PDU, and the receiver after it.
 pub struct Outcome {
     pub kind: u8,
-    // How many header bytes were corrected, or the refusal number, with the k of a wrong locator.
+    // How many header bytes were corrected, or the refusal number, with the smallest k whose locator is wrong.
     pub number: u32,
     pub wrong: u32,
     // The PDU's length.
@@ -74,8 +74,7 @@ pub fn of_record(
     marks: &[u8],
     log: &mut [u32],
 ) -> Outcome
-    ensures { λ o. ⌜ o ≡ recordOutcome (now (marks .entry)) (now (carry .entry)) (now (pdu .entry)) (now (log .entry)) receiver (o .wrong) ⌝ }
-    ensures { λ o. ⌜ WrongOneWith (now (marks .entry)) (now (pdu .entry)) (recordNumber (now (marks .entry)) (now (carry .entry)) (now (pdu .entry)) (now (log .entry)) receiver) (o .wrong) ⌝ }
+    ensures { λ o. ⌜ o ≡ recordOutcome (now (marks .entry)) (now (carry .entry)) (now (pdu .entry)) (now (log .entry)) receiver ⌝ }
     ensures { λ _. ⌜ now (carry .exit) ≡ recordCarry (now (marks .entry)) (now (carry .entry)) (now (pdu .entry)) (now (log .entry)) receiver ⌝ }
     ensures { λ _. ⌜ now (pdu .exit) ≡ recordPdu (now (marks .entry)) (now (carry .entry)) (now (pdu .entry)) (now (log .entry)) receiver ⌝ }
     ensures { λ _. ⌜ now (log .exit) ≡ recordLog (now (marks .entry)) (now (carry .entry)) (now (pdu .entry)) (now (log .entry)) receiver ⌝ }

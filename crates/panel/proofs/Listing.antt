@@ -11,7 +11,7 @@ use lib.ListN.{length, getD, take, drop, set, length-map}
 use lib.Seq.{length-take-le, length-front, take-suc, drop-cons, append-snoc, set-at, take-suc-set}
 use borrow.Author.Tests.{lt-ltb, le-ltb, ltb-false, leb-true, ne-eqb}
 use Rattle.refusal.specs.Refusal.{firstOf}
-use Rattle.refusal.proofs.Rows.{past, row-off, rest-off}
+use Rattle.refusal.proofs.Rows.{past, row-off, row-on, rest-off}
 use Rattle.crc.specs.Crc.{crcFrom}
 use Rattle.header.specs.Header.{headerOf, frontReplaced}
 use Rattle.correction.specs.Correction.{correctedPdu}
@@ -22,8 +22,8 @@ use Rattle.layout.specs.Locators.{locatorAt}
 use Rattle.pdu.specs.Reading.{startAt, lengthAt, readTests, correctedTests, modeIn, listingOf, entriesFrom as filledFrom, accepted, refused, judged, widthOf, wrongOf, readNumber, readingBy, readingOf, readPdu}
 use Rattle.pdu.specs.declared.Reading.{Reading}
 use Rattle.pdu.proofs.Sizes.{Sized, sized}
-use Rattle.pdu.proofs.Lowest.{without-eleven}
-use Rattle.panel.specs.Panel.{listNumber, listReading, listedPdu, entryAt, entriesFrom, listAfter}
+use Rattle.pdu.proofs.Lowest.{Lowest, without-eleven, lowest-by}
+use Rattle.panel.specs.Panel.{listTests, listNumber, listReading, listedPdu, entryAt, entriesFrom, listAfter}
 use Rattle.panel.specs.declared.Piece.{Piece}
 
 -- ---- the number
@@ -304,3 +304,9 @@ module _ (p : List ℕ) where
           go (no d) =
               let f : eqb (listNumber p (length l)) 0 ≡ false = ne-eqb (listNumber p (length l)) 0 (λ z. d (ap (listNumber p) (sym e) ∙ z)) in
               ap (λ (n : ℕ). take n ps ++ drop n l) (nop-none d) ∙ sym (rw f)
+
+-- ---- the k of a refused list (document 02, Ask 6)
+
+pub list-lowest : (p : List ℕ) (room : ℕ) → listNumber p room ≡ 11 → Lowest (correctedPdu p) (listReading p room .wrong)
+unfolding listNumber widthOf
+list-lowest p room e = lowest-by (correctedPdu p) (listNumber p room) e (row-on _ 11 (take 7 (listTests p room)) (drop 8 (listTests p room)) refl refl refl e)

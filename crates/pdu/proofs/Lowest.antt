@@ -1,5 +1,5 @@
 -- Document 02, Ask 6: what the smallest k whose locator is wrong is.
-use mathlib.Core.Path.{_≡_, refl, sym, ap, ap₂, subst, _∙_}
+use mathlib.Core.Path.{_≡_, refl, sym, ap, ap₂, _∙_}
 use mathlib.Core.Bool.{Bool, true, false, _||_, cond}
 use mathlib.Core.List.{List}
 use Prim.Native.Nat.{ℕ, zero, suc, _<_, _≤_}
@@ -12,7 +12,7 @@ use Rattle.refusal.proofs.Rows.{row-on}
 use Rattle.correction.specs.Correction.{correctedPdu}
 use Rattle.layout.specs.Control.{controlAt}
 use Rattle.layout.specs.declared.ControlWord.{ControlWord}
-use Rattle.pdu.specs.Reading.{wrongLocator, anyBelow, lowestBelow, lowestWrong, readTests, accepted, refused, widthOf, wrongOf, readNumber, readingBy, readingOf}
+use Rattle.pdu.specs.Reading.{wrongLocator, anyBelow, lowestBelow, lowestWrong, readTests, refused, widthOf, wrongOf, readNumber, readingBy, readingOf}
 use Rattle.pdu.proofs.Any.{any-found}
 use Rattle.pdu.proofs.Filling.{each-fails}
 
@@ -122,10 +122,12 @@ pub without-eleven : (y : List ℕ) (n : ℕ) → ¬ (n ≡ 11) → wrongOf y n 
 unfolding wrongOf
 without-eleven y n d = let t : eqb n 11 ≡ false = ne-eqb n 11 d in rw t
 
+-- the answer with 11, where row 11 applies
+pub lowest-by : (y : List ℕ) (n : ℕ) → n ≡ 11 → anyBelow (controlAt y .nop) (wrongLocator (widthOf y) (controlAt y) y) ≡ true → Lowest y (readingBy y n .wrong)
+unfolding readingBy refused
+lowest-by y n e row = rw e (with-eleven y row)
+
 -- what reading answers with 11
 pub reading-lowest : (p : List ℕ) → readNumber p ≡ 11 → Lowest (correctedPdu p) (readingOf p .wrong)
-unfolding readNumber readingBy refused widthOf
-reading-lowest p e =
-    let y = correctedPdu p in
-    let row : anyBelow (controlAt y .nop) (wrongLocator (widthOf y) (controlAt y) y) ≡ true = row-on _ 11 (take 7 (readTests p)) (drop 8 (readTests p)) refl refl refl e in
-    subst (λ (n : ℕ). Lowest y (cond (eqb n 0) (accepted (widthOf y) (controlAt y) y) (refused n (wrongOf y n)) .wrong)) (sym e) (with-eleven y row)
+unfolding readNumber widthOf
+reading-lowest p e = lowest-by (correctedPdu p) (readNumber p) e (row-on _ 11 (take 7 (readTests p)) (drop 8 (readTests p)) refl refl refl e)
