@@ -147,9 +147,7 @@ module _ (mode stream : ℕ) (m : Mode) (l : listing mode stream ≡ Listed m) (
 
     answer-is : receiveAnswer marks carry q log r ≡ record { refusal = 0; wrong = 0; words = length (receivedWords marks carry q log r); receiver = remembering r (memoryAfter marks carry q log r) }
     unfolding receiveAnswer
-    answer-is =
-        let t : eqb (receiveNumber marks carry q log r) 0 ≡ true = eq-eqb (receiveNumber marks carry q log r) 0 accepts in
-        ap (λ (b : Bool). cond b (record { refusal = 0; wrong = 0; words = length (receivedWords marks carry q log r); receiver = remembering r (memoryAfter marks carry q log r) }) _) t
+    answer-is = let t : eqb (receiveNumber marks carry q log r) 0 ≡ true = eq-eqb (receiveNumber marks carry q log r) 0 accepts in rw t
 
     pub receive-accepted : answerOf x (receive marks q log) .refusal ≡ 0
     receive-accepted = ap (λ (a : Received). a .refusal) answer-is
