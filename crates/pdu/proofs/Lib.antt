@@ -1,5 +1,6 @@
 pub mod Judging
 pub mod Any
+pub mod Examples
 pub mod Lowest
 pub mod Numbers
 pub mod Filling

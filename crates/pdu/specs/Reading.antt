@@ -1,6 +1,5 @@
 -- Document 01, "Reading without a receiver": a corrected PDU's control word, expansion fields, PSD and pieces, and
 -- refusals 3 to 5 and 7 to 12 in the table's order.
-use mathlib.Core.Path.{_≡_}
 use mathlib.Core.Bool.{Bool, true, false, not, _&&_, _||_, cond}
 use mathlib.Core.List.{List, [], _∷_}
 use mathlib.Core.Option.{Option, none, some}
