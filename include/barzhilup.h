@@ -309,7 +309,8 @@ typedef struct {
     /* BARZHILUP_ACCEPTED, or a BARZHILUP_REFUSED_ number: 3 to 5 or 7 to 12;
      * from barzhilup_list_pieces also 13. */
     uint32_t refusal;
-    /* With BARZHILUP_REFUSED_LOCATOR, the number k of a wrong locator, from 0. */
+    /* With BARZHILUP_REFUSED_LOCATOR, the number k of the first wrong locator,
+     * from 0; otherwise 0. (Document 02, Ask 6.) */
     uint32_t wrong_locator;
     /* What bytes 8 to 13 and the expansion bytes say. */
     barzhilup_control_word control;
@@ -509,8 +510,8 @@ typedef struct {
     /* BARZHILUP_ACCEPTED, or a BARZHILUP_REFUSED_ number: 1 to 13 for receiving,
      * with marks also 19; 1 or 13 for marking lost. */
     uint32_t refusal;
-    /* With BARZHILUP_REFUSED_LOCATOR, the number k of a wrong locator, from 0;
-     * otherwise 0. */
+    /* With BARZHILUP_REFUSED_LOCATOR, the number k of the first wrong locator,
+     * from 0; otherwise 0. (Document 02, Ask 6.) */
     uint32_t wrong_locator;
     /* How many words of the log were written, from its first on. 0 if
      * refused. */
@@ -589,8 +590,8 @@ typedef struct {
     /* BARZHILUP_ACCEPTED, or a BARZHILUP_REFUSED_ number: 1 to 13 for receiving,
      * 1 or 13 for marking lost. */
     uint32_t refusal;
-    /* With BARZHILUP_REFUSED_LOCATOR, the number k of a wrong locator, from 0;
-     * otherwise 0. */
+    /* With BARZHILUP_REFUSED_LOCATOR, the number k of the first wrong locator,
+     * from 0; otherwise 0. (Document 02, Ask 6.) */
     uint32_t wrong_locator;
     /* How many words of the log were written, from its first on. 0 if
      * refused. */

@@ -1112,7 +1112,7 @@ static void test_locators(void)
         check(refused(BARZHILUP_REFUSED_LOCATOR, "a locator far past", n) == 1, "its k", 1);
         put_locator(bits, 0, 0);
         parity();
-        check(refused(BARZHILUP_REFUSED_LOCATOR, "both wrong", n) <= 1, "its k", 2);
+        check(refused(BARZHILUP_REFUSED_LOCATOR, "both wrong", n) == 0, "the first k", 2);
     }
     report("refusal 11");
 }

@@ -38,8 +38,8 @@ pub enum Refusal {
     Expansion,
     /// 11: a locator is under its piece's start plus 1, or not below the length.
     Locator {
-        /// The number of a wrong locator, from 0. Which one it is, if there are
-        /// several, is not said.
+        /// The number of the first wrong locator, from 0: the smallest, if there
+        /// are several. (Document 02, Ask 6.)
         k: u32,
     },
     /// 12: the displacement is before the last piece's end, or not below the

@@ -414,6 +414,9 @@ fn n11_locator_with_its_k() {
         assert_eq!(refusal, Refusal::Locator { k });
         assert_eq!(refusal.number(), 11);
     }
+    // Both are wrong: the first one's.
+    let pdu = changed(clean, |pdu| (pdu[14], pdu[16]) = (18, 96));
+    assert_eq!(refused(pdu.into()), Refusal::Locator { k: 0 });
 }
 
 #[test]

@@ -40,7 +40,7 @@ pub fn put_note(out: &mut [u8], at: usize, number: u32) -> usize
     text::put(out, at, text::entry(&NOTES, listed(number, 6)))
 }
 
-// 1 for the refusal that comes with the k of a wrong locator, else 0.
+// 1 for the refusal that comes with the k of the first wrong locator, else 0.
 fn has_k(number: u32) -> u32 {
     if number == 11 {
         return 1;
@@ -48,7 +48,7 @@ fn has_k(number: u32) -> u32 {
     0
 }
 
-// The cause of a refusal at the end of a line, with the k of the wrong locator where it is 11.
+// The cause of a refusal at the end of a line, with the k of the first wrong locator where it is 11.
 pub fn put_refused(out: &mut [u8], at: usize, number: u32, wrong: u32) -> usize
     ensures { λ r. ⌜ Counts r (now (out .exit)) ⌝ }
 {

@@ -42,7 +42,7 @@ pub struct Opened {
     pub receiver: Receiver,
 }
 
-// The refusal number, 0 where there is none, with the k of a wrong locator where it is 11; the count of log words written; and the
+// The refusal number, 0 where there is none, with the smallest k whose locator is wrong where it is 11; the count of log words written; and the
 // next state, the same if refused.
 #[repr(C)]
 pub struct Received {
