@@ -121,7 +121,7 @@ many() {
 totals_of() {
     local received corrected lost refused all
     received=$(many ',received,' "$1")
-    corrected=$(many ',received,[1-4],' "$1")
+    corrected=$(many ',received,[1-8],' "$1")
     lost=$(many ',lost,,,' "$1")
     refused=$(many ',refused,' "$1")
     all=$((received + lost + refused))

@@ -16,7 +16,7 @@ if [ ! -x "$program" ]; then
 fi
 program=$(readlink -f "$program")
 subs=(generate channel log coverage)
-for part in harness usage files generate log coverage; do
+for part in harness usage files generate log marks coverage; do
     # shellcheck source=/dev/null
     . "$here/$part.sh"
 done
@@ -59,6 +59,14 @@ check_many_refused
 check_hole
 check_last_line
 check_order
+check_marks_written
+check_marks_worth
+check_marks_bound
+check_marks_refused
+check_marks_other_mode
+check_marks_files
+check_marks_dashes
+check_marks_made
 check_stored
 check_lines
 check_line_ends

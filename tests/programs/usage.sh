@@ -87,7 +87,7 @@ check_help_again() {
 # A value that an option takes.
 right_value() {
     case $2 in
-        in | out | psd | title) echo value ;;
+        in | out | psd | marks | title) echo value ;;
         format) echo csv ;;
         *) range_of "$1" "$2" | cut -d ' ' -f 1 ;;
     esac
