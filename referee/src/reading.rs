@@ -8,7 +8,7 @@ use crate::expansion::{self, Fields};
 use crate::header;
 use crate::locators;
 use crate::modes::{self, Line};
-use crate::refusal::Cause;
+use crate::refusal::{self, Cause};
 
 /// A piece's place and length, without its CRC byte.
 #[derive(Clone, Copy, Debug, PartialEq, Eq)]
@@ -41,6 +41,11 @@ impl Refusal {
     /// The k of each wrong locator.
     pub fn wrong_locators(&self) -> Vec<usize> {
         self.causes.iter().filter_map(|c| c.locator()).collect()
+    }
+
+    /// The k that comes with the number (document 02, Ask 6).
+    pub fn k(&self) -> usize {
+        refusal::k(self.number, &self.wrong_locators())
     }
 }
 

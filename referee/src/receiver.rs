@@ -68,6 +68,11 @@ impl Answer {
         };
         self.causes.iter().filter_map(wrong).collect()
     }
+
+    /// The k that comes with the number (document 02, Ask 6).
+    pub fn k(&self) -> usize {
+        refusal::k(self.refusal, &self.wrong_locators())
+    }
 }
 
 /// Receives a lent PDU. When accepted it is left mended; the log has the words

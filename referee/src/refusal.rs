@@ -69,6 +69,15 @@ pub fn first(numbers: impl Iterator<Item = u32>) -> Option<u32> {
     })
 }
 
+/// The k that comes with a number, where these locators are wrong: with 11 the
+/// smallest, otherwise 0 (document 02, Ask 6).
+pub fn k(number: u32, wrong: &[usize]) -> usize {
+    match number {
+        LOCATOR => *wrong.iter().min().expect("a wrong locator"),
+        _ => 0,
+    }
+}
+
 /// Each single cause for turning down a list of marks.
 #[derive(Clone, Copy, Debug, PartialEq, Eq, PartialOrd, Ord)]
 pub enum MarksCause {

@@ -891,8 +891,8 @@ enum Came {
     /// With how many bytes of its header mended.
     Received(u32),
     Lost,
-    /// By number, with the k of each wrong locator.
-    Refused(u32, Vec<usize>),
+    /// By number, with its k.
+    Refused(u32, usize),
     /// With 6: the mode and the stream that came.
     Strange(u8, u8),
 }
@@ -911,11 +911,11 @@ impl Came {
         }
     }
 
-    /// The k of each wrong locator.
-    fn wrong(&self) -> &[usize] {
+    /// The k of the first wrong locator; it counts with 11 only.
+    fn k(&self) -> usize {
         match self {
-            Came::Refused(_, wrong) => wrong,
-            _ => &[],
+            Came::Refused(_, k) => *k,
+            _ => 0,
         }
     }
 }
@@ -956,7 +956,7 @@ fn heard(line: &Line, records: &[Vec<u8>]) -> Vec<Logged> {
 
 fn came_of(record: &[u8], answer: &receiver::Answer) -> Came {
     if ![0, 6].contains(&answer.refusal) {
-        return Came::Refused(answer.refusal, answer.wrong_locators());
+        return Came::Refused(answer.refusal, answer.k());
     }
     if record.is_empty() {
         return Came::Lost;
@@ -999,53 +999,48 @@ fn note_words(cause: u32) -> &'static str {
     }
 }
 
-/// The lines that a line may be: the k that comes with 11 is free among the
-/// wrong ones.
-fn refused_lines(beginning: &str, number: u32, wrong: &[usize]) -> Vec<String> {
-    let line = format!("{beginning}{}", refusal_words(number));
-    if number != 11 {
-        return vec![line];
+/// A refusal's words at the end of a line, with the k that comes with 11.
+fn refused_line(beginning: &str, came: &Came) -> String {
+    let line = format!("{beginning}{}", refusal_words(came.refusal()));
+    match came.refusal() {
+        11 => format!("{line} (k {})", came.k()),
+        _ => line,
     }
-    wrong.iter().map(|k| format!("{line} (k {k})")).collect()
 }
 
-/// The lines of a file in one of the two formats for reading, each with all
-/// that it may be. The CSV has a last line if the file is whole.
-fn lines(logged: &[Logged], csv: bool, whole: bool) -> Vec<Vec<String>> {
+/// The lines of a file in one of the two formats for reading. The CSV has a
+/// last line if the file is whole.
+fn lines(logged: &[Logged], csv: bool, whole: bool) -> Vec<String> {
     let mut lines = Vec::new();
     if csv {
-        lines.push(vec!["pdu,kind,number,length,cause".to_string()]);
+        lines.push("pdu,kind,number,length,cause".to_string());
     }
     for (pdu, one) in logged.iter().enumerate() {
         lines.push(if csv {
             columns(pdu, one)
         } else {
-            sentences(pdu, one)
+            sentence(pdu, one)
         });
         for entry in &one.entries {
-            lines.push(vec![if csv {
+            lines.push(if csv {
                 entry_columns(pdu, entry)
             } else {
                 entry_sentence(entry)
-            }]);
+            });
         }
     }
     if csv && whole {
-        lines.push(vec![format!(",end,{},,whole", logged.len())]);
+        lines.push(format!(",end,{},,whole", logged.len()));
     }
     lines
 }
 
-fn columns(pdu: usize, one: &Logged) -> Vec<String> {
+fn columns(pdu: usize, one: &Logged) -> String {
     let length = one.length;
     match &one.came {
-        Came::Received(mended) => vec![format!("{pdu},received,{mended},{length},")],
-        Came::Lost => vec![format!("{pdu},lost,,,")],
-        came => {
-            let number = came.refusal();
-            let beginning = format!("{pdu},refused,{number},{length},");
-            refused_lines(&beginning, number, came.wrong())
-        }
+        Came::Received(mended) => format!("{pdu},received,{mended},{length},"),
+        Came::Lost => format!("{pdu},lost,,,"),
+        came => refused_line(&format!("{pdu},refused,{},{length},", came.refusal()), came),
     }
 }
 
@@ -1062,18 +1057,17 @@ fn things(number: usize, name: &str) -> String {
     format!("{number} {name}{}", if number == 1 { "" } else { "s" })
 }
 
-fn sentences(pdu: usize, one: &Logged) -> Vec<String> {
+fn sentence(pdu: usize, one: &Logged) -> String {
     match &one.came {
         Came::Received(mended) => {
             let bytes = things(*mended as usize, "header byte");
-            vec![format!("PDU {pdu}: received, {bytes} corrected")]
+            format!("PDU {pdu}: received, {bytes} corrected")
         }
-        Came::Lost => vec![format!("PDU {pdu}: lost")],
-        came => {
-            let number = came.refusal();
-            let beginning = format!("PDU {pdu}: refused with {number}: ");
-            refused_lines(&beginning, number, came.wrong())
-        }
+        Came::Lost => format!("PDU {pdu}: lost"),
+        came => refused_line(
+            &format!("PDU {pdu}: refused with {}: ", came.refusal()),
+            came,
+        ),
     }
 }
 
@@ -1195,21 +1189,18 @@ const REFUSED_LINES: usize = 5;
 
 /// What is said of a refused PDU: that of another mode or stream is told with
 /// those that came.
-fn refused_said(pdu: usize, one: &Logged) -> Vec<String> {
+fn refused_said(pdu: usize, one: &Logged) -> String {
     let came = match one.came {
         Came::Strange(mode, stream) => format!(" (mode {mode}, stream {stream} came)"),
         _ => String::new(),
     };
-    let lines = sentences(pdu, one).into_iter();
-    lines
-        .map(|line| format!("barzhilup log: {line}{came}"))
-        .collect()
+    format!("barzhilup log: {}{came}", sentence(pdu, one))
 }
 
 /// What is said of the refused PDUs: the first ones and the first of another
 /// mode or stream have a line each, and after the first ones it is said that
 /// others are only counted.
-fn refusals_said(logged: &[Logged]) -> Vec<Vec<String>> {
+fn refusals_said(logged: &[Logged]) -> Vec<String> {
     let refused: Vec<(usize, &Logged)> = logged
         .iter()
         .enumerate()
@@ -1222,9 +1213,7 @@ fn refusals_said(logged: &[Logged]) -> Vec<Vec<String>> {
             said.push(refused_said(pdu, one));
         }
         if before == REFUSED_LINES {
-            said.push(vec![
-                "barzhilup log: further refused PDUs are counted only".to_string()
-            ]);
+            said.push("barzhilup log: further refused PDUs are counted only".to_string());
         }
     }
     said
@@ -1233,26 +1222,23 @@ fn refusals_said(logged: &[Logged]) -> Vec<Vec<String>> {
 /// What is said on standard error: the refused PDUs, the counts, and, where PDUs
 /// were refused and none was received, whether the file is of this mode and
 /// stream.
-fn log_said(line: &Line, logged: &[Logged]) -> Vec<Vec<String>> {
+fn log_said(line: &Line, logged: &[Logged]) -> Vec<String> {
     let tally = Tally::of(logged);
     let mut said = refusals_said(logged);
-    said.extend(tally.said().into_iter().map(|line| vec![line]));
+    said.extend(tally.said());
     if tally.is_none_received() {
-        said.push(vec![format!(
+        said.push(format!(
             "barzhilup log: no PDU was received: is this a file of PDUs of mode {}, stream {}?",
             line.mode, line.stream
-        )]);
+        ));
     }
     said
 }
 
 /// Compares line by line.
-fn check_lines(lines: &[String], wanted: &[Vec<String>], options: &[String]) {
+fn check_lines(lines: &[String], wanted: &[String], options: &[String]) {
     for (at, (line, wanted)) in lines.iter().zip(wanted).enumerate() {
-        assert!(
-            wanted.contains(line),
-            "line {at}: {line}\nnot: {wanted:?}\n{options:?}"
-        );
+        assert_eq!(line, wanted, "line {at}, {options:?}");
     }
     assert_eq!(lines.len(), wanted.len(), "{options:?}");
 }

@@ -1003,10 +1003,14 @@ fn examples() {
     assert_eq!((answer.psd_start, answer.psd_length), (17, 1));
     assert_eq!(answer.starts[..3], [18, 301, 0]);
     assert_eq!(answer.lengths[..3], [282, 399, 0]);
-    // Locators 100, 30 and 40: the last one is right.
-    let wrong = [0, 0, 0, 0, 6, 19, 100, 0, 30, 0, 40, 0];
-    let lent = with_parity(&mut class, 96, &wrong);
-    let answer = class.compare(&lent, Known::Number(refusal::LOCATOR));
-    assert!(answer.wrong_locator < 2);
+    // Locators 100, 30 and 40: the last one is right. 50, 100 and 30: the first
+    // one is.
+    for (locators, k) in [([100, 30, 40], 0), ([50, 100, 30], 1)] {
+        let [a, b, c] = locators;
+        let wrong = [0, 0, 0, 0, 6, 19, a, 0, b, 0, c, 0];
+        let lent = with_parity(&mut class, 96, &wrong);
+        let answer = class.compare(&lent, Known::Number(refusal::LOCATOR));
+        assert_eq!(answer.wrong_locator, k);
+    }
     class.report(&mut Outcomes::default());
 }

@@ -6,7 +6,6 @@
 //! elements as said.
 
 use referee::receiver::{self, Receiver};
-use referee::refusal;
 use referee::settings::{Applied, ProgramType, Settings};
 use referee::writer::{self, Offer, Writer};
 use std::slice::{from_raw_parts, from_raw_parts_mut};
@@ -191,13 +190,9 @@ pub unsafe extern "C" fn referee_receive(
         from_raw_parts_mut(pdu, pdu_length),
         from_raw_parts_mut(log, log_length),
     );
-    let wrong = match answer.refusal {
-        refusal::LOCATOR => answer.wrong_locators()[0] as u32,
-        _ => 0,
-    };
     CReceived {
         refusal: answer.refusal,
-        wrong_locator: wrong,
+        wrong_locator: answer.k() as u32,
         words: answer.words as u32,
         receiver: answer.receiver.into(),
     }

@@ -476,25 +476,14 @@ pub mod against_product {
         }
     }
 
-    /// The k of an answer is a wrong locator's with 11, otherwise 0.
     fn compare_answers(how: &str, answer: product::Received, wanted: &Answer) {
         let right = product::Received {
             refusal: wanted.refusal,
-            wrong_locator: answer.wrong_locator,
+            wrong_locator: wanted.k() as u32,
             words: wanted.words as u32,
             receiver: receiver_for(&wanted.receiver),
         };
         assert_eq!(answer, right, "answer {how}; the reference has {wanted:?}");
-        let wrong = match wanted.refusal {
-            refusal::LOCATOR => wanted.wrong_locators(),
-            _ => vec![0],
-        };
-        assert!(
-            wrong.contains(&(answer.wrong_locator as usize)),
-            "k is {} {how}, with {} it has to be of {wrong:?}",
-            answer.wrong_locator,
-            answer.refusal
-        );
     }
 
     fn compare_loans(how: &str, loan: &Loan, right: &Loan, answer: product::Received) {

@@ -222,12 +222,11 @@ impl Class {
             "refusal, the reference has {outcome:?}; {}",
             self.case(before)
         );
-        self.check_wrong_locator(answer, outcome, before);
         let right = match (number, outcome) {
             (0, Ok(reading)) => answer_for(reading),
             _ => product::Reading {
                 refusal: number,
-                wrong_locator: answer.wrong_locator,
+                wrong_locator: outcome.as_ref().err().map_or(0, Refusal::k) as u32,
                 ..product::Reading::zero()
             },
         };
@@ -240,26 +239,6 @@ impl Class {
             lent == right,
             "PDU after the call, answer {number}: {}; {}",
             lent.differences(right),
-            self.case(before)
-        );
-    }
-
-    /// The k of an answer: a wrong locator's with 11, otherwise 0.
-    fn check_wrong_locator(
-        &self,
-        answer: &product::Reading,
-        outcome: &Result<Reading, Refusal>,
-        before: &Lent,
-    ) {
-        let wrong = match outcome {
-            Err(refusal) if refusal.number == refusal::LOCATOR => refusal.wrong_locators(),
-            _ => vec![0],
-        };
-        assert!(
-            wrong.contains(&(answer.wrong_locator as usize)),
-            "k is {}, with {} it has to be of {wrong:?}; {}",
-            answer.wrong_locator,
-            answer.refusal,
             self.case(before)
         );
     }
