@@ -282,7 +282,7 @@ struct reading {
     size_t displacement;
     size_t marks[PIECES + 1]; /* La and each locator */
     int right[PIECES];        /* whether a piece's CRC is right */
-    uint32_t wrong;           /* k of a wrong locator */
+    uint32_t wrong;           /* k of the first wrong locator */
 };
 
 static size_t locator_at(const struct mode *m, const uint8_t *pdu, size_t k)
