@@ -391,7 +391,6 @@ fn check_wanted(wanted: &Wanted, tried: &Tried) {
 pub mod against_product {
     use super::{Answer, Lent, LentLog, Loan, Receiver, Tried};
     use crate::product::receiver::{self as product, Place};
-    use referee::refusal;
 
     /// Opens a receiver.
     pub fn open(mode: u8, stream: u8, wanted: Result<Receiver, u32>) {

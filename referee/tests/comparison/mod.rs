@@ -11,7 +11,7 @@ use referee::control::ControlWord;
 use referee::expansion::Fields;
 use referee::header::{self, PLACES};
 use referee::reading::{self, Reading, Refusal};
-use referee::refusal::{self, Cause};
+use referee::refusal::Cause;
 use referee::rng::Rng;
 use std::collections::BTreeMap;
 
