@@ -1,4 +1,4 @@
--- Modulo the divisor x^128 is x: what is read is kept as 128 bits, and sixteen bytes more are those times x, plus the bytes.
+-- Modulo the divisor x^128 is x: what is read is kept as 128 bits; sixteen bytes more are those times x, plus the bytes, and 32 more those times x^2.
 use mathlib.Core.Path.{_≡_, refl, sym, ap, ap₂, _∙_, subst}
 use mathlib.Core.Bool.{Bool}
 use mathlib.Core.List.{List, [], _∷_}
@@ -12,7 +12,7 @@ use lib.Seq.{drop-cons}
 use Rattle.bits.proofs.Computed.{below}
 use Rattle.bits.proofs.Xor.{xor-assoc, xor-swap, bit-times, double}
 use Rattle.crc.specs.Crc.{divisor, crcByte, crcFrom}
-use Rattle.crc.specs.Ring.{up, wordAt, pushHigh, pushLow, nextHigh, nextLow, shiftOne, shifts, red, val}
+use Rattle.crc.specs.Ring.{up, wordAt, pushHigh, pushLow, nextHigh, nextLow, shiftOne, shifts, red, val, farHigh, farLow, horner}
 use Rattle.crc.proofs.Byte.{byte-shifts}
 
 -- ---- times x, and times a power of x
@@ -58,13 +58,21 @@ unfolding shifts
 shifts-lt zero x h = h
 shifts-lt (suc n) x h = shifts-lt n (shiftOne x) (shiftOne-lt x)
 
--- x^128 is x: a test that antt computes
-turnTest : ℕ → Bool
-turnTest x = eqb (shifts 128 x) (shiftOne x)
+shifts-1 : (x : ℕ) → shifts 1 x ≡ shiftOne x
+unfolding shifts
+shifts-1 x = refl
 
+-- x^127 is 1: a test that antt computes
+cycleTest : ℕ → Bool
+cycleTest x = eqb (shifts 127 x) x
+
+pub cycle : (x : ℕ) → x < 256 → shifts 127 x ≡ x
+unfolding cycleTest shifts shiftOne
+cycle x h = eqb→eq (shifts 127 x) x (below cycleTest 256 tt x h)
+
+-- so x^128 is x
 pub turn : (x : ℕ) → x < 256 → shifts 128 x ≡ shiftOne x
-unfolding turnTest shifts shiftOne
-turn x h = eqb→eq (shifts 128 x) (shiftOne x) (below turnTest 256 tt x h)
+turn x h = shifts-add 127 1 x ∙ ap (shifts 127) (shifts-1 x) ∙ cycle (shiftOne x) (shiftOne-lt x)
 
 -- ---- numbers as polynomials
 
@@ -206,10 +214,6 @@ pub val-lt : (h l : ℕ) → val h l < 256
 unfolding val
 val-lt h l = xor-lt 8 (shifts 64 (red 64 h)) (red 64 l) (shifts-lt 64 (red 64 h) (red-lt 64 h)) (red-lt 64 l)
 
-shifts-1 : (x : ℕ) → shifts 1 x ≡ shiftOne x
-unfolding shifts
-shifts-1 x = refl
-
 once : (x : ℕ) → x < 256 → shifts 1 x ≡ shifts 64 (shifts 64 x)
 once x h = shifts-1 x ∙ sym (turn x h) ∙ shifts-add 64 64 x
 
@@ -228,11 +232,50 @@ next h l a b hh hl =
     ∙ sym (xor-assoc (shifts 64 (red 64 a)) (shifts 64 (shifts 64 (val h l))) (red 64 b))
     ∙ ap (λ (x : ℕ). bitXor x (red 64 b)) (xor-comm (shifts 64 (red 64 a)) (shifts 64 (shifts 64 (val h l))) ∙ sym (shifts-xor 64 (shifts 64 (val h l)) (red 64 a)))
 
--- ---- bytes by Horner's rule
+-- 32 bytes more, as 128 bits
+far : (h l p q : ℕ) → h < 18446744073709551616 → l < 18446744073709551616 → val (farHigh h l p) (farLow h l q) ≡ bitXor (shifts 2 (val h l)) (val p q)
+unfolding farHigh farLow val
+far h l p q hh hl =
+    let eh : h / 4611686018427387904 * 4611686018427387904 + h % 4611686018427387904 ≡ h = omega arith in
+    let el : l / 4611686018427387904 * 4611686018427387904 + l % 4611686018427387904 ≡ l = omega arith in
+    let s : ℕ = shifts 2 (val h l) in
+    val-high (h % 4611686018427387904 * 4 + l / 4611686018427387904) p (bitXor (bitXor (l % 4611686018427387904 * 4) (h / 4611686018427387904 * 2)) q)
+    ∙ ap (bitXor (shifts 64 (red 64 p)))
+    (times 2 62 refl (h / 4611686018427387904) (h % 4611686018427387904) (l / 4611686018427387904) (l % 4611686018427387904)
+    (omega arith) (omega arith) (omega arith) (omega arith) (omega arith) q
+    ∙ ap (λ (x : ℕ). bitXor x (red 64 q)) (ap₂ (λ (x y : ℕ). shifts 2 (val x y)) eh el))
+    ∙ sym (xor-assoc (shifts 64 (red 64 p)) s (red 64 q))
+    ∙ ap (λ (x : ℕ). bitXor x (red 64 q)) (xor-comm (shifts 64 (red 64 p)) s)
+    ∙ xor-assoc s (shifts 64 (red 64 p)) (red 64 q)
 
-unfoldable pub horner : ℕ → List ℕ → ℕ
-horner r [] = r
-horner r (b ∷ bs) = horner (bitXor (shifts 8 r) b) bs
+-- two words below a sum
+below-sum : (y z c d : ℕ) → bitXor (shifts 64 (bitXor (shifts 64 (bitXor y z)) c)) d ≡ bitXor (shifts 64 (shifts 64 y)) (bitXor (shifts 64 (bitXor (shifts 64 z) c)) d)
+below-sum y z c d =
+    ap (λ (x : ℕ). bitXor (shifts 64 x) d)
+    (ap (λ (x : ℕ). bitXor x c) (shifts-xor 64 y z) ∙ xor-assoc (shifts 64 y) (shifts 64 z) c)
+    ∙ ap (λ (x : ℕ). bitXor x d) (shifts-xor 64 (shifts 64 y) (bitXor (shifts 64 z) c))
+    ∙ xor-assoc (shifts 64 (shifts 64 y)) (shifts 64 (bitXor (shifts 64 z) c)) d
+
+-- four words below a register of 128 bits
+four-words : (h l a b c d : ℕ) → h < 18446744073709551616 → l < 18446744073709551616 → a < 18446744073709551616 → b < 18446744073709551616
+    → val (farHigh h l (nextHigh a b c)) (farLow h l (nextLow a b d))
+    ≡ bitXor (shifts 64 (bitXor (shifts 64 (bitXor (shifts 64 (bitXor (shifts 64 (val h l)) (red 64 a))) (red 64 b))) (red 64 c))) (red 64 d)
+unfolding val
+four-words h l a b c d hh hl ha hb =
+    let v : ℕ = val h l in
+    far h l (nextHigh a b c) (nextLow a b d) hh hl
+    ∙ ap₂ bitXor (twice v (val-lt h l)) (next a b c d ha hb)
+    ∙ sym (below-sum (shifts 64 (shifts 64 v)) (val a b) (red 64 c) (red 64 d))
+    ∙ ap (λ (x : ℕ). bitXor (shifts 64 (bitXor (shifts 64 x) (red 64 c))) (red 64 d))
+    (sym (xor-assoc (shifts 64 (shifts 64 v)) (shifts 64 (red 64 a)) (red 64 b))
+    ∙ ap (λ (x : ℕ). bitXor x (red 64 b)) (sym (shifts-xor 64 (shifts 64 v) (red 64 a))))
+  where
+    twice : (x : ℕ) → x < 256 → shifts 2 x ≡ shifts 64 (shifts 64 (shifts 64 (shifts 64 x)))
+    twice x h =
+        shifts-add 1 1 x ∙ ap (shifts 1) (once x h)
+        ∙ once (shifts 64 (shifts 64 x)) (shifts-lt 64 (shifts 64 x) (shifts-lt 64 x h))
+
+-- ---- bytes by Horner's rule
 
 pub crc-horner : (bs : List ℕ) (r : ℕ) → crcFrom (shifts 8 r) bs ≡ shifts 8 (horner r bs)
 unfolding crcFrom horner
@@ -327,6 +370,13 @@ drop-more l i h = (let e : suc i ≡ i + 1 = omega arith in drop-cons l i 0 h �
 drop-next : (l : List ℕ) (i k : ℕ) → i + k < length l → drop (i + k) l ≡ getD l (i + k) 0 ∷ drop (i + (k + 1)) l
 drop-next l i k h = (let e : i + k + 1 ≡ i + (k + 1) = omega arith in drop-more l (i + k) h ∙ ap (λ (m : ℕ). getD l (i + k) 0 ∷ drop m l) e)
 
+word-lt : (l : List ℕ) (i : ℕ) → Bytes l → wordAt l i < 18446744073709551616
+unfolding wordAt up
+word-lt l i hb = (let p : getD l (i + 7) 0 < 256 = hb (i + 7) in under _ (getD l (i + 7) 0) p)
+  where
+    under : (x y : ℕ) → y < 256 → x % 72057594037927936 * 256 + y < 18446744073709551616
+    under x y h = (let q : x % 72057594037927936 < 72057594037927936 = mod-lt x (lit< tt) in omega arith)
+
 pub word-step : (l : List ℕ) (i r : ℕ) → i + 8 ≤ length l → Bytes l
     → horner r (drop i l) ≡ horner (bitXor (shifts 64 r) (red 64 (wordAt l i))) (drop (i + 8) l)
 unfolding wordAt
@@ -364,27 +414,31 @@ next-fits x y h =
 
 -- ---- the loops
 
--- x^119 times the start, times x^8, is the start: a test that antt computes
-startTest : ℕ → Bool
-startTest s = eqb (shifts 8 (val (s * 36028797018963968) 0)) s
+-- the same of equal numbers
+pub three : (f : ℕ → ℕ → ℕ → ℕ) {a b c x y z : ℕ} → a ≡ x → b ≡ y → c ≡ z → f a b c ≡ f x y z
+three f {a = a} {b = b} {c = c} {x = x} {y = y} {z = z} e₁ e₂ e₃ = ap (λ (n : ℕ). f n b c) e₁ ∙ ap₂ (f x) e₂ e₃
 
+-- x^119 times the start, times x^8, is the start, as x^127 is 1
 start-val : (s : ℕ) → s < 256 → shifts 8 (val (s * 36028797018963968) 0) ≡ s
-unfolding startTest val red shifts shiftOne
-start-val s h = eqb→eq (shifts 8 (val (s * 36028797018963968) 0)) s (below startTest 256 tt s h)
+unfolding val
+start-val s h =
+    let w : ℕ = s * 36028797018963968 in
+    ap (λ (x : ℕ). shifts 8 (bitXor (shifts 64 (red 64 w)) x)) (red-zero 64)
+    ∙ ap (shifts 8) (xor-zero-r (shifts 64 (red 64 w)) ∙ ap (shifts 64) (red-shift 9 55 s ∙ ap (shifts 55) (red-more 1 8 s h ∙ red-byte s h)))
+    ∙ sym (shifts-add 8 64 (shifts 55 s)) ∙ sym (shifts-add 72 55 s) ∙ cycle s h
 
 pub start : (s : ℕ) (b : List ℕ) → s < 256 → shifts 8 (horner (val (s * 36028797018963968) 0) b) ≡ crcFrom s b
 start s b h = sym (crc-horner b (val (s * 36028797018963968) 0)) ∙ ap (λ (r : ℕ). crcFrom r b) (start-val s h)
 
-module _ (s : ℕ) (b : List ℕ) (h l i : ℕ) (hh : h < 18446744073709551616) (hl : l < 18446744073709551616) (hb : Bytes b)
-    (inv : shifts 8 (horner (val h l) (drop i b)) ≡ crcFrom s b) where
-  pub push-again : i < length b → shifts 8 (horner (val (pushHigh h l) (pushLow h l (getD b i 0))) (drop (i + 1) b)) ≡ crcFrom s b
+module _ (g : ℕ) (b : List ℕ) (h l i : ℕ) (hh : h < 18446744073709551616) (hl : l < 18446744073709551616) (hb : Bytes b)
+    (inv : shifts 8 (horner (val h l) (drop i b)) ≡ g) where
+  pub push-again : i < length b → shifts 8 (horner (val (pushHigh h l) (pushLow h l (getD b i 0))) (drop (i + 1) b)) ≡ g
   unfolding horner
   push-again n =
       ap (λ (x : ℕ). shifts 8 (horner x (drop (i + 1) b))) (push h l (getD b i 0) hh hl (hb i))
       ∙ ap (λ (x : List ℕ). shifts 8 (horner (val h l) x)) (sym (drop-more b i n)) ∙ inv
 
-  pub next-again : i + 16 ≤ length b
-      → shifts 8 (horner (val (nextHigh h l (wordAt b i)) (nextLow h l (wordAt b (i + 8)))) (drop (i + 16) b)) ≡ crcFrom s b
+  pub next-again : i + 16 ≤ length b → shifts 8 (horner (val (nextHigh h l (wordAt b i)) (nextLow h l (wordAt b (i + 8)))) (drop (i + 16) b)) ≡ g
   next-again n =
       let e : i + 8 + 8 ≡ i + 16 = omega arith in
       ap (λ (x : ℕ). shifts 8 (horner x (drop (i + 16) b))) (next h l (wordAt b i) (wordAt b (i + 8)) hh hl)
@@ -394,7 +448,26 @@ module _ (s : ℕ) (b : List ℕ) (h l i : ℕ) (hh : h < 18446744073709551616) 
       ∙ word-step b (i + 8) (bitXor (shifts 64 (val h l)) (red 64 (wordAt b i))) (omega arith) hb))
       ∙ inv
 
-  pub done : length b ≤ i → shifts 8 (val h l) ≡ crcFrom s b
+  pub far-again : i + 32 ≤ length b
+      → shifts 8 (horner (val (farHigh h l (nextHigh (wordAt b i) (wordAt b (i + 8)) (wordAt b (i + 16)))) (farLow h l (nextLow (wordAt b i) (wordAt b (i + 8)) (wordAt b (i + 24))))) (drop (i + 32) b)) ≡ g
+  far-again n =
+      let e₁ : i + 8 + 8 ≡ i + 16 = omega arith in
+      let e₂ : i + 16 + 8 ≡ i + 24 = omega arith in
+      let e₃ : i + 24 + 8 ≡ i + 32 = omega arith in
+      let r₁ : ℕ = bitXor (shifts 64 (val h l)) (red 64 (wordAt b i)) in
+      let r₂ : ℕ = bitXor (shifts 64 r₁) (red 64 (wordAt b (i + 8))) in
+      let r₃ : ℕ = bitXor (shifts 64 r₂) (red 64 (wordAt b (i + 16))) in
+      ap (λ (x : ℕ). shifts 8 (horner x (drop (i + 32) b)))
+      (four-words h l (wordAt b i) (wordAt b (i + 8)) (wordAt b (i + 16)) (wordAt b (i + 24)) hh hl (word-lt b i hb) (word-lt b (i + 8) hb))
+      ∙ ap (shifts 8)
+      (sym (word-step b i (val h l) (omega arith) hb
+      ∙ word-step b (i + 8) r₁ (omega arith) hb
+      ∙ ap (λ (k : ℕ). horner r₂ (drop k b)) e₁ ∙ word-step b (i + 16) r₂ (omega arith) hb
+      ∙ ap (λ (k : ℕ). horner r₃ (drop k b)) e₂ ∙ word-step b (i + 24) r₃ (omega arith) hb
+      ∙ ap (λ (k : ℕ). horner (bitXor (shifts 64 r₃) (red 64 (wordAt b (i + 24)))) (drop k b)) e₃))
+      ∙ inv
+
+  pub done : length b ≤ i → shifts 8 (val h l) ≡ g
   unfolding horner
   done n = sym (ap (λ (x : List ℕ). shifts 8 (horner (val h l) x)) (drop-of-length-le b n)) ∙ inv
 
@@ -406,6 +479,24 @@ low-fits l b h = (let p : l % 72057594037927936 < 72057594037927936 = mod-lt l (
 
 pub top-fits : (h : ℕ) → h < 18446744073709551616 → h / 72057594037927936 * 2 < 18446744073709551616
 top-fits h hh = (let q : h / 72057594037927936 < 256 = omega arith in omega arith)
+
+pub far-fits : (x y : ℕ) → y < 18446744073709551616 → x % 4611686018427387904 * 4 + y / 4611686018427387904 < 18446744073709551616
+far-fits x y h =
+    let p : x % 4611686018427387904 < 4611686018427387904 = mod-lt x (lit< tt) in
+    let q : y / 4611686018427387904 < 4 = omega arith in
+    sum-fits (x % 4611686018427387904) (y / 4611686018427387904) p q
+  where
+    sum-fits : (m n : ℕ) → m < 4611686018427387904 → n < 4 → m * 4 + n < 18446744073709551616
+    sum-fits m n hm hn = omega arith
+
+pub far-low-fits : (l : ℕ) → l % 4611686018427387904 * 4 < 18446744073709551616
+far-low-fits l = (let p : l % 4611686018427387904 < 4611686018427387904 = mod-lt l (lit< tt) in go (l % 4611686018427387904) p)
+  where
+    go : (m : ℕ) → m < 4611686018427387904 → m * 4 < 18446744073709551616
+    go m hm = omega arith
+
+pub two-fits : (h : ℕ) → h < 18446744073709551616 → h / 4611686018427387904 * 2 < 18446744073709551616
+two-fits h hh = (let q : h / 4611686018427387904 < 4 = omega arith in omega arith)
 
 pub next-low-fits : (l : ℕ) → l % 9223372036854775808 * 2 < 18446744073709551616
 next-low-fits l = (let p : l % 9223372036854775808 < 9223372036854775808 = mod-lt l (lit< tt) in go (l % 9223372036854775808) p)

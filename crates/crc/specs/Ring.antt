@@ -1,14 +1,17 @@
 -- Bytes read so far as a polynomial of 128 bits, h above l, modulo x^127 + 1, which the divisor divides.
 -- What private steps of `crc8` promise each other; its own promise is in Crc.antt alone.
-use mathlib.Core.List.{List}
+use mathlib.Core.List.{List, [], _∷_}
 use Prim.Native.Nat.{ℕ, zero, suc, _+_, _*_, _/_, _%_, _^_}
 use lib.Bits.{bitXor}
 use lib.ListN.{getD}
 use Rattle.crc.specs.Crc.{divisor}
 
--- 2^56, 2^63 and 2^64
+-- 2^56, 2^62, 2^63 and 2^64
 abbrev pub two56 : ℕ
 two56 = 72057594037927936
+
+abbrev pub two62 : ℕ
+two62 = 4611686018427387904
 
 abbrev pub two63 : ℕ
 two63 = 9223372036854775808
@@ -40,6 +43,13 @@ nextHigh h l a = bitXor (h % two63 * 2 + l / two63) a
 unfoldable pub nextLow : ℕ → ℕ → ℕ → ℕ
 nextLow h l b = bitXor (bitXor (l % two63 * 2) (h / two63 * 2)) b
 
+-- times x^256, which is x^2, plus 32 bytes as 128 bits
+unfoldable pub farHigh : ℕ → ℕ → ℕ → ℕ
+farHigh h l a = bitXor (h % two62 * 4 + l / two62) a
+
+unfoldable pub farLow : ℕ → ℕ → ℕ → ℕ
+farLow h l b = bitXor (bitXor (l % two62 * 4) (h / two62 * 2)) b
+
 -- one bit of zero into the register
 unfoldable pub shiftOne : ℕ → ℕ
 shiftOne x = bitXor (x % 128 * 2) (x / 128 % 2 * divisor)
@@ -56,6 +66,11 @@ red (suc n) v = bitXor (v % 2) (shiftOne (red n (v / 2)))
 -- 128 bits modulo the divisor
 unfoldable pub val : ℕ → ℕ → ℕ
 val h l = bitXor (shifts 64 (red 64 h)) (red 64 l)
+
+-- a polynomial and the bytes below it, by Horner's rule, modulo the divisor
+unfoldable pub horner : ℕ → List ℕ → ℕ
+horner r [] = r
+horner r (b ∷ bs) = horner (bitXor (shifts 8 r) b) bs
 
 -- Folding: h over l, each of n bits, as n bits, by x^n = x^p + x^q + 1. The places are q = n - q′ and p = n - p′.
 

@@ -1,9 +1,9 @@
 // CRC-8 with the divisor x^8 + x^5 + x^4 + 1, top bit of each byte first (document 01, "Expansion, PSD, pieces").
 ghost use mathlib.Core.Path.{_≡_};
-ghost use Prim.Native.Nat.{_+_, _<_, _≤_};
-ghost use lib.ListN.{length};
+ghost use Prim.Native.Nat.{_+_, _-_, _%_, _<_, _≤_};
+ghost use lib.ListN.{length, drop};
 ghost use Rattle.crc.specs.Crc.{crcFrom};
-ghost use Rattle.crc.specs.Ring.{wordAt, pushHigh, pushLow, nextHigh, nextLow, shifts, val, folded};
+ghost use Rattle.crc.specs.Ring.{wordAt, pushHigh, pushLow, nextHigh, nextLow, farHigh, farLow, shifts, val, horner, folded};
 
 fn wide(b: u8) -> u64
     ensures { λ r. ⌜ (r ≡ b) × (r < 256) ⌝ }
@@ -47,6 +47,18 @@ fn next_low(h: u64, l: u64, b: u64) -> u64
     ensures { λ r. ⌜ (r ≡ nextLow h l b) × (r < 18446744073709551616) ⌝ }
 {
     (l % 9223372036854775808 * 2) ^ (h / 9223372036854775808 * 2) ^ b
+}
+
+fn far_high(h: u64, l: u64, a: u64) -> u64
+    ensures { λ r. ⌜ (r ≡ farHigh h l a) × (r < 18446744073709551616) ⌝ }
+{
+    (h % 4611686018427387904 * 4 + l / 4611686018427387904) ^ a
+}
+
+fn far_low(h: u64, l: u64, b: u64) -> u64
+    ensures { λ r. ⌜ (r ≡ farLow h l b) × (r < 18446744073709551616) ⌝ }
+{
+    (l % 4611686018427387904 * 4) ^ (h / 4611686018427387904 * 2) ^ b
 }
 
 // 128 bits as 64: x^64 is x^40 + x^32 + 1, and what passes x^64 by that is folded again.
@@ -109,8 +121,42 @@ fn finish(h: u64, l: u64) -> u8
     reduced(push_high(h, l), push_low(h, l, 0))
 }
 
+// The CRC of 128 bits and of the bytes from a place on, 32 bytes a turn.
+fn by_32(h: u64, l: u64, bytes: &[u8], from: usize) -> u8
+    requires { ⌜ (from ≤ length (now bytes)) × ((length (now bytes) - from) % 32 ≡ 0) ⌝ }
+    ensures { λ r. ⌜ r ≡ shifts 8 (horner (val h l) (drop from (now (bytes .entry)))) ⌝ }
+{
+    let mut h: u64 = h;
+    let mut l: u64 = l;
+    let mut i: usize = from;
+    while i < bytes.len() {
+        let a = word(bytes, i);
+        let b = word(bytes, i + 8);
+        let c = next_high(a, b, word(bytes, i + 16));
+        let d = next_low(a, b, word(bytes, i + 24));
+        let x = far_high(h, l, c);
+        l = far_low(h, l, d);
+        h = x;
+        i += 32;
+    }
+    finish(h, l)
+}
+
+// The same where the bytes are a multiple of 16: 16 bytes if they are no multiple of 32, and then those.
+fn by_16(h: u64, l: u64, bytes: &[u8], from: usize) -> u8
+    requires { ⌜ (from ≤ length (now bytes)) × ((length (now bytes) - from) % 16 ≡ 0) ⌝ }
+    ensures { λ r. ⌜ r ≡ shifts 8 (horner (val h l) (drop from (now (bytes .entry)))) ⌝ }
+{
+    if (bytes.len() - from) % 32 == 0 {
+        return by_32(h, l, bytes, from);
+    }
+    let a = word(bytes, from);
+    let b = word(bytes, from + 8);
+    by_32(next_high(h, l, a), next_low(h, l, b), bytes, from + 16)
+}
+
 // The register after all bytes, from any start: bits that stand for x^119 times the start have it as their CRC, as x^127 is 1.
-fn crc8_from(start: u8, bytes: &[u8]) -> u8
+pub fn crc8_from(start: u8, bytes: &[u8]) -> u8
     ensures { λ r. ⌜ r ≡ crcFrom start (now (bytes .entry)) ⌝ }
 {
     let head = bytes.len() % 16;
@@ -123,15 +169,7 @@ fn crc8_from(start: u8, bytes: &[u8]) -> u8
         h = x;
         i += 1;
     }
-    while i < bytes.len() {
-        let a = word(bytes, i);
-        let b = word(bytes, i + 8);
-        let x = next_high(h, l, a);
-        l = next_low(h, l, b);
-        h = x;
-        i += 16;
-    }
-    finish(h, l)
+    by_16(h, l, bytes, i)
 }
 
 // The CRC-8 of the bytes: the register starts at 0.

@@ -1,0 +1,123 @@
+-- `crc::by_32` meets its contract: before each turn the bits kept, and the bytes left, have the CRC of all.
+use borrow.Author.Needs.{needs}
+use Rattle.crc.specs.Ring.{shifts, val, horner, nextHigh, nextLow, farHigh, farLow}
+use Rattle.crc.proofs.Ring.{three, far-again, done}
+use native.Mathlib.Omega.{arith}
+use mathlib.Core.Path.{_≡_, refl, ap, ap₂, sym, _∙_}
+use Prim.Native.Nat.{ℕ, _+_, _-_, _%_, _≤_, _<_}
+use lib.ListN.{length, take, drop, getD, set, length-set}
+use mathlib.Core.List.{List, [], _∷_, _++_}
+use Rattle.crc.proofs.by_32.Statement.{statement}
+use Rattle.crc.proofs.by_32.Tie as tie
+use Rattle.crc.proofs.by_32.Reads as reads
+use Rattle.crc.proofs.by_32.Lts as lts
+use Rattle.crc.proofs.far_high.Reads as far-high-reads
+use Rattle.crc.proofs.far_low.Reads as far-low-reads
+use Rattle.crc.proofs.finish.Reads as finish-reads
+use Rattle.crc.proofs.next_high.Reads as next-high-reads
+use Rattle.crc.proofs.next_low.Reads as next-low-reads
+use Rattle.crc.proofs.word.Reads as word-reads
+
+abbrev Inv-loop : tie.InvT-loop
+Inv-loop h l bytes from h₀ l₀ i₀ h' l' i =
+    (i ≤ length bytes)
+    × ((length bytes - i) % 32 ≡ 0)
+    × (h' < 18446744073709551616)
+    × (l' < 18446744073709551616)
+    × (shifts 8 (horner (val h' l') (drop i bytes)) ≡ shifts 8 (horner (val h l) (drop from bytes)))
+
+abbrev μ-loop : tie.MeasureT-loop
+μ-loop h l bytes from h₀ l₀ i₀ h' l' i = length bytes - i
+
+loop-holds : tie.Need-loop-holds Inv-loop μ-loop
+loop-holds c =
+    let s = c .before in
+    (omega arith, omega arith, s .fits .h .fits, s .fits .l .fits, refl)
+
+word-requires : tie.Need-word-requires Inv-loop μ-loop
+word-requires c κs = search needs
+
+add-word : tie.Need-add-word Inv-loop μ-loop
+add-word c = search needs
+
+word-requires-2 : tie.Need-word-requires-2 Inv-loop μ-loop
+word-requires-2 c κs = search needs
+
+add-word-2 : tie.Need-add-word-2 Inv-loop μ-loop
+add-word-2 c = search needs
+
+word-requires-3 : tie.Need-word-requires-3 Inv-loop μ-loop
+word-requires-3 c κs = search needs
+
+next-high-requires : tie.Need-next-high-requires Inv-loop μ-loop
+next-high-requires c κs = search needs
+
+add-word-3 : tie.Need-add-word-3 Inv-loop μ-loop
+add-word-3 c = search needs
+
+word-requires-4 : tie.Need-word-requires-4 Inv-loop μ-loop
+word-requires-4 c κs = search needs
+
+next-low-requires : tie.Need-next-low-requires Inv-loop μ-loop
+next-low-requires c κs = search needs
+
+far-high-requires : tie.Need-far-high-requires Inv-loop μ-loop
+far-high-requires c κs = search needs
+
+far-low-requires : tie.Need-far-low-requires Inv-loop μ-loop
+far-low-requires c κs = search needs
+
+add-i : tie.Need-add-i Inv-loop μ-loop
+add-i c = search needs
+
+loop-less : tie.Need-loop-less Inv-loop μ-loop
+loop-less c = search needs
+
+loop-again : tie.Need-loop-again Inv-loop μ-loop
+loop-again c =
+    let l = c .before .before .before .before .before .before .before .before .before in
+    let b : List ℕ = l .before .before .args .bytes .now in
+    let w₁ = c .before .before .before .before .before .before .before .word .ensures in
+    let w₂ = c .before .before .before .before .before .before .word2 .ensures in (
+      omega arith,
+      omega arith,
+      c .before .far-high .ensures .1,
+      c .far-low .ensures .1,
+      ap₂ (λ (x y : ℕ). shifts 8 (horner (val x y) (drop (l .loop .i + 32) b)))
+          (c .before .far-high .ensures .0 ∙ ap (farHigh (l .loop .h) (l .loop .l)) (c .before .before .before .before .next-high .ensures .0 ∙ three nextHigh w₁ w₂ (c .before .before .before .before .before .word3 .ensures)))
+          (c .far-low .ensures .0 ∙ ap (farLow (l .loop .h) (l .loop .l)) (c .before .before .next-low .ensures .0 ∙ three nextLow w₁ w₂ (c .before .before .before .word4 .ensures)))
+          ∙ far-again _ b (l .loop .h) (l .loop .l) (l .loop .i) (l .loop .inv .2) (l .loop .inv .3) (λ k. l .before .shared-slice-known .given k .fits) (l .loop .inv .4) (omega arith),
+    )
+
+finish-requires : tie.Need-finish-requires Inv-loop μ-loop
+finish-requires c κs = search needs
+
+returns : tie.Need-returns Inv-loop μ-loop
+returns c =
+    let l = c .before .before in
+    c .finish .ensures
+    ∙ done _ (l .before .before .args .bytes .now) (l .loop .h) (l .loop .l) (l .loop .i) (l .loop .inv .2) (l .loop .inv .3) (λ k. l .before .shared-slice-known .given k .fits) (l .loop .inv .4) (omega arith)
+
+pub by-32-spec : {M : Type 1} → statement M
+by-32-spec =
+    tie.close
+    (tie.spec
+    Inv-loop
+    μ-loop
+    loop-holds
+    word-requires
+    add-word
+    word-requires-2
+    add-word-2
+    word-requires-3
+    next-high-requires
+    add-word-3
+    word-requires-4
+    next-low-requires
+    far-high-requires
+    far-low-requires
+    add-i
+    loop-less
+    loop-again
+    finish-requires
+    returns)
