@@ -112,12 +112,20 @@ pub extern "C" fn barzhilup_correct_header_marked(pdu: &mut [u8], marks: &[u8]) 
     in_numbers(answer)
 }
 
-// The CRC-8 of the bytes.
+// The CRC-8 of the bytes: the register starts at 0.
 #[no_mangle]
 pub extern "C" fn barzhilup_crc8(bytes: &[u8]) -> u8
     ensures { λ r. ⌜ r ≡ crcFrom 0 (now (bytes .entry)) ⌝ }
 {
     crc::crc8(bytes)
+}
+
+// The CRC-8 of the bytes, from a register of any start.
+#[no_mangle]
+pub extern "C" fn barzhilup_crc8_from(start: u8, bytes: &[u8]) -> u8
+    ensures { λ r. ⌜ r ≡ crcFrom start (now (bytes .entry)) ⌝ }
+{
+    crc::crc8_from(start, bytes)
 }
 
 // Reads a PDU without a receiver: its header is corrected in place, or it is refused with 3 to 5 or 7 to 12 and left as it was.
@@ -129,12 +137,20 @@ pub extern "C" fn barzhilup_read(pdu: &mut [u8]) -> Reading
     pdu::read(pdu)
 }
 
-// Opens a writer for a mode and stream, or refuses with 5.
+// Opens a writer for a mode and stream, whose CRCs start with a register of 0; or refuses with 5.
 #[no_mangle]
 pub extern "C" fn barzhilup_open_writer(mode: u8, stream: u8) -> Opened
-    ensures { λ r. ⌜ r ≡ opened mode stream ⌝ }
+    ensures { λ r. ⌜ r ≡ opened mode stream 0 ⌝ }
 {
-    writer::open(mode, stream)
+    writer::open(mode, stream, 0)
+}
+
+// Opens a writer for a mode and stream, with the register that CRCs start with, any byte; or refuses with 5.
+#[no_mangle]
+pub extern "C" fn barzhilup_open_writer_with(mode: u8, stream: u8, register: u8) -> Opened
+    ensures { λ r. ⌜ r ≡ opened mode stream register ⌝ }
+{
+    writer::open(mode, stream, register)
 }
 
 // Writes a PDU from settings, PSD, and the packets' lengths and joined bytes, the unfinished packet first and whole; or refuses with 1, 3, 10
@@ -154,12 +170,24 @@ pub extern "C" fn barzhilup_write(
     writer.write(settings, psd, lengths, bytes, pdu)
 }
 
-// Opens a receiver for a mode and stream, or refuses with 5.
+// Opens a receiver for a mode and stream, whose CRCs start with a register of 0; or refuses with 5.
 #[no_mangle]
 pub extern "C" fn barzhilup_open_receiver(mode: u8, stream: u8) -> receiver::Opened
-    ensures { λ r. ⌜ r ≡ receiverOpened mode stream ⌝ }
+    ensures { λ r. ⌜ r ≡ receiverOpened mode stream 0 ⌝ }
 {
-    receiver::open(mode, stream)
+    receiver::open(mode, stream, 0)
+}
+
+// Opens a receiver for a mode and stream, with the register that CRCs start with, any byte; or refuses with 5.
+#[no_mangle]
+pub extern "C" fn barzhilup_open_receiver_with(
+    mode: u8,
+    stream: u8,
+    register: u8,
+) -> receiver::Opened
+    ensures { λ r. ⌜ r ≡ receiverOpened mode stream register ⌝ }
+{
+    receiver::open(mode, stream, register)
 }
 
 // Receives a PDU: its header is corrected in place, what is held stands first in the carry, and the log is written from its first word on; or

@@ -38,42 +38,42 @@ unfolding cutBy
 cut-count [] bytes = refl
 cut-count (n ∷ ns) bytes = ap suc (cut-count ns (drop n bytes))
 
-module _ (width : ℕ) (expansion psd ns bytes : List ℕ) (enough : total ns ≤ length bytes) where
+module _ (register width : ℕ) (expansion psd ns bytes : List ℕ) (enough : total ns ≤ length bytes) where
   -- where the first piece starts
   abbrev pub first : ℕ
   first = 14 + locatorSize width (length ns) + length expansion + length psd
 
-  pub cut-contents : contents width expansion psd (cutBy ns bytes) ≡ locatorBytes width (locatorsFrom first ns) ++ (expansion ++ (psd ++ pieceBytes (cutBy ns bytes)))
+  pub cut-contents : contents register width expansion psd (cutBy ns bytes) ≡ locatorBytes width (locatorsFrom first ns) ++ (expansion ++ (psd ++ pieceBytes register (cutBy ns bytes)))
   cut-contents = rw (cut-count ns bytes, cut-lengths ns bytes enough)
 
   -- what was put in two parts, and what it is
   pub two-puts : (z l1 l2 control locs : List ℕ) (at : ℕ) → length control ≡ 6 → 14 + locatorSize width (length ns) + length expansion + length psd + total ns + length ns ≤ length z
-      → locs ≡ locatorsFrom first ns → at ≡ first → l1 ≡ putAt z 8 (control ++ (locatorBytes width locs ++ (expansion ++ psd))) → l2 ≡ putAt l1 at (pieceBytes (cutBy ns bytes))
-      → l2 ≡ putAt z 8 (control ++ contents width expansion psd (cutBy ns bytes))
+      → locs ≡ locatorsFrom first ns → at ≡ first → l1 ≡ putAt z 8 (control ++ (locatorBytes width locs ++ (expansion ++ psd))) → l2 ≡ putAt l1 at (pieceBytes register (cutBy ns bytes))
+      → l2 ≡ putAt z 8 (control ++ contents register width expansion psd (cutBy ns bytes))
   two-puts z l1 l2 control locs at six room el ea e1 e2 =
       let lb = locatorBytes width (locatorsFrom first ns) in
       let front = control ++ (lb ++ (expansion ++ psd)) in
       let f1 : l1 ≡ putAt z 8 front = rw el at e1 in
       let nl : length lb ≡ locatorSize width (length ns) = length-locators width (locatorsFrom first ns) ∙ ap (locatorSize width) (length-from ns first) in
       let n : length front ≡ 6 + (locatorSize width (length ns) + (length expansion + length psd)) = simp (length-append, nl, six) in
-      put-then z l1 l2 front (pieceBytes (cutBy ns bytes)) 8 at (omega (arith, n, room)) (omega (arith, n, ea)) f1 e2
+      put-then z l1 l2 front (pieceBytes register (cutBy ns bytes)) 8 at (omega (arith, n, room)) (omega (arith, n, ea)) f1 e2
       ∙ ap (putAt z 8) (simp append-assoc)
       ∙ ap (λ (r : List ℕ). putAt z 8 (control ++ r)) (sym cut-contents)
 
 -- how long contents are
-pub piece-bytes-length : (ns bytes : List ℕ) → total ns ≤ length bytes → length (pieceBytes (cutBy ns bytes)) ≡ total ns + length ns
+pub piece-bytes-length : (register : ℕ) (ns bytes : List ℕ) → total ns ≤ length bytes → length (pieceBytes register (cutBy ns bytes)) ≡ total ns + length ns
 unfolding cutBy pieceBytes total
-piece-bytes-length [] bytes h = refl
-piece-bytes-length (n ∷ ns) bytes h =
+piece-bytes-length register [] bytes h = refl
+piece-bytes-length register (n ∷ ns) bytes h =
     let t : length (take n bytes) ≡ n = length-take-le n bytes (omega arith) in
     let d : length (drop n bytes) ≡ length bytes - n = length-drop n bytes in
-    let r = piece-bytes-length ns (drop n bytes) (omega (arith, d)) in
-    let w : length (withCrc (take n bytes)) ≡ n + 1 = length-append (take n bytes) (crcFrom 0 (take n bytes) ∷ []) ∙ omega (arith, t) in
-    length-append (withCrc (take n bytes)) (pieceBytes (cutBy ns (drop n bytes))) ∙ omega (arith, r, w)
+    let r = piece-bytes-length register ns (drop n bytes) (omega (arith, d)) in
+    let w : length (withCrc register (take n bytes)) ≡ n + 1 = length-append (take n bytes) (crcFrom register (take n bytes) ∷ []) ∙ omega (arith, t) in
+    length-append (withCrc register (take n bytes)) (pieceBytes register (cutBy ns (drop n bytes))) ∙ omega (arith, r, w)
 
-pub length-contents : (width : ℕ) (expansion psd ns bytes : List ℕ) → total ns ≤ length bytes
-    → length (contents width expansion psd (cutBy ns bytes)) ≡ locatorSize width (length ns) + (length expansion + (length psd + (total ns + length ns)))
-length-contents width expansion psd ns bytes h =
+pub length-contents : (register width : ℕ) (expansion psd ns bytes : List ℕ) → total ns ≤ length bytes
+    → length (contents register width expansion psd (cutBy ns bytes)) ≡ locatorSize width (length ns) + (length expansion + (length psd + (total ns + length ns)))
+length-contents register width expansion psd ns bytes h =
     let f = 14 + locatorSize width (length ns) + length expansion + length psd in
     let nl : length (locatorBytes width (locatorsFrom f ns)) ≡ locatorSize width (length ns) = length-locators width (locatorsFrom f ns) ∙ ap (locatorSize width) (length-from ns f) in
-    ap length (cut-contents width expansion psd ns bytes h) ∙ simp (length-append, nl, piece-bytes-length ns bytes h)
+    ap length (cut-contents register width expansion psd ns bytes h) ∙ simp (length-append, nl, piece-bytes-length register ns bytes h)

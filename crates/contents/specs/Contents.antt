@@ -14,5 +14,6 @@ firstPiece width expansion psd pieces = 14 + locatorSize width (length pieces) +
 abbrev pub locatorsOf : ℕ → List ℕ → List ℕ → List (List ℕ) → List ℕ
 locatorsOf width expansion psd pieces = locatorsFrom (firstPiece width expansion psd pieces) (map length pieces)
 
-abbrev pub contents : ℕ → List ℕ → List ℕ → List (List ℕ) → List ℕ
-contents width expansion psd pieces = locatorBytes width (locatorsOf width expansion psd pieces) ++ (expansion ++ (psd ++ pieceBytes pieces))
+-- the contents, by the register that the CRCs start with
+abbrev pub contents : ℕ → ℕ → List ℕ → List ℕ → List (List ℕ) → List ℕ
+contents register width expansion psd pieces = locatorBytes width (locatorsOf width expansion psd pieces) ++ (expansion ++ (psd ++ pieceBytes register pieces))

@@ -29,25 +29,26 @@ fn put_front(
     buffer::put_bytes(&mut *pdu, at + expansion.len(), psd);
 }
 
-// Writes a PDU from its control word, expansion bytes, PSD, and the bytes from the first unsent one on, cut into pieces of these lengths;
-// the rest, parity too, is zero.
+// Writes a PDU from its control word, expansion bytes, PSD, and the bytes from the first unsent one on, cut into pieces of these lengths, whose CRCs
+// start with this register; the rest, parity too, is zero.
 pub fn put_contents(
     pdu: &mut [u8],
     width: u8,
     control: [u8; 6],
     expansion: &[u8],
     psd: &[u8],
+    register: u8,
     lengths: &[u16],
     bytes: &[u8],
     sent: usize,
 )
     requires { ⌜ 14 + locatorSize width (length (now lengths)) + length (now expansion) + length (now psd) + total (now lengths) + length (now lengths) ≤ length (now pdu) ⌝ }
     requires { ⌜ (length (now lengths) ≤ 64) × (length (now pdu) ≤ 65535) × (sent + total (now lengths) ≤ length (now bytes)) ⌝ }
-    ensures { λ _. ⌜ now (pdu .exit) ≡ putAt (replicate (length (now (pdu .entry))) 0) 8 (control ++ contents width (now (expansion .entry)) (now (psd .entry)) (cutBy (now (lengths .entry)) (drop sent (now (bytes .entry))))) ⌝ }
+    ensures { λ _. ⌜ now (pdu .exit) ≡ putAt (replicate (length (now (pdu .entry))) 0) 8 (control ++ contents register width (now (expansion .entry)) (now (psd .entry)) (cutBy (now (lengths .entry)) (drop sent (now (bytes .entry))))) ⌝ }
 {
     let n = lengths.len();
     let first = 14 + layout::locator_size(width, n as u8) + expansion.len() + psd.len();
     let locators = pieces::locators(first as u16, lengths);
     put_front(&mut *pdu, width, control, &locators[..n], expansion, psd);
-    pieces::put_pieces(&mut *pdu, first, lengths, bytes, sent);
+    pieces::put_pieces(&mut *pdu, first, register, lengths, bytes, sent);
 }

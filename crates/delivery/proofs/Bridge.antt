@@ -73,24 +73,24 @@ abbrev pub asSent : ℕ → ℕ
 asSent k = 0
 
 -- How a call hands over PDUs of a run. A new kind of call is a new line here, and a case of `serves`.
-pub data Handing (width : ℕ) (x : Station) : Call → List (List ℕ) → List Way → Type 0 where
-  copied : {marks p q log : List ℕ} {sound : ℕ → Bool} → Copy width p marks q sound → 8400 ≤ length log → Handing width x (receive marks q log) (p ∷ []) (here (causesFor sound) ∷ [])
-  losing : {p log : List ℕ} → 8400 ≤ length log → Handing width x (markLost log) (p ∷ []) (gone ∷ [])
-  refusing : {c : Call} → ¬ (answerOf x c .refusal ≡ 0) → Handing width x c [] []
+pub data Handing (register width : ℕ) (x : Station) : Call → List (List ℕ) → List Way → Type 0 where
+  copied : {marks p q log : List ℕ} {sound : ℕ → Bool} → Copy register width p marks q sound → 8400 ≤ length log → Handing register width x (receive marks q log) (p ∷ []) (here (causesFor sound) ∷ [])
+  losing : {p log : List ℕ} → 8400 ≤ length log → Handing register width x (markLost log) (p ∷ []) (gone ∷ [])
+  refusing : {c : Call} → ¬ (answerOf x c .refusal ≡ 0) → Handing register width x c [] []
 
 abbrev pub Accepted : Station → Call → List (List ℕ) → Type 0
 Accepted x c [] = Unit {0}
 Accepted x c (p ∷ ps) = answerOf x c .refusal ≡ 0
 
-pub as-many : (width : ℕ) (x : Station) (c : Call) (ps : List (List ℕ)) (ws : List Way) → Handing width x c ps ws → length ws ≡ length ps
-as-many width x c ps ws (copied a b) = refl
-as-many width x c ps ws (losing b) = refl
-as-many width x c ps ws (refusing h) = refl
+pub as-many : (register width : ℕ) (x : Station) (c : Call) (ps : List (List ℕ)) (ws : List Way) → Handing register width x c ps ws → length ws ≡ length ps
+as-many register width x c ps ws (copied a b) = refl
+as-many register width x c ps ws (losing b) = refl
+as-many register width x c ps ws (refusing h) = refl
 
 -- ---- demand 3's alterations: a copy whose pieces are all sound
 
-pub altered-copy : (width : ℕ) (marks p q : List ℕ) → HeaderAltered marks p q → Copy width p marks q (λ k. true)
-altered-copy width marks p q a =
+pub altered-copy : (register width : ℕ) (marks p q : List ℕ) → HeaderAltered marks p q → Copy register width p marks q (λ k. true)
+altered-copy register width marks p q a =
     let e : restored p q ≡ p = ap (λ (l : List ℕ). take 96 p ++ l) (a .rest) ∙ take-append-drop 96 p in
     record {
       header = a .header;
@@ -99,15 +99,15 @@ altered-copy width marks p q a =
       found = λ k h s. absurd (let z : _≡_ {A = ℕ} 0 1 = cc in omega arith);
     }
 
-module _ (mode stream : ℕ) (m : Mode) (l : listing mode stream ≡ Listed m) (range : 0 < m .sequences) where
+module _ (mode stream register : ℕ) (m : Mode) (l : listing mode stream ≡ Listed m) (range : 0 < m .sequences) where
   -- a PDU as it was written, and what it says by the causes of its pieces
   pub record Speaks (p : List ℕ) (d : Speech) : Type 0 where
-    pub says : Says mode stream (m .width) p (under false (d asSent .said))
+    pub says : Says mode stream register (m .width) p (under false (d asSent .said))
     pub below : d asSent .said .sequence < m .sequences
     pub struck : (s : ℕ → Bool) → stricken s (under false (d asSent .said)) ≡ under false (d (causesFor s) .said)
 
   module _ (p : List ℕ) (d : Speech) (g : Speaks p d) where
-    plain : Plain (m .width) p
+    plain : Plain register (m .width) p
     plain = record {
       code = g .says .code;
       least = g .says .least;
@@ -118,31 +118,31 @@ module _ (mode stream : ℕ) (m : Mode) (l : listing mode stream ≡ Listed m) (
       right = g .says .crcs;
     }
 
-    module _ (n q : List ℕ) (sound : ℕ → Bool) (x : Copy (m .width) p n q sound) where
+    module _ (n q : List ℕ) (sound : ℕ → Bool) (x : Copy register (m .width) p n q sound) where
       -- what the receiver reads
       abbrev pub read : Said
-      read = saidBy (m .width) (controlAt (correctedPduWith n q)) (correctedPduWith n q)
+      read = saidBy register (m .width) (controlAt (correctedPduWith n q)) (correctedPduWith n q)
 
       alike : blankSaid read ≡ blankSaid (under false (d (causesFor sound) .said))
-      alike = copy-says (m .width) p n q sound plain x ∙ ap (λ (t : Said). blankSaid (stricken sound t)) (g .says .says) ∙ ap blankSaid (g .struck sound)
+      alike = copy-says register (m .width) p n q sound plain x ∙ ap (λ (t : Said). blankSaid (stricken sound t)) (g .says .says) ∙ ap blankSaid (g .struck sound)
 
-      pub heard-copy : Heard mode stream (m .width) n q read
+      pub heard-copy : Heard mode stream register (m .width) n q read
       heard-copy = record {
-        size = copy-size (m .width) p n q sound plain x;
+        size = copy-size register (m .width) p n q sound plain x;
         allowed = x .header .allowed;
-        correctable = copy-correctable (m .width) p n q sound plain x;
-        reads = copy-reads (m .width) p n q sound plain x;
-        sameMode = ap (λ (c : ControlWord). c .mode) (copy-control (m .width) p n q sound plain x) ∙ g .says .sameMode;
-        sameStream = ap (λ (c : ControlWord). c .stream) (copy-control (m .width) p n q sound plain x) ∙ g .says .sameStream;
+        correctable = copy-correctable register (m .width) p n q sound plain x;
+        reads = copy-reads register (m .width) p n q sound plain x;
+        sameMode = ap (λ (c : ControlWord). c .mode) (copy-control register (m .width) p n q sound plain x) ∙ g .says .sameMode;
+        sameStream = ap (λ (c : ControlWord). c .stream) (copy-control register (m .width) p n q sound plain x) ∙ g .says .sameStream;
         says = refl;
       }
 
       pub sane-copy : SaneSaid read
-      sane-copy = copy-sane (m .width) p n q sound plain x (subst SaneSaid (sym (g .says .says)) (g .says .sane))
+      sane-copy = copy-sane register (m .width) p n q sound plain x (subst SaneSaid (sym (g .says .says)) (g .says .sane))
 
       pub copy-below : read .sequence < m .sequences
       copy-below =
-          let e : read .sequence ≡ d asSent .said .sequence = ap (λ (t : Said). t .sequence) (copy-says (m .width) p n q sound plain x) ∙ ap (λ (t : Said). t .sequence) (g .says .says) in
+          let e : read .sequence ≡ d asSent .said .sequence = ap (λ (t : Said). t .sequence) (copy-says register (m .width) p n q sound plain x) ∙ ap (λ (t : Said). t .sequence) (g .says .says) in
           let b = g .below in
           omega (arith, e, b)
 
@@ -153,16 +153,16 @@ module _ (mode stream : ℕ) (m : Mode) (l : listing mode stream ≡ Listed m) (
       copy-remembered z = remembered-blind (m .sequences) z read (under false (d (causesFor sound) .said)) alike
 
     -- document 02, Ask 5: two copies
-    module _ (mq q mr r : List ℕ) (s t : ℕ → Bool) (x : Copy (m .width) p mq q s) (v : Copy (m .width) p mr r t) where
+    module _ (mq q mr r : List ℕ) (s t : ℕ → Bool) (x : Copy register (m .width) p mq q s) (v : Copy register (m .width) p mr r t) where
       -- what the receiver reads of the pair
       abbrev pub readPair : Said
-      readPair = pairSaid (m .width) (controlAt (correctedPduWith mq q)) (correctedPduWith mq q) (correctedPduWith mr r)
+      readPair = pairSaid register (m .width) (controlAt (correctedPduWith mq q)) (correctedPduWith mq q) (correctedPduWith mr r)
 
       together : blankSaid readPair ≡ blankSaid (under false (d (causesFor (λ k. s k || t k)) .said))
-      together = pair-heard (m .width) p mq q mr r s t plain x v ∙ ap (λ (u : Said). blankSaid (stricken (λ k. s k || t k) u)) (g .says .says) ∙ ap blankSaid (g .struck (λ k. s k || t k))
+      together = pair-heard register (m .width) p mq q mr r s t plain x v ∙ ap (λ (u : Said). blankSaid (stricken (λ k. s k || t k) u)) (g .says .says) ∙ ap blankSaid (g .struck (λ k. s k || t k))
 
       pub sane-readPair : SaneSaid readPair
-      sane-readPair = pair-sane (m .width) p mq q mr r s t plain x v (subst SaneSaid (sym (g .says .says)) (g .says .sane))
+      sane-readPair = pair-sane register (m .width) p mq q mr r s t plain x v (subst SaneSaid (sym (g .says .says)) (g .says .sane))
 
       pub pair-received : (z : Memory) → received (m .sequences) z readPair ≡ received (m .sequences) z (under false (d (causesFor (λ k. s k || t k)) .said))
       pair-received z = received-blind (m .sequences) z readPair (under false (d (causesFor (λ k. s k || t k)) .said)) together
@@ -171,9 +171,9 @@ module _ (mode stream : ℕ) (m : Mode) (l : listing mode stream ≡ Listed m) (
       pair-remembered z = remembered-blind (m .sequences) z readPair (under false (d (causesFor (λ k. s k || t k)) .said)) together
 
   abbrev pub StandsFor : Station → Holder → Type 0
-  StandsFor x y = Shows mode stream m l range x (y .memory)
+  StandsFor x y = Shows mode stream register m l range x (y .memory)
 
-  pub serves : (x : Station) (y : Holder) (c : Call) (ps : List (List ℕ)) (ws : List Way) (ds : List Speech) → StandsFor x y → Handing (m .width) x c ps ws → Matching Speaks ps ds
+  pub serves : (x : Station) (y : Holder) (c : Call) (ps : List (List ℕ)) (ws : List Way) (ds : List Speech) → StandsFor x y → Handing register (m .width) x c ps ws → Matching Speaks ps ds
       → Accepted x c ps × Serves everything (m .sequences) stations StandsFor x y c (heard ws ds)
   unfolding heard
   serves x y c ps ws [] s (copied a b) g = absurd g
@@ -185,20 +185,20 @@ module _ (mode stream : ℕ) (m : Mode) (l : listing mode stream ≡ Listed m) (
       let sn = sane-copy p d (g .0) n q sound a in
       let lo = copy-below p d (g .0) n q sound a in
       let er = copy-received p d (g .0) n q sound a (y .memory) in (
-        receive-accepted mode stream m l range x (y .memory) s n q log u hq sn lo b big,
+        receive-accepted mode stream register m l range x (y .memory) s n q log u hq sn lo b big,
         serves-one everything (m .sequences) stations StandsFor x y (receive n q log) (came (d (causesFor sound)))
-            (receive-logged mode stream m l range x (y .memory) s n q log u hq sn lo b big ∙ ap (λ (o : Outcome). logWords (o .entries)) er)
+            (receive-logged mode stream register m l range x (y .memory) s n q log u hq sn lo b big ∙ ap (λ (o : Outcome). logWords (o .entries)) er)
             (subst (λ (o : Outcome). FitAll (o .entries)) er (fit-received (m .sequences) (y .memory) u (s .sane) sn .0))
-            (subst (λ (z : Memory). Shows mode stream m l range (stationAfter defined x (receive n q log)) z) (copy-remembered p d (g .0) n q sound a (y .memory)) (receive-shows mode stream m l range x (y .memory) s n q log u hq sn lo b big)),
+            (subst (λ (z : Memory). Shows mode stream register m l range (stationAfter defined x (receive n q log)) z) (copy-remembered p d (g .0) n q sound a (y .memory)) (receive-shows mode stream register m l range x (y .memory) s n q log u hq sn lo b big)),
       )
   serves x y c ps ws [] s (losing b) g = absurd g
   serves x y c ps ws (d ∷ e ∷ ds) s (losing b) g = absurd (g .1)
   serves x y c ps ws (d ∷ []) s (losing {log = log} big) g = (
-    lost-accepted mode stream m l range x (y .memory) s log big,
+    lost-accepted mode stream register m l range x (y .memory) s log big,
     serves-one everything (m .sequences) stations StandsFor x y (markLost log) lost
-        (lost-logged mode stream m l range x (y .memory) s log big)
+        (lost-logged mode stream register m l range x (y .memory) s log big)
         ((omega arith, omega arith), tt)
-        (lost-shows mode stream m l range x (y .memory) s log big),
+        (lost-shows mode stream register m l range x (y .memory) s log big),
   )
   serves x y c ps ws ds s (refusing h) g =
       (tt, serves-none everything (m .sequences) stations StandsFor x y c (nothing-logged x c h) (subst (λ (t : Station). StandsFor t y) (sym (station-kept x c h)) s))
@@ -208,10 +208,10 @@ module _ (mode stream : ℕ) (m : Mode) (l : listing mode stream ≡ Listed m) (
     Pdu = List ℕ;
     Says = Speaks;
     Stands = StandsFor;
-    Hands = Handing (m .width);
+    Hands = Handing register (m .width);
     Good = Accepted;
     Within = λ t. Unit {0};
     within-less = λ t u g w. tt;
-    as-many = as-many (m .width);
+    as-many = as-many register (m .width);
     serves = λ x y c ps ws ds s h g k. serves x y c ps ws ds s h g;
   }

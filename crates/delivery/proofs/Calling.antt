@@ -19,9 +19,9 @@ use Rattle.writer.specs.declared.Writer.{Writer}
 use Rattle.writer.specs.declared.Written.{Written}
 use Rattle.delivery.specs.Delivery.{Writing, answerTo, bufferAfter}
 
--- a writer's state: PDU sequence q, packet i unfinished, and s of its bytes sent
-abbrev pub stateAt : ℕ → ℕ → ℕ → ℕ → ℕ → Writer
-stateAt mode stream q i s = record { mode = mode; stream = stream; sequence = q; number = i % 64; sent = s }
+-- a writer's state: its mode, stream and register, PDU sequence q, packet i unfinished, and s of its bytes sent
+abbrev pub stateAt : ℕ → ℕ → ℕ → ℕ → ℕ → ℕ → Writer
+stateAt mode stream register q i s = record { mode = mode; stream = stream; register = register; sequence = q; number = i % 64; sent = s }
 
 pub next-sequence : (range q : ℕ) → q < range → (q + 1) % range ≡ following range q
 next-sequence range q h = go (eqb (suc q) range) refl
@@ -45,10 +45,10 @@ next-in-range range q h = rw (← next-sequence range q h) (mod-lt (q + 1) (omeg
 
 -- ---- what the table says, whichever sequence comes next
 
-module _ (mode stream : ℕ) (m : Mode) (l : listing mode stream ≡ Listed m) where
+module _ (mode stream register : ℕ) (m : Mode) (l : listing mode stream ≡ Listed m) where
   -- the number that a call is refused with, 0 for none
   abbrev pub numberAt : ℕ → ℕ → ℕ → Writing → ℕ
-  numberAt q i s a = firstOf (writerTests (a .settings) (a .psd) (a .lengths) (a .bytes) (length (a .buffer)) m (stateAt mode stream q i s))
+  numberAt q i s a = firstOf (writerTests (a .settings) (a .psd) (a .lengths) (a .bytes) (length (a .buffer)) m (stateAt mode stream register q i s))
 
   pub same-number : (q i s : ℕ) (a : Writing) → q < m .sequences → numberAt q i s a ≡ numberAt 0 i s a
   same-number q i s a h =
@@ -58,7 +58,7 @@ module _ (mode stream : ℕ) (m : Mode) (l : listing mode stream ≡ Listed m) w
 
   module _ (q i s : ℕ) (a : Writing) where
     abbrev w : Writer
-    w = stateAt mode stream q i s
+    w = stateAt mode stream register q i s
 
     abbrev acc : Written
     acc = acceptedAnswer (a .settings) (a .psd) (a .lengths) (a .bytes) (length (a .buffer)) m w

@@ -51,24 +51,24 @@ Usable p = Bytes p × (96 ≤ length p)
 
 -- ---- what holds along a course
 
-module _ (mode stream : ℕ) (m : Mode) (ps : List (List ℕ)) where
-  loads-fit : {q g i s : ℕ} {pdus : List (List ℕ)} {spans : List Span} {cs : List Load} → Course mode stream m ps q g i s pdus spans cs → LoadsFit s (drop i ps) cs
+module _ (mode stream register : ℕ) (m : Mode) (ps : List (List ℕ)) where
+  loads-fit : {q g i s : ℕ} {pdus : List (List ℕ)} {spans : List Span} {cs : List Load} → Course mode stream register m ps q g i s pdus spans cs → LoadsFit s (drop i ps) cs
   loads-fit done = tt
   loads-fit (next {i = i} {s = s} {e = e} {t = t} {loads = cs} f h r) = (f, subst (λ (l : List (List ℕ)). LoadsFit (sentAfter s e t) l cs) (sym (drop-drop e i ps)) (loads-fit r))
 
-  spans-are : {q g i s : ℕ} {pdus : List (List ℕ)} {spans : List Span} {cs : List Load} → Course mode stream m ps q g i s pdus spans cs → spans ≡ spansOfLoads g s (drop i ps) cs
+  spans-are : {q g i s : ℕ} {pdus : List (List ℕ)} {spans : List Span} {cs : List Load} → Course mode stream register m ps q g i s pdus spans cs → spans ≡ spansOfLoads g s (drop i ps) cs
   unfolding spansOfLoads
   spans-are done = refl
   spans-are (next {g = g} {i = i} {s = s} {e = e} {t = t} {loads = cs} f h r) =
       ap (λ (l : List Span). record { from = g; count = bytesIn (cut s e t (drop i ps)) } ∷ l)
       (spans-are r ∙ ap (λ (l : List (List ℕ)). spansOfLoads (g + bytesIn (cut s e t (drop i ps))) (sentAfter s e t) l cs) (sym (drop-drop e i ps)))
 
-  spans-follow : {q g i s : ℕ} {pdus : List (List ℕ)} {spans : List Span} {cs : List Load} → Course mode stream m ps q g i s pdus spans cs → Following g spans
+  spans-follow : {q g i s : ℕ} {pdus : List (List ℕ)} {spans : List Span} {cs : List Load} → Course mode stream register m ps q g i s pdus spans cs → Following g spans
   spans-follow done = tt
   spans-follow (next f h r) = (refl, spans-follow r)
 
-  speaking : (l : listing mode stream ≡ Listed m) (range : 0 < m .sequences) {q g i s : ℕ} {pdus : List (List ℕ)} {spans : List Span} {cs : List Load} → q < m .sequences → Course mode stream m ps q g i s pdus spans cs
-      → Matching (Speaks mode stream m l range) pdus (speechesFrom (m .sequences) q i s (drop i ps) cs)
+  speaking : (l : listing mode stream ≡ Listed m) (range : 0 < m .sequences) {q g i s : ℕ} {pdus : List (List ℕ)} {spans : List Span} {cs : List Load} → q < m .sequences → Course mode stream register m ps q g i s pdus spans cs
+      → Matching (Speaks mode stream register m l range) pdus (speechesFrom (m .sequences) q i s (drop i ps) cs)
   unfolding speechesFrom
   speaking l range h done = tt
   speaking l range h (next {q = q} {i = i} {s = s} {e = e} {t = t} {psd = psd} {pdus = pdus} {loads = cs} f d r) = (
@@ -77,7 +77,7 @@ module _ (mode stream : ℕ) (m : Mode) (ps : List (List ℕ)) where
       below = h;
       struck = λ v. ap (λ (b : List Piece). record { sequence = q; pfirst = ltb 0 s; plast = ltb 0 t; start = (i + cond (ltb 0 s) 1 0) % 64; psdBytes = psd; pieces = b; withheld = false }) (struck-read v (cut s e t (drop i ps)));
     },
-    subst (λ (rest : List (List ℕ)). Matching (Speaks mode stream m l range) pdus (speechesFrom (m .sequences) (following (m .sequences) q) (i + e) (sentAfter s e t) rest cs)) (sym (drop-drop e i ps)) (speaking l range (next-in-range (m .sequences) q h) r),
+    subst (λ (rest : List (List ℕ)). Matching (Speaks mode stream register m l range) pdus (speechesFrom (m .sequences) (following (m .sequences) q) (i + e) (sentAfter s e t) rest cs)) (sym (drop-drop e i ps)) (speaking l range (next-in-range (m .sequences) q h) r),
   )
 
 -- ---- a receiver that withholds nothing
@@ -123,9 +123,9 @@ fates-by (suc first) ss = ap (λ (l : List Fate). lose ∷ l) (fates-by first ss
 
 -- ---- the calls, with the PDUs that they are for
 
-module _ (mode stream : ℕ) (m : Mode) (l : listing mode stream ≡ Listed m) (range : 0 < m .sequences) where
+module _ (mode stream register : ℕ) (m : Mode) (l : listing mode stream ≡ Listed m) (range : 0 < m .sequences) where
   abbrev Parts : Type 0
-  Parts = List (Part (bridge mode stream m l range))
+  Parts = List (Part (bridge mode stream register m l range))
 
   parts : List Step → List (List ℕ) → Parts
   parts [] pdus = []
@@ -136,13 +136,13 @@ module _ (mode stream : ℕ) (m : Mode) (l : listing mode stream ≡ Listed m) (
   parts (refuses c ∷ ss) pdus = record { call = c; pdus = []; ways = [] } ∷ parts ss pdus
 
   record Parted (x : Station) (steps : List Step) (pdus : List (List ℕ)) (gs : Parts) : Type 0 where
-    through : Goes (bridge mode stream m l range) x gs
-    pdus′ : handed (bridge mode stream m l range) gs ≡ pdus
-    ways : waysOf (bridge mode stream m l range) gs ≡ waysBy steps
-    logs : logsOf (bridge mode stream m l range) x gs ≡ logsFrom x steps
-    good : AllGood (bridge mode stream m l range) x gs → NoneRefused x steps
+    through : Goes (bridge mode stream register m l range) x gs
+    pdus′ : handed (bridge mode stream register m l range) gs ≡ pdus
+    ways : waysOf (bridge mode stream register m l range) gs ≡ waysBy steps
+    logs : logsOf (bridge mode stream register m l range) x gs ≡ logsFrom x steps
+    good : AllGood (bridge mode stream register m l range) x gs → NoneRefused x steps
 
-  parted : (steps : List Step) (x : Station) (pdus : List (List ℕ)) → Through (m .width) x pdus steps → Parted x steps pdus (parts steps pdus)
+  parted : (steps : List Step) (x : Station) (pdus : List (List ℕ)) → Through register (m .width) x pdus steps → Parted x steps pdus (parts steps pdus)
   unfolding parts
   parted [] x [] t = record { through = tt; pdus′ = refl; ways = refl; logs = refl; good = λ g. tt }
   parted [] x (p ∷ pdus) t = absurd t
@@ -175,96 +175,96 @@ module _ (mode stream : ℕ) (m : Mode) (l : listing mode stream ≡ Listed m) (
 
 -- ---- a fresh writer and a fresh receiver
 
-pub record Fresh (mode stream : ℕ) : Type 0 where
+pub record Fresh (mode stream register : ℕ) : Type 0 where
   pub line : Mode
   pub listed : listing mode stream ≡ Listed line
-  pub writer : writerOpened mode stream .writer ≡ stateAt mode stream 0 0 0
-  pub receiver : receiverOpened mode stream .receiver ≡ record { mode = mode; stream = stream; known = false; sequence = 0; held = 0; number = 0 }
+  pub writer : writerOpened mode stream register .writer ≡ stateAt mode stream register 0 0 0
+  pub receiver : receiverOpened mode stream register .receiver ≡ record { mode = mode; stream = stream; register = register; known = false; sequence = 0; held = 0; number = 0 }
 
-pub some-range : (mode stream : ℕ) (x : Fresh mode stream) → 0 < x .line .sequences
-some-range mode stream x = let h = listable mode stream (x .line) (x .listed) .least in omega (arith, h)
+pub some-range : (mode stream register : ℕ) (x : Fresh mode stream register) → 0 < x .line .sequences
+some-range mode stream register x = let h = listable mode stream (x .line) (x .listed) .least in omega (arith, h)
 
-pub fresh-both : (mode stream : ℕ) → writerOpened mode stream .refusal ≡ 0 → Fresh mode stream
+pub fresh-both : (mode stream register : ℕ) → writerOpened mode stream register .refusal ≡ 0 → Fresh mode stream register
 unfolding writerOpened receiverOpened
-fresh-both mode stream e = go (listing mode stream) refl e
+fresh-both mode stream register e = go (listing mode stream) refl e
   where
-    go : (k : Listing) → listing mode stream ≡ k → writerOpenedAs k mode stream .refusal ≡ 0 → Fresh mode stream
+    go : (k : Listing) → listing mode stream ≡ k → writerOpenedAs k mode stream register .refusal ≡ 0 → Fresh mode stream register
     go (Refused n) h z = absurd (omega (arith, refusal-five mode stream n h, z))
     go (Listed m) h z = record {
       line = m;
       listed = h;
-      writer = ap (λ (k : Listing). writerOpenedAs k mode stream .writer) h;
-      receiver = ap (λ (k : Listing). receiverOpenedAs k mode stream .receiver) h;
+      writer = ap (λ (k : Listing). writerOpenedAs k mode stream register .writer) h;
+      receiver = ap (λ (k : Listing). receiverOpenedAs k mode stream register .receiver) h;
     }
 
-shows-fresh : (mode stream : ℕ) (m : Mode) (l : listing mode stream ≡ Listed m) (range : 0 < m .sequences) (carry : List ℕ) → 4096 ≤ length carry
-    → Shows mode stream m l range (record { receiver = record { mode = mode; stream = stream; known = false; sequence = 0; held = 0; number = 0 }; carry = carry }) fresh
+shows-fresh : (mode stream register : ℕ) (m : Mode) (l : listing mode stream ≡ Listed m) (range : 0 < m .sequences) (carry : List ℕ) → 4096 ≤ length carry
+    → Shows mode stream register m l range (record { receiver = record { mode = mode; stream = stream; register = register; known = false; sequence = 0; held = 0; number = 0 }; carry = carry }) fresh
 unfolding memoryOf
-shows-fresh mode stream m l range carry big =
+shows-fresh mode stream register m l range carry big =
     let q : leb (m .sequences) 0 ≡ false = lt-leb (m .sequences) 0 range in
-    record { sameMode = refl; sameStream = refl; right = rw (l, q); room = big; memory = refl; sane = tt }
+    record { sameMode = refl; sameStream = refl; sameRegister = refl; right = rw (l, q); room = big; memory = refl; sane = tt }
 
 -- ---- the calls of a run
 
-module _ (mode stream : ℕ) (packets : List (List ℕ)) (writings : List Writing) (first count : ℕ) (carry : List ℕ) (steps : List Step)
-    (d : Asked mode stream packets writings first count carry steps) (x : Fresh mode stream) where
+module _ (mode stream register : ℕ) (packets : List (List ℕ)) (writings : List Writing) (first count : ℕ) (carry : List ℕ) (steps : List Step)
+    (d : Asked mode stream register packets writings first count carry steps) (x : Fresh mode stream register) where
   abbrev m : Mode
   m = x .line
 
   range : 0 < m .sequences
-  range = some-range mode stream x
+  range = some-range mode stream register x
 
   sized : Sized packets
   sized = sized-of packets (d .sized)
 
   abbrev made : List (List ℕ)
-  made = pdusFrom (stateAt mode stream 0 0 0) writings
+  made = pdusFrom (stateAt mode stream register 0 0 0) writings
 
   abbrev spans : List Span
   spans = spansFrom mode stream packets 0 writings
 
-  whole : Runs mode stream m (x .listed) packets (d .sized) 0 0 0 0 made spans
-  whole = course mode stream m (x .listed) packets (d .sized) writings 0 0 0 0 range (stands-first packets sized) (d .offered)
+  whole : Runs mode stream register m (x .listed) packets (d .sized) 0 0 0 0 made spans
+  whole = course mode stream register m (x .listed) packets (d .sized) writings 0 0 0 0 range (stands-first packets sized) (d .offered)
 
   abbrev cs : List Load
   cs = whole .0
 
   abbrev station : Station
-  station = record { receiver = record { mode = mode; stream = stream; known = false; sequence = 0; held = 0; number = 0 }; carry = carry }
+  station = record { receiver = record { mode = mode; stream = stream; register = register; known = false; sequence = 0; held = 0; number = 0 }; carry = carry }
 
-  station-is : freshStation defined mode stream carry ≡ station
+  station-is : freshStation defined mode stream register carry ≡ station
   station-is = ap (λ (r : Receiver). record { receiver = r; carry = carry }) (x .receiver)
 
-  through : Through (m .width) station (runOf first count made) steps
+  through : Through register (m .width) station (runOf first count made) steps
   through =
-      subst (λ (k : Listing). Through (modeIn k .width) station (runOf first count made) steps) (x .listed)
-      (subst (λ (s : Station). Through (modeIn (listing mode stream) .width) s (runOf first count made) steps) station-is
-      (subst (λ (ps : List (List ℕ)). Through (modeIn (listing mode stream) .width) (freshStation defined mode stream carry) (runOf first count ps) steps) (ap (λ (w : Writer). pdusFrom w writings) (x .writer)) (d .through)))
+      subst (λ (k : Listing). Through register (modeIn k .width) station (runOf first count made) steps) (x .listed)
+      (subst (λ (s : Station). Through register (modeIn (listing mode stream) .width) s (runOf first count made) steps) station-is
+      (subst (λ (ps : List (List ℕ)). Through register (modeIn (listing mode stream) .width) (freshStation defined mode stream register carry) (runOf first count ps) steps) (ap (λ (w : Writer). pdusFrom w writings) (x .writer)) (d .through)))
 
-  abbrev gs : Parts mode stream m (x .listed) range
-  gs = parts mode stream m (x .listed) range steps (runOf first count made)
+  abbrev gs : Parts mode stream register m (x .listed) range
+  gs = parts mode stream register m (x .listed) range steps (runOf first count made)
 
-  split : Parted mode stream m (x .listed) range station steps (runOf first count made) gs
-  split = parted mode stream m (x .listed) range steps station (runOf first count made) through
+  split : Parted mode stream register m (x .listed) range station steps (runOf first count made) gs
+  split = parted mode stream register m (x .listed) range steps station (runOf first count made) through
 
-  run : RunDelivered everything (m .sequences) stations (bridge mode stream m (x .listed) range) packets cs made first count station gs
-  run = general everything (m .sequences) stations (bridge mode stream m (x .listed) range) packets cs made first count station gs (record {
+  run : RunDelivered everything (m .sequences) stations (bridge mode stream register m (x .listed) range) packets cs made first count station gs
+  run = general everything (m .sequences) stations (bridge mode stream register m (x .listed) range) packets cs made first count station gs (record {
     sized = sized;
-    fits = loads-fit mode stream m packets (whole .1);
-    says = speaking mode stream m packets (x .listed) range range (whole .1);
+    fits = loads-fit mode stream register m packets (whole .1);
+    says = speaking mode stream register m packets (x .listed) range range (whole .1);
     run = split .pdus′;
-    fresh = shows-fresh mode stream m (x .listed) range carry (d .room);
+    fresh = shows-fresh mode stream register m (x .listed) range carry (d .room);
     through = split .through;
     countable = tt;
   })
 
-  marks-are : lies packets (spansOfLoads 0 0 packets cs) (fatesFrom everything (m .sequences) first (waysOf (bridge mode stream m (x .listed) range) gs) cs) ≡ lies packets spans (replicate first lose ++ fates steps)
+  marks-are : lies packets (spansOfLoads 0 0 packets cs) (fatesFrom everything (m .sequences) first (waysOf (bridge mode stream register m (x .listed) range) gs) cs) ≡ lies packets spans (replicate first lose ++ fates steps)
   marks-are = fun-ext (λ j.
       ap (λ (ws : List Way). lies packets (spansOfLoads 0 0 packets cs) (fatesFrom everything (m .sequences) first ws cs) j) (split .ways)
       ∙ plain-lies (m .sequences) cs (replicate first gone ++ waysBy steps) 0 0 0 none packets packets j
-      ∙ ap₂ (λ (ss : List Span) (ws : List Fate). lies packets ss ws j) (sym (spans-are mode stream m packets (whole .1))) (fates-by first steps))
+      ∙ ap₂ (λ (ss : List Span) (ws : List Fate). lies packets ss ws j) (sym (spans-are mode stream register m packets (whole .1))) (fates-by first steps))
 
-  delivered : Delivered mode stream packets writings first count carry steps
+  delivered : Delivered mode stream register packets writings first count carry steps
   delivered = record {
     accepted = subst (λ (s : Station). NoneRefused s steps) (sym station-is) (split .good (run .good));
     log = ap (λ (s : Station). packetWords (logsFrom s steps)) station-is
@@ -275,31 +275,31 @@ module _ (mode stream : ℕ) (packets : List (List ℕ)) (writings : List Writin
 
 -- no call for a PDU of the run is refused, and the packet log holds exactly the packets that arrived whole in sound pieces
 pub channel-delivers : ChannelDelivery
-channel-delivers mode stream packets writings first count carry steps d = delivered mode stream packets writings first count carry steps d (fresh-both mode stream (d .opens))
+channel-delivers mode stream register packets writings first count carry steps d = delivered mode stream register packets writings first count carry steps d (fresh-both mode stream register (d .opens))
 
 -- ---- the PDUs that a fresh writer makes
 
-module _ (mode stream : ℕ) (m : Mode) (ps : List (List ℕ)) where
-  course-usable : {q g i s : ℕ} {pdus : List (List ℕ)} {spans : List Span} {cs : List Load} → Course mode stream m ps q g i s pdus spans cs → All Usable pdus
+module _ (mode stream register : ℕ) (m : Mode) (ps : List (List ℕ)) where
+  course-usable : {q g i s : ℕ} {pdus : List (List ℕ)} {spans : List Span} {cs : List Load} → Course mode stream register m ps q g i s pdus spans cs → All Usable pdus
   course-usable done = tt
   course-usable (next f h r) = ((h .bytes, h .least), course-usable r)
 
-  course-count : {q g i s : ℕ} {pdus : List (List ℕ)} {spans : List Span} {cs : List Load} → Course mode stream m ps q g i s pdus spans cs → length spans ≡ length pdus
+  course-count : {q g i s : ℕ} {pdus : List (List ℕ)} {spans : List Span} {cs : List Load} → Course mode stream register m ps q g i s pdus spans cs → length spans ≡ length pdus
   course-count done = refl
   course-count (next f h r) = ap suc (course-count r)
 
 -- they are bytes, at least 96; each has its span, and the spans follow one another
-pub record MadeRight (mode stream : ℕ) (packets : List (List ℕ)) (writings : List Writing) : Type 0 where
-  pub usable : All Usable (madeBy mode stream writings)
-  pub as-many : length (spansOf mode stream packets writings) ≡ length (madeBy mode stream writings)
+pub record MadeRight (mode stream register : ℕ) (packets : List (List ℕ)) (writings : List Writing) : Type 0 where
+  pub usable : All Usable (madeBy mode stream register writings)
+  pub as-many : length (spansOf mode stream packets writings) ≡ length (madeBy mode stream register writings)
   pub follow : Following 0 (spansOf mode stream packets writings)
 
-pub made-right : (mode stream : ℕ) (packets : List (List ℕ)) (writings : List Writing) → writerOpened mode stream .refusal ≡ 0 → Packets packets → InOrder mode stream packets 0 writings → MadeRight mode stream packets writings
-made-right mode stream packets writings o z h =
-    let x = fresh-both mode stream o in
-    let c = course mode stream (x .line) (x .listed) packets z writings 0 0 0 0 (some-range mode stream x) (stands-first packets (sized-of packets z)) h .1 in
+pub made-right : (mode stream register : ℕ) (packets : List (List ℕ)) (writings : List Writing) → writerOpened mode stream register .refusal ≡ 0 → Packets packets → InOrder mode stream packets 0 writings → MadeRight mode stream register packets writings
+made-right mode stream register packets writings o z h =
+    let x = fresh-both mode stream register o in
+    let c = course mode stream register (x .line) (x .listed) packets z writings 0 0 0 0 (some-range mode stream register x) (stands-first packets (sized-of packets z)) h .1 in
     record {
-      usable = subst (λ (w : Writer). All Usable (pdusFrom w writings)) (sym (x .writer)) (course-usable mode stream (x .line) packets c);
-      as-many = subst (λ (w : Writer). length (spansFrom mode stream packets 0 writings) ≡ length (pdusFrom w writings)) (sym (x .writer)) (course-count mode stream (x .line) packets c);
-      follow = spans-follow mode stream (x .line) packets c;
+      usable = subst (λ (w : Writer). All Usable (pdusFrom w writings)) (sym (x .writer)) (course-usable mode stream register (x .line) packets c);
+      as-many = subst (λ (w : Writer). length (spansFrom mode stream packets 0 writings) ≡ length (pdusFrom w writings)) (sym (x .writer)) (course-count mode stream register (x .line) packets c);
+      follow = spans-follow mode stream register (x .line) packets c;
     }

@@ -121,23 +121,23 @@ as-long n at y p e h =
     let b : length (take n (drop at y)) ≡ min n (length y - at) = simp (length-take, length-drop) in
     omega (arith, a, b, e, h)
 
-pub count-pieces : (width : ℕ) (c : ControlWord) (y : List ℕ) (k n : ℕ) → length (piecesIn width c y k n) ≡ n
+pub count-pieces : (register width : ℕ) (c : ControlWord) (y : List ℕ) (k n : ℕ) → length (piecesIn register width c y k n) ≡ n
 unfolding piecesIn
-count-pieces width c y k zero = refl
-count-pieces width c y k (suc n) = ap suc (count-pieces width c y (suc k) n)
+count-pieces register width c y k zero = refl
+count-pieces register width c y k (suc n) = ap suc (count-pieces register width c y (suc k) n)
 
 -- ---- a PDU as it was written
 
-pub record Plain (width : ℕ) (p : List ℕ) : Type 0 where
+pub record Plain (register width : ℕ) (p : List ℕ) : Type 0 where
   pub code : isCodeWord (take 96 p) ≡ true
   pub least : 96 ≤ length p
   pub most : length p ≤ 20480
   pub bytes : Bytes p
   pub accepted : judged p ≡ 0
   pub wide : widthOf p ≡ width
-  pub right : (k : ℕ) → k < controlAt p .nop → crcFrom 0 (bytesAt width p p k) ≡ crcAt width p p k
+  pub right : (k : ℕ) → k < controlAt p .nop → crcFrom register (bytesAt width p p k) ≡ crcAt width p p k
 
-module _ (width : ℕ) (p marks q : List ℕ) (sound : ℕ → Bool) (w : Plain width p) (x : Copy width p marks q sound) where
+module _ (register width : ℕ) (p marks q : List ℕ) (sound : ℕ → Bool) (w : Plain register width p) (x : Copy register width p marks q sound) where
   abbrev c : ControlWord
   c = controlAt p
 
@@ -218,55 +218,55 @@ module _ (width : ℕ) (p marks q : List ℕ) (sound : ℕ → Bool) (w : Plain 
 
   -- ---- pieces
 
-  piece-is : (k : ℕ) → k < c .nop → pieceIn width c y k ≡ record { cause = cond (eqb (crcFrom 0 (bytesAt width p y k)) (crcAt width p y k)) 0 2; bytes = bytesAt width p y k }
+  piece-is : (k : ℕ) → k < c .nop → pieceIn register width c y k ≡ record { cause = cond (eqb (crcFrom register (bytesAt width p y k)) (crcAt width p y k)) 0 2; bytes = bytesAt width p y k }
   piece-is k h =
       λ i. record {
-        cause = cond (eqb (crcFrom 0 (take (length-is k h i) (drop (start-is k h i) y))) (getD y (locators-are k h i) 0)) 0 2;
+        cause = cond (eqb (crcFrom register (take (length-is k h i) (drop (start-is k h i) y))) (getD y (locators-are k h i) 0)) 0 2;
         bytes = take (length-is k h i) (drop (start-is k h i) y);
       }
 
   -- a damaged piece has a wrong CRC
-  found-wrong : (k : ℕ) → k < c .nop → Damage width p y k → ¬ (crcFrom 0 (bytesAt width p y k) ≡ crcAt width p y k)
+  found-wrong : (k : ℕ) → k < c .nop → Damage register width p y k → ¬ (crcFrom register (bytesAt width p y k) ≡ crcAt width p y k)
   found-wrong k h (wrong n) = n
-  found-wrong k h (burst b) = burst-found 0 (crcAt width p p k) (crcAt width p y k) (bytesAt width p p k) (bytesAt width p y k) (w .right k h) b
+  found-wrong k h (burst b) = burst-found register (crcAt width p p k) (crcAt width p y k) (bytesAt width p p k) (bytesAt width p y k) (w .right k h) b
 
   -- a sound piece is read as it was written
-  pub sound-piece : (k : ℕ) → k < c .nop → sound k ≡ true → pieceIn width c y k ≡ pieceIn width c p k
+  pub sound-piece : (k : ℕ) → k < c .nop → sound k ≡ true → pieceIn register width c y k ≡ pieceIn register width c p k
   sound-piece k h e =
       let s = x .whole k h e in
-      piece-is k h ∙ ap₂ (λ (l : List ℕ) (n : ℕ). record { cause = cond (eqb (crcFrom 0 l) n) 0 2; bytes = l }) (s .0) (s .1)
+      piece-is k h ∙ ap₂ (λ (l : List ℕ) (n : ℕ). record { cause = cond (eqb (crcFrom register l) n) 0 2; bytes = l }) (s .0) (s .1)
 
   -- any other is not taken
-  pub unsound-piece : (k : ℕ) → k < c .nop → sound k ≡ false → pieceIn width c y k .cause ≡ 2
+  pub unsound-piece : (k : ℕ) → k < c .nop → sound k ≡ false → pieceIn register width c y k .cause ≡ 2
   unsound-piece k h e =
-      let n : eqb (crcFrom 0 (bytesAt width p y k)) (crcAt width p y k) ≡ false = ne-eqb _ _ (found-wrong k h (x .found k h e)) in
+      let n : eqb (crcFrom register (bytesAt width p y k)) (crcAt width p y k) ≡ false = ne-eqb _ _ (found-wrong k h (x .found k h e)) in
       ap (λ (a : Piece). a .cause) (piece-is k h) ∙ ap (λ (b : Bool). cond b 0 2) n
 
-  piece-blank : (k : ℕ) → k < c .nop → blank (pieceIn width c y k) ≡ blank (record { cause = cond (sound k) (pieceIn width c p k .cause) 2; bytes = pieceIn width c p k .bytes })
+  piece-blank : (k : ℕ) → k < c .nop → blank (pieceIn register width c y k) ≡ blank (record { cause = cond (sound k) (pieceIn register width c p k .cause) 2; bytes = pieceIn register width c p k .bytes })
   piece-blank k h = go (sound k) refl
     where
-      go : (b : Bool) → sound k ≡ b → blank (pieceIn width c y k) ≡ blank (record { cause = cond b (pieceIn width c p k .cause) 2; bytes = pieceIn width c p k .bytes })
+      go : (b : Bool) → sound k ≡ b → blank (pieceIn register width c y k) ≡ blank (record { cause = cond b (pieceIn register width c p k .cause) 2; bytes = pieceIn register width c p k .bytes })
       go true e = ap blank (sound-piece k h e)
-      go false e = blank-two (pieceIn width c y k) (pieceIn width c p k .bytes) (unsound-piece k h e)
+      go false e = blank-two (pieceIn register width c y k) (pieceIn register width c p k .bytes) (unsound-piece k h e)
 
   -- pieces struck from piece k on
-  pieces-blank : (n k : ℕ) → k + n ≤ c .nop → blanks (piecesIn width c y k n) ≡ blanks (struck (λ j. sound (k + j)) (piecesIn width c p k n))
+  pieces-blank : (n k : ℕ) → k + n ≤ c .nop → blanks (piecesIn register width c y k n) ≡ blanks (struck (λ j. sound (k + j)) (piecesIn register width c p k n))
   unfolding piecesIn blanks struck
   pieces-blank zero k h = refl
   pieces-blank (suc n) k h =
       let z : k ≡ k + 0 = omega arith in
       let f : (λ j. sound (suc k + j)) ≡ later (λ j. sound (k + j)) = fun-ext (λ j. let e : suc k + j ≡ k + suc j = omega arith in ap sound e) in
       ap₂ (λ (a : Piece) (l : List Piece). a ∷ l)
-      (piece-blank k (omega arith) ∙ ap (λ (i : ℕ). blank (record { cause = cond (sound i) (pieceIn width c p k .cause) 2; bytes = pieceIn width c p k .bytes })) z)
-      (pieces-blank n (suc k) (omega arith) ∙ ap (λ (s : ℕ → Bool). blanks (struck s (piecesIn width c p (suc k) n))) f)
+      (piece-blank k (omega arith) ∙ ap (λ (i : ℕ). blank (record { cause = cond (sound i) (pieceIn register width c p k .cause) 2; bytes = pieceIn register width c p k .bytes })) z)
+      (pieces-blank n (suc k) (omega arith) ∙ ap (λ (s : ℕ → Bool). blanks (struck s (piecesIn register width c p (suc k) n))) f)
 
   -- what a receiver takes the copy to say
-  said-blank : blankSaid (saidBy width (controlAt y) y) ≡ blankSaid (stricken sound (saidBy width c p))
+  said-blank : blankSaid (saidBy register width (controlAt y) y) ≡ blankSaid (stricken sound (saidBy register width c p))
   unfolding saidBy
   said-blank =
       let f : (λ j. sound (0 + j)) ≡ sound = fun-ext (λ j. ap sound (zero-add j)) in
-      let e : blanks (piecesIn width c y 0 (c .nop)) ≡ blanks (struck sound (piecesIn width c p 0 (c .nop))) = pieces-blank (c .nop) 0 (omega arith) ∙ ap (λ (s : ℕ → Bool). blanks (struck s (piecesIn width c p 0 (c .nop)))) f in
-      ap (λ (r : ControlWord). blankSaid (saidBy width r y)) control-is
+      let e : blanks (piecesIn register width c y 0 (c .nop)) ≡ blanks (struck sound (piecesIn register width c p 0 (c .nop))) = pieces-blank (c .nop) 0 (omega arith) ∙ ap (λ (s : ℕ → Bool). blanks (struck s (piecesIn register width c p 0 (c .nop)))) f in
+      ap (λ (r : ControlWord). blankSaid (saidBy register width r y)) control-is
       ∙ (λ i. record { sequence = c .sequence; pfirst = c .pfirst; plast = c .plast; start = c .start; psdBytes = psd-is i; pieces = e i; withheld = false })
 
   -- ---- within its bounds
@@ -274,27 +274,27 @@ module _ (width : ℕ) (p marks q : List ℕ) (sound : ℕ → Bool) (w : Plain 
   y-bytes : Bytes y
   y-bytes = all-join (λ n. n < 256) (take 96 p) (drop 96 q) (all-take 96 p (all-bytes p (w .bytes))) (all-drop 96 q (x .header .bytes))
 
-  pub sane-piece : (k : ℕ) → k < c .nop → SanePiece (pieceIn width c p k) → SanePiece (pieceIn width c y k)
+  pub sane-piece : (k : ℕ) → k < c .nop → SanePiece (pieceIn register width c p k) → SanePiece (pieceIn register width c y k)
   sane-piece k h s = subst SanePiece (sym (piece-is k h)) (record {
     bytes = bytes-of (bytesAt width p y k) (bytes-take (lengthAt width c p k) (drop (startAt width c p k) y) (bytes-drop (startAt width c p k) y y-bytes));
     some = as-long (lengthAt width c p k) (startAt width c p k) y p lengths-same (s .some);
-    cause = small (eqb (crcFrom 0 (bytesAt width p y k)) (crcAt width p y k));
+    cause = small (eqb (crcFrom register (bytesAt width p y k)) (crcAt width p y k));
   })
 
-  sane-pieces : (n k : ℕ) → k + n ≤ c .nop → SanePieces (piecesIn width c p k n) → SanePieces (piecesIn width c y k n)
+  sane-pieces : (n k : ℕ) → k + n ≤ c .nop → SanePieces (piecesIn register width c p k n) → SanePieces (piecesIn register width c y k n)
   unfolding piecesIn
   sane-pieces zero k h s = tt
   sane-pieces (suc n) k h s = (sane-piece k (omega arith) (s .0), sane-pieces n (suc k) (omega arith) (s .1))
 
-  sane-said : SaneSaid (saidBy width c p) → SaneSaid (saidBy width (controlAt y) y)
-  sane-said s = subst (λ (r : ControlWord). SaneSaid (saidBy width r y)) (sym control-is) (unfold saidBy in record {
+  sane-said : SaneSaid (saidBy register width c p) → SaneSaid (saidBy register width (controlAt y) y)
+  sane-said s = subst (λ (r : ControlWord). SaneSaid (saidBy register width r y)) (sym control-is) (unfold saidBy in record {
     psd = subst (λ (l : List ℕ). (length l < 65536) × logBytes l) (sym psd-is) (s .psd);
     pieces = sane-pieces (c .nop) 0 (omega arith) (s .pieces);
-    few = (let a = count-pieces width c y 0 (c .nop) in let b = count-pieces width c p 0 (c .nop) in let f = s .few in omega (arith, a, b, f));
+    few = (let a = count-pieces register width c y 0 (c .nop) in let b = count-pieces register width c p 0 (c .nop) in let f = s .few in omega (arith, a, b, f));
   })
 
-  pub own-right : (k : ℕ) → k < c .nop → pieceIn width c p k .cause ≡ 0
-  own-right k h = let e : eqb (crcFrom 0 (bytesAt width p p k)) (crcAt width p p k) ≡ true = eq-eqb _ _ (w .right k h) in ap (λ (b : Bool). cond b 0 2) e
+  pub own-right : (k : ℕ) → k < c .nop → pieceIn register width c p k .cause ≡ 0
+  own-right k h = let e : eqb (crcFrom register (bytesAt width p p k)) (crcAt width p p k) ≡ true = eq-eqb _ _ (w .right k h) in ap (λ (b : Bool). cond b 0 2) e
 
   -- document 02, Ask 10: the copy's expansion fields, program and applied services among them, are those of p
   pub copy-fields : answered (fieldsOf width (controlAt y) y) ≡ answered (fieldsOf width c p)
@@ -329,8 +329,8 @@ module _ (width : ℕ) (p marks q : List ℕ) (sound : ℕ → Bool) (w : Plain 
   pub copy-control : controlAt (correctedPduWith marks q) ≡ controlAt p
   copy-control = ap controlAt corrected-back ∙ control-is
 
-  pub copy-says : blankSaid (saidBy width (controlAt (correctedPduWith marks q)) (correctedPduWith marks q)) ≡ blankSaid (stricken sound (saidBy width (controlAt p) p))
-  copy-says = ap (λ (z : List ℕ). blankSaid (saidBy width (controlAt z) z)) corrected-back ∙ said-blank
+  pub copy-says : blankSaid (saidBy register width (controlAt (correctedPduWith marks q)) (correctedPduWith marks q)) ≡ blankSaid (stricken sound (saidBy register width (controlAt p) p))
+  copy-says = ap (λ (z : List ℕ). blankSaid (saidBy register width (controlAt z) z)) corrected-back ∙ said-blank
 
-  pub copy-sane : SaneSaid (saidBy width (controlAt p) p) → SaneSaid (saidBy width (controlAt (correctedPduWith marks q)) (correctedPduWith marks q))
-  copy-sane s = subst (λ (z : List ℕ). SaneSaid (saidBy width (controlAt z) z)) (sym corrected-back) (sane-said s)
+  pub copy-sane : SaneSaid (saidBy register width (controlAt p) p) → SaneSaid (saidBy register width (controlAt (correctedPduWith marks q)) (correctedPduWith marks q))
+  copy-sane s = subst (λ (z : List ℕ). SaneSaid (saidBy register width (controlAt z) z)) (sym corrected-back) (sane-said s)

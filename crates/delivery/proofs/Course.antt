@@ -26,37 +26,37 @@ use Rattle.delivery.proofs.Calling.{stateAt, next-in-range, numberAt, s
 use Rattle.delivery.proofs.Made.{Says, sized-of, loadOf, planFor, Made, made}
 
 -- the PDUs, their bytes and their loads, from PDU sequence q and G at g on, with packet i unfinished and s of its bytes sent
-pub data Course (mode stream : ℕ) (m : Mode) (ps : List (List ℕ)) : ℕ → ℕ → ℕ → ℕ → List (List ℕ) → List Span → List Load → Type 0 where
-  done : {q g i s : ℕ} → Course mode stream m ps q g i s [] [] []
+pub data Course (mode stream register : ℕ) (m : Mode) (ps : List (List ℕ)) : ℕ → ℕ → ℕ → ℕ → List (List ℕ) → List Span → List Load → Type 0 where
+  done : {q g i s : ℕ} → Course mode stream register m ps q g i s [] [] []
   next : {q g i s e t : ℕ} {psd p : List ℕ} {pdus : List (List ℕ)} {spans : List Span} {loads : List Load}
       → Fits s e t (drop i ps)
-      → Says mode stream (m .width) p (saidOf q i s (planFor (loadOf e t psd)) false (λ k. 0) (drop i ps))
-      → Course mode stream m ps (following (m .sequences) q) (g + bytesIn (cut s e t (drop i ps))) (i + e) (sentAfter s e t) pdus spans loads
-      → Course mode stream m ps q g i s (p ∷ pdus) (record { from = g; count = bytesIn (cut s e t (drop i ps)) } ∷ spans) (loadOf e t psd ∷ loads)
+      → Says mode stream register (m .width) p (saidOf q i s (planFor (loadOf e t psd)) false (λ k. 0) (drop i ps))
+      → Course mode stream register m ps (following (m .sequences) q) (g + bytesIn (cut s e t (drop i ps))) (i + e) (sentAfter s e t) pdus spans loads
+      → Course mode stream register m ps q g i s (p ∷ pdus) (record { from = g; count = bytesIn (cut s e t (drop i ps)) } ∷ spans) (loadOf e t psd ∷ loads)
 
-module _ (mode stream : ℕ) (m : Mode) (l : listing mode stream ≡ Listed m) (ps : List (List ℕ)) (y : Packets ps) where
+module _ (mode stream register : ℕ) (m : Mode) (l : listing mode stream ≡ Listed m) (ps : List (List ℕ)) (y : Packets ps) where
   -- a course with some loads
   abbrev pub Runs : ℕ → ℕ → ℕ → ℕ → List (List ℕ) → List Span → Type 0
-  Runs q g i s pdus spans = (loads : List Load) × Course mode stream m ps q g i s pdus spans loads
+  Runs q g i s pdus spans = (loads : List Load) × Course mode stream register m ps q g i s pdus spans loads
 
   module _ (q g i s : ℕ) (a : Writing) (al : List Writing) (hq : q < m .sequences) (v : Stands ps g i s) where
     abbrev w : Writer
-    w = stateAt mode stream q i s
+    w = stateAt mode stream register q i s
 
     abbrev n : ℕ
-    n = numberAt mode stream m l q i s a
+    n = numberAt mode stream register m l q i s a
 
-    told-is : told mode stream ps g ≡ stateAt mode stream 0 i s
-    told-is = ap₂ (λ (x z : ℕ). record { mode = mode; stream = stream; sequence = 0; number = x % 64; sent = z }) (stands-index ps g i s v) (stands-sent ps g i s v)
+    told-is : told mode stream ps g ≡ stateAt mode stream 0 0 i s
+    told-is = ap₂ (λ (x z : ℕ). record { mode = mode; stream = stream; register = 0; sequence = 0; number = x % 64; sent = z }) (stands-index ps g i s v) (stands-sent ps g i s v)
 
     -- G's table and the writer's agree
     table-is : refusedAt mode stream ps g a ≡ not (eqb n 0)
     table-is =
         ap (λ (x : Writer). not (eqb (answerTo x a .refusal) 0)) told-is
-        ∙ ap (λ (x : ℕ). not (eqb x 0)) (refusal-is mode stream m l 0 i s a ∙ sym (same-number mode stream m l q i s a hq))
+        ∙ ap (λ (x : ℕ). not (eqb x 0)) (refusal-is mode stream 0 m l 0 i s a ∙ sym (same-number mode stream register m l q i s a hq))
 
     writer-is : eqb (answerTo w a .refusal) 0 ≡ eqb n 0
-    writer-is = ap (λ (x : ℕ). eqb x 0) (refusal-is mode stream m l q i s a)
+    writer-is = ap (λ (x : ℕ). eqb x 0) (refusal-is mode stream register m l q i s a)
 
     placed-is : placedAt mode stream ps g a ≡ total (placed (a .settings) (a .psd) (a .lengths) (a .bytes) (length (a .buffer)) m w)
     placed-is =
@@ -66,7 +66,7 @@ module _ (mode stream : ℕ) (m : Mode) (l : listing mode stream ≡ Listed m) (
     refused-pdus : eqb n 0 ≡ false → pdusFrom w (a ∷ al) ≡ pdusFrom w al
     unfolding pdusFrom
     refused-pdus e =
-        ap₂ (λ (b : Bool) (x : Writer). cond b (bufferAfter w a ∷ []) [] ++ pdusFrom x al) (writer-is ∙ e) (refused-writer mode stream m l q i s a e)
+        ap₂ (λ (b : Bool) (x : Writer). cond b (bufferAfter w a ∷ []) [] ++ pdusFrom x al) (writer-is ∙ e) (refused-writer mode stream register m l q i s a e)
 
     refused-spans : eqb n 0 ≡ false → spansFrom mode stream ps g (a ∷ al) ≡ spansFrom mode stream ps g al
     unfolding spansFrom
@@ -77,7 +77,7 @@ module _ (mode stream : ℕ) (m : Mode) (l : listing mode stream ≡ Listed m) (
     refused-case e r = subst (λ (d : List (List ℕ)). Runs q g i s d (spansFrom mode stream ps g (a ∷ al))) (sym (refused-pdus e)) (subst (Runs q g i s (pdusFrom w al)) (sym (refused-spans e)) r)
 
     -- an accepted one makes a PDU
-    module _ (x : Made mode stream m l ps q i s (a .settings) (a .psd) (a .lengths) (a .bytes) (length (a .buffer))) where
+    module _ (x : Made mode stream register m l ps q i s (a .settings) (a .psd) (a .lengths) (a .bytes) (length (a .buffer))) where
       abbrev e : ℕ
       e = endedOf (a .settings) (a .psd) (a .lengths) (a .bytes) (length (a .buffer)) m w
 
@@ -88,7 +88,7 @@ module _ (mode stream : ℕ) (m : Mode) (l : listing mode stream ≡ Listed m) (
       grown = g + bytesIn (cut s e t (drop i ps))
 
       abbrev after : Writer
-      after = stateAt mode stream (following (m .sequences) q) (i + e) (sentAfter s e t)
+      after = stateAt mode stream register (following (m .sequences) q) (i + e) (sentAfter s e t)
 
       g-grows : placedAt mode stream ps g a ≡ bytesIn (cut s e t (drop i ps))
       g-grows = placed-is ∙ x .counts
@@ -96,8 +96,8 @@ module _ (mode stream : ℕ) (m : Mode) (l : listing mode stream ≡ Listed m) (
       made-pdus : eqb n 0 ≡ true → pdusFrom w (a ∷ al) ≡ pduOf (a .settings) (a .psd) (a .lengths) (a .bytes) (length (a .buffer)) m w ∷ pdusFrom after al
       unfolding pdusFrom
       made-pdus z =
-          ap₂ (λ (b : Bool) (r : Writer). cond b (bufferAfter w a ∷ []) [] ++ pdusFrom r al) (writer-is ∙ z) (accepted-writer mode stream m l q i s a z ∙ x .next)
-          ∙ ap (λ (p : List ℕ). p ∷ pdusFrom after al) (accepted-pdu mode stream m l q i s a z)
+          ap₂ (λ (b : Bool) (r : Writer). cond b (bufferAfter w a ∷ []) [] ++ pdusFrom r al) (writer-is ∙ z) (accepted-writer mode stream register m l q i s a z ∙ x .next)
+          ∙ ap (λ (p : List ℕ). p ∷ pdusFrom after al) (accepted-pdu mode stream register m l q i s a z)
 
       made-spans : eqb n 0 ≡ true → spansFrom mode stream ps g (a ∷ al) ≡ record { from = g; count = bytesIn (cut s e t (drop i ps)) } ∷ spansFrom mode stream ps grown al
       unfolding spansFrom
@@ -111,7 +111,7 @@ module _ (mode stream : ℕ) (m : Mode) (l : listing mode stream ≡ Listed m) (
           subst (λ (d : List (List ℕ)). Runs q g i s d (spansFrom mode stream ps g (a ∷ al))) (sym (made-pdus z)) (subst (Runs q g i s _) (sym (made-spans z)) c)
 
     -- of the packets offered
-    made-of : n ≡ 0 → Offers (drop (unfinished ps g) ps) a → Made mode stream m l ps q i s (a .settings) (a .psd) (a .lengths) (a .bytes) (length (a .buffer))
+    made-of : n ≡ 0 → Offers (drop (unfinished ps g) ps) a → Made mode stream register m l ps q i s (a .settings) (a .psd) (a .lengths) (a .bytes) (length (a .buffer))
     made-of z o =
         let k = o .0 in
         let f : drop (unfinished ps g) ps ≡ drop i ps = ap (λ (j : ℕ). drop j ps) (stands-index ps g i s v) in
@@ -119,22 +119,22 @@ module _ (mode stream : ℕ) (m : Mode) (l : listing mode stream ≡ Listed m) (
         let eb : a .bytes ≡ joined (take k (drop i ps)) = o .2 ∙ ap (λ (r : List (List ℕ)). joined (take k r)) f in
         let zero-there : firstOf (writerTests (a .settings) (a .psd) (map length (take k (drop i ps))) (joined (take k (drop i ps))) (length (a .buffer)) m w) ≡ 0 =
         sym (ap₂ (λ (ns bs : List ℕ). firstOf (writerTests (a .settings) (a .psd) ns bs (length (a .buffer)) m w)) el eb) ∙ z in
-        let x = made mode stream m l ps q i s (a .settings) (a .psd) k (length (a .buffer)) (a .psd-bytes) y (v .rest) hq zero-there in
-        subst (λ (ns : List ℕ). Made mode stream m l ps q i s (a .settings) (a .psd) ns (a .bytes) (length (a .buffer))) (sym el)
-        (subst (λ (bs : List ℕ). Made mode stream m l ps q i s (a .settings) (a .psd) (map length (take k (drop i ps))) bs (length (a .buffer))) (sym eb) x)
+        let x = made mode stream register m l ps q i s (a .settings) (a .psd) k (length (a .buffer)) (a .psd-bytes) y (v .rest) hq zero-there in
+        subst (λ (ns : List ℕ). Made mode stream register m l ps q i s (a .settings) (a .psd) ns (a .bytes) (length (a .buffer))) (sym el)
+        (subst (λ (bs : List ℕ). Made mode stream register m l ps q i s (a .settings) (a .psd) (map length (take k (drop i ps))) bs (length (a .buffer))) (sym eb) x)
 
-  pub course : (al : List Writing) (q g i s : ℕ) → q < m .sequences → Stands ps g i s → InOrder mode stream ps g al → Runs q g i s (pdusFrom (stateAt mode stream q i s) al) (spansFrom mode stream ps g al)
+  pub course : (al : List Writing) (q g i s : ℕ) → q < m .sequences → Stands ps g i s → InOrder mode stream ps g al → Runs q g i s (pdusFrom (stateAt mode stream register q i s) al) (spansFrom mode stream ps g al)
   course [] q g i s hq v h = unfold pdusFrom spansFrom in ([], done)
   course (a ∷ al) q g i s hq v h =
-      go (eqb (numberAt mode stream m l q i s a) 0) refl (subst (λ (b : Bool). either b (InOrder mode stream ps g al) (Offers (drop (unfinished ps g) ps) a × InOrder mode stream ps (g + placedAt mode stream ps g a) al)) (table-is q g i s a al hq v) h)
+      go (eqb (numberAt mode stream register m l q i s a) 0) refl (subst (λ (b : Bool). either b (InOrder mode stream ps g al) (Offers (drop (unfinished ps g) ps) a × InOrder mode stream ps (g + placedAt mode stream ps g a) al)) (table-is q g i s a al hq v) h)
       (λ h′. course al q g i s hq v h′) (λ q′ g′ i′ s′ hq′ v′ h′. course al q′ g′ i′ s′ hq′ v′ h′)
     where
-      go : (b : Bool) → eqb (numberAt mode stream m l q i s a) 0 ≡ b → either (not b) (InOrder mode stream ps g al) (Offers (drop (unfinished ps g) ps) a × InOrder mode stream ps (g + placedAt mode stream ps g a) al)
-          → (InOrder mode stream ps g al → Runs q g i s (pdusFrom (stateAt mode stream q i s) al) (spansFrom mode stream ps g al))
-          → ((q′ g′ i′ s′ : ℕ) → q′ < m .sequences → Stands ps g′ i′ s′ → InOrder mode stream ps g′ al → Runs q′ g′ i′ s′ (pdusFrom (stateAt mode stream q′ i′ s′) al) (spansFrom mode stream ps g′ al))
-          → Runs q g i s (pdusFrom (stateAt mode stream q i s) (a ∷ al)) (spansFrom mode stream ps g (a ∷ al))
+      go : (b : Bool) → eqb (numberAt mode stream register m l q i s a) 0 ≡ b → either (not b) (InOrder mode stream ps g al) (Offers (drop (unfinished ps g) ps) a × InOrder mode stream ps (g + placedAt mode stream ps g a) al)
+          → (InOrder mode stream ps g al → Runs q g i s (pdusFrom (stateAt mode stream register q i s) al) (spansFrom mode stream ps g al))
+          → ((q′ g′ i′ s′ : ℕ) → q′ < m .sequences → Stands ps g′ i′ s′ → InOrder mode stream ps g′ al → Runs q′ g′ i′ s′ (pdusFrom (stateAt mode stream register q′ i′ s′) al) (spansFrom mode stream ps g′ al))
+          → Runs q g i s (pdusFrom (stateAt mode stream register q i s) (a ∷ al)) (spansFrom mode stream ps g (a ∷ al))
       go false e o same later = refused-case q g i s a al hq v e (same o)
       go true e o same later =
-          let x = made-of q g i s a al hq v (eqb-true (numberAt mode stream m l q i s a) 0 e) (o .0) in
+          let x = made-of q g i s a al hq v (eqb-true (numberAt mode stream register m l q i s a) 0 e) (o .0) in
           made-case q g i s a al hq v x e
           (later _ _ _ _ (next-in-range (m .sequences) q hq) (stands-next ps g i s _ _ (sized-of ps y) v (x .fits)) (subst (λ (c : ℕ). InOrder mode stream ps (g + c) al) (g-grows q g i s a al hq v x) (o .1)))

@@ -11,6 +11,7 @@ pub mod Packed
 pub mod Pairs
 pub mod Possible
 pub mod ReadBack
+pub mod Registers
 pub mod Saving
 pub mod Serving
 pub mod SmallRuns

@@ -47,27 +47,27 @@ use Rattle.delivery.proofs.Packed.{RoomFor, placed-fits, placed-lengths
 use Rattle.delivery.proofs.ReadBack.{taken, sent, reads-back, control-back, at-least, at-most, crcs-right, said-back}
 use Rattle.delivery.proofs.Calling.{stateAt, next-sequence}
 
--- q with these marks, handed to a receiver of this mode and stream, says d
-pub record Heard (mode stream width : ℕ) (marks q : List ℕ) (d : Said) : Type 0 where
+-- q with these marks, handed to a receiver of this mode, stream and register, says d
+pub record Heard (mode stream register width : ℕ) (marks q : List ℕ) (d : Said) : Type 0 where
   pub size : (leb 96 (length q) && leb (length q) 20480) ≡ true
   pub allowed : marksRefusal marks ≡ 0
   pub correctable : uncorrectable (correctedWith marks (take 96 q)) ≡ false
   pub reads : judged (correctedPduWith marks q) ≡ 0
   pub sameMode : controlAt (correctedPduWith marks q) .mode ≡ mode
   pub sameStream : controlAt (correctedPduWith marks q) .stream ≡ stream
-  pub says : saidBy width (controlAt (correctedPduWith marks q)) (correctedPduWith marks q) ≡ d
+  pub says : saidBy register width (controlAt (correctedPduWith marks q)) (correctedPduWith marks q) ≡ d
 
--- p, as it was written, says d
-pub record Says (mode stream width : ℕ) (p : List ℕ) (d : Said) : Type 0 where
+-- p, as it was written by this register, says d
+pub record Says (mode stream register width : ℕ) (p : List ℕ) (d : Said) : Type 0 where
   pub bytes : Bytes p
   pub code : isCodeWord (take 96 p) ≡ true
   pub least : 96 ≤ length p
   pub most : length p ≤ 20480
-  pub crcs : (k : ℕ) → k < controlAt p .nop → crcFrom 0 (bytesAt width p p k) ≡ crcAt width p p k
+  pub crcs : (k : ℕ) → k < controlAt p .nop → crcFrom register (bytesAt width p p k) ≡ crcAt width p p k
   pub accepted : judged p ≡ 0
   pub sameMode : controlAt p .mode ≡ mode
   pub sameStream : controlAt p .stream ≡ stream
-  pub says : saidBy width (controlAt p) p ≡ d
+  pub says : saidBy register width (controlAt p) p ≡ d
   pub sane : SaneSaid d
 
 taken-read : (bs : List (List ℕ)) → taken bs ≡ readPieces (λ k. 0) bs
@@ -157,24 +157,24 @@ same-start : (i : ℕ) (b : Bool) → (i % 64 + bit b) % 64 ≡ (i + cond b 1 0)
 same-start i true = omega arith
 same-start i false = omega arith
 
-module _ (mode stream : ℕ) (m : Mode) (l : listing mode stream ≡ Listed m) (ps : List (List ℕ)) (q i s : ℕ) where
+module _ (mode stream register : ℕ) (m : Mode) (l : listing mode stream ≡ Listed m) (ps : List (List ℕ)) (q i s : ℕ) where
   -- what an accepted call makes, of packets offered from packet i on
   pub record Made (settings : Settings) (psd lengths bytes : List ℕ) (size : ℕ) : Type 0 where
-    pub fits : Fits s (endedOf settings psd lengths bytes size m (stateAt mode stream q i s)) (partOf settings psd lengths bytes size m (stateAt mode stream q i s)) (drop i ps)
-    pub counts : total (placed settings psd lengths bytes size m (stateAt mode stream q i s))
-        ≡ bytesIn (cut s (endedOf settings psd lengths bytes size m (stateAt mode stream q i s)) (partOf settings psd lengths bytes size m (stateAt mode stream q i s)) (drop i ps))
-    pub says : Says mode stream (m .width) (pduOf settings psd lengths bytes size m (stateAt mode stream q i s))
-        (saidOf q i s (planFor (loadOf (endedOf settings psd lengths bytes size m (stateAt mode stream q i s)) (partOf settings psd lengths bytes size m (stateAt mode stream q i s)) psd)) false (λ k. 0) (drop i ps))
-    pub next : nextOf settings psd lengths bytes size m (stateAt mode stream q i s)
-        ≡ stateAt mode stream (following (m .sequences) q) (i + endedOf settings psd lengths bytes size m (stateAt mode stream q i s)) (sentAfter s (endedOf settings psd lengths bytes size m (stateAt mode stream q i s)) (partOf settings psd lengths bytes size m (stateAt mode stream q i s)))
+    pub fits : Fits s (endedOf settings psd lengths bytes size m (stateAt mode stream register q i s)) (partOf settings psd lengths bytes size m (stateAt mode stream register q i s)) (drop i ps)
+    pub counts : total (placed settings psd lengths bytes size m (stateAt mode stream register q i s))
+        ≡ bytesIn (cut s (endedOf settings psd lengths bytes size m (stateAt mode stream register q i s)) (partOf settings psd lengths bytes size m (stateAt mode stream register q i s)) (drop i ps))
+    pub says : Says mode stream register (m .width) (pduOf settings psd lengths bytes size m (stateAt mode stream register q i s))
+        (saidOf q i s (planFor (loadOf (endedOf settings psd lengths bytes size m (stateAt mode stream register q i s)) (partOf settings psd lengths bytes size m (stateAt mode stream register q i s)) psd)) false (λ k. 0) (drop i ps))
+    pub next : nextOf settings psd lengths bytes size m (stateAt mode stream register q i s)
+        ≡ stateAt mode stream register (following (m .sequences) q) (i + endedOf settings psd lengths bytes size m (stateAt mode stream register q i s)) (sentAfter s (endedOf settings psd lengths bytes size m (stateAt mode stream register q i s)) (partOf settings psd lengths bytes size m (stateAt mode stream register q i s)))
 
   module _ (settings : Settings) (psd : List ℕ) (k size : ℕ) (hp : Bytes psd) (y : Packets ps) (u : Unfinished s (drop i ps)) (hq : q < m .sequences)
-      (t : firstOf (writerTests settings psd (map length (take k (drop i ps))) (joined (take k (drop i ps))) size m (stateAt mode stream q i s)) ≡ 0) where
+      (t : firstOf (writerTests settings psd (map length (take k (drop i ps))) (joined (take k (drop i ps))) size m (stateAt mode stream register q i s)) ≡ 0) where
     abbrev os : List (List ℕ)
     os = take k (drop i ps)
 
     abbrev w : Writer
-    w = stateAt mode stream q i s
+    w = stateAt mode stream register q i s
 
     abbrev extra : ℕ
     extra = extraOf settings psd (map length os) (joined os) size
@@ -229,7 +229,7 @@ module _ (mode stream : ℕ) (m : Mode) (l : listing mode stream ≡ Listed m) (
             accepted = reads-back settings psd (map length os) (joined os) size m w l t hp (joined-bytes os yo);
             sameMode = ap (λ (c : ControlWord). c .mode) (control-back settings psd (map length os) (joined os) size m w l t hp (joined-bytes os yo));
             sameStream = ap (λ (c : ControlWord). c .stream) (control-back settings psd (map length os) (joined os) size m w l t hp (joined-bytes os yo));
-            says = ap (λ (c : ControlWord). saidBy (m .width) c (pduOf settings psd (map length os) (joined os) size m w)) (control-back settings psd (map length os) (joined os) size m w l t hp (joined-bytes os yo))
+            says = ap (λ (c : ControlWord). saidBy register (m .width) c (pduOf settings psd (map length os) (joined os) size m w)) (control-back settings psd (map length os) (joined os) size m w l t hp (joined-bytes os yo))
                 ∙ said-back settings psd (map length os) (joined os) size m w l t hp (joined-bytes os yo)
                 ∙ said-is;
             sane = record {
@@ -238,8 +238,8 @@ module _ (mode stream : ℕ) (m : Mode) (l : listing mode stream ≡ Listed m) (
               few = (let n = few settings psd (map length os) (joined os) size m w f in let b = most-small (m .width) in let c = read-count (λ k. 0) (cut s ended over (drop i ps)) in omega (arith, n, b, c, counted));
             };
           };
-          next = ap₂ (λ (a b : ℕ). record { mode = mode; stream = stream; sequence = a; number = (i % 64 + ended) % 64; sent = b }) (next-sequence (m .sequences) q hq) (sent-is s ended over)
-              ∙ ap (λ (n : ℕ). record { mode = mode; stream = stream; sequence = following (m .sequences) q; number = n; sent = sentAfter s ended over }) (wrapped i ended);
+          next = ap₂ (λ (a b : ℕ). record { mode = mode; stream = stream; register = register; sequence = a; number = (i % 64 + ended) % 64; sent = b }) (next-sequence (m .sequences) q hq) (sent-is s ended over)
+              ∙ ap (λ (n : ℕ). record { mode = mode; stream = stream; register = register; sequence = following (m .sequences) q; number = n; sent = sentAfter s ended over }) (wrapped i ended);
         }
       where
         wrapped : (i e : ℕ) → (i % 64 + e) % 64 ≡ (i + e) % 64

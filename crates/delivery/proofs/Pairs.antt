@@ -54,12 +54,12 @@ sane-pair a b s t = go (eqb (a .cause) 0) (eqb (b .cause) 0) (sameBytes (a .byte
     go true false w = s
     go false v w = t
 
-count-pairs : (width : ℕ) (c : ControlWord) (y z : List ℕ) (k n : ℕ) → length (pairPieces width c y z k n) ≡ n
+count-pairs : (register width : ℕ) (c : ControlWord) (y z : List ℕ) (k n : ℕ) → length (pairPieces register width c y z k n) ≡ n
 unfolding pairPieces
-count-pairs width c y z k zero = refl
-count-pairs width c y z k (suc n) = ap suc (count-pairs width c y z (suc k) n)
+count-pairs register width c y z k zero = refl
+count-pairs register width c y z k (suc n) = ap suc (count-pairs register width c y z (suc k) n)
 
-module _ (width : ℕ) (p mq q mr r : List ℕ) (s t : ℕ → Bool) (w : Plain width p) (x : Copy width p mq q s) (v : Copy width p mr r t) where
+module _ (register width : ℕ) (p mq q mr r : List ℕ) (s t : ℕ → Bool) (w : Plain register width p) (x : Copy register width p mq q s) (v : Copy register width p mr r t) where
   abbrev c : ControlWord
   c = controlAt p
 
@@ -75,72 +75,72 @@ module _ (width : ℕ) (p mq q mr r : List ℕ) (s t : ℕ → Bool) (w : Plain 
   either k = s k || t k
 
   pair-blank : (k : ℕ) → k < c .nop
-      → blank (pairPiece (pieceIn width c y k) (pieceIn width c z k)) ≡ blank (record { cause = cond (either k) (pieceIn width c p k .cause) 2; bytes = pieceIn width c p k .bytes })
+      → blank (pairPiece (pieceIn register width c y k) (pieceIn register width c z k)) ≡ blank (record { cause = cond (either k) (pieceIn register width c p k .cause) 2; bytes = pieceIn register width c p k .bytes })
   pair-blank k h = go (s k) (t k) refl refl
     where
       a : Piece
-      a = pieceIn width c y k
+      a = pieceIn register width c y k
 
       o : Piece
-      o = pieceIn width c p k
+      o = pieceIn register width c p k
 
-      go : (b d : Bool) → s k ≡ b → t k ≡ d → blank (pairPiece (pieceIn width c y k) (pieceIn width c z k)) ≡ blank (record { cause = cond (b || d) (pieceIn width c p k .cause) 2; bytes = pieceIn width c p k .bytes })
+      go : (b d : Bool) → s k ≡ b → t k ≡ d → blank (pairPiece (pieceIn register width c y k) (pieceIn register width c z k)) ≡ blank (record { cause = cond (b || d) (pieceIn register width c p k .cause) 2; bytes = pieceIn register width c p k .bytes })
       go true true e f =
-          ap₂ (λ (a b : Piece). blank (pairPiece a b)) (sound-piece width p mq q s w x k h e) (sound-piece width p mr r t w v k h f)
-          ∙ ap blank (pair-both (pieceIn width c p k) (own-right width p mq q s w x k h))
+          ap₂ (λ (a b : Piece). blank (pairPiece a b)) (sound-piece register width p mq q s w x k h e) (sound-piece register width p mr r t w v k h f)
+          ∙ ap blank (pair-both (pieceIn register width c p k) (own-right register width p mq q s w x k h))
       go true false e f =
-          ap (λ (a : Piece). blank (pairPiece a (pieceIn width c z k))) (sound-piece width p mq q s w x k h e)
-          ∙ ap blank (pair-first (pieceIn width c p k) (pieceIn width c z k) (own-right width p mq q s w x k h) (unsound-piece width p mr r t w v k h f))
-      go false true e f = ap blank (pair-second (pieceIn width c y k) (pieceIn width c z k) (unsound-piece width p mq q s w x k h e) ∙ sound-piece width p mr r t w v k h f)
+          ap (λ (a : Piece). blank (pairPiece a (pieceIn register width c z k))) (sound-piece register width p mq q s w x k h e)
+          ∙ ap blank (pair-first (pieceIn register width c p k) (pieceIn register width c z k) (own-right register width p mq q s w x k h) (unsound-piece register width p mr r t w v k h f))
+      go false true e f = ap blank (pair-second (pieceIn register width c y k) (pieceIn register width c z k) (unsound-piece register width p mq q s w x k h e) ∙ sound-piece register width p mr r t w v k h f)
       go false false e f =
-          ap blank (pair-second (pieceIn width c y k) (pieceIn width c z k) (unsound-piece width p mq q s w x k h e))
-          ∙ blank-two (pieceIn width c z k) (pieceIn width c p k .bytes) (unsound-piece width p mr r t w v k h f)
+          ap blank (pair-second (pieceIn register width c y k) (pieceIn register width c z k) (unsound-piece register width p mq q s w x k h e))
+          ∙ blank-two (pieceIn register width c z k) (pieceIn register width c p k .bytes) (unsound-piece register width p mr r t w v k h f)
 
-  pairs-blank : (n k : ℕ) → k + n ≤ c .nop → blanks (pairPieces width c y z k n) ≡ blanks (struck (λ j. either (k + j)) (piecesIn width c p k n))
+  pairs-blank : (n k : ℕ) → k + n ≤ c .nop → blanks (pairPieces register width c y z k n) ≡ blanks (struck (λ j. either (k + j)) (piecesIn register width c p k n))
   unfolding piecesIn pairPieces blanks struck
   pairs-blank zero k h = refl
   pairs-blank (suc n) k h =
       let i : k ≡ k + 0 = omega arith in
       let f : (λ j. either (suc k + j)) ≡ later (λ j. either (k + j)) = fun-ext (λ j. let e : suc k + j ≡ k + suc j = omega arith in ap either e) in
       ap₂ (λ (a : Piece) (l : List Piece). a ∷ l)
-      (pair-blank k (omega arith) ∙ ap (λ (i : ℕ). blank (record { cause = cond (either i) (pieceIn width c p k .cause) 2; bytes = pieceIn width c p k .bytes })) i)
-      (pairs-blank n (suc k) (omega arith) ∙ ap (λ (s : ℕ → Bool). blanks (struck s (piecesIn width c p (suc k) n))) f)
+      (pair-blank k (omega arith) ∙ ap (λ (i : ℕ). blank (record { cause = cond (either i) (pieceIn register width c p k .cause) 2; bytes = pieceIn register width c p k .bytes })) i)
+      (pairs-blank n (suc k) (omega arith) ∙ ap (λ (s : ℕ → Bool). blanks (struck s (piecesIn register width c p (suc k) n))) f)
 
   -- what the pair says, with the first's control word and PSD
-  pub pair-says : blankSaid (pairSaid width (controlAt y) y z) ≡ blankSaid (stricken either (saidBy width c p))
+  pub pair-says : blankSaid (pairSaid register width (controlAt y) y z) ≡ blankSaid (stricken either (saidBy register width c p))
   unfolding saidBy pairSaid
   pair-says =
       let f : (λ j. either (0 + j)) ≡ either = fun-ext (λ j. ap either (zero-add j)) in
-      let e : blanks (pairPieces width c y z 0 (c .nop)) ≡ blanks (struck either (piecesIn width c p 0 (c .nop))) = pairs-blank (c .nop) 0 (omega arith) ∙ ap (λ (s : ℕ → Bool). blanks (struck s (piecesIn width c p 0 (c .nop)))) f in
-      let g = copy-psd width p mq q s w x in
-      ap (λ (r : ControlWord). blankSaid (pairSaid width r y z)) (copy-control-is width p mq q s w x)
+      let e : blanks (pairPieces register width c y z 0 (c .nop)) ≡ blanks (struck either (piecesIn register width c p 0 (c .nop))) = pairs-blank (c .nop) 0 (omega arith) ∙ ap (λ (s : ℕ → Bool). blanks (struck s (piecesIn register width c p 0 (c .nop)))) f in
+      let g = copy-psd register width p mq q s w x in
+      ap (λ (r : ControlWord). blankSaid (pairSaid register width r y z)) (copy-control-is register width p mq q s w x)
       ∙ (λ i. record { sequence = c .sequence; pfirst = c .pfirst; plast = c .plast; start = c .start; psdBytes = g i; pieces = e i; withheld = false })
 
   -- ---- all that a receiver needs of a pair
 
   -- number 20 does not apply
   pub pair-agrees : take (c .la + 1) (correctedPduWith mq q) ≡ take (c .la + 1) (correctedPduWith mr r)
-  pair-agrees = ap (take (c .la + 1)) (copy-corrected width p mq q s w x) ∙ x .front ∙ sym (v .front) ∙ sym (ap (take (c .la + 1)) (copy-corrected width p mr r t w v))
+  pair-agrees = ap (take (c .la + 1)) (copy-corrected register width p mq q s w x) ∙ x .front ∙ sym (v .front) ∙ sym (ap (take (c .la + 1)) (copy-corrected register width p mr r t w v))
 
-  pairs-sane : (n k : ℕ) → k + n ≤ c .nop → SanePieces (piecesIn width c p k n) → SanePieces (pairPieces width c y z k n)
+  pairs-sane : (n k : ℕ) → k + n ≤ c .nop → SanePieces (piecesIn register width c p k n) → SanePieces (pairPieces register width c y z k n)
   unfolding piecesIn pairPieces
   pairs-sane zero k h o = tt
   pairs-sane (suc n) k h o =
-      (sane-pair (pieceIn width c y k) (pieceIn width c z k) (sane-piece width p mq q s w x k (omega arith) (o .0)) (sane-piece width p mr r t w v k (omega arith) (o .0)), pairs-sane n (suc k) (omega arith) (o .1))
+      (sane-pair (pieceIn register width c y k) (pieceIn register width c z k) (sane-piece register width p mq q s w x k (omega arith) (o .0)) (sane-piece register width p mr r t w v k (omega arith) (o .0)), pairs-sane n (suc k) (omega arith) (o .1))
 
-  said-sane : SaneSaid (saidBy width c p) → SaneSaid (pairSaid width c y z)
+  said-sane : SaneSaid (saidBy register width c p) → SaneSaid (pairSaid register width c y z)
   unfolding saidBy pairSaid
   said-sane o = record {
-    psd = subst (λ (l : List ℕ). (length l < 65536) × logBytes l) (sym (copy-psd width p mq q s w x)) (o .psd);
+    psd = subst (λ (l : List ℕ). (length l < 65536) × logBytes l) (sym (copy-psd register width p mq q s w x)) (o .psd);
     pieces = pairs-sane (c .nop) 0 (omega arith) (o .pieces);
-    few = (let a = count-pairs width c y z 0 (c .nop) in let b = count-pieces width c p 0 (c .nop) in let f = o .few in omega (arith, a, b, f));
+    few = (let a = count-pairs register width c y z 0 (c .nop) in let b = count-pieces register width c p 0 (c .nop) in let f = o .few in omega (arith, a, b, f));
   }
 
-  pub pair-sane : SaneSaid (saidBy width c p) → SaneSaid (pairSaid width (controlAt (correctedPduWith mq q)) (correctedPduWith mq q) (correctedPduWith mr r))
+  pub pair-sane : SaneSaid (saidBy register width c p) → SaneSaid (pairSaid register width (controlAt (correctedPduWith mq q)) (correctedPduWith mq q) (correctedPduWith mr r))
   pair-sane o =
-      subst (λ (l : List ℕ). SaneSaid (pairSaid width (controlAt l) l (correctedPduWith mr r))) (sym (copy-corrected width p mq q s w x))
-      (subst (λ (l : List ℕ). SaneSaid (pairSaid width (controlAt y) y l)) (sym (copy-corrected width p mr r t w v))
-      (subst (λ (k : ControlWord). SaneSaid (pairSaid width k y z)) (sym (copy-control-is width p mq q s w x)) (said-sane o)))
+      subst (λ (l : List ℕ). SaneSaid (pairSaid register width (controlAt l) l (correctedPduWith mr r))) (sym (copy-corrected register width p mq q s w x))
+      (subst (λ (l : List ℕ). SaneSaid (pairSaid register width (controlAt y) y l)) (sym (copy-corrected register width p mr r t w v))
+      (subst (λ (k : ControlWord). SaneSaid (pairSaid register width k y z)) (sym (copy-control-is register width p mq q s w x)) (said-sane o)))
 
-  pub pair-heard : blankSaid (pairSaid width (controlAt (correctedPduWith mq q)) (correctedPduWith mq q) (correctedPduWith mr r)) ≡ blankSaid (stricken either (saidBy width c p))
-  pair-heard = ap₂ (λ (a b : List ℕ). blankSaid (pairSaid width (controlAt a) a b)) (copy-corrected width p mq q s w x) (copy-corrected width p mr r t w v) ∙ pair-says
+  pub pair-heard : blankSaid (pairSaid register width (controlAt (correctedPduWith mq q)) (correctedPduWith mq q) (correctedPduWith mr r)) ≡ blankSaid (stricken either (saidBy register width c p))
+  pair-heard = ap₂ (λ (a b : List ℕ). blankSaid (pairSaid register width (controlAt a) a b)) (copy-corrected register width p mq q s w x) (copy-corrected register width p mr r t w v) ∙ pair-says

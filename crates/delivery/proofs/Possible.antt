@@ -90,20 +90,20 @@ all-take zero l h = tt
 all-take (suc n) [] h = tt
 all-take (suc n) (x ∷ l) h = (h .0, all-take n l (h .1))
 
-module _ (mode stream : ℕ) (packets : List (List ℕ)) (writings : List Writing) (opens : writerOpened mode stream .refusal ≡ 0) (sized : Packets packets) (offered : InOrder mode stream packets 0 writings) where
+module _ (mode stream register : ℕ) (packets : List (List ℕ)) (writings : List Writing) (opens : writerOpened mode stream register .refusal ≡ 0) (sized : Packets packets) (offered : InOrder mode stream packets 0 writings) where
   -- the PDUs of a run can be received
-  pub run-usable : (first count : ℕ) → All Usable (runOf first count (made mode stream writings))
-  run-usable first count = all-take count (drop first (made mode stream writings)) (all-drop first (made mode stream writings) (made-right mode stream packets writings opens sized offered .usable))
+  pub run-usable : (first count : ℕ) → All Usable (runOf first count (made mode stream register writings))
+  run-usable first count = all-take count (drop first (made mode stream register writings)) (all-drop first (made mode stream register writings) (made-right mode stream register packets writings opens sized offered .usable))
 
   -- the calls for a run, each PDU as it was written, with some lost
   abbrev pub stepsOf : ℕ → ℕ → List Bool → List Step
-  stepsOf first count bs = stepsFor [] asSent [] (runOf first count (made mode stream writings)) bs
+  stepsOf first count bs = stepsFor [] asSent [] (runOf first count (made mode stream register writings)) bs
 
-  pub possible : (b : Behaviour) (first count : ℕ) (carry : List ℕ) (bs : List Bool) → 4096 ≤ length carry → Asked b mode stream packets writings first count carry (stepsOf first count bs)
+  pub possible : (b : Behaviour) (first count : ℕ) (carry : List ℕ) (bs : List Bool) → 4096 ≤ length carry → Asked b mode stream register packets writings first count carry (stepsOf first count bs)
   possible b first count carry bs big = record {
     opens = opens;
     sized = sized;
     offered = offered;
     room = big;
-    through = goes-through [] asSent b as-sent [] (runOf first count (made mode stream writings)) bs _ (λ y. tt) (run-usable first count);
+    through = goes-through [] asSent b as-sent [] (runOf first count (made mode stream register writings)) bs _ (λ y. tt) (run-usable first count);
   }

@@ -42,21 +42,21 @@ taken [] = []
 taken (b ∷ bs) = record { cause = 0; bytes = b } ∷ taken bs
 
 -- a piece that is read as it was written is taken
-piece-back : (width : ℕ) (c : ControlWord) (y : List ℕ) (k : ℕ) (b : List ℕ) → PieceRead width c y k b → pieceIn width c y k ≡ record { cause = 0; bytes = b }
-piece-back width c y k b r =
-    let e : eqb (crcFrom 0 b) (getD y (locatorAt width y k) 0) ≡ true = eq-eqb (crcFrom 0 b) (getD y (locatorAt width y k) 0) (sym (r .crc)) in
-    ap {B = Piece} (λ (bs : List ℕ). record { cause = cond (eqb (crcFrom 0 bs) (getD y (locatorAt width y k) 0)) 0 2; bytes = bs }) (r .bytes)
+piece-back : (register width : ℕ) (c : ControlWord) (y : List ℕ) (k : ℕ) (b : List ℕ) → PieceRead register width c y k b → pieceIn register width c y k ≡ record { cause = 0; bytes = b }
+piece-back register width c y k b r =
+    let e : eqb (crcFrom register b) (getD y (locatorAt width y k) 0) ≡ true = eq-eqb (crcFrom register b) (getD y (locatorAt width y k) 0) (sym (r .crc)) in
+    ap {B = Piece} (λ (bs : List ℕ). record { cause = cond (eqb (crcFrom register bs) (getD y (locatorAt width y k) 0)) 0 2; bytes = bs }) (r .bytes)
     ∙ ap {B = Piece} (λ (v : Bool). record { cause = cond v 0 2; bytes = b }) e
 
-pieces-back : (width : ℕ) (c : ControlWord) (y : List ℕ) (ps : List (List ℕ)) (k : ℕ) → ((j : ℕ) → j < length ps → PieceRead width c y (k + j) (getD ps j []))
-    → piecesIn width c y k (length ps) ≡ taken ps
+pieces-back : (register width : ℕ) (c : ControlWord) (y : List ℕ) (ps : List (List ℕ)) (k : ℕ) → ((j : ℕ) → j < length ps → PieceRead register width c y (k + j) (getD ps j []))
+    → piecesIn register width c y k (length ps) ≡ taken ps
 unfolding piecesIn
-pieces-back width c y [] k h = refl
-pieces-back width c y (b ∷ ps) k h =
+pieces-back register width c y [] k h = refl
+pieces-back register width c y (b ∷ ps) k h =
     let e : k + 0 ≡ k = omega arith in
-    let r : PieceRead width c y k b = subst (λ (n : ℕ). PieceRead width c y n b) e (h 0 (omega arith)) in
-    ap₂ (λ (p : Piece) (l : List Piece). p ∷ l) (piece-back width c y k b r)
-    (pieces-back width c y ps (suc k) (λ j l. let e : suc k + j ≡ k + suc j = omega arith in subst (λ (n : ℕ). PieceRead width c y n (getD ps j [])) (sym e) (h (suc j) (omega arith))))
+    let r : PieceRead register width c y k b = subst (λ (n : ℕ). PieceRead register width c y n b) e (h 0 (omega arith)) in
+    ap₂ (λ (p : Piece) (l : List Piece). p ∷ l) (piece-back register width c y k b r)
+    (pieces-back register width c y ps (suc k) (λ j l. let e : suc k + j ≡ k + suc j = omega arith in subst (λ (n : ℕ). PieceRead register width c y n (getD ps j [])) (sym e) (h (suc j) (omega arith))))
 
 -- the answers of reading
 control-of : (width : ℕ) (c : ControlWord) (y : List ℕ) → accepted width c y .control ≡ c
@@ -131,15 +131,15 @@ module _ (settings : Settings) (psd lengths bytes : List ℕ) (size : ℕ) (m : 
   nop-is = sym (cut-count (placed settings psd lengths bytes size m w) (drop (w .sent) bytes))
 
   -- the CRC of each piece stands at its locator
-  pub crcs-right : (k : ℕ) → k < controlAt p .nop → crcFrom 0 (take (lengthAt (m .width) (controlAt p) p k) (drop (startAt (m .width) (controlAt p) p k) p)) ≡ getD p (locatorAt (m .width) p k) 0
+  pub crcs-right : (k : ℕ) → k < controlAt p .nop → crcFrom (w .register) (take (lengthAt (m .width) (controlAt p) p k) (drop (startAt (m .width) (controlAt p) p k) p)) ≡ getD p (locatorAt (m .width) p k) 0
   crcs-right =
-      subst (λ (r : ControlWord). (k : ℕ) → k < r .nop → crcFrom 0 (take (lengthAt (m .width) r p k) (drop (startAt (m .width) r p k) p)) ≡ getD p (locatorAt (m .width) p k) 0) (sym control-back)
-      (λ k h. let r = back .pieces k (let n = nop-is in omega (arith, n, h)) in ap (crcFrom 0) (r .bytes) ∙ sym (r .crc))
+      subst (λ (r : ControlWord). (k : ℕ) → k < r .nop → crcFrom (w .register) (take (lengthAt (m .width) r p k) (drop (startAt (m .width) r p k) p)) ≡ getD p (locatorAt (m .width) p k) 0) (sym control-back)
+      (λ k h. let r = back .pieces k (let n = nop-is in omega (arith, n, h)) in ap (crcFrom (w .register)) (r .bytes) ∙ sym (r .crc))
 
-  pub said-back : saidBy (m .width) c p ≡ sent
+  pub said-back : saidBy (w .register) (m .width) c p ≡ sent
   unfolding saidBy
   said-back = ap₂ (λ (s : List ℕ) (l : List Piece). record { sequence = c .sequence; pfirst = c .pfirst; plast = c .plast; start = c .start; psdBytes = s; pieces = l; withheld = false }) psd-back
-      (ap (piecesIn (m .width) c p 0) nop-is ∙ pieces-back (m .width) c p ps 0 (λ j h. subst (λ (n : ℕ). PieceRead (m .width) c p n (getD ps j [])) (zero-plus j) (back .pieces j h)))
+      (ap (piecesIn (w .register) (m .width) c p 0) nop-is ∙ pieces-back (w .register) (m .width) c p ps 0 (λ j h. subst (λ (n : ℕ). PieceRead (w .register) (m .width) c p n (getD ps j [])) (zero-plus j) (back .pieces j h)))
     where
       zero-plus : (j : ℕ) → j ≡ 0 + j
       zero-plus j = omega arith

@@ -22,12 +22,13 @@ memory-only : (r : Receiver) (a b : List ℕ) → take (r .held) a ≡ take (r .
 unfolding memoryOf
 memory-only r a b e = ap (λ (p : Partial). record { last = lastOf (r .known) (r .sequence); partial = p }) (held-only (r .held) (r .number) a b e)
 
-module _ (mode stream : ℕ) (m : Mode) (l : listing mode stream ≡ Listed m) (range : 0 < m .sequences) where
-  pub shows-held : (x : Station) (y : Memory) (carry : List ℕ) → Shows mode stream m l range x y → take (x .receiver .held) carry ≡ take (x .receiver .held) (x .carry) → 4096 ≤ length carry
-      → Shows mode stream m l range (record { receiver = x .receiver; carry = carry }) y
+module _ (mode stream register : ℕ) (m : Mode) (l : listing mode stream ≡ Listed m) (range : 0 < m .sequences) where
+  pub shows-held : (x : Station) (y : Memory) (carry : List ℕ) → Shows mode stream register m l range x y → take (x .receiver .held) carry ≡ take (x .receiver .held) (x .carry) → 4096 ≤ length carry
+      → Shows mode stream register m l range (record { receiver = x .receiver; carry = carry }) y
   shows-held x y carry s e big = record {
     sameMode = s .sameMode;
     sameStream = s .sameStream;
+    sameRegister = s .sameRegister;
     right = s .right;
     room = big;
     memory = memory-only (x .receiver) carry (x .carry) e ∙ s .memory;

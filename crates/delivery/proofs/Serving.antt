@@ -65,7 +65,7 @@ held-long : (h : Partial) → SanePartial h → length (bytesOf h) ≤ 4096
 held-long nothing s = omega arith
 held-long (beginning n b) s = s .2
 
-module _ (mode stream : ℕ) (m : Mode) (l : listing mode stream ≡ Listed m) (range : 0 < m .sequences) where
+module _ (mode stream register : ℕ) (m : Mode) (l : listing mode stream ≡ Listed m) (range : 0 < m .sequences) where
   mode-is : (r : Receiver) → r .mode ≡ mode → r .stream ≡ stream → listing (r .mode) (r .stream) ≡ Listed m
   mode-is r a b = ap₂ listing a b ∙ l
 
@@ -81,6 +81,7 @@ module _ (mode stream : ℕ) (m : Mode) (l : listing mode stream ≡ Listed m) (
   pub record Shows (x : Station) (y : Memory) : Type 0 where
     pub sameMode : x .receiver .mode ≡ mode
     pub sameStream : x .receiver .stream ≡ stream
+    pub sameRegister : x .receiver .register ≡ register
     pub right : anyOf (wrongState (x .receiver)) ≡ false
     pub room : 4096 ≤ length (x .carry)
     pub memory : memoryOf (x .receiver) (x .carry) ≡ y
@@ -90,10 +91,11 @@ module _ (mode stream : ℕ) (m : Mode) (l : listing mode stream ≡ Listed m) (
   abbrev put : Receiver → List ℕ → Memory → Station
   put r carry z = record { receiver = remembering r z; carry = putAt carry 0 (bytesOf (z .partial)) }
 
-  shows-put : (r : Receiver) (carry : List ℕ) (z : Memory) → r .mode ≡ mode → r .stream ≡ stream → 4096 ≤ length carry → Below (m .sequences) (z .last) → SanePartial (z .partial) → Shows (put r carry z) z
-  shows-put r carry z a b big w s = record {
+  shows-put : (r : Receiver) (carry : List ℕ) (z : Memory) → r .mode ≡ mode → r .stream ≡ stream → r .register ≡ register → 4096 ≤ length carry → Below (m .sequences) (z .last) → SanePartial (z .partial) → Shows (put r carry z) z
+  shows-put r carry z a b g big w s = record {
     sameMode = unfold remembering in a;
     sameStream = unfold remembering in b;
+    sameRegister = unfold remembering in g;
     right = state-right r z a b w s;
     room = (let e = put-length carry 0 (bytesOf (z .partial)) (let h = held-long (z .partial) s in omega (arith, h, big)) in omega (arith, e, big));
     memory = memory-back r z carry s;
@@ -102,7 +104,7 @@ module _ (mode stream : ℕ) (m : Mode) (l : listing mode stream ≡ Listed m) (
 
   -- ---- receiving
 
-  module _ (x : Station) (y : Memory) (v : Shows x y) (marks q log : List ℕ) (d : Said) (h : Heard mode stream (m .width) marks q d) (s : SaneSaid d) (below : d .sequence < m .sequences)
+  module _ (x : Station) (y : Memory) (v : Shows x y) (marks q log : List ℕ) (d : Said) (h : Heard mode stream register (m .width) marks q d) (s : SaneSaid d) (below : d .sequence < m .sequences)
       (bytes : (i : ℕ) → getD q i 0 < 256) (big : 8400 ≤ length log) where
     abbrev r : Receiver
     r = x .receiver
@@ -114,7 +116,7 @@ module _ (mode stream : ℕ) (m : Mode) (l : listing mode stream ≡ Listed m) (
     this-mode = ap modeIn (mode-is r (v .sameMode) (v .sameStream))
 
     said-is : said marks carry q log r ≡ d
-    said-is = ap (λ (t : Mode). saidBy (t .width) (controlAt (correctedPduWith marks q)) (correctedPduWith marks q)) this-mode ∙ h .says
+    said-is = ap₂ (λ (i : ℕ) (t : Mode). saidBy i (t .width) (controlAt (correctedPduWith marks q)) (correctedPduWith marks q)) (v .sameRegister) this-mode ∙ h .says
 
     outcome-is : outcome marks carry q log r ≡ received (m .sequences) y d
     outcome-is = ap (λ (t : Mode). received (t .sequences) (memoryOf r carry) (said marks carry q log r)) this-mode ∙ ap₂ (received (m .sequences)) (v .memory) said-is
@@ -177,7 +179,7 @@ module _ (mode stream : ℕ) (m : Mode) (l : listing mode stream ≡ Listed m) (
         let e : stationAfter defined x (receive marks q log) ≡ put r carry z =
         ap₂ (λ (a : Received) (c : List ℕ). record { receiver = a .receiver; carry = c }) answer-is carry-is
         ∙ ap₂ (λ (n : Memory) (o : Outcome). record { receiver = remembering r n; carry = putAt carry 0 (bytesOf (o .partial)) }) after-is outcome-is in
-        subst (λ (t : Station). Shows t z) (sym e) (shows-put r carry z (v .sameMode) (v .sameStream) (v .room) below (fit-received (m .sequences) y d (v .sane) s .1))
+        subst (λ (t : Station). Shows t z) (sym e) (shows-put r carry z (v .sameMode) (v .sameStream) (v .sameRegister) (v .room) below (fit-received (m .sequences) y d (v .sane) s .1))
 
   -- ---- marking lost
 
@@ -213,4 +215,4 @@ module _ (mode stream : ℕ) (m : Mode) (l : listing mode stream ≡ Listed m) (
     lost-shows =
         let e : stationAfter defined x (markLost log) ≡ record { receiver = remembering r′ forgotten; carry = x .carry } = ap (λ (a : Received). record { receiver = a .receiver; carry = x .carry }) lost-answer in
         let p : put r′ (x .carry) forgotten ≡ record { receiver = remembering r′ forgotten; carry = x .carry } = ap (λ (c : List ℕ). record { receiver = remembering r′ forgotten; carry = c }) (put-nil (x .carry) 0) in
-        subst (λ (t : Station). Shows t forgotten) (p ∙ sym e) (shows-put r′ (x .carry) forgotten (v .sameMode) (v .sameStream) (v .room) tt tt)
+        subst (λ (t : Station). Shows t forgotten) (p ∙ sym e) (shows-put r′ (x .carry) forgotten (v .sameMode) (v .sameStream) (v .sameRegister) (v .room) tt tt)

@@ -1,4 +1,4 @@
--- Small runs in mode 0, core, whose sequence has one bit. Where the bytes of the PDUs stand and which packets are asked for is computed; that the
+-- Small runs in mode 0, core, whose sequence has one bit, with register 0. Where the bytes of the PDUs stand and which packets are asked for is computed; that the
 -- log holds these packets is the theorem.
 use mathlib.Core.Path.{_≡_, refl, sym, ap, ap₂, subst, _∙_}
 use mathlib.Core.Bool.{Bool, true, false, not, _&&_, _||_, cond}
@@ -76,7 +76,7 @@ pub in-order : InOrder 0 0 three 0 six
 unfolding writeAnswer listing fieldsFor expansionBytes chained total fit wholesFrom partAfter partFrom
 in-order = ((3, refl, refl), ((2, refl, refl), ((2, refl, refl), ((2, refl, refl), ((2, refl, refl), tt)))))
 
-pub opens : writerOpened 0 0 .refusal ≡ 0
+pub opens : writerOpened 0 0 0 .refusal ≡ 0
 unfolding writerOpened listing
 opens = refl
 
@@ -88,12 +88,12 @@ carry-room = let e : length carry ≡ 4096 = length-replicate {A = ℕ} 4096 0 i
 
 -- ---- which packets are asked for
 
-pub run-length : (first count n : ℕ) → length (runOf first count fiveSpans) ≡ n → length (runOf first count (made 0 0 six)) ≡ n
+pub run-length : (first count n : ℕ) → length (runOf first count fiveSpans) ≡ n → length (runOf first count (made 0 0 0 six)) ≡ n
 run-length first count n h =
-    let e : length fiveSpans ≡ length (made 0 0 six) = sym (ap length spans-are) ∙ made-right 0 0 three six opens packets-right in-order .as-many in
-    let t = length-take count (drop first (made 0 0 six)) in
+    let e : length fiveSpans ≡ length (made 0 0 0 six) = sym (ap length spans-are) ∙ made-right 0 0 0 three six opens packets-right in-order .as-many in
+    let t = length-take count (drop first (made 0 0 0 six)) in
     let u = length-take count (drop first fiveSpans) in
-    let d = length-drop first (made 0 0 six) in
+    let d = length-drop first (made 0 0 0 six) in
     let f = length-drop first fiveSpans in
     omega (arith, e, t, u, d, f, h)
 
@@ -107,18 +107,18 @@ asked-is first count bs es e = ap logWords (ap (λ (l : List Span). wholePackets
 -- ---- what the receiver logs, each PDU as it was written or marked lost
 
 abbrev pub calls : ℕ → ℕ → List Bool → List Step
-calls first count bs = stepsOf 0 0 three six opens packets-right in-order first count bs
+calls first count bs = stepsOf 0 0 0 three six opens packets-right in-order first count bs
 
 abbrev pub loggedIn : ℕ → ℕ → List Bool → List ℕ
-loggedIn first count bs = packetWords (logsFrom defined (freshStation defined 0 0 carry) (calls first count bs))
+loggedIn first count bs = packetWords (logsFrom defined (freshStation defined 0 0 0 carry) (calls first count bs))
 
 pub told : (first count : ℕ) (bs : List Bool) → length (runOf first count fiveSpans) ≡ length bs → receptions (calls first count bs) ≡ bs
-told first count bs n = told-receptions [] asSent [] (runOf first count (made 0 0 six)) bs refl (sym (run-length first count (length bs) n))
+told first count bs n = told-receptions [] asSent [] (runOf first count (made 0 0 0 six)) bs refl (sym (run-length first count (length bs) n))
 
 logged-is : (first count : ℕ) (bs : List Bool) (es : List Entry) → length (runOf first count fiveSpans) ≡ length bs
     → wholePackets (inReceived (runOf first count fiveSpans) bs) 0 0 three ≡ es → loggedIn first count bs ≡ logWords es
 logged-is first count bs es n e =
-    delivers 0 0 three six first count carry (calls first count bs) (possible 0 0 three six opens packets-right in-order defined first count carry bs carry-room) .log
+    delivers 0 0 0 three six first count carry (calls first count bs) (possible 0 0 0 three six opens packets-right in-order defined first count carry bs carry-room) .log
     ∙ ap (askedFor first count) (told first count bs n)
     ∙ asked-is first count bs es e
 
@@ -268,27 +268,27 @@ fourOfFive = true ∷ true ∷ false ∷ true ∷ true ∷ []
 -- with these marks, each header altered so
 module _ (marks : List ℕ) (alter : List ℕ → List ℕ) (right : Alters marks alter) where
   abbrev pub alteredCalls : List Step
-  alteredCalls = refuses emptyPdu ∷ stepsFor marks alter (refuses noLog ∷ []) (runOf 0 5 (made 0 0 six)) fourOfFive
+  alteredCalls = refuses emptyPdu ∷ stepsFor marks alter (refuses noLog ∷ []) (runOf 0 5 (made 0 0 0 six)) fourOfFive
 
-  altered-asked : Asked defined 0 0 three six 0 5 carry alteredCalls
+  altered-asked : Asked defined 0 0 0 three six 0 5 carry alteredCalls
   altered-asked = record {
     opens = opens;
     sized = packets-right;
     offered = in-order;
     room = carry-room;
-    through = after-refused (freshStation defined 0 0 carry) emptyPdu (runOf 0 5 (made 0 0 six)) _ (empty-refused (freshStation defined 0 0 carry))
-        (goes-through marks alter defined right (refuses noLog ∷ []) (runOf 0 5 (made 0 0 six)) fourOfFive _ (λ y. (no-log-refused y, tt)) (run-usable 0 0 three six opens packets-right in-order 0 5));
+    through = after-refused (freshStation defined 0 0 0 carry) emptyPdu (runOf 0 5 (made 0 0 0 six)) _ (empty-refused (freshStation defined 0 0 0 carry))
+        (goes-through marks alter defined right (refuses noLog ∷ []) (runOf 0 5 (made 0 0 0 six)) fourOfFive _ (λ y. (no-log-refused y, tt)) (run-usable 0 0 0 three six opens packets-right in-order 0 5));
   }
 
-  pub altered-run : packetWords (logsFrom defined (freshStation defined 0 0 carry) alteredCalls) ≡ logWords (packet 0 (replicate 20 1) ∷ packet 2 (replicate 10 3) ∷ [])
+  pub altered-run : packetWords (logsFrom defined (freshStation defined 0 0 0 carry) alteredCalls) ≡ logWords (packet 0 (replicate 20 1) ∷ packet 2 (replicate 10 3) ∷ [])
   unfolding wholePackets
   altered-run =
-      delivers 0 0 three six 0 5 carry alteredCalls altered-asked .log
-      ∙ ap (askedFor 0 5) (told-receptions marks alter (refuses noLog ∷ []) (runOf 0 5 (made 0 0 six)) fourOfFive refl (sym (run-length 0 5 5 refl)))
+      delivers 0 0 0 three six 0 5 carry alteredCalls altered-asked .log
+      ∙ ap (askedFor 0 5) (told-receptions marks alter (refuses noLog ∷ []) (runOf 0 5 (made 0 0 0 six)) fourOfFive refl (sym (run-length 0 5 5 refl)))
       ∙ asked-is 0 5 fourOfFive (packet 0 (replicate 20 1) ∷ packet 2 (replicate 10 3) ∷ []) refl
 
 -- four bytes of each, and no mark
-pub four-run : packetWords (logsFrom defined (freshStation defined 0 0 carry) (alteredCalls [] altered headers-altered)) ≡ logWords (packet 0 (replicate 20 1) ∷ packet 2 (replicate 10 3) ∷ [])
+pub four-run : packetWords (logsFrom defined (freshStation defined 0 0 0 carry) (alteredCalls [] altered headers-altered)) ≡ logWords (packet 0 (replicate 20 1) ∷ packet 2 (replicate 10 3) ∷ [])
 four-run = altered-run [] altered headers-altered
 
 -- ---- document 02, Ask 3: six marked bytes and another one altered in each header, twice one plus six being eight
@@ -354,5 +354,5 @@ headers-marked p h = record {
   rest = alter-rest seven p;
 }
 
-pub marked-run : packetWords (logsFrom defined (freshStation defined 0 0 carry) (alteredCalls firstSix sevenAltered headers-marked)) ≡ logWords (packet 0 (replicate 20 1) ∷ packet 2 (replicate 10 3) ∷ [])
+pub marked-run : packetWords (logsFrom defined (freshStation defined 0 0 0 carry) (alteredCalls firstSix sevenAltered headers-marked)) ≡ logWords (packet 0 (replicate 20 1) ∷ packet 2 (replicate 10 3) ∷ [])
 marked-run = altered-run firstSix sevenAltered headers-marked

@@ -25,15 +25,15 @@ overChannel (receives n q log ∷ ss) = takes n q log (λ k. true) ∷ overChann
 overChannel (loses log ∷ ss) = misses log ∷ overChannel ss
 overChannel (refuses c ∷ ss) = declines c ∷ overChannel ss
 
-goes : (width : ℕ) (ss : List Step) (x : Station) (pdus : List (List ℕ)) → Through defined x pdus ss → Goes width x pdus (overChannel ss)
-goes width [] x [] t = tt
-goes width [] x (p ∷ pdus) t = absurd t
-goes width (receives n q log ∷ ss) x [] t = absurd t
-goes width (receives n q log ∷ ss) x (p ∷ pdus) t = (altered-copy width n p q (t .0), (let r = t .1 in omega (arith, r)), goes width ss (stationAfter defined x (receive n q log)) pdus (t .2))
-goes width (loses log ∷ ss) x [] t = absurd t
-goes width (loses log ∷ ss) x (p ∷ pdus) t = (t .0, goes width ss (stationAfter defined x (markLost log)) pdus (t .1))
-goes width (refuses c ∷ ss) x [] t = (t .0, goes width ss (stationAfter defined x c) [] (t .1))
-goes width (refuses c ∷ ss) x (p ∷ pdus) t = (t .0, goes width ss (stationAfter defined x c) (p ∷ pdus) (t .1))
+goes : (register width : ℕ) (ss : List Step) (x : Station) (pdus : List (List ℕ)) → Through defined x pdus ss → Goes register width x pdus (overChannel ss)
+goes register width [] x [] t = tt
+goes register width [] x (p ∷ pdus) t = absurd t
+goes register width (receives n q log ∷ ss) x [] t = absurd t
+goes register width (receives n q log ∷ ss) x (p ∷ pdus) t = (altered-copy register width n p q (t .0), (let r = t .1 in omega (arith, r)), goes register width ss (stationAfter defined x (receive n q log)) pdus (t .2))
+goes register width (loses log ∷ ss) x [] t = absurd t
+goes register width (loses log ∷ ss) x (p ∷ pdus) t = (t .0, goes register width ss (stationAfter defined x (markLost log)) pdus (t .1))
+goes register width (refuses c ∷ ss) x [] t = (t .0, goes register width ss (stationAfter defined x c) [] (t .1))
+goes register width (refuses c ∷ ss) x (p ∷ pdus) t = (t .0, goes register width ss (stationAfter defined x c) (p ∷ pdus) (t .1))
 
 same-logs : (ss : List Step) (x : Station) → channelLogs x (overChannel ss) ≡ logsFrom defined x ss
 same-logs [] x = refl
@@ -65,14 +65,14 @@ one-each (refuses c ∷ ss) x (p ∷ pdus) t = one-each ss (stationAfter defined
 
 -- no call for a PDU of the run is refused, and the packet log holds exactly the packets that arrived whole
 pub delivers : Demand3
-delivers mode stream packets writings first count carry steps d =
+delivers mode stream register packets writings first count carry steps d =
     let spans : List Span = spansOf mode stream packets writings in
     let bs : List Bool = receptions steps in
-    let made : List (List ℕ) = madeBy mode stream writings in
-    let right = made-right mode stream packets writings (d .opens) (d .sized) (d .offered) in
-    let x : Station = freshStation defined mode stream carry in
+    let made : List (List ℕ) = madeBy mode stream register writings in
+    let right = made-right mode stream register packets writings (d .opens) (d .sized) (d .offered) in
+    let x : Station = freshStation defined mode stream register carry in
     let few : length bs ≤ count = (let e = one-each steps x (runOf first count made) (d .through) in let k = length-take count (drop first made) in omega (arith, e, k)) in
-    let r = channel-delivers mode stream packets writings first count carry (overChannel steps) (record { opens = d .opens; sized = d .sized; offered = d .offered; room = d .room; through = goes (modeIn (listing mode stream) .width) steps x (runOf first count made) (d .through) }) in
+    let r = channel-delivers mode stream register packets writings first count carry (overChannel steps) (record { opens = d .opens; sized = d .sized; offered = d .offered; room = d .room; through = goes register (modeIn (listing mode stream) .width) steps x (runOf first count made) (d .through) }) in
     let marks : lies packets spans (replicate first lose ++ fates (overChannel steps)) ≡ (λ j. record { taken = inReceived (runOf first count spans) bs j; free = inReceived (runOf first count spans) bs j }) =
     fun-ext (λ j.
     ap (λ (w : List Fate). lies packets spans (replicate first lose ++ w) j) (same-fates steps)

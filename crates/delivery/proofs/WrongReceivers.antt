@@ -53,10 +53,10 @@ second-asked = asked-is 1 1 (true ∷ []) [] refl
 
 -- the claim for these calls
 module _ (b : Behaviour) (claim : Demand3For b) where
-  claimed : (first count : ℕ) (bs : List Bool) → Delivered b 0 0 three six first count carry (calls first count bs)
-  claimed first count bs = claim 0 0 three six first count carry (calls first count bs) (possible 0 0 three six opens packets-right in-order b first count carry bs carry-room)
+  claimed : (first count : ℕ) (bs : List Bool) → Delivered b 0 0 0 three six first count carry (calls first count bs)
+  claimed first count bs = claim 0 0 0 three six first count carry (calls first count bs) (possible 0 0 0 three six opens packets-right in-order b first count carry bs carry-room)
 
-  all-logged : packetWords (logsFrom b (freshStation b 0 0 carry) (calls 0 5 all)) ≡ askedFor 0 5 all
+  all-logged : packetWords (logsFrom b (freshStation b 0 0 0 carry) (calls 0 5 all)) ≡ askedFor 0 5 all
   all-logged = claimed 0 5 all .log ∙ ap (askedFor 0 5) (told 0 5 all refl)
 
 -- ---- an empty log for everything
@@ -73,7 +73,7 @@ nothing-logged (s ∷ ss) x =
 pub silent-wrong : ¬ Demand3For silent
 unfolding packetWordsAfter
 silent-wrong claim =
-    let e : [] ≡ askedFor 0 5 all = ap packetWords (sym (nothing-logged (calls 0 5 all) (freshStation silent 0 0 carry))) ∙ all-logged silent claim in
+    let e : [] ≡ askedFor 0 5 all = ap packetWords (sym (nothing-logged (calls 0 5 all) (freshStation silent 0 0 0 carry))) ∙ all-logged silent claim in
     let h : _≡_ {A = ℕ} 0 114 = ap length e ∙ all-words .0 in
     absurd (omega (arith, h))
 
@@ -113,8 +113,8 @@ zeros-first (w ∷ l) h = rw (h .0) refl
 
 pub untouched-wrong : ¬ Demand3For untouched
 untouched-wrong claim =
-    let z = zeros-logged (runOf 0 5 (made 0 0 six)) all (freshStation untouched 0 0 carry) in
-    let h : _≡_ {A = ℕ} 0 20 = sym (zeros-first (logsFrom untouched (freshStation untouched 0 0 carry) (calls 0 5 all)) z) ∙ ap (λ (l : List ℕ). getD l 0 0) (all-logged untouched claim) ∙ all-words .1 in
+    let z = zeros-logged (runOf 0 5 (made 0 0 0 six)) all (freshStation untouched 0 0 0 carry) in
+    let h : _≡_ {A = ℕ} 0 20 = sym (zeros-first (logsFrom untouched (freshStation untouched 0 0 0 carry) (calls 0 5 all)) z) ∙ ap (λ (l : List ℕ). getD l 0 0) (all-logged untouched claim) ∙ all-words .1 in
     absurd (omega (arith, h))
 
 -- ---- one fixed packet for every PDU received: of the second PDU alone, none is asked for
@@ -122,16 +122,16 @@ untouched-wrong claim =
 pub fixed-wrong : (number : ℕ) (bytes : List ℕ) → Fit (packet number bytes) → ¬ Demand3For (fixed number bytes)
 unfolding stepsFor logWords entryWords packetsOf
 fixed-wrong number bytes fits claim =
-    go (runOf 1 1 (made 0 0 six)) (run-length 1 1 1 refl) (claimed defined delivers 1 1 (true ∷ []) .accepted) (claimed (fixed number bytes) claim 1 1 (true ∷ []) .log ∙ ap (askedFor 1 1) (told 1 1 (true ∷ []) refl) ∙ second-asked)
+    go (runOf 1 1 (made 0 0 0 six)) (run-length 1 1 1 refl) (claimed defined delivers 1 1 (true ∷ []) .accepted) (claimed (fixed number bytes) claim 1 1 (true ∷ []) .log ∙ ap (askedFor 1 1) (told 1 1 (true ∷ []) refl) ∙ second-asked)
   where
-    go : (pdus : List (List ℕ)) → length pdus ≡ 1 → NoneRefused defined (freshStation defined 0 0 carry) (stepsFor [] asSent [] pdus (true ∷ []))
-        → ¬ (packetWords (logsFrom (fixed number bytes) (freshStation defined 0 0 carry) (stepsFor [] asSent [] pdus (true ∷ []))) ≡ [])
+    go : (pdus : List (List ℕ)) → length pdus ≡ 1 → NoneRefused defined (freshStation defined 0 0 0 carry) (stepsFor [] asSent [] pdus (true ∷ []))
+        → ¬ (packetWords (logsFrom (fixed number bytes) (freshStation defined 0 0 0 carry) (stepsFor [] asSent [] pdus (true ∷ []))) ≡ [])
     go [] n a e = absurd (omega (arith, n))
     go (p ∷ q ∷ ps) n a e = absurd (omega (arith, n))
     go (p ∷ []) n a e =
         let w : List ℕ = fixedWords number bytes in
-        let t : eqb (answerOf (freshStation defined 0 0 carry) (receive [] p words) .refusal) 0 ≡ true = eq-eqb _ 0 (a .0) in
-        let l : logsFrom (fixed number bytes) (freshStation defined 0 0 carry) (receives [] p words ∷ []) ≡ w ++ [] =
+        let t : eqb (answerOf (freshStation defined 0 0 0 carry) (receive [] p words) .refusal) 0 ≡ true = eq-eqb _ 0 (a .0) in
+        let l : logsFrom (fixed number bytes) (freshStation defined 0 0 0 carry) (receives [] p words ∷ []) ≡ w ++ [] =
         ap (λ (b : Bool). cond b (take (length w) (putAt words 0 w)) [] ++ []) t ∙ ap (λ (l : List ℕ). l ++ []) (take-put words w) in
         let h : w ≡ [] = sym (packet-words false (packet number bytes ∷ []) (fits, tt)) ∙ ap packetWords (sym (append-nil w)) ∙ ap packetWords (sym l) ∙ e in
         let z : _≡_ {A = ℕ} (length w) 0 = ap length h in
@@ -170,7 +170,7 @@ unfolding wholePackets
 first-asked = asked-is 0 1 (true ∷ []) (packet 0 (replicate 20 1) ∷ []) refl
 
 abbrev fresh : Station
-fresh = freshStation defined 0 0 carry
+fresh = freshStation defined 0 0 0 carry
 
 fresh-unknown : fresh .receiver .known ≡ false
 unfolding receiverOpened listing
@@ -179,7 +179,7 @@ fresh-unknown = refl
 pub advancing-wrong : ¬ Demand3For advancing
 unfolding stepsFor logWords entryWords dataWords
 advancing-wrong claim =
-    go (made 0 0 six) (run-length 0 5 5 refl) (claimed defined delivers 0 1 (true ∷ []) .accepted) (claimed defined delivers 0 1 (true ∷ []) .log ∙ ap (askedFor 0 1) (told 0 1 (true ∷ []) refl) ∙ first-asked) (all-logged advancing claim)
+    go (made 0 0 0 six) (run-length 0 5 5 refl) (claimed defined delivers 0 1 (true ∷ []) .accepted) (claimed defined delivers 0 1 (true ∷ []) .log ∙ ap (askedFor 0 1) (told 0 1 (true ∷ []) refl) ∙ first-asked) (all-logged advancing claim)
   where
     go : (ps : List (List ℕ)) → length (runOf 0 5 ps) ≡ 5 → NoneRefused defined fresh (stepsFor [] asSent [] (runOf 0 1 ps) (true ∷ []))
         → packetWords (logsFrom defined fresh (stepsFor [] asSent [] (runOf 0 1 ps) (true ∷ []))) ≡ logWords (packet 0 (replicate 20 1) ∷ [])
@@ -215,7 +215,7 @@ twice = offering 96 short ∷ offering 96 short ∷ []
 
 -- the PDU that a writer writes with this sequence and so many bytes sent
 abbrev writtenAt : List (List ℕ) → ℕ → ℕ → List ℕ
-writtenAt ps q s = bufferAfter (record { mode = 0; stream = 0; sequence = q; number = 0; sent = s }) (offering 96 ps)
+writtenAt ps q s = bufferAfter (record { mode = 0; stream = 0; register = 0; sequence = q; number = 0; sent = s }) (offering 96 ps)
 
 same-first : writtenAt short 0 0 ≡ writtenAt long 0 0
 unfolding writtenPdu pduOf listing fieldsFor expansionBytes chained fit wholesFrom partAfter partFrom cutBy pieceBytes locatorsFrom total
@@ -225,15 +225,15 @@ same-last : writtenAt short 1 79 ≡ writtenAt long 1 237
 unfolding writtenPdu pduOf listing fieldsFor expansionBytes chained fit wholesFrom partAfter partFrom cutBy pieceBytes locatorsFrom total
 same-last = refl
 
-long-made : made 0 0 fourTimes ≡ writtenAt long 0 0 ∷ writtenAt long 1 79 ∷ writtenAt long 0 158 ∷ writtenAt long 1 237 ∷ []
+long-made : made 0 0 0 fourTimes ≡ writtenAt long 0 0 ∷ writtenAt long 1 79 ∷ writtenAt long 0 158 ∷ writtenAt long 1 237 ∷ []
 unfolding pdusFrom writerOpened writeAnswer listing fieldsFor expansionBytes chained total fit wholesFrom partAfter partFrom
 long-made = refl
 
-two-made : made 0 0 twice ≡ writtenAt short 0 0 ∷ writtenAt short 1 79 ∷ []
+two-made : made 0 0 0 twice ≡ writtenAt short 0 0 ∷ writtenAt short 1 79 ∷ []
 unfolding pdusFrom writerOpened writeAnswer listing fieldsFor expansionBytes chained total fit wholesFrom partAfter partFrom
 two-made = refl
 
-short-made : made 0 0 twice ≡ writtenAt long 0 0 ∷ writtenAt long 1 237 ∷ []
+short-made : made 0 0 0 twice ≡ writtenAt long 0 0 ∷ writtenAt long 1 237 ∷ []
 short-made = two-made ∙ ap₂ (λ (p q : List ℕ). p ∷ q ∷ []) same-first same-last
 
 long-right : Packets long
@@ -265,11 +265,11 @@ unfolding spansFrom writeAnswer listing fieldsFor expansionBytes chained total f
 short-spans = refl
 
 -- the claim for PDUs that are written so
-module _ (b : Behaviour) (claim : Demand3For b) (packets : List (List ℕ)) (writings : List Writing) (z : Packets packets) (o : InOrder 0 0 packets 0 writings) (pdus : List (List ℕ)) (e : made 0 0 writings ≡ pdus) where
-  delivered : (count : ℕ) (bs : List Bool) → Delivered b 0 0 packets writings 0 count carry (stepsFor [] asSent [] (runOf 0 count pdus) bs)
+module _ (b : Behaviour) (claim : Demand3For b) (packets : List (List ℕ)) (writings : List Writing) (z : Packets packets) (o : InOrder 0 0 packets 0 writings) (pdus : List (List ℕ)) (e : made 0 0 0 writings ≡ pdus) where
+  delivered : (count : ℕ) (bs : List Bool) → Delivered b 0 0 0 packets writings 0 count carry (stepsFor [] asSent [] (runOf 0 count pdus) bs)
   delivered count bs =
-      claim 0 0 packets writings 0 count carry (stepsFor [] asSent [] (runOf 0 count pdus) bs)
-      (subst (λ (ps : List (List ℕ)). Asked b 0 0 packets writings 0 count carry (stepsFor [] asSent [] (runOf 0 count ps) bs)) e (possible 0 0 packets writings opens z o b 0 count carry bs carry-room))
+      claim 0 0 0 packets writings 0 count carry (stepsFor [] asSent [] (runOf 0 count pdus) bs)
+      (subst (λ (ps : List (List ℕ)). Asked b 0 0 0 packets writings 0 count carry (stepsFor [] asSent [] (runOf 0 count ps) bs)) e (possible 0 0 0 packets writings opens z o b 0 count carry bs carry-room))
 
 -- words with no packet among them change nothing
 no-packet : (l r : List ℕ) → packetWords l ≡ [] → packetWords (l ++ r) ≡ packetWords r

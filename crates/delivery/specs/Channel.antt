@@ -25,16 +25,17 @@ callOf (receives marks pdu log sound) = receive marks pdu log
 callOf (loses log) = markLost log
 callOf (refuses c) = c
 
--- the calls go through these PDUs in order: each PDU has one call, with a log that suffices
-abbrev pub Through : ℕ → Station → List (List ℕ) → List Step → Type 0
-Through width x [] [] = Unit {0}
-Through width x (p ∷ ps) [] = ⊥
-Through width x [] (receives marks q log s ∷ ss) = ⊥
-Through width x (p ∷ ps) (receives marks q log s ∷ ss) = Copy width p marks q s × (8400 ≤ length log) × Through width (stationAfter defined x (receive marks q log)) ps ss
-Through width x [] (loses log ∷ ss) = ⊥
-Through width x (p ∷ ps) (loses log ∷ ss) = (8400 ≤ length log) × Through width (stationAfter defined x (markLost log)) ps ss
-Through width x [] (refuses c ∷ ss) = (¬ (answerOf x c .refusal ≡ 0)) × Through width (stationAfter defined x c) [] ss
-Through width x (p ∷ ps) (refuses c ∷ ss) = (¬ (answerOf x c .refusal ≡ 0)) × Through width (stationAfter defined x c) (p ∷ ps) ss
+-- the calls go through these PDUs in order: each PDU has one call, with a log that suffices. Copies are by the register that CRCs start with, and the
+-- locators' width
+abbrev pub Through : ℕ → ℕ → Station → List (List ℕ) → List Step → Type 0
+Through register width x [] [] = Unit {0}
+Through register width x (p ∷ ps) [] = ⊥
+Through register width x [] (receives marks q log s ∷ ss) = ⊥
+Through register width x (p ∷ ps) (receives marks q log s ∷ ss) = Copy register width p marks q s × (8400 ≤ length log) × Through register width (stationAfter defined x (receive marks q log)) ps ss
+Through register width x [] (loses log ∷ ss) = ⊥
+Through register width x (p ∷ ps) (loses log ∷ ss) = (8400 ≤ length log) × Through register width (stationAfter defined x (markLost log)) ps ss
+Through register width x [] (refuses c ∷ ss) = (¬ (answerOf x c .refusal ≡ 0)) × Through register width (stationAfter defined x c) [] ss
+Through register width x (p ∷ ps) (refuses c ∷ ss) = (¬ (answerOf x c .refusal ≡ 0)) × Through register width (stationAfter defined x c) (p ∷ ps) ss
 
 -- what came of each PDU of the run
 abbrev pub fates : List Step → List Fate
@@ -54,26 +55,26 @@ NoneRefused x (receives marks q log s ∷ ss) = (answerOf x (receive marks q log
 NoneRefused x (loses log ∷ ss) = (answerOf x (markLost log) .refusal ≡ 0) × NoneRefused (stationAfter defined x (markLost log)) ss
 NoneRefused x (refuses c ∷ ss) = NoneRefused (stationAfter defined x c) ss
 
-module _ (mode stream : ℕ) (packets : List (List ℕ)) (writings : List Writing) (first count : ℕ) (carry : List ℕ) (steps : List Step) where
+module _ (mode stream register : ℕ) (packets : List (List ℕ)) (writings : List Writing) (first count : ℕ) (carry : List ℕ) (steps : List Step) where
   -- the packets with every byte in a sound piece of a PDU of the run that was received; PDUs before the run count as lost
   abbrev pub arrived : List Entry
   arrived = wholePackets (lies packets (spans mode stream packets writings) (replicate first lose ++ fates steps)) 0 0 packets
 
   -- what is asked of the calls
   pub record Asked : Type 0 where
-    pub opens : writerOpened mode stream .refusal ≡ 0
+    pub opens : writerOpened mode stream register .refusal ≡ 0
     pub sized : Packets packets
     pub offered : InOrder mode stream packets 0 writings
     pub room : 4096 ≤ length carry
-    pub through : Through (modeIn (listing mode stream) .width) (freshStation defined mode stream carry) (runOf first count (made mode stream writings)) steps
+    pub through : Through register (modeIn (listing mode stream) .width) (freshStation defined mode stream register carry) (runOf first count (made mode stream register writings)) steps
 
   -- what is promised of them
   pub record Delivered : Type 0 where
-    pub accepted : NoneRefused (freshStation defined mode stream carry) steps
-    pub log : packetWords (logsFrom (freshStation defined mode stream carry) steps) ≡ logWords arrived
+    pub accepted : NoneRefused (freshStation defined mode stream register carry) steps
+    pub log : packetWords (logsFrom (freshStation defined mode stream register carry) steps) ≡ logWords arrived
 
 abbrev pub ChannelDelivery : Type 0
 ChannelDelivery =
-    (mode stream : ℕ) (packets : List (List ℕ)) (writings : List Writing) (first count : ℕ) (carry : List ℕ) (steps : List Step)
-    → Asked mode stream packets writings first count carry steps
-    → Delivered mode stream packets writings first count carry steps
+    (mode stream register : ℕ) (packets : List (List ℕ)) (writings : List Writing) (first count : ℕ) (carry : List ℕ) (steps : List Step)
+    → Asked mode stream register packets writings first count carry steps
+    → Delivered mode stream register packets writings first count carry steps

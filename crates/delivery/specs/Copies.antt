@@ -1,6 +1,6 @@
 -- How a copy of a PDU may come: its first 96 bytes altered and marked within the bound (Delivery.antt, `Correctable`), bytes 96 to La as
 -- sent, and each piece with its CRC byte either as sent or damaged. One notion for demand 3, for marks (document 02, Ask 3), for two copies of a PDU
--- (Ask 5) and for bursts (Ask 12).
+-- (Ask 5) and for bursts (Ask 12), by whatever register the CRCs start with (Ask 2).
 use mathlib.Core.Path.{_≡_}
 use mathlib.Core.Bool.{Bool, true, false, not, cond}
 use mathlib.Core.List.{List, [], _∷_, _++_}
@@ -34,17 +34,18 @@ module _ (width : ℕ) (p : List ℕ) where
   abbrev pub pieceAt : List ℕ → ℕ → List ℕ
   pieceAt y k = bytesAt y k ++ (crcAt y k ∷ [])
 
+module _ (register width : ℕ) (p : List ℕ) where
   -- what may have become of a piece that is not as sent: its CRC is wrong, or its altered bits, one at least, lie inside eight consecutive bits
   pub data Damage (y : List ℕ) (k : ℕ) : Type 0 where
-    wrong : ¬ (crcFrom 0 (bytesAt y k) ≡ crcAt y k) → Damage y k
-    burst : Burst (pieceAt p k) (pieceAt y k) → Damage y k
+    wrong : ¬ (crcFrom register (bytesAt width p y k) ≡ crcAt width p y k) → Damage y k
+    burst : Burst (pieceAt width p p k) (pieceAt width p y k) → Damage y k
 
   -- q is p with its first 96 bytes altered and marked within the bound; bytes 96 to La are as sent, and so is each piece with its CRC byte where
   -- `sound` says so; any other is damaged. Bytes after the last locator may be any
   pub record Copy (marks q : List ℕ) (sound : ℕ → Bool) : Type 0 where
     pub header : Correctable marks p q
     pub front : take (frontLength p) (restored p q) ≡ take (frontLength p) p
-    pub whole : (k : ℕ) → k < controlAt p .nop → sound k ≡ true → (bytesAt (restored p q) k ≡ bytesAt p k) × (crcAt (restored p q) k ≡ crcAt p k)
+    pub whole : (k : ℕ) → k < controlAt p .nop → sound k ≡ true → (bytesAt width p (restored p q) k ≡ bytesAt width p p k) × (crcAt width p (restored p q) k ≡ crcAt width p p k)
     pub found : (k : ℕ) → k < controlAt p .nop → sound k ≡ false → Damage (restored p q) k
 
 -- the causes of its pieces

@@ -77,9 +77,9 @@ either false A B = B
 
 -- besides the list itself, G is fed the mode, the stream and the writing calls' arguments alone
 module _ (mode stream : ℕ) (packets : List (List ℕ)) where
-  -- the state that G tells. The table asks of a sequence only that it is in its range
+  -- the state that G tells. The table asks of a sequence only that it is in its range, and nothing of the register that CRCs start with
   abbrev pub told : ℕ → Writer
-  told g = record { mode = mode; stream = stream; sequence = 0; number = unfinished packets g % 64; sent = alreadySent packets g }
+  told g = record { mode = mode; stream = stream; register = 0; sequence = 0; number = unfinished packets g % 64; sent = alreadySent packets g }
 
   -- whether the table refuses a call
   abbrev pub refusedAt : ℕ → Writing → Bool
@@ -114,7 +114,7 @@ pub data Call : Type 0 where
 
 -- a receiver as its calls show it: what opening hands back, what a call answers, and the carry and the log after it
 pub record Behaviour : Type 0 where
-  pub opening : (mode stream : ℕ) → Receiver
+  pub opening : (mode stream register : ℕ) → Receiver
   pub answer : Station → Call → Received
   pub carry : Station → Call → List ℕ
   pub log : Station → Call → List ℕ
@@ -133,7 +133,7 @@ logOf x (receive marks pdu log) = logAfter marks (x .carry) pdu log (x .receiver
 logOf x (markLost log) = logAfterLost log (x .receiver)
 
 abbrev pub defined : Behaviour
-defined = record { opening = λ mode stream. receiverOpened mode stream .receiver; answer = answerOf; carry = carryOf; log = logOf }
+defined = record { opening = λ mode stream register. receiverOpened mode stream register .receiver; answer = answerOf; carry = carryOf; log = logOf }
 
 -- ---- going through a run
 
@@ -169,8 +169,8 @@ receptions (loses log ∷ ss) = false ∷ receptions ss
 receptions (refuses c ∷ ss) = receptions ss
 
 module _ (b : Behaviour) where
-  abbrev pub freshStation : (mode stream : ℕ) (carry : List ℕ) → Station
-  freshStation mode stream carry = record { receiver = b .opening mode stream; carry = carry }
+  abbrev pub freshStation : (mode stream register : ℕ) (carry : List ℕ) → Station
+  freshStation mode stream register carry = record { receiver = b .opening mode stream register; carry = carry }
 
   -- the next call gets receiver and carry as this one left them
   abbrev pub stationAfter : Station → Call → Station
@@ -229,8 +229,8 @@ abbrev pub runOf : {A : Type 0} → ℕ → ℕ → List A → List A
 runOf first count l = take count (drop first l)
 
 -- the PDUs that a fresh writer makes
-abbrev pub made : (mode stream : ℕ) → List Writing → List (List ℕ)
-made mode stream writings = pdusFrom (writerOpened mode stream .writer) writings
+abbrev pub made : (mode stream register : ℕ) → List Writing → List (List ℕ)
+made mode stream register writings = pdusFrom (writerOpened mode stream register .writer) writings
 
 module _ (mode stream : ℕ) (packets : List (List ℕ)) (writings : List Writing) where
   -- the bytes in each of them
@@ -241,26 +241,27 @@ module _ (mode stream : ℕ) (packets : List (List ℕ)) (writings : List Writin
   abbrev pub arrived : (first count : ℕ) (received : List Bool) → List Entry
   arrived first count received = wholePackets (inReceived (runOf first count spans) received) 0 0 packets
 
-module _ (b : Behaviour) (mode stream : ℕ) (packets : List (List ℕ)) (writings : List Writing) (first count : ℕ) (carry : List ℕ) (steps : List Step) where
+-- writer and receiver are opened for one mode and stream, and with one register that CRCs start with, whatever it is (document 02, Ask 2)
+module _ (b : Behaviour) (mode stream register : ℕ) (packets : List (List ℕ)) (writings : List Writing) (first count : ℕ) (carry : List ℕ) (steps : List Step) where
   -- what is asked of the calls
   pub record Asked : Type 0 where
-    pub opens : writerOpened mode stream .refusal ≡ 0
+    pub opens : writerOpened mode stream register .refusal ≡ 0
     pub sized : Packets packets
     pub offered : InOrder mode stream packets 0 writings
     pub room : 4096 ≤ length carry
-    pub through : Through b (freshStation b mode stream carry) (runOf first count (made mode stream writings)) steps
+    pub through : Through b (freshStation b mode stream register carry) (runOf first count (made mode stream register writings)) steps
 
   -- what is promised of them: each PDU made has its span, none of the run is refused, and the joined logs hold exactly these packets
   pub record Delivered : Type 0 where
-    pub as-many : length (spans mode stream packets writings) ≡ length (made mode stream writings)
-    pub accepted : NoneRefused b (freshStation b mode stream carry) steps
-    pub log : packetWords (logsFrom b (freshStation b mode stream carry) steps) ≡ logWords (arrived mode stream packets writings first count (receptions steps))
+    pub as-many : length (spans mode stream packets writings) ≡ length (made mode stream register writings)
+    pub accepted : NoneRefused b (freshStation b mode stream register carry) steps
+    pub log : packetWords (logsFrom b (freshStation b mode stream register carry) steps) ≡ logWords (arrived mode stream packets writings first count (receptions steps))
 
 abbrev pub Demand3For : Behaviour → Type 0
 Demand3For b =
-    (mode stream : ℕ) (packets : List (List ℕ)) (writings : List Writing) (first count : ℕ) (carry : List ℕ) (steps : List Step)
-    → Asked b mode stream packets writings first count carry steps
-    → Delivered b mode stream packets writings first count carry steps
+    (mode stream register : ℕ) (packets : List (List ℕ)) (writings : List Writing) (first count : ℕ) (carry : List ℕ) (steps : List Step)
+    → Asked b mode stream register packets writings first count carry steps
+    → Delivered b mode stream register packets writings first count carry steps
 
 -- demand 3
 abbrev pub Demand3 : Type 0

@@ -1,5 +1,6 @@
--- The receivers that document 01 wants thrown out by demand 3, and one that joins across a lost PDU. Each is the receiver of document 01 but for what its
--- line says; proofs/WrongReceivers.antt shows that demand 3 is false of each.
+-- The receivers that document 01 wants thrown out by demand 3, one that joins across a lost PDU, and one that does not take the register it is given. Each is
+-- the receiver of document 01 but for what its line says; proofs/WrongReceivers.antt and, for the last, proofs/Registers.antt show that demand 3 is false of
+-- each.
 use mathlib.Core.Bool.{Bool, true, false, cond}
 use mathlib.Core.List.{List, [], _∷_}
 use Prim.Native.Nat.{ℕ}
@@ -61,3 +62,7 @@ joiningAnswer x (markLost log) = withReceiver (x .receiver) (answerOf x (markLos
 
 abbrev pub joining : Behaviour
 joining = record { opening = defined .opening; answer = joiningAnswer; carry = carryOf; log = logOf }
+
+-- it opens with a register of 0, whatever is asked for (document 02, Ask 2)
+abbrev pub zeroed : Behaviour
+zeroed = record { opening = λ mode stream register. defined .opening mode stream 0; answer = answerOf; carry = carryOf; log = logOf }

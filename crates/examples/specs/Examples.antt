@@ -44,7 +44,7 @@ chosen [] = 0
 abbrev pub controlExample : ControlWord
 controlExample = record { mode = 0; stream = 0; sequence = 1; blend = 2; gain = 0; common = 5; latency = 4; pfirst = true; plast = false; start = 33; nop = 2; flag = false; la = 17 }
 
--- a writer for mode 0, core, and a call with PDUs of 96 bytes, no settings, a PSD of n bytes and packets of these lengths
+-- a writer for mode 0, core, its register starting at 0, and a call with PDUs of 96 bytes, no settings, a PSD of n bytes and packets of these lengths
 abbrev pub mode0 : Mode
 mode0 = record { width = 16; sequences = 2; limit = 128; psd = true }
 
@@ -62,7 +62,7 @@ control lengths w = controlFor noSettings [] lengths (replicate (total lengths) 
 
 -- the writer that (j) leaves
 abbrev pub next : Writer
-next = record { mode = 0; stream = 0; sequence = 1; number = 0; sent = 79 }
+next = record { mode = 0; stream = 0; register = 0; sequence = 1; number = 0; sent = 79 }
 
 pub record Examples : Type 0 where
   -- the control word above: 40 04 05 0B 05 11
@@ -84,19 +84,19 @@ pub record Examples : Type 0 where
   -- with five to all zero
   pub i : (choice : List Bool) → length choice ≡ 9 → chosen choice ≡ 5 → corrected (zeroing choice generatorWord) ≡ some (replicate 96 0)
   -- mode 0, 96 bytes, packet of 100: 79 sent, locator 95, Plast
-  pub j : answered 0 (100 ∷ []) (opened 0 0 .writer) ≡ record { refusal = 0; ended = 0; writer = next }
+  pub j : answered 0 (100 ∷ []) (opened 0 0 0 .writer) ≡ record { refusal = 0; ended = 0; writer = next }
   pub j-mode : listing 0 0 ≡ Listed mode0
-  pub j-locators : locators (100 ∷ []) (opened 0 0 .writer) ≡ 95 ∷ []
-  pub j-plast : control (100 ∷ []) (opened 0 0 .writer) .plast ≡ true
+  pub j-locators : locators (100 ∷ []) (opened 0 0 0 .writer) ≡ 95 ∷ []
+  pub j-plast : control (100 ∷ []) (opened 0 0 0 .writer) .plast ≡ true
   -- next, with one of 50: locators 39 and 90, start 1
   pub k : answered 0 (100 ∷ 50 ∷ []) next .refusal ≡ 0
   pub k-locators : locators (100 ∷ 50 ∷ []) next ≡ 39 ∷ 90 ∷ []
   pub k-start : control (100 ∷ 50 ∷ []) next .start ≡ 1
   -- with 56 instead, 55 of it sent
-  pub l : answered 0 (100 ∷ 56 ∷ []) next ≡ record { refusal = 0; ended = 1; writer = record { mode = 0; stream = 0; sequence = 0; number = 1; sent = 55 } }
+  pub l : answered 0 (100 ∷ 56 ∷ []) next ≡ record { refusal = 0; ended = 1; writer = record { mode = 0; stream = 0; register = 0; sequence = 0; number = 1; sent = 55 } }
   -- mode 0, 96 bytes, packets offered: PSD 78 fits, 79 is 17
-  pub m-fits : answered 78 (100 ∷ []) (opened 0 0 .writer) .refusal ≡ 0
-  pub m-not : answered 79 (100 ∷ []) (opened 0 0 .writer) .refusal ≡ 17
+  pub m-fits : answered 78 (100 ∷ []) (opened 0 0 0 .writer) .refusal ≡ 0
+  pub m-not : answered 79 (100 ∷ []) (opened 0 0 0 .writer) .refusal ≡ 17
   -- packet 5, bytes 11 22 33 44: 0x00050004 0x43112233 0x41440000; length 95: 3
   pub n : entryWords (packet 5 (0x11 ∷ 0x22 ∷ 0x33 ∷ 0x44 ∷ [])) ≡ 0x00050004 ∷ 0x43112233 ∷ 0x41440000 ∷ []
   pub n-length : lengthRefusal 95 ≡ 3

@@ -295,7 +295,7 @@ fn writing_lines() {
     let one: [u16; 1] = [100];
     let fifty: [u16; 2] = [100, 50];
     let more: [u16; 2] = [100, 56];
-    let opened = writer::open(0, 0);
+    let opened = writer::open(0, 0, 0);
     let next = writing_line(b"(j) packet of 100:", opened.writer, 0, &one, 100);
     writing_line(b"(k) next, with one of 50:", next, 0, &fifty, 150);
     writing_line(b"(l) with 56 instead:", next, 0, &more, 156);

@@ -33,7 +33,7 @@ pub fn program() -> i32 {
 
 // Makes the log. Answers whether all is done.
 fn with_job(job: Job) -> bool {
-    let opened = receiver::open(job.mode, job.stream);
+    let opened = receiver::open(job.mode, job.stream, 0);
     if opened.refusal != 0 {
         report::not_opened(opened.refusal);
         return false;

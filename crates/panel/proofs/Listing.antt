@@ -173,11 +173,11 @@ module _ (y : List ℕ) where
     pub inside : s + n < length y
     inside = omega (arith, ends, sized-judged z .within k h)
 
-    pub entry-is : (crc : ℕ) → crc ≡ crcFrom 0 (take (s + n - s) (drop s y)) → record { start = s; length = n; right = eqb crc (getD y (s + n) 0) } ≡ entryAt y k
-    entry-is crc ec =
+    pub entry-is : (register crc : ℕ) → crc ≡ crcFrom register (take (s + n - s) (drop s y)) → record { start = s; length = n; right = eqb crc (getD y (s + n) 0) } ≡ entryAt register y k
+    entry-is register crc ec =
         let m : s + n - s ≡ n = omega arith in
-        let g : crc ≡ crcFrom 0 (take (lengthAt width c y k) (drop (startAt width c y k) y)) = ec ∙ rw (m, start-is, length-is) in
-        let b : eqb crc (getD y (s + n) 0) ≡ eqb (crcFrom 0 (take (lengthAt width c y k) (drop (startAt width c y k) y))) (getD y (locatorAt width y k) 0) = rw (g, ends) in
+        let g : crc ≡ crcFrom register (take (lengthAt width c y k) (drop (startAt width c y k) y)) = ec ∙ rw (m, start-is, length-is) in
+        let b : eqb crc (getD y (s + n) 0) ≡ eqb (crcFrom register (take (lengthAt width c y k) (drop (startAt width c y k) y))) (getD y (locatorAt width y k) 0) = rw (g, ends) in
         λ i. record { start = start-is i; length = length-is i; right = b i }
 
 -- ---- lists of pieces
@@ -191,16 +191,16 @@ any-default [] k d e h = absurd (omega arith)
 any-default (p ∷ ps) zero d e h = refl
 any-default (p ∷ ps) (suc k) d e h = any-default ps k d e (omega arith)
 
-entries-next : (y : List ℕ) (k n : ℕ) → entriesFrom y k n ++ (entryAt y (k + n) ∷ []) ≡ entriesFrom y k (suc n)
+entries-next : (register : ℕ) (y : List ℕ) (k n : ℕ) → entriesFrom register y k n ++ (entryAt register y (k + n) ∷ []) ≡ entriesFrom register y k (suc n)
 unfolding entriesFrom
-entries-next y k zero = let e : k + 0 ≡ k = omega arith in rw e
-entries-next y k (suc n) = let e : k + suc n ≡ suc k + n = omega arith in rw e (ap (λ (l : List Piece). entryAt y k ∷ l) (entries-next y (suc k) n))
+entries-next register y k zero = let e : k + 0 ≡ k = omega arith in rw e
+entries-next register y k (suc n) = let e : k + suc n ≡ suc k + n = omega arith in rw e (ap (λ (l : List Piece). entryAt register y k ∷ l) (entries-next register y (suc k) n))
 
-pub filled-next : (y : List ℕ) (k : ℕ) (e : Piece) (ps : List Piece) → k < length ps → e ≡ entryAt y k → take k ps ≡ entriesFrom y 0 k → take (k + 1) (set ps k e) ≡ entriesFrom y 0 (k + 1)
-filled-next y k e ps h q t =
+pub filled-next : (register : ℕ) (y : List ℕ) (k : ℕ) (e : Piece) (ps : List Piece) → k < length ps → e ≡ entryAt register y k → take k ps ≡ entriesFrom register y 0 k → take (k + 1) (set ps k e) ≡ entriesFrom register y 0 (k + 1)
+filled-next register y k e ps h q t =
     let a : k + 1 ≡ suc k = add-one k in
     let z : 0 + k ≡ k = omega arith in
-    rw a (take-suc-set ps k e h ∙ ap (λ (l : List Piece). l ++ (e ∷ [])) t ∙ ap (λ (x : Piece). entriesFrom y 0 k ++ (x ∷ [])) (q ∙ ap (entryAt y) (sym z)) ∙ entries-next y 0 k)
+    rw a (take-suc-set ps k e h ∙ ap (λ (l : List Piece). l ++ (e ∷ [])) t ∙ ap (λ (x : Piece). entriesFrom register y 0 k ++ (x ∷ [])) (q ∙ ap (entryAt register y) (sym z)) ∙ entries-next register y 0 k)
 
 -- ---- a list over which the first i of others are laid
 
@@ -290,16 +290,16 @@ module _ (p : List ℕ) where
           go (no d) = omega (arith, nop-none d)
 
       -- what the list is to hold
-      pub list-end : (ps l : List Piece) → take nop ps ≡ entriesFrom q 0 nop → length l ≡ room → take nop ps ++ drop nop l ≡ listAfter l p
+      pub list-end : (register : ℕ) (ps l : List Piece) → take nop ps ≡ entriesFrom register q 0 nop → length l ≡ room → take nop ps ++ drop nop l ≡ listAfter register l p
       unfolding listAfter
-      list-end ps l t e = go (ℕ-discrete (listNumber p room) 0)
+      list-end register ps l t e = go (ℕ-discrete (listNumber p room) 0)
         where
-          go : Dec (listNumber p room ≡ 0) → take nop ps ++ drop nop l ≡ listAfter l p
+          go : Dec (listNumber p room ≡ 0) → take nop ps ++ drop nop l ≡ listAfter register l p
           go (yes z) =
               let m : listNumber p (length l) ≡ 0 = ap (listNumber p) e ∙ z in
               let k : nop ≡ controlAt (correctedPdu p) .nop = nop-with z ∙ ap (λ (x : List ℕ). controlAt x .nop) (same-pdu z) in
-              let a : take nop ps ++ drop nop l ≡ entriesFrom (correctedPdu p) 0 (controlAt (correctedPdu p) .nop) ++ drop (controlAt (correctedPdu p) .nop) l =
-              ap (λ (u : List Piece). u ++ drop nop l) (t ∙ ap (λ (x : List ℕ). entriesFrom x 0 nop) (same-pdu z)) ∙ ap (λ (n : ℕ). entriesFrom (correctedPdu p) 0 n ++ drop n l) k in
+              let a : take nop ps ++ drop nop l ≡ entriesFrom register (correctedPdu p) 0 (controlAt (correctedPdu p) .nop) ++ drop (controlAt (correctedPdu p) .nop) l =
+              ap (λ (u : List Piece). u ++ drop nop l) (t ∙ ap (λ (x : List ℕ). entriesFrom register x 0 nop) (same-pdu z)) ∙ ap (λ (n : ℕ). entriesFrom register (correctedPdu p) 0 n ++ drop n l) k in
               a ∙ sym (rw m)
           go (no d) =
               let f : eqb (listNumber p (length l)) 0 ≡ false = ne-eqb (listNumber p (length l)) 0 (λ z. d (ap (listNumber p) (sym e) ∙ z)) in

@@ -33,28 +33,28 @@ listReading p room = readingBy (correctedPdu p) (listNumber p room)
 unfoldable pub listedPdu : List ℕ → ℕ → List ℕ
 listedPdu p room = cond (eqb (listNumber p room) 0) (correctedPdu p) p
 
--- entry k, of a corrected PDU y: a wrong CRC is a verdict and no refusal
-abbrev pub entryAt : List ℕ → ℕ → Piece
-entryAt y k =
+-- entry k, of a corrected PDU y, by the register that CRCs start with (document 02, Ask 2): a wrong CRC is a verdict and no refusal
+abbrev pub entryAt : ℕ → List ℕ → ℕ → Piece
+entryAt register y k =
     let width = widthOf y in
     let c = controlAt y in
     record {
       start = startAt width c y k;
       length = lengthAt width c y k;
-      right = eqb (crcFrom 0 (take (lengthAt width c y k) (drop (startAt width c y k) y))) (getD y (locatorAt width y k) 0);
+      right = eqb (crcFrom register (take (lengthAt width c y k) (drop (startAt width c y k) y))) (getD y (locatorAt width y k) 0);
     }
 
 -- n entries from entry k on
-unfoldable pub entriesFrom : List ℕ → ℕ → ℕ → List Piece
-entriesFrom y k zero = []
-entriesFrom y k (suc n) = entryAt y k ∷ entriesFrom y (suc k) n
+unfoldable pub entriesFrom : ℕ → List ℕ → ℕ → ℕ → List Piece
+entriesFrom register y k zero = []
+entriesFrom register y k (suc n) = entryAt register y k ∷ entriesFrom register y (suc k) n
 
 -- the list after the call: entries past NOP keep what they held
-unfoldable pub listAfter : List Piece → List ℕ → List Piece
-listAfter l p =
+unfoldable pub listAfter : ℕ → List Piece → List ℕ → List Piece
+listAfter register l p =
     let y = correctedPdu p in
     let nop = controlAt y .nop in
-    cond (eqb (listNumber p (length l)) 0) (entriesFrom y 0 nop ++ drop nop l) l
+    cond (eqb (listNumber p (length l)) 0) (entriesFrom register y 0 nop ++ drop nop l) l
 
 -- ---- the receiver in place
 

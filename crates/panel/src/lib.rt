@@ -52,17 +52,17 @@ fn read_for(pdu: &mut [u8], room: usize) -> Reading
     r
 }
 
-// Piece k of a corrected PDU that was accepted with this reading.
-fn piece_at(y: &[u8], r: Reading, k: usize) -> Piece
+// Piece k of a corrected PDU that was accepted with this reading, its verdict by the register that the CRC starts with.
+fn piece_at(register: u8, y: &[u8], r: Reading, k: usize) -> Piece
     requires { ⌜ (judged (now y) ≡ 0) × (r ≡ accepted (widthOf (now y)) (controlAt (now y)) (now y)) ⌝ }
     requires { ⌜ k < controlAt (now y) .nop ⌝ }
-    ensures { λ p. ⌜ p ≡ entryAt (now (y .entry)) k ⌝ }
+    ensures { λ p. ⌜ p ≡ entryAt register (now (y .entry)) k ⌝ }
 {
     let start = r.starts[k];
     let length = r.lengths[k];
     let a = start as usize;
     let e = a + length as usize;
-    let crc = crc::crc8(&y[a..e]);
+    let crc = crc::crc8_from(register, &y[a..e]);
     Piece {
         start: start,
         length: length,
@@ -71,9 +71,9 @@ fn piece_at(y: &[u8], r: Reading, k: usize) -> Piece
 }
 
 // The pieces of a corrected PDU that was accepted with this reading, or none.
-fn pieces_of(y: &[u8], r: Reading, nop: usize) -> [Piece; 64]
+fn pieces_of(register: u8, y: &[u8], r: Reading, nop: usize) -> [Piece; 64]
     requires { ⌜ ((0 < nop) → (judged (now y) ≡ 0) × (r ≡ accepted (widthOf (now y)) (controlAt (now y)) (now y)) × (nop ≡ controlAt (now y) .nop)) ⌝ }
-    ensures { λ ps. ⌜ take nop ps ≡ entriesFrom (now (y .entry)) 0 nop ⌝ }
+    ensures { λ ps. ⌜ take nop ps ≡ entriesFrom register (now (y .entry)) 0 nop ⌝ }
 {
     let none = Piece {
         start: 0,
@@ -83,20 +83,20 @@ fn pieces_of(y: &[u8], r: Reading, nop: usize) -> [Piece; 64]
     let mut pieces = [none; 64];
     let mut k: usize = 0;
     while k < nop {
-        pieces[k] = piece_at(y, r, k);
+        pieces[k] = piece_at(register, y, r, k);
         k += 1;
     }
     pieces
 }
 
 // Reads a PDU for a list of so many entries, with what the list is to hold.
-fn read_pieces(pdu: &mut [u8], room: usize) -> Told
-    ensures { λ t. ⌜ (t .reading ≡ listReading (now (pdu .entry)) room) × (now (pdu .exit) ≡ listedPdu (now (pdu .entry)) room) × (t .count ≤ room) × (t .count ≤ length (t .pieces)) × ((l : List Piece) → length l ≡ room → take (t .count) (t .pieces) ++ drop (t .count) l ≡ listAfter l (now (pdu .entry))) ⌝ }
+fn read_pieces(pdu: &mut [u8], register: u8, room: usize) -> Told
+    ensures { λ t. ⌜ (t .reading ≡ listReading (now (pdu .entry)) room) × (now (pdu .exit) ≡ listedPdu (now (pdu .entry)) room) × (t .count ≤ room) × (t .count ≤ length (t .pieces)) × ((l : List Piece) → length l ≡ room → take (t .count) (t .pieces) ++ drop (t .count) l ≡ listAfter register l (now (pdu .entry))) ⌝ }
 {
     let r = read_for(&mut *pdu, room);
     let c = r.control;
     let nop = c.nop as usize;
-    let pieces = pieces_of(pdu, r, nop);
+    let pieces = pieces_of(register, pdu, r, nop);
     Told {
         reading: r,
         count: nop,
@@ -136,15 +136,15 @@ fn fill(list: &mut [Piece], t: Told, n: usize)
     }
 }
 
-// Fills a lent list with a PDU's pieces and reads the PDU without a receiver: refused with 3 to 5, 7 to 12, or 13 for a list under NOP entries,
-// and then nothing is changed.
+// Fills a lent list with a PDU's pieces, their verdicts by the register that CRCs start with, any byte, and reads the PDU without a receiver: refused
+// with 3 to 5, 7 to 12, or 13 for a list under NOP entries, and then nothing is changed.
 #[no_mangle]
-pub extern "C" fn barzhilup_list_pieces(pdu: &mut [u8], list: &mut [Piece]) -> Reading
+pub extern "C" fn barzhilup_list_pieces(pdu: &mut [u8], register: u8, list: &mut [Piece]) -> Reading
     ensures { λ r. ⌜ r ≡ listReading (now (pdu .entry)) (length (now (list .entry))) ⌝ }
     ensures { λ _. ⌜ now (pdu .exit) ≡ listedPdu (now (pdu .entry)) (length (now (list .entry))) ⌝ }
-    ensures { λ _. ⌜ now (list .exit) ≡ listAfter (now (list .entry)) (now (pdu .entry)) ⌝ }
+    ensures { λ _. ⌜ now (list .exit) ≡ listAfter register (now (list .entry)) (now (pdu .entry)) ⌝ }
 {
-    let told = read_pieces(pdu, list.len());
+    let told = read_pieces(pdu, register, list.len());
     let n = count_of(told);
     fill(list, told, n);
     reading_of(told)

@@ -46,10 +46,10 @@ pub record Sendable (m : Mode) (c : ControlWord) (x : Fields) (psd : List ℕ) (
   pub displaced : interpretedOf x .displaced ≡ true → interpretedOf x .displacement + 1 ≡ size
   pub short : size ≤ roof (m .width)
 
-module _ (m : Mode) (c : ControlWord) (x : Fields) (psd : List ℕ) (ps : List (List ℕ)) (parity rest : List ℕ) (long : length parity ≡ 8) where
+module _ (register : ℕ) (m : Mode) (c : ControlWord) (x : Fields) (psd : List ℕ) (ps : List (List ℕ)) (parity rest : List ℕ) (long : length parity ≡ 8) where
   -- the PDU: parity, control word, contents, and whatever follows
   abbrev pub sent : List ℕ
-  sent = parity ++ (controlBytes c ++ (contents (m .width) (expansionBytes x) psd ps ++ rest))
+  sent = parity ++ (controlBytes c ++ (contents register (m .width) (expansionBytes x) psd ps ++ rest))
 
   front : List ℕ
   front = parity ++ controlBytes c
@@ -58,13 +58,13 @@ module _ (m : Mode) (c : ControlWord) (x : Fields) (psd : List ℕ) (ps : List (
   unfolding front controlBytes
   fourteen = length-append parity (controlBytes c) ∙ omega (arith, long)
 
-  split : sent ≡ front ++ (contents (m .width) (expansionBytes x) psd ps ++ rest)
+  split : sent ≡ front ++ (contents register (m .width) (expansionBytes x) psd ps ++ rest)
   unfolding front
-  split = sym (append-assoc parity (controlBytes c) (contents (m .width) (expansionBytes x) psd ps ++ rest))
+  split = sym (append-assoc parity (controlBytes c) (contents register (m .width) (expansionBytes x) psd ps ++ rest))
 
   module _ (s : Sendable m c x psd ps (length sent)) where
     pub control-back : controlAt sent ≡ c
-    control-back = control-law parity (contents (m .width) (expansionBytes x) psd ps ++ rest) c long (s .widths)
+    control-back = control-law parity (contents register (m .width) (expansionBytes x) psd ps ++ rest) c long (s .widths)
 
     abbrev at : ℕ
     at = firstPiece (m .width) (expansionBytes x) psd ps
@@ -73,7 +73,7 @@ module _ (m : Mode) (c : ControlWord) (x : Fields) (psd : List ℕ) (ps : List (
     ls = locatorsOf (m .width) (expansionBytes x) psd ps
 
     y : List ℕ
-    y = front ++ (contents (m .width) (expansionBytes x) psd ps ++ rest)
+    y = front ++ (contents register (m .width) (expansionBytes x) psd ps ++ rest)
 
     same : sent ≡ y
     unfolding y
@@ -81,18 +81,18 @@ module _ (m : Mode) (c : ControlWord) (x : Fields) (psd : List ℕ) (ps : List (
 
     fits : (k : ℕ) → k < length ps → getD ls k 0 < roof (m .width)
     unfolding y
-    fits k h = let b = locators-below (m .width) front (expansionBytes x) psd rest ps fourteen k h in let l = s .short in let e = ap length split in omega (arith, b, l, e)
+    fits k h = let b = locators-below register (m .width) front (expansionBytes x) psd rest ps fourteen k h in let l = s .short in let e = ap length split in omega (arith, b, l, e)
 
-    piece-in : (k : ℕ) → k < length ps → PieceRead (m .width) c y k (getD ps k [])
+    piece-in : (k : ℕ) → k < length ps → PieceRead register (m .width) c y k (getD ps k [])
     unfolding y
     piece-in k h =
-        let b = pieces-back (m .width) front (expansionBytes x) psd rest ps fourteen c (s .la) fits k h in
-        let l = locators-back (m .width) front (expansionBytes x) psd rest ps fourteen k h (fits k h) in
+        let b = pieces-back register (m .width) front (expansionBytes x) psd rest ps fourteen c (s .la) fits k h in
+        let l = locators-back register (m .width) front (expansionBytes x) psd rest ps fourteen k h (fits k h) in
         record { size = b .size; bytes = b .bytes; ends = b .ends; crc = b .crc }
 
     long-enough : at ≤ length y
     unfolding y
-    long-enough = let w = written-length (m .width) front (expansionBytes x) psd rest ps fourteen in omega (arith, w)
+    long-enough = let w = written-length register (m .width) front (expansionBytes x) psd rest ps fourteen in omega (arith, w)
 
     after : afterLocators (m .width) c ≡ 14 + locatorSize (m .width) (length ps)
     after = ap (λ (n : ℕ). 14 + locatorSize (m .width) n) (s .count)
@@ -109,7 +109,7 @@ module _ (m : Mode) (c : ControlWord) (x : Fields) (psd : List ℕ) (ps : List (
         → (cond b (expansionLength y (afterLocators (m .width) c) (c .la)) 0 ≡ length (expansionBytes x)) × (cond b (expansionAt y (afterLocators (m .width) c) (c .la)) (nothing true) ≡ interpretedOf x)
     unfolding y
     expansion-read true e =
-        let stands : take (length (expansionBytes x)) (drop (afterLocators (m .width) c) y) ≡ expansionBytes x = rw after (expansion-back (m .width) front (expansionBytes x) psd rest ps fourteen) in
+        let stands : take (length (expansionBytes x)) (drop (afterLocators (m .width) c) y) ≡ expansionBytes x = rw after (expansion-back register (m .width) front (expansionBytes x) psd rest ps fourteen) in
         let q = s .la in
         expansion-law y (afterLocators (m .width) c) (c .la) x (s .fields) (ltb-true 0 (length (expansionBytes x)) e) stands (omega (arith, q, after))
     expansion-read false e =
@@ -136,8 +136,8 @@ module _ (m : Mode) (c : ControlWord) (x : Fields) (psd : List ℕ) (ps : List (
         let b = s .bytes k h in
         let e = p .ends in
         let z = p .size in
-        let l = locators-back (m .width) front (expansionBytes x) psd rest ps fourteen k h (fits k h) in
-        let r = locators-below (m .width) front (expansionBytes x) psd rest ps fourteen k h in
+        let l = locators-back register (m .width) front (expansionBytes x) psd rest ps fourteen k h (fits k h) in
+        let r = locators-below register (m .width) front (expansionBytes x) psd rest ps fourteen k h in
         let u : ltb (locatorAt (m .width) y k) (startAt (m .width) c y k + 1) ≡ false = le-ltb (locatorAt (m .width) y k) (startAt (m .width) c y k + 1) (omega (arith, b, e, z)) in
         let v : leb (length y) (locatorAt (m .width) y k) ≡ false = lt-leb (length y) (locatorAt (m .width) y k) (omega (arith, l, r)) in
         rw (u, v)
@@ -152,8 +152,8 @@ module _ (m : Mode) (c : ControlWord) (x : Fields) (psd : List ℕ) (ps : List (
     unfolding y
     end-below zero h = let q = s .la in let l = long-enough in omega (arith, q, l)
     end-below (suc k) h =
-        let l = locators-back (m .width) front (expansionBytes x) psd rest ps fourteen k (omega arith) (fits k (omega arith)) in
-        let r = locators-below (m .width) front (expansionBytes x) psd rest ps fourteen k (omega arith) in
+        let l = locators-back register (m .width) front (expansionBytes x) psd rest ps fourteen k (omega arith) (fits k (omega arith)) in
+        let r = locators-below register (m .width) front (expansionBytes x) psd rest ps fourteen k (omega arith) in
         omega (arith, l, r)
 
     displacement-right : wrongDisplacement (m .width) c y (fieldsOf (m .width) c y) ≡ false
@@ -202,10 +202,10 @@ module _ (m : Mode) (c : ControlWord) (x : Fields) (psd : List ℕ) (ps : List (
     psd-place = ap (psdOf (m .width) c) same ∙ read-psd
 
     pub psd-bytes : take (length psd) (drop (14 + locatorSize (m .width) (length ps) + length (expansionBytes x)) sent) ≡ psd
-    psd-bytes = ap (λ (r : List ℕ). take (length psd) (drop (14 + locatorSize (m .width) (length ps) + length (expansionBytes x)) r)) split ∙ psd-back (m .width) front (expansionBytes x) psd rest ps fourteen
+    psd-bytes = ap (λ (r : List ℕ). take (length psd) (drop (14 + locatorSize (m .width) (length ps) + length (expansionBytes x)) r)) split ∙ psd-back register (m .width) front (expansionBytes x) psd rest ps fourteen
 
-    pub pieces-read : (k : ℕ) → k < length ps → PieceRead (m .width) c sent k (getD ps k [])
-    pieces-read k h = subst (λ (r : List ℕ). PieceRead (m .width) c r k (getD ps k [])) (sym same) (piece-in k h)
+    pub pieces-read : (k : ℕ) → k < length ps → PieceRead register (m .width) c sent k (getD ps k [])
+    pieces-read k h = subst (λ (r : List ℕ). PieceRead register (m .width) c r k (getD ps k [])) (sym same) (piece-in k h)
 
     pub width-back : widthOf sent ≡ m .width
     unfolding widthOf

@@ -15,29 +15,29 @@ pub total-drop : (ns : List ℕ) (k : ℕ) → k < length ns → total (drop k n
 unfolding total
 total-drop ns k h = rw (add-one k, drop-cons ns k 0 h)
 
-module _ (l l2 ns bytes goal : List ℕ) (place from k n : ℕ) where
+module _ (register : ℕ) (l l2 ns bytes goal : List ℕ) (place from k n : ℕ) where
   pub turn : k < length ns → n ≡ getD ns k 0 → from + n ≤ length bytes → place + n + 1 ≤ length l
-      → l2 ≡ putAt l place (withCrc (take n (drop from bytes)))
-      → putAt l place (pieceBytes (cutBy (drop k ns) (drop from bytes))) ≡ goal
-      → putAt l2 (place + n + 1) (pieceBytes (cutBy (drop (k + 1) ns) (drop (from + n) bytes))) ≡ goal
+      → l2 ≡ putAt l place (withCrc register (take n (drop from bytes)))
+      → putAt l place (pieceBytes register (cutBy (drop k ns) (drop from bytes))) ≡ goal
+      → putAt l2 (place + n + 1) (pieceBytes register (cutBy (drop (k + 1) ns) (drop (from + n) bytes))) ≡ goal
   unfolding cutBy pieceBytes
   turn h e fits room put g =
       let d : drop k ns ≡ n ∷ drop (suc k) ns = rw e (drop-cons ns k 0 h) in
-      let t : putAt l place (withCrc (take n (drop from bytes)) ++ pieceBytes (cutBy (drop (suc k) ns) (drop n (drop from bytes)))) ≡ goal = rw d at g in
+      let t : putAt l place (withCrc register (take n (drop from bytes)) ++ pieceBytes register (cutBy (drop (suc k) ns) (drop n (drop from bytes)))) ≡ goal = rw d at g in
       let q : length (drop from bytes) ≡ length bytes - from = length-drop from bytes in
       let m : length (take n (drop from bytes)) ≡ n = length-take-le n (drop from bytes) (omega arith) in
-      let w : length (withCrc (take n (drop from bytes))) ≡ n + 1 = simp (length-append, m) in
-      let p : place + n + 1 ≡ place + length (withCrc (take n (drop from bytes))) = omega arith in
+      let w : length (withCrc register (take n (drop from bytes))) ≡ n + 1 = simp (length-append, m) in
+      let p : place + n + 1 ≡ place + length (withCrc register (take n (drop from bytes))) = omega arith in
       let f : drop n (drop from bytes) ≡ drop (from + n) bytes = drop-drop n from bytes in
-      let t2 : putAt l place (withCrc (take n (drop from bytes)) ++ pieceBytes (cutBy (drop (suc k) ns) (drop (from + n) bytes))) ≡ goal = rw f at t in
-      let s : putAt l2 (place + n + 1) (pieceBytes (cutBy (drop (k + 1) ns) (drop (from + n) bytes))) ≡ putAt l place (withCrc (take n (drop from bytes)) ++ pieceBytes (cutBy (drop (k + 1) ns) (drop (from + n) bytes))) =
-      put-then l l2 (putAt l2 (place + n + 1) (pieceBytes (cutBy (drop (k + 1) ns) (drop (from + n) bytes)))) (withCrc (take n (drop from bytes))) (pieceBytes (cutBy (drop (k + 1) ns) (drop (from + n) bytes))) place (place + n + 1) (omega arith) p put refl in
+      let t2 : putAt l place (withCrc register (take n (drop from bytes)) ++ pieceBytes register (cutBy (drop (suc k) ns) (drop (from + n) bytes))) ≡ goal = rw f at t in
+      let s : putAt l2 (place + n + 1) (pieceBytes register (cutBy (drop (k + 1) ns) (drop (from + n) bytes))) ≡ putAt l place (withCrc register (take n (drop from bytes)) ++ pieceBytes register (cutBy (drop (k + 1) ns) (drop (from + n) bytes))) =
+      put-then l l2 (putAt l2 (place + n + 1) (pieceBytes register (cutBy (drop (k + 1) ns) (drop (from + n) bytes)))) (withCrc register (take n (drop from bytes))) (pieceBytes register (cutBy (drop (k + 1) ns) (drop (from + n) bytes))) place (place + n + 1) (omega arith) p put refl in
       s ∙ rw (add-one k) t2
 
 -- no length is left
-pub none-left : (l ns bytes goal : List ℕ) (place from k : ℕ) → length ns ≤ k → putAt l place (pieceBytes (cutBy (drop k ns) (drop from bytes))) ≡ goal → l ≡ goal
+pub none-left : (register : ℕ) (l ns bytes goal : List ℕ) (place from k : ℕ) → length ns ≤ k → putAt l place (pieceBytes register (cutBy (drop k ns) (drop from bytes))) ≡ goal → l ≡ goal
 unfolding cutBy pieceBytes
-none-left l ns bytes goal place from k h g =
+none-left register l ns bytes goal place from k h g =
     let d : drop k ns ≡ [] = drop-of-length-le ns {i = k} h in
     let t : putAt l place [] ≡ goal = rw d at g in
     sym (put-nil l place) ∙ t

@@ -9,14 +9,14 @@ unfoldable pub cutBy : List ℕ → List ℕ → List (List ℕ)
 cutBy [] bytes = []
 cutBy (n ∷ ns) bytes = take n bytes ∷ cutBy ns (drop n bytes)
 
--- a piece and its CRC byte
-abbrev pub withCrc : List ℕ → List ℕ
-withCrc piece = piece ++ crcFrom 0 piece ∷ []
+-- a piece and its CRC byte, by the register that the CRC starts with
+abbrev pub withCrc : ℕ → List ℕ → List ℕ
+withCrc register piece = piece ++ crcFrom register piece ∷ []
 
 -- pieces, each with its CRC byte
-unfoldable pub pieceBytes : List (List ℕ) → List ℕ
-pieceBytes [] = []
-pieceBytes (p ∷ ps) = withCrc p ++ pieceBytes ps
+unfoldable pub pieceBytes : ℕ → List (List ℕ) → List ℕ
+pieceBytes register [] = []
+pieceBytes register (p ∷ ps) = withCrc register p ++ pieceBytes register ps
 
 -- the places of the CRC bytes of pieces of these lengths, the first of which starts at a place
 unfoldable pub locatorsFrom : ℕ → List ℕ → List ℕ

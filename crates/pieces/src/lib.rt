@@ -6,36 +6,43 @@ ghost use Rattle.crc.specs.Crc.{crcFrom};
 ghost use Rattle.buffer.specs.Buffer.{putAt};
 ghost use Rattle.pieces.specs.Pieces.{cutBy, withCrc, pieceBytes, locatorsFrom, total};
 
-// The CRC of the bytes from a place on up to another.
-fn crc_of(bytes: &[u8], from: usize, to: usize) -> u8
+// The CRC of the bytes from a place on up to another, by the register that it starts with.
+fn crc_of(register: u8, bytes: &[u8], from: usize, to: usize) -> u8
     requires { ⌜ (from ≤ to) × (to ≤ length (now bytes)) ⌝ }
-    ensures { λ r. ⌜ r ≡ crcFrom 0 (take (to - from) (drop from (now (bytes .entry)))) ⌝ }
+    ensures { λ r. ⌜ r ≡ crcFrom register (take (to - from) (drop from (now (bytes .entry)))) ⌝ }
 {
-    crc::crc8(&bytes[from..to])
+    crc::crc8_from(register, &bytes[from..to])
 }
 
 // Writes a piece, the bytes from a place on up to another, and its CRC byte into a PDU.
-fn put_piece(pdu: &mut [u8], at: usize, bytes: &[u8], from: usize, to: usize)
+fn put_piece(pdu: &mut [u8], at: usize, register: u8, bytes: &[u8], from: usize, to: usize)
     requires { ⌜ (from ≤ to) × (to ≤ length (now bytes)) × (at + (to - from) + 1 ≤ length (now pdu)) ⌝ }
-    ensures { λ _. ⌜ now (pdu .exit) ≡ putAt (now (pdu .entry)) at (withCrc (take (to - from) (drop from (now (bytes .entry))))) ⌝ }
+    ensures { λ _. ⌜ now (pdu .exit) ≡ putAt (now (pdu .entry)) at (withCrc register (take (to - from) (drop from (now (bytes .entry))))) ⌝ }
 {
     buffer::put_bytes(&mut *pdu, at, &bytes[from..to]);
-    let crc = crc_of(bytes, from, to);
+    let crc = crc_of(register, bytes, from, to);
     pdu[at + (to - from)] = crc;
 }
 
 // Cuts the bytes from the first unsent one on into pieces of these lengths and writes them, each with its CRC byte, from a place on.
-pub fn put_pieces(pdu: &mut [u8], at: usize, lengths: &[u16], bytes: &[u8], sent: usize)
+pub fn put_pieces(
+    pdu: &mut [u8],
+    at: usize,
+    register: u8,
+    lengths: &[u16],
+    bytes: &[u8],
+    sent: usize,
+)
     requires { ⌜ at + total (now lengths) + length (now lengths) ≤ length (now pdu) ⌝ }
     requires { ⌜ sent + total (now lengths) ≤ length (now bytes) ⌝ }
-    ensures { λ _. ⌜ now (pdu .exit) ≡ putAt (now (pdu .entry)) at (pieceBytes (cutBy (now (lengths .entry)) (drop sent (now (bytes .entry))))) ⌝ }
+    ensures { λ _. ⌜ now (pdu .exit) ≡ putAt (now (pdu .entry)) at (pieceBytes register (cutBy (now (lengths .entry)) (drop sent (now (bytes .entry))))) ⌝ }
 {
     let mut place = at;
     let mut from = sent;
     let mut k: usize = 0;
     while k < lengths.len() {
         let n = lengths[k] as usize;
-        put_piece(&mut *pdu, place, bytes, from, from + n);
+        put_piece(&mut *pdu, place, register, bytes, from, from + n);
         place = place + n + 1;
         from = from + n;
         k += 1;

@@ -34,11 +34,11 @@ use Rattle.receiver.proofs.Rows.{both-on, same-listing}
 taken-few : (n k : ℕ) (y : List ℕ) → length (take n (drop k y)) ≤ n
 taken-few n k y = let e = length-take n (drop k y) in omega (arith, e)
 
-pieces-few : (width : ℕ) (c : ControlWord) (y : List ℕ) (k n : ℕ) → (length (piecesIn width c y k n) ≡ n) × (pieceBytes (piecesIn width c y k n) ≤ lengthsFrom width c y k n)
+pieces-few : (register width : ℕ) (c : ControlWord) (y : List ℕ) (k n : ℕ) → (length (piecesIn register width c y k n) ≡ n) × (pieceBytes (piecesIn register width c y k n) ≤ lengthsFrom width c y k n)
 unfolding piecesIn lengthsFrom
-pieces-few width c y k zero = (refl, omega arith)
-pieces-few width c y k (suc n) =
-    let h = pieces-few width c y (suc k) n in
+pieces-few register width c y k zero = (refl, omega arith)
+pieces-few register width c y k (suc n) =
+    let h = pieces-few register width c y (suc k) n in
     let t = taken-few (lengthAt width c y k) (startAt width c y k) y in
     (ap suc (h .0), omega (arith, h .1, t))
 
@@ -48,11 +48,11 @@ held-few (suc x) number c h = let e = length-take (suc x) c in omega (arith, e, 
 
 -- the words that a PDU of at most 20,480 bytes takes, where none of the rows 7 to 12 applies
 pub words-most : (range : ℕ) (m : Mode) (r : Receiver) (carry : List ℕ) (c : ControlWord) (y : List ℕ) → r .held ≤ 4096 → length y ≤ 20480 → firstOf (readerTests m c y) ≡ 0
-    → length (logWords (received range (memoryOf r carry) (saidBy (m .width) c y) .entries)) ≤ 8400
+    → length (logWords (received range (memoryOf r carry) (saidBy (r .register) (m .width) c y) .entries)) ≤ 8400
 unfolding saidBy memoryOf
 words-most range m r carry c y held size e =
     let z = sized m c y e in
-    let p = pieces-few (m .width) c y 0 (c .nop) in
+    let p = pieces-few (r .register) (m .width) c y 0 (c .nop) in
     let q = taken-few (psdOf (m .width) c y .length) (psdOf (m .width) c y .start) y in
     let l = z .lengths 0 (c .nop) (omega arith) in
     bound range _ _ (held-few (r .held) (r .number) carry held) (omega (arith, p .0, z .most)) (omega (arith, q, p .1, l, size))

@@ -24,19 +24,19 @@ pub next-mark : (width : ℕ) (c : ControlWord) (y marks : List ℕ) → MarksOf
 next-mark width c y marks em k h = em (k + 1) (omega arith) ∙ ap (markAt width c y) (add-one k)
 
 -- a and e are the marks before and after a piece
-module _ (y marks : List ℕ) (k a e crc : ℕ) (ea : a ≡ getD marks k 0) (ee : e ≡ getD marks (k + 1) 0) (ec : crc ≡ crcFrom 0 (take (e - (a + 1)) (drop (a + 1) y))) where
-  crc-of : crc ≡ crcFrom 0 (pieceAt y marks k)
+module _ (register : ℕ) (y marks : List ℕ) (k a e crc : ℕ) (ea : a ≡ getD marks k 0) (ee : e ≡ getD marks (k + 1) 0) (ec : crc ≡ crcFrom register (take (e - (a + 1)) (drop (a + 1) y))) where
+  crc-of : crc ≡ crcFrom register (pieceAt y marks k)
   unfolding pieceAt
   crc-of = ec ∙ rw (ea, ee) refl
 
-  pub cause-right : crc ≡ getD y e 0 → 0 ≡ causeAt y marks k
+  pub cause-right : crc ≡ getD y e 0 → 0 ≡ causeAt register y marks k
   unfolding causeAt
   cause-right q =
-      let t : eqb (crcFrom 0 (pieceAt y marks k)) (getD y (getD marks (k + 1) 0) 0) ≡ true = eq-eqb _ _ (sym crc-of ∙ q ∙ ap (λ (i : ℕ). getD y i 0) ee) in
+      let t : eqb (crcFrom register (pieceAt y marks k)) (getD y (getD marks (k + 1) 0) 0) ≡ true = eq-eqb _ _ (sym crc-of ∙ q ∙ ap (λ (i : ℕ). getD y i 0) ee) in
       rw t
 
-  pub cause-wrong : (crc ≡ getD y e 0 → ⊥) → 2 ≡ causeAt y marks k
+  pub cause-wrong : (crc ≡ getD y e 0 → ⊥) → 2 ≡ causeAt register y marks k
   unfolding causeAt
   cause-wrong d =
-      let t : eqb (crcFrom 0 (pieceAt y marks k)) (getD y (getD marks (k + 1) 0) 0) ≡ false = ne-eqb _ _ (λ q. d (crc-of ∙ q ∙ ap (λ (i : ℕ). getD y i 0) (sym ee))) in
+      let t : eqb (crcFrom register (pieceAt y marks k)) (getD y (getD marks (k + 1) 0) 0) ≡ false = ne-eqb _ _ (λ q. d (crc-of ∙ q ∙ ap (λ (i : ℕ). getD y i 0) (sym ee))) in
       rw t

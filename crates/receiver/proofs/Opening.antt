@@ -7,9 +7,9 @@ use mathlib.Core.Path.{refl}
 use mathlib.Core.List.{List}
 use Rattle.receiver.specs.Receiving.{noReceiver, openedAs, opened, receiveNumber, lostNumber}
 
-pub opened-by : (l k : Listing) (mode stream : ℕ) → l ≡ listing mode stream → l ≡ k → openedAs k mode stream ≡ opened mode stream
+pub opened-by : (l k : Listing) (mode stream register : ℕ) → l ≡ listing mode stream → l ≡ k → openedAs k mode stream register ≡ opened mode stream register
 unfolding opened
-opened-by l k mode stream e f = ap (λ (x : Listing). openedAs x mode stream) (sym f ∙ e)
+opened-by l k mode stream register e f = ap (λ (x : Listing). openedAs x mode stream register) (sym f ∙ e)
 
 -- what a refused opening hands back is of no use: every call turns it down with 1, whatever it is lent
 pub none-received : (marks carry pdu log : List ℕ) → receiveNumber marks carry pdu log noReceiver ≡ 1

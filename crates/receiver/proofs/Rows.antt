@@ -66,7 +66,7 @@ module _ (r : Receiver) (c : ControlWord) where
 module _ (m : Mode) (r : Receiver) (carry y log : List ℕ) (c : ControlWord) (ec : c ≡ controlAt y) where
   -- row 13
   abbrev room : List (Bool × ℕ)
-  room = (noRoom (m .sequences) (saidBy (m .width) c y) r carry log, 13) ∷ []
+  room = (noRoom (m .sequences) (saidBy (r .register) (m .width) c y) r carry log, 13) ∷ []
 
   -- rows 7 to 13, for a line of the table
   abbrev later : Listing → List (Bool × ℕ)
@@ -93,7 +93,7 @@ module _ (m : Mode) (r : Receiver) (carry y log : List ℕ) (c : ControlWord) (e
     pub at-reader : (n : ℕ) → n ≡ firstOf (readerTests m c y) → (n ≡ 0 → ⊥) → correctedNumber m r carry y log ≡ n
     at-reader n e z = later-rows ∙ first-on (readerTests m c y) room (λ q. z (e ∙ q)) ∙ sym e
 
-    pub at-log : firstOf (readerTests m c y) ≡ 0 → correctedNumber m r carry y log ≡ cond (noRoom (m .sequences) (saidBy (m .width) c y) r carry log) 13 0
+    pub at-log : firstOf (readerTests m c y) ≡ 0 → correctedNumber m r carry y log ≡ cond (noRoom (m .sequences) (saidBy (r .register) (m .width) c y) r carry log) 13 0
     at-log e = later-rows ∙ past (readerTests m c y) room refl e
 
 -- ---- rows 3, 19 and 4 are correction's numbers

@@ -21,7 +21,7 @@ pub same-memory : (r : Receiver) (carry : List ℕ) → memoryBy (stateOf r) car
 unfolding memoryBy memoryOf
 same-memory r carry = refl
 
-module _ (width : ℕ) (c : ControlWord) (y marks causes : List ℕ) (em : MarksOf width c y marks) (ec : CausesOf y marks (c .nop) causes) where
+module _ (register width : ℕ) (c : ControlWord) (y marks causes : List ℕ) (em : MarksOf width c y marks) (ec : CausesOf register y marks (c .nop) causes) where
   next : (k : ℕ) → k < c .nop → getD marks (k + 1) 0 ≡ locatorAt width y k
   next = next-mark width c y marks em
 
@@ -29,13 +29,13 @@ module _ (width : ℕ) (c : ControlWord) (y marks causes : List ℕ) (em : Marks
   unfolding pieceAt
   bytes-same k h = ap₂ (λ (e a : ℕ). take (e - (a + 1)) (drop (a + 1) y)) (next k h) (em k (omega arith))
 
-  piece-same : (k : ℕ) → k < c .nop → pieceOf (getD causes k 0) (pieceAt y marks k) ≡ pieceIn width c y k
+  piece-same : (k : ℕ) → k < c .nop → pieceOf (getD causes k 0) (pieceAt y marks k) ≡ pieceIn register width c y k
   unfolding causeAt
   piece-same k h =
       ap (λ (n : ℕ). pieceOf n (pieceAt y marks k)) (ec k h)
-      ∙ ap₂ (λ (b : List ℕ) (e : ℕ). pieceOf (cond (eqb (crcFrom 0 b) (getD y e 0)) 0 2) b) (bytes-same k h) (next k h)
+      ∙ ap₂ (λ (b : List ℕ) (e : ℕ). pieceOf (cond (eqb (crcFrom register b) (getD y e 0)) 0 2) b) (bytes-same k h) (next k h)
 
-  pieces-same : (k n : ℕ) → k + n ≤ c .nop → piecesFrom y marks causes k n ≡ piecesIn width c y k n
+  pieces-same : (k n : ℕ) → k + n ≤ c .nop → piecesFrom y marks causes k n ≡ piecesIn register width c y k n
   unfolding piecesFrom piecesIn
   pieces-same k zero h = refl
   pieces-same k (suc n) h =
@@ -45,8 +45,8 @@ module _ (width : ℕ) (c : ControlWord) (y marks causes : List ℕ) (em : Marks
   unfolding psdBy
   psd-same = ap (λ (l : ℕ). take (l + 1 - (afterLocators width c + expansionBytes width c y)) (drop (afterLocators width c + expansionBytes width c y) y)) (em 0 (omega arith))
 
-  pub same-said : saidOf (headOf width c y) marks causes y ≡ saidBy width c y
+  pub same-said : saidOf (headOf width c y) marks causes y ≡ saidBy register width c y
   unfolding saidOf saidBy
   same-said =
-      let p : piecesFrom y marks causes 0 (c .nop) ≡ piecesIn width c y 0 (c .nop) = pieces-same 0 (c .nop) (omega arith) in
+      let p : piecesFrom y marks causes 0 (c .nop) ≡ piecesIn register width c y 0 (c .nop) = pieces-same 0 (c .nop) (omega arith) in
       λ i. record { sequence = c .sequence; pfirst = c .pfirst; plast = c .plast; start = c .start; psdBytes = psd-same i; pieces = p i; withheld = false }

@@ -35,7 +35,7 @@ pub record Ready (m : Mode) (c : ControlWord) (y marks causes : List ℕ) (r : R
   pub size : length y ≤ 20480
   pub right : firstOf (readerTests m c y) ≡ 0
   pub marked : MarksOf (m .width) c y marks
-  pub caused : CausesOf y marks (c .nop) causes
+  pub caused : CausesOf (r .register) y marks (c .nop) causes
   pub headed : head ≡ headOf (m .width) c y
   pub stated : state ≡ stateOf r
 
@@ -49,11 +49,11 @@ module _ {m : Mode} {c : ControlWord} {y marks causes : List ℕ} {r : Receiver}
   abbrev pub Accepts : Outcome
   Accepts = received (m .sequences) (memoryBy state carry) (saidOf head marks causes y)
 
-  same : Accepts ≡ outcomeOf (m .sequences) (saidBy (m .width) c y) r carry log
+  same : Accepts ≡ outcomeOf (m .sequences) (saidBy (r .register) (m .width) c y) r carry log
   same =
       ap₂ (λ (x : Memory) (d : Said). received (m .sequences) x d)
       (ap (λ (s : State). memoryBy s carry) (ready .stated) ∙ same-memory r carry)
-      (ap (λ (h : Head). saidOf h marks causes y) (ready .headed) ∙ same-said (m .width) c y marks causes (ready .marked) (ready .caused))
+      (ap (λ (h : Head). saidOf h marks causes y) (ready .headed) ∙ same-said (r .register) (m .width) c y marks causes (ready .marked) (ready .caused))
 
   last : state .last < 255
   last = rw (ready .stated) (fine .sequence)
@@ -71,16 +71,16 @@ module _ {m : Mode} {c : ControlWord} {y marks causes : List ℕ} {r : Receiver}
     counted : words ≡ length (logWords (Accepts .entries))
     counted = ew ∙ count-received state (m .sequences) head marks causes y carry small (fine .room) whole
 
-    counted-here : words ≡ length (logWords (outcomeOf (m .sequences) (saidBy (m .width) c y) r carry log .entries))
+    counted-here : words ≡ length (logWords (outcomeOf (m .sequences) (saidBy (r .register) (m .width) c y) r carry log .entries))
     counted-here = counted ∙ ap (λ (o : Outcome). length (logWords (o .entries))) same
 
     -- the log is too short
     pub too-short : (a : Received) → length log < words → a ≡ refusedAnswer r 13 0
-        → Answered (m .sequences) (saidBy (m .width) c y) r carry log (cond (noRoom (m .sequences) (saidBy (m .width) c y) r carry log) 13 0) 0 a carry log
+        → Answered (m .sequences) (saidBy (r .register) (m .width) c y) r carry log (cond (noRoom (m .sequences) (saidBy (r .register) (m .width) c y) r carry log) 13 0) 0 a carry log
     too-short a h q =
-        let t : noRoom (m .sequences) (saidBy (m .width) c y) r carry log ≡ true =
-        lt-ltb (length log) (length (logWords (outcomeOf (m .sequences) (saidBy (m .width) c y) r carry log .entries))) (omega (arith, counted-here)) in
-        rw t (answered-refused (m .sequences) (saidBy (m .width) c y) r carry log 13 0 a (λ z. omega arith) q)
+        let t : noRoom (m .sequences) (saidBy (r .register) (m .width) c y) r carry log ≡ true =
+        lt-ltb (length log) (length (logWords (outcomeOf (m .sequences) (saidBy (r .register) (m .width) c y) r carry log .entries))) (omega (arith, counted-here)) in
+        rw t (answered-refused (m .sequences) (saidBy (r .register) (m .width) c y) r carry log 13 0 a (λ z. omega arith) q)
 
     module _ (h : words ≤ length log) where
       pub accepts : (state .last < 255) × (((state .held ≤ 4096) × (state .held ≡ 0 → state .number ≡ 0)) × ((4096 ≤ length carry) × (Parsed head y marks × Room Accepts 0 log)))
@@ -102,25 +102,25 @@ module _ {m : Mode} {c : ControlWord} {y marks causes : List ℕ} {r : Receiver}
           omega (arith, run-at, counted-here, words-most (m .sequences) m r carry c y (fine .held) (ready .size) (ready .right)),
         )
 
-        run-answer : acceptedAfter r (c .sequence) run ≡ acceptedAnswer (m .sequences) (saidBy (m .width) c y) r carry log
+        run-answer : acceptedAfter r (c .sequence) run ≡ acceptedAnswer (m .sequences) (saidBy (r .register) (m .width) c y) r carry log
         unfolding runAfter remembering remembered saidBy
         run-answer =
-            let at : run .at ≡ length (logWords (outcomeOf (m .sequences) (saidBy (m .width) c y) r carry log .entries)) = run-at ∙ counted-here in
-            let held : run .held ≡ length (bytesOf (outcomeOf (m .sequences) (saidBy (m .width) c y) r carry log .partial)) = run-held ∙ ap (λ (o : Outcome). length (bytesOf (o .partial))) same in
-            let number : run .number ≡ numberOf (outcomeOf (m .sequences) (saidBy (m .width) c y) r carry log .partial) = ap (λ (x : Run). x .number) (did .run) ∙ ap (λ (o : Outcome). numberOf (o .partial)) same in
+            let at : run .at ≡ length (logWords (outcomeOf (m .sequences) (saidBy (r .register) (m .width) c y) r carry log .entries)) = run-at ∙ counted-here in
+            let held : run .held ≡ length (bytesOf (outcomeOf (m .sequences) (saidBy (r .register) (m .width) c y) r carry log .partial)) = run-held ∙ ap (λ (o : Outcome). length (bytesOf (o .partial))) same in
+            let number : run .number ≡ numberOf (outcomeOf (m .sequences) (saidBy (r .register) (m .width) c y) r carry log .partial) = ap (λ (x : Run). x .number) (did .run) ∙ ap (λ (o : Outcome). numberOf (o .partial)) same in
             λ i. record {
               refusal = 0;
               wrong = 0;
               words = at i;
-              receiver = record { mode = r .mode; stream = r .stream; known = true; sequence = c .sequence; held = held i; number = number i };
+              receiver = record { mode = r .mode; stream = r .stream; register = r .register; known = true; sequence = c .sequence; held = held i; number = number i };
             }
 
         pub taken : (a : Received) → a ≡ acceptedAfter r (c .sequence) run
-            → Answered (m .sequences) (saidBy (m .width) c y) r carry log (cond (noRoom (m .sequences) (saidBy (m .width) c y) r carry log) 13 0) 0 a carryAfter logAfter
+            → Answered (m .sequences) (saidBy (r .register) (m .width) c y) r carry log (cond (noRoom (m .sequences) (saidBy (r .register) (m .width) c y) r carry log) 13 0) 0 a carryAfter logAfter
         unfolding keeps writes
         taken a q =
-            let t : noRoom (m .sequences) (saidBy (m .width) c y) r carry log ≡ false =
-            le-ltb (length log) (length (logWords (outcomeOf (m .sequences) (saidBy (m .width) c y) r carry log .entries))) (omega (arith, counted-here)) in
+            let t : noRoom (m .sequences) (saidBy (r .register) (m .width) c y) r carry log ≡ false =
+            le-ltb (length log) (length (logWords (outcomeOf (m .sequences) (saidBy (r .register) (m .width) c y) r carry log .entries))) (omega (arith, counted-here)) in
             let k = did .carry in
             let l = did .log in
-            rw t (answered-accepted (m .sequences) (saidBy (m .width) c y) r carry log 0 0 a carryAfter logAfter refl (q ∙ run-answer) (rw same at k) (rw same at l))
+            rw t (answered-accepted (m .sequences) (saidBy (r .register) (m .width) c y) r carry log 0 0 a carryAfter logAfter refl (q ∙ run-answer) (rw same at k) (rw same at l))

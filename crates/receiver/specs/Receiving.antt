@@ -28,37 +28,37 @@ use Rattle.receiver.specs.declared.Received.{Received}
 
 -- what a refused opening hands back: a mode that the table has not, so that number 1 turns it down
 abbrev pub noReceiver : Receiver
-noReceiver = record { mode = 255; stream = 0; known = false; sequence = 0; held = 0; number = 0 }
+noReceiver = record { mode = 255; stream = 0; register = 0; known = false; sequence = 0; held = 0; number = 0 }
 
-abbrev pub openedAs : Listing → ℕ → ℕ → Opened
-openedAs (Refused n) mode stream = record { refusal = n; receiver = noReceiver }
-openedAs (Listed m) mode stream = record { refusal = 0; receiver = record { mode = mode; stream = stream; known = false; sequence = 0; held = 0; number = 0 } }
+abbrev pub openedAs : Listing → ℕ → ℕ → ℕ → Opened
+openedAs (Refused n) mode stream register = record { refusal = n; receiver = noReceiver }
+openedAs (Listed m) mode stream register = record { refusal = 0; receiver = record { mode = mode; stream = stream; register = register; known = false; sequence = 0; held = 0; number = 0 } }
 
--- refusal 5, or a receiver that knows no sequence and holds nothing
-unfoldable pub opened : ℕ → ℕ → Opened
-opened mode stream = openedAs (listing mode stream) mode stream
+-- for a mode, a stream and the register that CRCs start with (document 02, Ask 2): refusal 5, or a receiver that knows no sequence and holds nothing
+unfoldable pub opened : ℕ → ℕ → ℕ → Opened
+opened mode stream register = openedAs (listing mode stream) mode stream register
 
--- ---- what a corrected PDU y says, by its control word c and locators of a width
+-- ---- what a corrected PDU y says, by the register that CRCs start with, its control word c and locators of a width
 
 -- piece k: taken where the byte at its locator is its CRC; a wrong CRC is note 2
-abbrev pub pieceIn : ℕ → ControlWord → List ℕ → ℕ → Piece
-pieceIn width c y k =
+abbrev pub pieceIn : ℕ → ℕ → ControlWord → List ℕ → ℕ → Piece
+pieceIn register width c y k =
     let bytes = take (lengthAt width c y k) (drop (startAt width c y k) y) in
-    record { cause = cond (eqb (crcFrom 0 bytes) (getD y (locatorAt width y k) 0)) 0 2; bytes = bytes }
+    record { cause = cond (eqb (crcFrom register bytes) (getD y (locatorAt width y k) 0)) 0 2; bytes = bytes }
 
 -- n pieces from piece k on
-unfoldable pub piecesIn : ℕ → ControlWord → List ℕ → ℕ → ℕ → List Piece
-piecesIn width c y k zero = []
-piecesIn width c y k (suc n) = pieceIn width c y k ∷ piecesIn width c y (suc k) n
+unfoldable pub piecesIn : ℕ → ℕ → ControlWord → List ℕ → ℕ → ℕ → List Piece
+piecesIn register width c y k zero = []
+piecesIn register width c y k (suc n) = pieceIn register width c y k ∷ piecesIn register width c y (suc k) n
 
-unfoldable pub saidBy : ℕ → ControlWord → List ℕ → Said
-saidBy width c y = record {
+unfoldable pub saidBy : ℕ → ℕ → ControlWord → List ℕ → Said
+saidBy register width c y = record {
   sequence = c .sequence;
   pfirst = c .pfirst;
   plast = c .plast;
   start = c .start;
   psdBytes = take (psdOf width c y .length) (drop (psdOf width c y .start) y);
-  pieces = piecesIn width c y 0 (c .nop);
+  pieces = piecesIn register width c y 0 (c .nop);
   withheld = false;
 }
 
@@ -80,6 +80,7 @@ unfoldable pub remembering : Receiver → Memory → Receiver
 remembering r x = record {
   mode = r .mode;
   stream = r .stream;
+  register = r .register;
   known = isKnown (x .last);
   sequence = sequenceOf (x .last);
   held = length (bytesOf (x .partial));
@@ -116,7 +117,7 @@ refusedAnswer r number k = record { refusal = number; wrong = k; words = 0; rece
 module _ (marks carry pdu log : List ℕ) (r : Receiver) where
   -- what the corrected PDU says, what is logged and held, and what is remembered
   abbrev pub said : Said
-  said = saidBy (modeOf r .width) (controlAt (correctedPduWith marks pdu)) (correctedPduWith marks pdu)
+  said = saidBy (r .register) (modeOf r .width) (controlAt (correctedPduWith marks pdu)) (correctedPduWith marks pdu)
 
   abbrev pub outcome : Outcome
   outcome = received (modeOf r .sequences) (memoryOf r carry) said

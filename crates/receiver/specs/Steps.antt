@@ -29,12 +29,12 @@ use Rattle.receiver.specs.declared.Received.{Received}
 abbrev pub MarksOf : ℕ → ControlWord → List ℕ → List ℕ → Type 0
 MarksOf width c y marks = (k : ℕ) → k ≤ c .nop → getD marks k 0 ≡ markAt width c y k
 
--- 0 where the byte at its locator is the CRC of piece k, 2 where it is not
-unfoldable pub causeAt : List ℕ → List ℕ → ℕ → ℕ
-causeAt y marks k = cond (eqb (crcFrom 0 (pieceAt y marks k)) (getD y (getD marks (k + 1) 0) 0)) 0 2
+-- 0 where the byte at its locator is the CRC of piece k by the register that it starts with, 2 where it is not
+unfoldable pub causeAt : ℕ → List ℕ → List ℕ → ℕ → ℕ
+causeAt register y marks k = cond (eqb (crcFrom register (pieceAt y marks k)) (getD y (getD marks (k + 1) 0) 0)) 0 2
 
-abbrev pub CausesOf : List ℕ → List ℕ → ℕ → List ℕ → Type 0
-CausesOf y marks nop causes = (k : ℕ) → k < nop → getD causes k 0 ≡ causeAt y marks k
+abbrev pub CausesOf : ℕ → List ℕ → List ℕ → ℕ → List ℕ → Type 0
+CausesOf register y marks nop causes = (k : ℕ) → k < nop → getD causes k 0 ≡ causeAt register y marks k
 
 abbrev pub headOf : ℕ → ControlWord → List ℕ → Head
 headOf width c y = record { sequence = c .sequence; pfirst = c .pfirst; plast = c .plast; start = c .start; psd = afterLocators width c + expansionBytes width c y; nop = c .nop }
@@ -52,12 +52,12 @@ pub record Usable (r : Receiver) (carry : List ℕ) : Type 0 where
 -- the answer after a run
 abbrev pub acceptedAfter : Receiver → ℕ → Run → Received
 acceptedAfter r sequence run =
-    record { refusal = 0; wrong = 0; words = run .at; receiver = record { mode = r .mode; stream = r .stream; known = true; sequence = sequence; held = run .held; number = run .number } }
+    record { refusal = 0; wrong = 0; words = run .at; receiver = record { mode = r .mode; stream = r .stream; register = r .register; known = true; sequence = sequence; held = run .held; number = run .number } }
 
 -- the answer after marking a PDU lost
 abbrev pub forgetful : Receiver → ℕ → Received
 forgetful r words =
-    record { refusal = 0; wrong = 0; words = words; receiver = record { mode = r .mode; stream = r .stream; known = false; sequence = 0; held = 0; number = 0 } }
+    record { refusal = 0; wrong = 0; words = words; receiver = record { mode = r .mode; stream = r .stream; register = r .register; known = false; sequence = 0; held = 0; number = 0 } }
 
 -- ---- the answer and the buffers after a step, by the lowest number that applies, 0 where there is none, and the k that comes with it
 
@@ -86,4 +86,4 @@ streamTests r c = (not (eqb (numberOf (listingOf c)) 0), 5) ∷ (not (eqb (c .mo
 unfoldable pub correctedNumber : Mode → Receiver → List ℕ → List ℕ → List ℕ → ℕ
 correctedNumber m r carry y log =
     let c = controlAt y in
-    firstOf (streamTests r c ++ (readerTests (modeIn (listingOf c)) c y ++ (noRoom (m .sequences) (saidBy (m .width) c y) r carry log, 13) ∷ []))
+    firstOf (streamTests r c ++ (readerTests (modeIn (listingOf c)) c y ++ (noRoom (m .sequences) (saidBy (r .register) (m .width) c y) r carry log, 13) ∷ []))

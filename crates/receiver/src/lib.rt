@@ -22,11 +22,13 @@ ghost use Rattle.reassembly.specs.Run.{placeAt, Marked};
 ghost use Rattle.receiver.specs.Receiving.{saidBy, opened, wrongFields, refusedAnswer, receiveAnswer, carryAfter, pduAfter, logAfter, lostAnswer, logAfterLost};
 ghost use Rattle.receiver.specs.Steps.{MarksOf, causeAt, CausesOf, headOf, stateOf, Usable, acceptedAfter, noRoom, Answered, streamTests, correctedNumber, forgetful};
 
-// What a receiver remembers. A field not known or not held is 0; held length 0 means nothing held.
+// What a receiver was opened with, and what it remembers. A field not known or not held is 0; held length 0 means nothing held.
 #[repr(C)]
 pub struct Receiver {
     pub mode: u8,
     pub stream: u8,
+    // The register that the CRC of each piece starts with.
+    pub register: u8,
     // The last PDU sequence, if known.
     pub known: bool,
     pub sequence: u8,
@@ -55,9 +57,9 @@ pub struct Received {
 // A mode that the table has not.
 const NO_MODE: u8 = 255;
 
-// Opens a receiver for a mode and stream, or refuses with 5.
-pub fn open(mode: u8, stream: u8) -> Opened
-    ensures { λ r. ⌜ r ≡ opened mode stream ⌝ }
+// Opens a receiver for a mode and stream, with the register that CRCs start with, any byte; or refuses with 5.
+pub fn open(mode: u8, stream: u8, register: u8) -> Opened
+    ensures { λ r. ⌜ r ≡ opened mode stream register ⌝ }
 {
     match modes::look_up(mode, stream) {
         Listing::Listed(_) => Opened {
@@ -65,6 +67,7 @@ pub fn open(mode: u8, stream: u8) -> Opened
             receiver: Receiver {
                 mode: mode,
                 stream: stream,
+                register: register,
                 known: false,
                 sequence: 0,
                 held: 0,
@@ -76,6 +79,7 @@ pub fn open(mode: u8, stream: u8) -> Opened
             receiver: Receiver {
                 mode: NO_MODE,
                 stream: 0,
+                register: 0,
                 known: false,
                 sequence: 0,
                 held: 0,
@@ -117,14 +121,14 @@ fn marks_of(y: &[u8], width: u8, c: ControlWord) -> [u16; 64]
     marks
 }
 
-// Piece k's cause: 0 where the byte at its locator is its CRC, 2 where it is not.
-fn cause_at(y: &[u8], marks: [u16; 64], k: usize) -> u8
+// Piece k's cause: 0 where the byte at its locator is its CRC, by the register that it starts with, 2 where it is not.
+fn cause_at(register: u8, y: &[u8], marks: [u16; 64], k: usize) -> u8
     requires { ⌜ (k < 63) × (placeAt marks k < getD marks (k + 1) 0) × (getD marks (k + 1) 0 < length (now y)) ⌝ }
-    ensures { λ r. ⌜ r ≡ causeAt (now (y .entry)) marks k ⌝ }
+    ensures { λ r. ⌜ r ≡ causeAt register (now (y .entry)) marks k ⌝ }
 {
     let a = place(marks[k]) + 1;
     let e = place(marks[k + 1]);
-    let crc = crc::crc8(&y[a..e]);
+    let crc = crc::crc8_from(register, &y[a..e]);
     if crc == y[e] {
         return 0;
     }
@@ -132,14 +136,14 @@ fn cause_at(y: &[u8], marks: [u16; 64], k: usize) -> u8
 }
 
 // Each piece's cause.
-fn causes_of(y: &[u8], marks: [u16; 64], nop: usize) -> [u8; 64]
+fn causes_of(register: u8, y: &[u8], marks: [u16; 64], nop: usize) -> [u8; 64]
     requires { ⌜ Marked (now y) marks nop ⌝ }
-    ensures { λ r. ⌜ CausesOf (now (y .entry)) marks nop r ⌝ }
+    ensures { λ r. ⌜ CausesOf register (now (y .entry)) marks nop r ⌝ }
 {
     let mut causes = [0u8; 64];
     let mut k: usize = 0;
     while k < nop {
-        causes[k] = cause_at(y, marks, k);
+        causes[k] = cause_at(register, y, marks, k);
         k += 1;
     }
     causes
@@ -196,6 +200,7 @@ fn accepted(r: Receiver, sequence: u8, run: Run) -> Received
         receiver: Receiver {
             mode: r.mode,
             stream: r.stream,
+            register: r.register,
             known: true,
             sequence: sequence,
             held: run.held as u16,
@@ -216,10 +221,10 @@ fn receive_read(
     requires { ⌜ Usable r (now carry) ⌝ }
     requires { ⌜ length (now y) ≤ 20480 ⌝ }
     requires { ⌜ firstOf (readerTests m c (now y)) ≡ 0 ⌝ }
-    ensures { λ a. ⌜ Answered (m .sequences) (saidBy (m .width) c (now (y .entry))) r (now (carry .entry)) (now (log .entry)) (cond (noRoom (m .sequences) (saidBy (m .width) c (now (y .entry))) r (now (carry .entry)) (now (log .entry))) 13 0) 0 a (now (carry .exit)) (now (log .exit)) ⌝ }
+    ensures { λ a. ⌜ Answered (m .sequences) (saidBy (r .register) (m .width) c (now (y .entry))) r (now (carry .entry)) (now (log .entry)) (cond (noRoom (m .sequences) (saidBy (r .register) (m .width) c (now (y .entry))) r (now (carry .entry)) (now (log .entry))) 13 0) 0 a (now (carry .exit)) (now (log .exit)) ⌝ }
 {
     let marks = marks_of(y, m.width, c);
-    let causes = causes_of(y, marks, c.nop as usize);
+    let causes = causes_of(r.register, y, marks, c.nop as usize);
     let head = head_of(y, m.width, c);
     let state = state_of(r);
     let words = reassembly::words_needed(state, m.sequences, head, marks, causes);
@@ -267,7 +272,7 @@ fn receive_corrected(r: Receiver, m: Mode, carry: &mut [u8], y: &[u8], log: &mut
     requires { ⌜ listing (r .mode) (r .stream) ≡ Listed m ⌝ }
     requires { ⌜ Usable r (now carry) ⌝ }
     requires { ⌜ length (now y) ≤ 20480 ⌝ }
-    ensures { λ a. ⌜ Answered (m .sequences) (saidBy (m .width) (controlAt (now (y .entry))) (now (y .entry))) r (now (carry .entry)) (now (log .entry)) (correctedNumber m r (now (carry .entry)) (now (y .entry)) (now (log .entry))) (wrongOf (now (y .entry)) (correctedNumber m r (now (carry .entry)) (now (y .entry)) (now (log .entry)))) a (now (carry .exit)) (now (log .exit)) ⌝ }
+    ensures { λ a. ⌜ Answered (m .sequences) (saidBy (r .register) (m .width) (controlAt (now (y .entry))) (now (y .entry))) r (now (carry .entry)) (now (log .entry)) (correctedNumber m r (now (carry .entry)) (now (y .entry)) (now (log .entry))) (wrongOf (now (y .entry)) (correctedNumber m r (now (carry .entry)) (now (y .entry)) (now (log .entry)))) a (now (carry .exit)) (now (log .exit)) ⌝ }
 {
     let c = layout::control_word(y);
     let n = wrong_stream(r, c);
@@ -293,7 +298,7 @@ fn receive_or_restore(
     requires { ⌜ listing (r .mode) (r .stream) ≡ Listed m ⌝ }
     requires { ⌜ Usable r (now carry) ⌝ }
     requires { ⌜ length (now pdu) ≤ 20480 ⌝ }
-    ensures { λ a. ⌜ Answered (m .sequences) (saidBy (m .width) (controlAt (now (pdu .entry))) (now (pdu .entry))) r (now (carry .entry)) (now (log .entry)) (correctedNumber m r (now (carry .entry)) (now (pdu .entry)) (now (log .entry))) (wrongOf (now (pdu .entry)) (correctedNumber m r (now (carry .entry)) (now (pdu .entry)) (now (log .entry)))) a (now (carry .exit)) (now (log .exit)) ⌝ }
+    ensures { λ a. ⌜ Answered (m .sequences) (saidBy (r .register) (m .width) (controlAt (now (pdu .entry))) (now (pdu .entry))) r (now (carry .entry)) (now (log .entry)) (correctedNumber m r (now (carry .entry)) (now (pdu .entry)) (now (log .entry))) (wrongOf (now (pdu .entry)) (correctedNumber m r (now (carry .entry)) (now (pdu .entry)) (now (log .entry)))) a (now (carry .exit)) (now (log .exit)) ⌝ }
     ensures { λ _. ⌜ now (pdu .exit) ≡ cond (eqb (correctedNumber m r (now (carry .entry)) (now (pdu .entry)) (now (log .entry))) 0) (now (pdu .entry)) (frontReplaced (now (pdu .entry)) before) ⌝ }
 {
     let a = receive_corrected(r, m, &mut *carry, pdu, &mut *log);

@@ -2,10 +2,11 @@
 use mathlib.Core.Path.{_≡_, refl, sym, ap, subst, _∙_}
 use mathlib.Core.Bool.{Bool, true, false, cond}
 use mathlib.Core.List.{List, [], _∷_, _++_}
-use Prim.Native.Nat.{ℕ, zero, suc, _+_, _*_, _%_, _/_, _<_, _≤_}
+use Prim.Native.Nat.{ℕ, zero, suc, _+_, _-_, _*_, _%_, _/_, _<_, _≤_}
 use native.Mathlib.Omega.{arith}
 use lib.Dec.{eqb}
-use lib.ListN.{length, take, drop, replicate}
+use lib.ListN.{length, take, drop, replicate, length-drop}
+use lib.Seq.{length-take-le}
 use Rattle.algebra.specs.Places.{All}
 use Rattle.algebra.proofs.Places.{all-join}
 use Rattle.header.proofs.Unique.{all-drop}
@@ -18,7 +19,8 @@ use Rattle.expansion.specs.Expansion.{septetsOfAll, chained}
 use Rattle.expansion.specs.Writing.{fieldsOf, expansionBytes}
 use Rattle.expansion.specs.declared.Fields.{Fields}
 use Rattle.expansion.proofs.Marks.{Septets, all-septets}
-use Rattle.pieces.specs.Pieces.{cutBy, withCrc, pieceBytes}
+use Rattle.pieces.specs.Pieces.{cutBy, withCrc, pieceBytes, total}
+use Rattle.packing.proofs.Bounds.{Positive}
 use Rattle.contents.specs.Contents.{locatorsOf, contents}
 
 abbrev pub Byte : ℕ → Type 0
@@ -69,25 +71,27 @@ all-front zero l h = tt
 all-front (suc n) [] h = tt
 all-front (suc n) (x ∷ l) h = (h .0, all-front n l (h .1))
 
-all-pieces : (ns bytes : List ℕ) → All Byte bytes → All Byte (pieceBytes (cutBy ns bytes))
-unfolding cutBy pieceBytes
-all-pieces [] bytes h = tt
-all-pieces (n ∷ ns) bytes h =
+all-pieces : (register : ℕ) (ns bytes : List ℕ) → Positive ns → total ns ≤ length bytes → All Byte bytes → All Byte (pieceBytes register (cutBy ns bytes))
+unfolding cutBy pieceBytes total
+all-pieces register [] bytes o enough h = tt
+all-pieces register (n ∷ ns) bytes o enough h =
     let p = take n bytes in
-    all-join Byte (withCrc p) (pieceBytes (cutBy ns (drop n bytes)))
-    (all-join Byte p (crcFrom 0 p ∷ []) (all-front n bytes h) (crc-below p 0 (omega arith), tt))
-    (all-pieces ns (drop n bytes) (all-drop n bytes h))
+    let e : length (take n bytes) ≡ n = length-take-le n bytes (omega (arith, enough)) in
+    let d : length (drop n bytes) ≡ length bytes - n = length-drop n bytes in
+    all-join Byte (withCrc register p) (pieceBytes register (cutBy ns (drop n bytes)))
+    (all-join Byte p (crcFrom register p ∷ []) (all-front n bytes h) (crc-below p register (omega (arith, e, o .0)), tt))
+    (all-pieces register ns (drop n bytes) (o .1) (omega (arith, enough, d)) (all-drop n bytes h))
 
 pub all-zeros : (n : ℕ) → All Byte (replicate n 0)
 all-zeros zero = tt
 all-zeros (suc n) = (omega arith, all-zeros n)
 
-pub all-contents : (width : ℕ) (c : ControlWord) (x : Fields) (psd ns bytes : List ℕ) → c .la < 256 → All Byte psd → All Byte bytes
-    → All Byte (controlBytes c ++ contents width (expansionBytes x) psd (cutBy ns bytes))
-all-contents width c x psd ns bytes la hp hb =
+pub all-contents : (register width : ℕ) (c : ControlWord) (x : Fields) (psd ns bytes : List ℕ) → c .la < 256 → Positive ns → total ns ≤ length bytes → All Byte psd → All Byte bytes
+    → All Byte (controlBytes c ++ contents register width (expansionBytes x) psd (cutBy ns bytes))
+all-contents register width c x psd ns bytes la o enough hp hb =
     let e = expansionBytes x in
     let ls = locatorsOf width e psd (cutBy ns bytes) in
-    all-join Byte (controlBytes c) (contents width e psd (cutBy ns bytes)) (all-control c la)
-    (all-join Byte (locatorBytes width ls) (e ++ (psd ++ pieceBytes (cutBy ns bytes))) (all-locators width ls)
-    (all-join Byte e (psd ++ pieceBytes (cutBy ns bytes)) (all-expansion x)
-    (all-join Byte psd (pieceBytes (cutBy ns bytes)) hp (all-pieces ns bytes hb))))
+    all-join Byte (controlBytes c) (contents register width e psd (cutBy ns bytes)) (all-control c la)
+    (all-join Byte (locatorBytes width ls) (e ++ (psd ++ pieceBytes register (cutBy ns bytes))) (all-locators width ls)
+    (all-join Byte e (psd ++ pieceBytes register (cutBy ns bytes)) (all-expansion x)
+    (all-join Byte psd (pieceBytes register (cutBy ns bytes)) hp (all-pieces register ns bytes o enough hb))))

@@ -35,8 +35,8 @@ module _ (settings : Settings) (psd lengths bytes : List ℕ) (size : ℕ) (m : 
   pub whole-length : length whole ≡ 6 + (locatorSize (m .width) (length ps) + (length x + (length psd + (total ps + length ps))))
   unfolding controlBytes
   whole-length =
-      length-append (controlBytes (controlFor settings psd lengths bytes size m w)) (contents (m .width) x psd (piecesOf settings psd lengths bytes size m w))
-      ∙ ap (λ (n : ℕ). 6 + n) (length-contents (m .width) x psd ps (drop (w .sent) bytes) (enough settings psd lengths bytes size m w f))
+      length-append (controlBytes (controlFor settings psd lengths bytes size m w)) (contents (w .register) (m .width) x psd (piecesOf settings psd lengths bytes size m w))
+      ∙ ap (λ (n : ℕ). 6 + n) (length-contents (w .register) (m .width) x psd ps (drop (w .sent) bytes) (enough settings psd lengths bytes size m w f))
 
   -- the place before the first piece
   pub first-place : (first : ℕ) → first ≡ overhead (m .width) (extraOf settings psd lengths bytes size) (length ps) → first - 1 ≡ firstPiece (m .width) x psd (piecesOf settings psd lengths bytes size m w) - 1
@@ -48,13 +48,13 @@ module _ (settings : Settings) (psd lengths bytes : List ℕ) (size : ℕ) (m : 
       → xs ≡ x → ns ≡ ps → rest ≡ drop (w .sent) bytes → nop ≡ length ps → part ≡ partOf settings psd lengths bytes size m w
       → first ≡ overhead (m .width) (extraOf settings psd lengths bytes size) (length ps) → flag ≡ ltb 0 (length x)
       → c ≡ controlWith w settings part nop flag (first - 1) → control ≡ controlBytes c
-      → l1 ≡ putAt (replicate size 0) 8 (control ++ contents (m .width) xs psd (cutBy ns rest)) → l2 ≡ withParity l1
+      → l1 ≡ putAt (replicate size 0) 8 (control ++ contents (w .register) (m .width) xs psd (cutBy ns rest)) → l2 ≡ withParity l1
       → l2 ≡ pduOf settings psd lengths bytes size m w
   unfolding pduOf
   composed nop part first flag c control xs ns rest l1 l2 ex en er ek ep ef eg ec eb e1 e2 =
       let c1 : c ≡ controlFor settings psd lengths bytes size m w = ec ∙ rw (ek, ep, eg, first-place first ef) in
       let b1 : control ≡ controlBytes (controlFor settings psd lengths bytes size m w) = eb ∙ ap controlBytes c1 in
-      let t : contents (m .width) xs psd (cutBy ns rest) ≡ contents (m .width) x psd (piecesOf settings psd lengths bytes size m w) = rw (ex, en, er) in
+      let t : contents (w .register) (m .width) xs psd (cutBy ns rest) ≡ contents (w .register) (m .width) x psd (piecesOf settings psd lengths bytes size m w) = rw (ex, en, er) in
       let h = fits settings psd lengths bytes size m w f in
       let z : putAt (replicate size 0) 8 whole ≡ replicate 8 0 ++ (whole ++ replicate (size - (8 + length whole)) 0) = put-zeros size 8 whole (omega (arith, h, whole-length)) in
       e2 ∙ ap withParity (e1 ∙ ap₂ (λ (a b : List ℕ). putAt (replicate size 0) 8 (a ++ b)) b1 t ∙ z)

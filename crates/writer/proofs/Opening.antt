@@ -11,9 +11,9 @@ use Rattle.writer.specs.Writing.{noWriter, openedAs, opened, writeAnswer
 use Rattle.writer.specs.declared.Writer.{Writer}
 use Rattle.writer.specs.declared.Opened.{Opened}
 
-pub opened-by : (l k : Listing) (mode stream : ℕ) → l ≡ listing mode stream → l ≡ k → openedAs k mode stream ≡ opened mode stream
+pub opened-by : (l k : Listing) (mode stream register : ℕ) → l ≡ listing mode stream → l ≡ k → openedAs k mode stream register ≡ opened mode stream register
 unfolding opened
-opened-by l k mode stream e f = ap (λ (x : Listing). openedAs x mode stream) (sym f ∙ e)
+opened-by l k mode stream register e f = ap (λ (x : Listing). openedAs x mode stream register) (sym f ∙ e)
 
 -- what a refused opening hands back is of no use: every call turns it down with 1, whatever it is lent
 pub none-written : (settings : Settings) (psd lengths bytes : List ℕ) (size : ℕ) → writeAnswer settings psd lengths bytes size noWriter .refusal ≡ 1

@@ -40,10 +40,10 @@ use Rattle.pdu.proofs.ReadBack.{Sendable, control-back, accepted-back, width-ba
 use Rattle.writer.specs.Writing.{expansionOf, extraOf, writerTests, placed, piecesOf, controlFor, written, pduOf, acceptedAnswer, refusedAnswer, answerIn, pduIn, writeAnswer, writtenPdu}
 use Rattle.writer.specs.RoundTrip.{Bytes, Altered, ReadBack, RoundTrip, Demand2}
 use Rattle.writer.specs.declared.Writer.{Writer}
-use Rattle.writer.proofs.Accepted.{Fine, fine, fits, la-fits}
+use Rattle.writer.proofs.Accepted.{Fine, fine, enough, fits, la-fits}
 use Rattle.writer.proofs.Composed.{whole-length, first-place}
 use Rattle.writer.proofs.Bytes.{Byte, all-contents, all-zeros}
-use Rattle.writer.proofs.Sending.{sendable}
+use Rattle.writer.proofs.Sending.{positive, sendable}
 use Rattle.writer.proofs.Advancing.{byte-sent}
 
 module _ (settings : Settings) (psd lengths bytes : List ℕ) (size : ℕ) (m : Mode) (w : Writer) (l : listing (w .mode) (w .stream) ≡ Listed m)
@@ -84,18 +84,18 @@ module _ (settings : Settings) (psd lengths bytes : List ℕ) (size : ℕ) (m : 
       let e : o - 1 ≡ c .la = first-place settings psd lengths bytes size m w f o refl in
       all-join Byte (replicate 8 0) (whole ++ zeros) (all-zeros 8)
       (all-join Byte whole zeros
-      (all-contents (m .width) c (fieldsFor settings size) psd (placed settings psd lengths bytes size m w) (drop (w .sent) bytes) (omega (arith, a, e)) hp (all-drop (w .sent) bytes hb))
+      (all-contents (w .register) (m .width) c (fieldsFor settings size) psd (placed settings psd lengths bytes size m w) (drop (w .sent) bytes) (omega (arith, a, e)) (positive settings psd lengths bytes size m w f l) (enough settings psd lengths bytes size m w f) hp (all-drop (w .sent) bytes hb))
       (all-zeros (size - (8 + length whole))))
 
   -- parity, control word, contents and zeros
   abbrev parity : List ℕ
   parity = parityOf base
 
-  parts : p ≡ parity ++ (controlBytes c ++ (contents (m .width) (expansionOf settings psd lengths bytes size) psd (piecesOf settings psd lengths bytes size m w) ++ zeros))
+  parts : p ≡ parity ++ (controlBytes c ++ (contents (w .register) (m .width) (expansionOf settings psd lengths bytes size) psd (piecesOf settings psd lengths bytes size m w) ++ zeros))
   unfolding pduOf base
   parts =
       parity-written base (length-allowed (length base) (omega (arith, base-length, f .long)) (omega (arith, base-length, f .short)))
-      ∙ ap (λ (r : List ℕ). parity ++ r) (append-assoc (controlBytes c) (contents (m .width) (expansionOf settings psd lengths bytes size) psd (piecesOf settings psd lengths bytes size m w)) zeros)
+      ∙ ap (λ (r : List ℕ). parity ++ r) (append-assoc (controlBytes c) (contents (w .register) (m .width) (expansionOf settings psd lengths bytes size) psd (piecesOf settings psd lengths bytes size m w)) zeros)
 
   pub pdu-length : length p ≡ size
   unfolding pduOf base
@@ -120,7 +120,7 @@ module _ (settings : Settings) (psd lengths bytes : List ℕ) (size : ℕ) (m : 
   code-word = written-code-word base (omega (arith, base-length, f .long)) (omega (arith, base-length, f .short)) (all-bytes base base-bytes)
 
   abbrev sends : List ℕ
-  sends = parity ++ (controlBytes c ++ (contents (m .width) (expansionOf settings psd lengths bytes size) psd (piecesOf settings psd lengths bytes size m w) ++ zeros))
+  sends = parity ++ (controlBytes c ++ (contents (w .register) (m .width) (expansionOf settings psd lengths bytes size) psd (piecesOf settings psd lengths bytes size m w) ++ zeros))
 
   able : Sendable m c (fieldsFor settings size) psd (piecesOf settings psd lengths bytes size m w) (length sends)
   able = subst (λ (n : ℕ). Sendable m c (fieldsFor settings size) psd (piecesOf settings psd lengths bytes size m w) n) (sym pdu-length ∙ ap length parts) (sendable settings psd lengths bytes size m w f l)
@@ -143,19 +143,19 @@ module _ (settings : Settings) (psd lengths bytes : List ℕ) (size : ℕ) (m : 
         let ps = piecesOf settings psd lengths bytes size m w in
         let x = fieldsFor settings size in
         let e = corrects q (omega (arith, pdu-length, a .long, f .long)) (omega (arith, pdu-length, a .long, f .short)) (all-bytes q (a .bytes)) .answer (take 96 p) near in
-        let z : judged p ≡ 0 = ap judged parts ∙ accepted-back m c x psd ps parity zeros (parity-length base) able in
+        let z : judged p ≡ 0 = ap judged parts ∙ accepted-back (w .register) m c x psd ps parity zeros (parity-length base) able in
         let k : readNumber q ≡ 0 = corrected-number q _ e ∙ ap judged corrected-back ∙ z in
-        let o : controlAt p ≡ c = ap controlAt parts ∙ control-back m c x psd ps parity zeros (parity-length base) able in
-        let d : widthOf p ≡ m .width = ap widthOf parts ∙ width-back m c x psd ps parity zeros (parity-length base) able in
+        let o : controlAt p ≡ c = ap controlAt parts ∙ control-back (w .register) m c x psd ps parity zeros (parity-length base) able in
+        let d : widthOf p ≡ m .width = ap widthOf parts ∙ width-back (w .register) m c x psd ps parity zeros (parity-length base) able in
         let r = read-accepted q p (m .width) c k corrected-back d o in
         record {
           number = k;
           pdu = r .0;
           answer = r .1;
-          fields = answer-fields (m .width) c p x (ap (fieldsOf (m .width) c) parts ∙ fields-back m c x psd ps parity zeros (parity-length base) able);
-          place = answer-psd (m .width) c p _ (ap (psdOf (m .width) c) parts ∙ psd-place m c x psd ps parity zeros (parity-length base) able);
-          psd-read = ap (λ (y : List ℕ). take (length psd) (drop (14 + locatorSize (m .width) (length ps) + length (expansionOf settings psd lengths bytes size)) y)) parts ∙ psd-bytes m c x psd ps parity zeros (parity-length base) able;
-          pieces = λ i h. subst (λ (y : List ℕ). PieceRead (m .width) c y i (getD ps i [])) (sym parts) (pieces-read m c x psd ps parity zeros (parity-length base) able i h);
+          fields = answer-fields (m .width) c p x (ap (fieldsOf (m .width) c) parts ∙ fields-back (w .register) m c x psd ps parity zeros (parity-length base) able);
+          place = answer-psd (m .width) c p _ (ap (psdOf (m .width) c) parts ∙ psd-place (w .register) m c x psd ps parity zeros (parity-length base) able);
+          psd-read = ap (λ (y : List ℕ). take (length psd) (drop (14 + locatorSize (m .width) (length ps) + length (expansionOf settings psd lengths bytes size)) y)) parts ∙ psd-bytes (w .register) m c x psd ps parity zeros (parity-length base) able;
+          pieces = λ i h. subst (λ (y : List ℕ). PieceRead (w .register) (m .width) c y i (getD ps i [])) (sym parts) (pieces-read (w .register) m c x psd ps parity zeros (parity-length base) able i h);
         }
 
 -- the round trip of every accepted call

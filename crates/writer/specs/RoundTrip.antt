@@ -38,7 +38,7 @@ pub record Altered (p q : List ℕ) : Type 0 where
 -- a writing call's arguments: settings, PSD, lengths and joined bytes of the packets offered, the PDU length R, and the writer
 module _ (settings : Settings) (psd lengths bytes : List ℕ) (size : ℕ) (w : Writer) where
   -- p, the PDU that the call wrote, is read from q as it was written: the PDU is accepted and left as p, and the answer has the control word,
-  -- the expansion fields, the PSD's place and each piece's
+  -- the expansion fields, the PSD's place and each piece's, whose CRC is the one by the writer's register
   pub record ReadBack (m : Mode) (p q : List ℕ) : Type 0 where
     pub number : readNumber q ≡ 0
     pub pdu : readPdu q ≡ p
@@ -48,7 +48,7 @@ module _ (settings : Settings) (psd lengths bytes : List ℕ) (size : ℕ) (w : 
         ≡ record { start = 14 + locatorSize (m .width) (length (piecesOf settings psd lengths bytes size m w)) + length (expansionOf settings psd lengths bytes size); length = length psd }
     pub psd-read : take (length psd) (drop (14 + locatorSize (m .width) (length (piecesOf settings psd lengths bytes size m w)) + length (expansionOf settings psd lengths bytes size)) p) ≡ psd
     pub pieces : (k : ℕ) → k < length (piecesOf settings psd lengths bytes size m w)
-        → PieceRead (m .width) (controlFor settings psd lengths bytes size m w) p k (getD (piecesOf settings psd lengths bytes size m w) k [])
+        → PieceRead (w .register) (m .width) (controlFor settings psd lengths bytes size m w) p k (getD (piecesOf settings psd lengths bytes size m w) k [])
 
   -- p has R bytes, its header is a code word, and it is read back, also with header bytes altered
   pub record RoundTrip (p : List ℕ) : Type 0 where

@@ -26,15 +26,16 @@ use Rattle.writer.specs.declared.Written.{Written}
 
 -- what a refused opening hands back: a mode that the table has not, so that number 1 turns it down
 abbrev pub noWriter : Writer
-noWriter = record { mode = 255; stream = 0; sequence = 0; number = 0; sent = 0 }
+noWriter = record { mode = 255; stream = 0; register = 0; sequence = 0; number = 0; sent = 0 }
 
-abbrev pub openedAs : Listing → ℕ → ℕ → Opened
-openedAs (Refused n) mode stream = record { refusal = n; writer = noWriter }
-openedAs (Listed m) mode stream = record { refusal = 0; writer = record { mode = mode; stream = stream; sequence = 0; number = 0; sent = 0 } }
+abbrev pub openedAs : Listing → ℕ → ℕ → ℕ → Opened
+openedAs (Refused n) mode stream register = record { refusal = n; writer = noWriter }
+openedAs (Listed m) mode stream register = record { refusal = 0; writer = record { mode = mode; stream = stream; register = register; sequence = 0; number = 0; sent = 0 } }
 
--- refusal 5, or a writer that remembers PDU sequence 0, packet number 0 and no byte sent
-unfoldable pub opened : ℕ → ℕ → Opened
-opened mode stream = openedAs (listing mode stream) mode stream
+-- for a mode, a stream and the register that CRCs start with (document 02, Ask 2): refusal 5, or a writer that remembers PDU sequence 0, packet number 0
+-- and no byte sent
+unfoldable pub opened : ℕ → ℕ → ℕ → Opened
+opened mode stream register = openedAs (listing mode stream) mode stream register
 
 -- ---- what is turned down
 
@@ -95,6 +96,7 @@ abbrev pub advanced : Mode → Writer → ℕ → ℕ → Writer
 advanced m w ended part = record {
   mode = w .mode;
   stream = w .stream;
+  register = w .register;
   sequence = (w .sequence + 1) % m .sequences;
   number = (w .number + ended) % 64;
   sent = cond (eqb ended 0) (w .sent) 0 + part;
@@ -148,7 +150,7 @@ module _ (settings : Settings) (psd lengths bytes : List ℕ) (size : ℕ) where
 
     -- from byte 8 to the last piece's CRC
     abbrev pub written : List ℕ
-    written = controlBytes controlFor ++ contents (m .width) expansionOf psd piecesOf
+    written = controlBytes controlFor ++ contents (w .register) (m .width) expansionOf psd piecesOf
 
     -- the whole PDU: the rest is zero
     unfoldable pub pduOf : List ℕ

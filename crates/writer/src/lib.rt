@@ -18,11 +18,13 @@ ghost use Rattle.layout.specs.Control.{bit};
 ghost use Rattle.pieces.specs.Pieces.{total};
 ghost use Rattle.writer.specs.Writing.{opened, wrongLengths, wrongUnfinished, wrongState, wrongSize, wrongPackets, wrongExtra, noRoom, controlWith, advanced, writerTests, acceptedAnswer, refusedAnswer, pduOf, answerIn, pduIn, writeAnswer, writtenPdu};
 
-// What a writer remembers.
+// What a writer was opened with, and what it remembers.
 #[repr(C)]
 pub struct Writer {
     pub mode: u8,
     pub stream: u8,
+    // The register that the CRC of each piece starts with.
+    pub register: u8,
     // The next PDU's sequence.
     pub sequence: u8,
     // The number of the first unfinished packet, and how many bytes of it are sent.
@@ -48,9 +50,9 @@ pub struct Written {
 // A mode that the table has not.
 const NO_MODE: u8 = 255;
 
-// Opens a writer for a mode and stream, or refuses with 5.
-pub fn open(mode: u8, stream: u8) -> Opened
-    ensures { λ r. ⌜ r ≡ opened mode stream ⌝ }
+// Opens a writer for a mode and stream, with the register that CRCs start with, any byte; or refuses with 5.
+pub fn open(mode: u8, stream: u8, register: u8) -> Opened
+    ensures { λ r. ⌜ r ≡ opened mode stream register ⌝ }
 {
     match modes::look_up(mode, stream) {
         Listing::Listed(_) => Opened {
@@ -58,6 +60,7 @@ pub fn open(mode: u8, stream: u8) -> Opened
             writer: Writer {
                 mode: mode,
                 stream: stream,
+                register: register,
                 sequence: 0,
                 number: 0,
                 sent: 0,
@@ -68,6 +71,7 @@ pub fn open(mode: u8, stream: u8) -> Opened
             writer: Writer {
                 mode: NO_MODE,
                 stream: 0,
+                register: 0,
                 sequence: 0,
                 number: 0,
                 sent: 0,
@@ -242,6 +246,7 @@ fn advance(w: Writer, m: Mode, ended: u8, part: u16) -> Writer
     Writer {
         mode: w.mode,
         stream: w.stream,
+        register: w.register,
         sequence: (w.sequence + 1) % range,
         number: (w.number + ended) % 64,
         sent: before + part,
@@ -288,6 +293,7 @@ fn write_listed(
         control,
         &expansion[..x.length],
         psd,
+        w.register,
         &placed[..p.nop as usize],
         bytes,
         w.sent as usize,

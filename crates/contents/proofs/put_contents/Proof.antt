@@ -77,8 +77,8 @@ returns c =
     let room : 14 + locatorSize (a .width) (length ls) + length (now (a .expansion)) + length (now (a .psd)) + total ls + length ls ≤ n = c .before .before .before .before .before .before .before .before .before .before .before .before .before .before .before .before .pre .0 in
     let rest = drop (a .sent) (now (a .bytes)) in
     let enough : total ls ≤ length (drop (a .sent) (now (a .bytes))) = rw (length-drop (a .sent) (now (a .bytes))) (omega (arith, c .before .before .before .before .before .before .before .before .before .before .before .before .before .before .before .before .pre .1 .2)) in
-    let el : take (length ls) (c .before .before .before .before .before .before .before .before .before .locators .result) ≡ locatorsFrom (first (a .width) (now (a .expansion)) (now (a .psd)) ls rest enough) ls = c .before .before .before .before .before .before .before .before .before .locators .ensures .1 ∙ ap (λ (k : ℕ). locatorsFrom (14 + k + length (now (a .expansion)) + length (now (a .psd))) ls) s in
-    two-puts (a .width) (now (a .expansion)) (now (a .psd)) ls rest enough z (c .before .before .before .before .before .before .put-front .last .0) (c .before .before .put-pieces .last .0) (a .control) (take (length ls) (c .before .before .before .before .before .before .before .before .before .locators .result)) (14 + c .before .before .before .before .before .before .before .before .before .before .locator-size .result + length (now (a .expansion)) + length (now (a .psd))) (omega (arith, c .before .before .before .before .before .before .before .before .before .before .before .before .before .before .before .before .good .1 .1 .0)) (omega (arith, lz, room)) el (omega (arith, s)) (c .before .before .before .before .before .before .put-front .ensures) (c .before .before .put-pieces .ensures)
+    let el : take (length ls) (c .before .before .before .before .before .before .before .before .before .locators .result) ≡ locatorsFrom (first (a .register) (a .width) (now (a .expansion)) (now (a .psd)) ls rest enough) ls = c .before .before .before .before .before .before .before .before .before .locators .ensures .1 ∙ ap (λ (k : ℕ). locatorsFrom (14 + k + length (now (a .expansion)) + length (now (a .psd))) ls) s in
+    two-puts (a .register) (a .width) (now (a .expansion)) (now (a .psd)) ls rest enough z (c .before .before .before .before .before .before .put-front .last .0) (c .before .before .put-pieces .last .0) (a .control) (take (length ls) (c .before .before .before .before .before .before .before .before .before .locators .result)) (14 + c .before .before .before .before .before .before .before .before .before .before .locator-size .result + length (now (a .expansion)) + length (now (a .psd))) (omega (arith, c .before .before .before .before .before .before .before .before .before .before .before .before .before .before .before .before .good .1 .1 .0)) (omega (arith, lz, room)) el (omega (arith, s)) (c .before .before .before .before .before .before .put-front .ensures) (c .before .before .put-pieces .ensures)
 
 pub put-contents-spec : {M : Type 1} → statement M
 put-contents-spec =

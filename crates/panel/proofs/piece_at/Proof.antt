@@ -26,23 +26,23 @@ cast-e c = search needs
 add-e : tie.Need-add-e
 add-e c = let p = c .before .before .before in omega (arith, inside _ (p .pre .0 .0) _ (p .pre .0 .1) _ (p .pre .1))
 
-sub-crc8 : tie.Need-sub-crc8
-sub-crc8 c = search needs
+sub-crc8-from : tie.Need-sub-crc8-from
+sub-crc8-from c = search needs
 
-part-crc8-start : tie.Need-part-crc8-start
-part-crc8-start c = search needs
+part-crc8-from-start : tie.Need-part-crc8-from-start
+part-crc8-from-start c = search needs
 
-part-crc8-end : tie.Need-part-crc8-end
-part-crc8-end c = let p = c .before .before .before in omega (arith, inside _ (p .pre .0 .0) _ (p .pre .0 .1) _ (p .pre .1))
+part-crc8-from-end : tie.Need-part-crc8-from-end
+part-crc8-from-end c = let p = c .before .before .before in omega (arith, inside _ (p .pre .0 .0) _ (p .pre .0 .1) _ (p .pre .1))
 
-crc8-requires : tie.Need-crc8-requires
-crc8-requires c κs = search needs
+crc8-from-requires : tie.Need-crc8-from-requires
+crc8-from-requires c κs = search needs
 
-shared-slice-read-t20 : tie.Need-shared-slice-read-t20
-shared-slice-read-t20 c = let p = c .before .before .before .before .before .before in omega (arith, inside _ (p .pre .0 .0) _ (p .pre .0 .1) _ (p .pre .1))
+shared-slice-read-t21 : tie.Need-shared-slice-read-t21
+shared-slice-read-t21 c = let p = c .before .before .before .before .before .before in omega (arith, inside _ (p .pre .0 .0) _ (p .pre .0 .1) _ (p .pre .1))
 
 returns : tie.Need-returns
-returns c = let p = c .before .before .before .before .before .before in entry-is (now (p .args .y)) (p .pre .0 .0) (p .args .t2) (p .pre .0 .1) (p .args .k) (p .pre .1) (c .before .crc8 .result) (c .before .crc8 .ensures)
+returns c = let p = c .before .before .before .before .before .before in entry-is (now (p .args .y)) (p .pre .0 .0) (p .args .t3) (p .pre .0 .1) (p .args .k) (p .pre .1) (p .args .register) (c .before .crc8-from .result) (c .before .crc8-from .ensures)
 
 pub piece-at-spec : {M : Type 1} → statement M
 piece-at-spec =
@@ -55,9 +55,9 @@ piece-at-spec =
     cast-a
     cast-e
     add-e
-    sub-crc8
-    part-crc8-start
-    part-crc8-end
-    crc8-requires
-    shared-slice-read-t20
+    sub-crc8-from
+    part-crc8-from-start
+    part-crc8-from-end
+    crc8-from-requires
+    shared-slice-read-t21
     returns)

@@ -10,10 +10,10 @@ use Rattle.panel.proofs.pieces_of.Statement.{statement}
 use Rattle.panel.proofs.pieces_of.Tie as tie
 
 abbrev Inv-loop : tie.InvT-loop
-Inv-loop y r nop pieces₀ k₀ pieces k = (k ≤ nop) × (length pieces ≡ 64) × (take k pieces ≡ entriesFrom y 0 k)
+Inv-loop register y r nop pieces₀ k₀ pieces k = (k ≤ nop) × (length pieces ≡ 64) × (take k pieces ≡ entriesFrom register y 0 k)
 
 abbrev μ-loop : tie.MeasureT-loop
-μ-loop y r nop pieces₀ k₀ pieces k = nop - k
+μ-loop register y r nop pieces₀ k₀ pieces k = nop - k
 
 loop-holds : tie.Need-loop-holds Inv-loop μ-loop
 unfolding entriesFrom
@@ -47,13 +47,13 @@ loop-again c =
     let p = c .before .before in
     let q = p .before .before .pre (omega arith) in
     let f : p .loop .k < 54 = few _ (q .0) _ (q .1) (p .loop .k) (omega (arith, q .2)) in
-    (omega arith, length-set (p .loop .pieces) (p .loop .k) (c .piece-at .result) ∙ p .loop .inv .1, filled-next _ _ _ _ (omega (arith, p .loop .inv .1)) (c .piece-at .ensures) (p .loop .inv .2))
+    (omega arith, length-set (p .loop .pieces) (p .loop .k) (c .piece-at .result) ∙ p .loop .inv .1, filled-next _ _ _ _ _ (omega (arith, p .loop .inv .1)) (c .piece-at .ensures) (p .loop .inv .2))
 
 returns : tie.Need-returns Inv-loop μ-loop
 returns c =
     let p = c .before in
     let e : p .loop .k ≡ p .before .before .args .nop = omega arith in
-    subst (λ (n : ℕ). take n (p .loop .pieces) ≡ entriesFrom (now (p .before .before .args .y)) 0 n) e (p .loop .inv .2)
+    subst (λ (n : ℕ). take n (p .loop .pieces) ≡ entriesFrom (p .before .before .args .register) (now (p .before .before .args .y)) 0 n) e (p .loop .inv .2)
 
 pub pieces-of-spec : {M : Type 1} → statement M
 pieces-of-spec =

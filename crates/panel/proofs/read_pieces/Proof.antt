@@ -24,7 +24,7 @@ returns c =
     let e = f .read-for .ensures in
     let w = nop-few _ _ (f .read-for .result) (f .read-for .last .0) (e .0) (e .1) in
     let h = nop-fits _ _ (f .read-for .result) (f .read-for .last .0) (e .0) (e .1) in
-    (e .0, e .1, omega (arith, h), omega (arith, w, c .pieces-of .ok), λ l h. list-end _ _ (f .read-for .result) (f .read-for .last .0) (e .0) (e .1) (c .pieces-of .result) l (c .pieces-of .ensures) h)
+    (e .0, e .1, omega (arith, h), omega (arith, w, c .pieces-of .ok), λ l h. list-end _ _ (f .read-for .result) (f .read-for .last .0) (e .0) (e .1) _ (c .pieces-of .result) l (c .pieces-of .ensures) h)
 
 pub read-pieces-spec : {M : Type 1} → statement M
 read-pieces-spec =

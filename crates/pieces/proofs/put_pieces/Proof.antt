@@ -18,10 +18,10 @@ use Rattle.pieces.proofs.put_pieces.Lts as lts
 use Rattle.pieces.proofs.put_piece.Reads as put-piece-reads
 
 abbrev Inv-loop : tie.InvT-loop
-Inv-loop pdu₀ at lengths bytes sent place₀ from₀ k₀ pdu place from k = (k ≤ length lengths) × (length pdu ≡ length pdu₀) × (place + total (drop k lengths) + (length lengths - k) ≤ length pdu₀) × (from + total (drop k lengths) ≤ length bytes) × (putAt pdu place (pieceBytes (cutBy (drop k lengths) (drop from bytes))) ≡ putAt pdu₀ at (pieceBytes (cutBy lengths (drop sent bytes))))
+Inv-loop pdu₀ at register lengths bytes sent place₀ from₀ k₀ pdu place from k = (k ≤ length lengths) × (length pdu ≡ length pdu₀) × (place + total (drop k lengths) + (length lengths - k) ≤ length pdu₀) × (from + total (drop k lengths) ≤ length bytes) × (putAt pdu place (pieceBytes register (cutBy (drop k lengths) (drop from bytes))) ≡ putAt pdu₀ at (pieceBytes register (cutBy lengths (drop sent bytes))))
 
 abbrev μ-loop : tie.MeasureT-loop
-μ-loop pdu₀ at lengths bytes sent place₀ from₀ k₀ pdu place from k = length lengths - k
+μ-loop pdu₀ at register lengths bytes sent place₀ from₀ k₀ pdu place from k = length lengths - k
 
 -- what the invariant says of one more piece
 left : (e : tie.In-loop Inv-loop μ-loop) → let p = e .before in let a = p .before .before .before .before .args in
@@ -76,13 +76,13 @@ loop-again c =
     let w = take n (drop from (now (a .bytes))) in
     let l2 = c .before .before .put-piece .last .0 in
     let m : from + n - from ≡ n = omega arith in
-    let e0 : l2 ≡ putAt (p .loop .pdu) (p .loop .place) (withCrc (take (from + n - from) (drop from (now (a .bytes))))) = c .before .before .put-piece .ensures in
-    let e : l2 ≡ putAt (p .loop .pdu) (p .loop .place) (withCrc w) = rw m at e0 in
+    let e0 : l2 ≡ putAt (p .loop .pdu) (p .loop .place) (withCrc (a .register) (take (from + n - from) (drop from (now (a .bytes))))) = c .before .before .put-piece .ensures in
+    let e : l2 ≡ putAt (p .loop .pdu) (p .loop .place) (withCrc (a .register) w) = rw m at e0 in
     let q : length (drop from (now (a .bytes))) ≡ length (now (a .bytes)) - from = length-drop from (now (a .bytes)) in
     let wl : length w ≡ n = length-take-le n (drop from (now (a .bytes))) (omega (arith, q, h .1)) in
-    let z : length (withCrc w) ≡ n + 1 = simp (length-append, wl) in
-    let k : length l2 ≡ length (p .loop .pdu) = ap length e ∙ put-length (p .loop .pdu) (p .loop .place) (withCrc w) (omega (arith, z, h .0, p .loop .inv .1)) in
-    (omega (arith, c .before .before .before .before .before .loop-test .taken), k ∙ p .loop .inv .1, omega (arith, h .0), omega (arith, h .1), turn (p .loop .pdu) l2 ls (now (a .bytes)) (putAt (now (a .pdu)) (a .at) (pieceBytes (cutBy ls (drop (a .sent) (now (a .bytes)))))) (p .loop .place) from (p .loop .k) n (c .before .before .before .before .before .loop-test .taken) refl (omega (arith, h .1)) (omega (arith, h .0, p .loop .inv .1)) e (p .loop .inv .4))
+    let z : length (withCrc (a .register) w) ≡ n + 1 = simp (length-append, wl) in
+    let k : length l2 ≡ length (p .loop .pdu) = ap length e ∙ put-length (p .loop .pdu) (p .loop .place) (withCrc (a .register) w) (omega (arith, z, h .0, p .loop .inv .1)) in
+    (omega (arith, c .before .before .before .before .before .loop-test .taken), k ∙ p .loop .inv .1, omega (arith, h .0), omega (arith, h .1), turn (a .register) (p .loop .pdu) l2 ls (now (a .bytes)) (putAt (now (a .pdu)) (a .at) (pieceBytes (a .register) (cutBy ls (drop (a .sent) (now (a .bytes)))))) (p .loop .place) from (p .loop .k) n (c .before .before .before .before .before .loop-test .taken) refl (omega (arith, h .1)) (omega (arith, h .0, p .loop .inv .1)) e (p .loop .inv .4))
 
 same-length : tie.Need-same-length Inv-loop μ-loop
 same-length c = search needs
@@ -91,7 +91,7 @@ returns : tie.Need-returns Inv-loop μ-loop
 returns c =
     let p = c .before in
     let a = p .before .before .before .before .args in
-    none-left (p .loop .pdu) (now (a .lengths)) (now (a .bytes)) (putAt (now (a .pdu)) (a .at) (pieceBytes (cutBy (now (a .lengths)) (drop (a .sent) (now (a .bytes)))))) (p .loop .place) (p .loop .from) (p .loop .k) (c .loop-test .left) (p .loop .inv .4)
+    none-left (a .register) (p .loop .pdu) (now (a .lengths)) (now (a .bytes)) (putAt (now (a .pdu)) (a .at) (pieceBytes (a .register) (cutBy (now (a .lengths)) (drop (a .sent) (now (a .bytes)))))) (p .loop .place) (p .loop .from) (p .loop .k) (c .loop-test .left) (p .loop .inv .4)
 
 pub put-pieces-spec : {M : Type 1} → statement M
 put-pieces-spec =

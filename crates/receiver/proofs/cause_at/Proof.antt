@@ -5,7 +5,7 @@ use Rattle.receiver.proofs.cause_at.Statement.{statement}
 use Rattle.receiver.proofs.cause_at.Tie as tie
 use Rattle.receiver.proofs.cause_at.Reads as reads
 use Rattle.receiver.proofs.cause_at.Lts as lts
-use Rattle.crc.proofs.crc8.Reads as crc8-reads
+use Rattle.crc.proofs.crc8_from.Reads as crc8-from-reads
 use Rattle.receiver.proofs.place.Reads as place-reads
 
 mul-place : tie.Need-mul-place
@@ -32,17 +32,17 @@ array-read-place-2 c = search needs
 place-requires-2 : tie.Need-place-requires-2
 place-requires-2 c κs = search needs
 
-sub-crc8 : tie.Need-sub-crc8
-sub-crc8 c = search needs
+sub-crc8-from : tie.Need-sub-crc8-from
+sub-crc8-from c = search needs
 
-part-crc8-start : tie.Need-part-crc8-start
-part-crc8-start c = search needs
+part-crc8-from-start : tie.Need-part-crc8-from-start
+part-crc8-from-start c = search needs
 
-part-crc8-end : tie.Need-part-crc8-end
-part-crc8-end c = search needs
+part-crc8-from-end : tie.Need-part-crc8-from-end
+part-crc8-from-end c = search needs
 
-crc8-requires : tie.Need-crc8-requires
-crc8-requires c κs = search needs
+crc8-from-requires : tie.Need-crc8-from-requires
+crc8-from-requires c κs = search needs
 
 shared-slice-read-if1 : tie.Need-shared-slice-read-if1
 shared-slice-read-if1 c = search needs
@@ -50,12 +50,12 @@ shared-slice-read-if1 c = search needs
 returns : tie.Need-returns
 returns c =
     let p = c .before .before .before .before .before .before .before in
-    cause-right (now (p .args .y)) (p .args .t2) (p .args .k) (c .before .before .before .before .before .place .result) (c .before .before .before .before .place2 .result) (c .before .before .crc8 .result) (c .before .before .before .before .before .place .ensures .0) (c .before .before .before .before .place2 .ensures .0) (c .before .before .crc8 .ensures) (c .if1 .taken)
+    cause-right (p .args .register) (now (p .args .y)) (p .args .t3) (p .args .k) (c .before .before .before .before .before .place .result) (c .before .before .before .before .place2 .result) (c .before .before .crc8-from .result) (c .before .before .before .before .before .place .ensures .0) (c .before .before .before .before .place2 .ensures .0) (c .before .before .crc8-from .ensures) (c .if1 .taken)
 
 returns-2 : tie.Need-returns-2
 returns-2 c =
     let p = c .before .before .before .before .before .before .before in
-    cause-wrong (now (p .args .y)) (p .args .t2) (p .args .k) (c .before .before .before .before .before .place .result) (c .before .before .before .before .place2 .result) (c .before .before .crc8 .result) (c .before .before .before .before .before .place .ensures .0) (c .before .before .before .before .place2 .ensures .0) (c .before .before .crc8 .ensures) (c .if1 .left)
+    cause-wrong (p .args .register) (now (p .args .y)) (p .args .t3) (p .args .k) (c .before .before .before .before .before .place .result) (c .before .before .before .before .place2 .result) (c .before .before .crc8-from .result) (c .before .before .before .before .before .place .ensures .0) (c .before .before .before .before .place2 .ensures .0) (c .before .before .crc8-from .ensures) (c .if1 .left)
 
 pub cause-at-spec : {M : Type 1} → statement M
 cause-at-spec =
@@ -69,10 +69,10 @@ cause-at-spec =
     mul-place-2
     array-read-place-2
     place-requires-2
-    sub-crc8
-    part-crc8-start
-    part-crc8-end
-    crc8-requires
+    sub-crc8-from
+    part-crc8-from-start
+    part-crc8-from-end
+    crc8-from-requires
     shared-slice-read-if1
     returns
     returns-2)

@@ -12,10 +12,10 @@ use Rattle.receiver.proofs.causes_of.Lts as lts
 use Rattle.receiver.proofs.cause_at.Reads as cause-at-reads
 
 abbrev Inv-loop : tie.InvT-loop
-Inv-loop y marks nop causes₀ k₀ causes k = (k ≤ nop) × Filled (causeAt y marks) k causes
+Inv-loop register y marks nop causes₀ k₀ causes k = (k ≤ nop) × Filled (causeAt register y marks) k causes
 
 abbrev μ-loop : tie.MeasureT-loop
-μ-loop y marks nop causes₀ k₀ causes k = nop - k
+μ-loop register y marks nop causes₀ k₀ causes k = nop - k
 
 loop-holds : tie.Need-loop-holds Inv-loop μ-loop
 loop-holds c = (omega arith, filled-start _)
@@ -39,13 +39,13 @@ loop-again : tie.Need-loop-again Inv-loop μ-loop
 loop-again c =
     let p = c .before .before in
     let a = p .before .before .args in
-    (omega arith, filled-next (causeAt (now (a .y)) (a .marks)) (p .loop .k) _ (p .loop .causes) (omega (arith, p .before .before .pre .few)) (c .cause-at .ensures) (p .loop .inv .1))
+    (omega arith, filled-next (causeAt (a .register) (now (a .y)) (a .marks)) (p .loop .k) _ (p .loop .causes) (omega (arith, p .before .before .pre .few)) (c .cause-at .ensures) (p .loop .inv .1))
 
 returns : tie.Need-returns Inv-loop μ-loop
 returns c =
     let p = c .before in
     let a = p .before .before .args in
-    λ k h. filled-at (causeAt (now (a .y)) (a .marks)) (p .loop .k) k (p .loop .causes) (omega arith) (omega (arith, p .before .before .pre .few)) (p .loop .inv .1)
+    λ k h. filled-at (causeAt (a .register) (now (a .y)) (a .marks)) (p .loop .k) k (p .loop .causes) (omega arith) (omega (arith, p .before .before .pre .few)) (p .loop .inv .1)
 
 pub causes-of-spec : {M : Type 1} → statement M
 causes-of-spec =
