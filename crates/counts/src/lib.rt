@@ -34,11 +34,21 @@ const NOTES: usize = 26;
 // How many causes there are of notes.
 const CAUSES: u32 = 8;
 
+// The places for the notes 2, 3 and 5: a wrong CRC, nothing held, too long.
+const WRONG_CRCS: usize = 28;
+
+const NOTHING_HELD: usize = 29;
+
+const TOO_LONG: usize = 31;
+
+// PDUs whose last piece was held.
+const HELD: usize = 34;
+
 // Every count 0.
-pub fn none() -> [u64; 34]
-    ensures { λ r. ⌜ 34 ≡ length r ⌝ }
+pub fn none() -> [u64; 35]
+    ensures { λ r. ⌜ 35 ≡ length r ⌝ }
 {
-    [0; 34]
+    [0; 35]
 }
 
 fn at(counts: &[u64], place: usize) -> u64 {
@@ -75,7 +85,9 @@ pub fn add_outcome(counts: &mut [u64], o: Outcome) {
         add(counts, place_of(REFUSED, o.number, REFUSALS), 1);
         return;
     }
+    let receiver = o.receiver;
     add(counts, RECEIVED, 1);
+    add(counts, HELD, (receiver.held != 0) as u64);
     if o.number != 0 {
         add(counts, HEADERS, 1);
         add(counts, BYTES, o.number as u64);
@@ -127,6 +139,18 @@ pub fn others(counts: &[u64]) -> u64 {
 // Whether PDUs were refused, and none was received.
 pub fn is_none_received(counts: &[u64]) -> bool {
     (at(counts, RECEIVED) == 0) & (refused(counts) != 0)
+}
+
+// How many pieces had a right CRC: such a one is delivered or held, or its note is 3 or 5 (document 01, "Receiver", step 4).
+fn right_crcs(counts: &[u64]) -> u64 {
+    let noted = std::num::wrapping_add_u64(at(counts, NOTHING_HELD), at(counts, TOO_LONG));
+    let taken = std::num::wrapping_add_u64(at(counts, PACKETS), at(counts, HELD));
+    std::num::wrapping_add_u64(noted, taken)
+}
+
+// Whether pieces had a wrong CRC, and none a right one.
+pub fn is_every_crc_wrong(counts: &[u64]) -> bool {
+    (at(counts, WRONG_CRCS) != 0) & (right_crcs(counts) == 0)
 }
 
 // The refusals with a number.

@@ -25,7 +25,7 @@ pub fn program() -> i32 {
 
 // Makes the PDUs. Answers whether all is done; what went wrong is said.
 fn run(asked: Transmission) -> bool {
-    let opened = writer::open(asked.mode, asked.stream, 0);
+    let opened = writer::open(asked.mode, asked.stream, asked.register);
     if opened.refusal != 0 {
         trial::say_refusal(opened.refusal);
         return false;

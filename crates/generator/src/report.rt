@@ -28,6 +28,8 @@ length in two bytes, low byte first, and then its bytes.
   --force           an existing FILE of --out is renamed FILE~ first
   --mode N          0, 1, 2, 3, 10 or 13 (0)
   --stream N        0 core, 1 enhanced (0)
+  --crc-start N     the register that CRCs start with, 0 to 255 (0; recordings
+                    off the air check with 255)
   --length N        the length of each PDU, 96 to 20480 (1024)
   --psd FILE        PSD of each PDU, at most 128 bytes (none; - is standard
                     input, if the packets are not)

@@ -3,13 +3,15 @@ use text::Number;
 ghost use Prim.Native.Nat.{_≤_};
 
 // The options that are known.
-pub const KNOWN: [u8; 49] = *b"in=\0out=\0marks=\0force\0mode=\0stream=\0format=\0help\0";
+pub const KNOWN: [u8; 60] =
+    *b"in=\0out=\0marks=\0force\0mode=\0stream=\0crc-start=\0format=\0help\0";
 
-// What is asked for; ok where mode, stream and format are given as they can be.
+// What is asked for; ok where mode, stream, the register that CRCs start with and format are given as they can be.
 pub struct Job {
     pub ok: bool,
     pub mode: u8,
     pub stream: u8,
+    pub register: u8,
     pub format: u8,
 }
 
@@ -50,11 +52,13 @@ fn format_asked() -> u8 {
 pub fn asked() -> Job {
     let mode = number(b"mode");
     let stream = number(b"stream");
+    let register = number(b"crc-start");
     let format = format_asked();
     Job {
-        ok: mode.ok & stream.ok & (format != formats::NO_FORMAT),
+        ok: mode.ok & stream.ok & register.ok & (format != formats::NO_FORMAT),
         mode: mode.value as u8,
         stream: stream.value as u8,
+        register: register.value as u8,
         format: format,
     }
 }

@@ -33,7 +33,7 @@ pub fn program() -> i32 {
 
 // Makes the log. Answers whether all is done.
 fn with_job(job: Job) -> bool {
-    let opened = receiver::open(job.mode, job.stream, 0);
+    let opened = receiver::open(job.mode, job.stream, job.register);
     if opened.refusal != 0 {
         report::not_opened(opened.refusal);
         return false;
@@ -125,6 +125,9 @@ fn finish(job: Job, run: Run, output: i32, onto: &[u8], counts: &[u64]) -> bool 
     report::summary(run.pdus, counts);
     if counts::is_none_received(counts) {
         report::none_received(job.mode, job.stream);
+    }
+    if counts::is_every_crc_wrong(counts) {
+        report::all_crcs_wrong(job.register);
     }
     (run.status == records::END) & closed
 }

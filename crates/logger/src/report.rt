@@ -77,6 +77,18 @@ pub fn none_received(mode: u8, stream: u8) {
     say(&line[..n]);
 }
 
+// Every piece had a wrong CRC: the register that is asked for may not be the one that the file's CRCs start with.
+pub fn all_crcs_wrong(register: u8) {
+    let mut line = [0u8; 128];
+    let n = text::fill(
+        &mut line,
+        0,
+        b"barzhilup log: all CRCs were wrong: is @ the start of this file's CRCs (--crc-start)?\n",
+        &[register as u64],
+    );
+    say(&line[..n]);
+}
+
 // How the program is used, on standard output.
 pub fn usage() -> bool {
     files::print_usage(
@@ -93,6 +105,8 @@ that is marked lost.
   --force         an existing FILE of --out is renamed FILE~ first
   --mode N        0, 1, 2, 3, 10 or 13 (0)
   --stream N      0 core, 1 enhanced (0)
+  --crc-start N   the register that CRCs start with, 0 to 255 (0; recordings
+                  off the air check with 255)
   --format F      words, text or csv (text)
   --help          prints this and does nothing else (also -h)
 

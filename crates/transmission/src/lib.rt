@@ -1,4 +1,4 @@
-// What the command line asks to be sent: mode and stream, the length of each PDU, its settings and its PSD.
+// What the command line asks to be sent: mode and stream, the register that CRCs start with, the length of each PDU, its settings and its PSD.
 pub mod psd;
 
 use settings::Settings;
@@ -6,14 +6,15 @@ use text::Number;
 ghost use Prim.Native.Nat.{_≤_};
 
 // The options that are known.
-pub const KNOWN: [u8; 149] =
-    *b"in=\0out=\0mode=\0stream=\0length=\0psd=\0adts\0blend=\0gain=\0common-delay=\0latency=\0class=\0program=\0displacement\0access=\0type=\0services=\0marker=\0force\0help\0";
+pub const KNOWN: [u8; 160] =
+    *b"in=\0out=\0mode=\0stream=\0crc-start=\0length=\0psd=\0adts\0blend=\0gain=\0common-delay=\0latency=\0class=\0program=\0displacement\0access=\0type=\0services=\0marker=\0force\0help\0";
 
 // What is asked for; ok where every number is in its range.
 pub struct Transmission {
     pub ok: bool,
     pub mode: u8,
     pub stream: u8,
+    pub register: u8,
     pub length: usize,
     pub settings: Settings,
 }
@@ -117,13 +118,15 @@ fn settings_chosen() -> Chosen {
 pub fn asked() -> Transmission {
     let mode = setting(b"mode");
     let stream = setting(b"stream");
+    let register = setting(b"crc-start");
     let length = number(b"length", 1024, 65535);
     let chosen = settings_chosen();
     let settings = chosen.settings;
     Transmission {
-        ok: mode.ok & stream.ok & length.ok & chosen.ok,
+        ok: mode.ok & stream.ok & register.ok & length.ok & chosen.ok,
         mode: mode.value,
         stream: stream.value,
+        register: register.value,
         length: length.value as usize,
         settings: settings,
     }
