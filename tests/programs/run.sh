@@ -16,7 +16,7 @@ if [ ! -x "$program" ]; then
 fi
 program=$(readlink -f "$program")
 subs=(generate channel log coverage)
-for part in harness usage files generate log marks coverage; do
+for part in harness usage files generate log marks registers coverage; do
     # shellcheck source=/dev/null
     . "$here/$part.sh"
 done
@@ -67,6 +67,12 @@ check_marks_other_mode
 check_marks_files
 check_marks_dashes
 check_marks_made
+check_register_values
+check_register_default
+check_register_refused
+check_register_all
+check_register_drive
+check_register_said
 check_stored
 check_lines
 check_line_ends
