@@ -1,5 +1,5 @@
--- Small runs in mode 0, core, whose sequence has one bit, with register 0. Where the bytes of the PDUs stand and which packets are asked for is computed; that the
--- log holds these packets is the theorem.
+-- Small runs in mode 0, core, whose sequence has one bit, with register 0. Where the bytes of the PDUs stand and which packets are asked for is
+-- computed; that the log holds these packets is the theorem.
 use mathlib.Core.Path.{_≡_, refl, sym, ap, ap₂, subst, _∙_}
 use mathlib.Core.Bool.{Bool, true, false, not, _&&_, _||_, cond}
 use mathlib.Core.List.{List, [], _∷_, _++_, map}
