@@ -248,6 +248,13 @@ barzhilup_correct_header_marked(uint8_t *pdu, size_t length,
 
 /* ---- CRC-8 (document 01, "Expansion, PSD, pieces"; 001, 5.2.3.2) --------- */
 
+/* The value that the CRC's register starts with where none is given: that of
+ * document 01. */
+#define BARZHILUP_CRC_START 0
+
+/* The value with which recordings off the air check. (Document 02, Ask 2.) */
+#define BARZHILUP_CRC_START_OFF_AIR 255
+
 /*
  * The CRC-8 of a piece: its bytes times x^8, divided by x^8 + x^5 + x^4 + 1, top
  * bit of each byte first, register starting at 0. `bytes` is the piece without
@@ -255,6 +262,14 @@ barzhilup_correct_header_marked(uint8_t *pdu, size_t length,
  * bytes is 0.
  */
 uint8_t barzhilup_crc8(const uint8_t *bytes, size_t length);
+
+/*
+ * The same with a register that starts at `start`, any byte (document 02, Ask
+ * 2): it is added, with exclusive or, to the piece's first byte. The CRC of no
+ * bytes is `start`. From 0 this is barzhilup_crc8; from 255 the piece 01 has the
+ * CRC 9D in place of 31.
+ */
+uint8_t barzhilup_crc8_from(uint8_t start, const uint8_t *bytes, size_t length);
 
 /* ---- Reading without a receiver (document 01) --------------------------- */
 
@@ -334,13 +349,16 @@ barzhilup_reading barzhilup_read(uint8_t *pdu, size_t length);
 
 /* ---- Writer (document 01, "Writer") -------------------------------------- */
 
-/* What a writer remembers. A caller keeps it between calls and need not look
- * inside. */
+/* What a writer was opened with and what it remembers. A caller keeps it between
+ * calls and need not look inside. */
 typedef struct {
     /* The codec mode that it was opened for. */
     uint8_t mode;
     /* 0 core, 1 enhanced. */
     uint8_t stream;
+    /* The value that the CRC's register starts with, any byte; every call keeps
+     * it. (Document 02, Ask 2.) */
+    uint8_t crc_start;
     /* The next PDU's sequence. */
     uint8_t sequence;
     /* The number, 0 to 63, of the first unfinished packet. */
@@ -401,8 +419,21 @@ typedef struct {
     barzhilup_writer writer;
 } barzhilup_written;
 
-/* Opens a writer for a mode and stream of document 01's table. */
+/* Opens a writer for a mode and stream of document 01's table. The register of
+ * its CRCs starts at BARZHILUP_CRC_START, 0, as in document 01's examples. */
 barzhilup_writer_opened barzhilup_open_writer(uint8_t mode, uint8_t stream);
+
+/*
+ * Opens a writer for a mode and stream, and with the value that the register of
+ * its CRCs starts with (document 02, Ask 2). Any byte will do: the opening is
+ * refused for its mode and stream only. With 0 this is barzhilup_open_writer;
+ * recordings off the air check with BARZHILUP_CRC_START_OFF_AIR, 255.
+ *
+ * Open the receiver of these PDUs with the same value. Nothing is promised for
+ * unequal ones; what a user sees then is BARZHILUP_NOTE_CRC for every piece.
+ */
+barzhilup_writer_opened barzhilup_open_writer_with(uint8_t mode, uint8_t stream,
+                                                   uint8_t crc_start);
 
 /*
  * Writes one PDU: all `pdu_length` bytes of `pdu`, whatever they held.
@@ -456,7 +487,9 @@ barzhilup_written barzhilup_write(barzhilup_writer writer,
  * twice. What was held is dropped. About no piece. */
 #define BARZHILUP_NOTE_SEQUENCE 1
 
-/* The piece's CRC is wrong; its bytes are dropped. */
+/* The piece's CRC is wrong; its bytes are dropped. If every piece has this note,
+ * the receiver may have been opened with another `crc_start` than the PDUs were
+ * written with; off the air it is BARZHILUP_CRC_START_OFF_AIR. */
 #define BARZHILUP_NOTE_CRC 2
 
 /* The piece continues a packet of which nothing is held; its bytes are
@@ -476,14 +509,17 @@ barzhilup_written barzhilup_write(barzhilup_writer writer,
 
 /* ---- Receiver (document 01, "Receiver") ---------------------------------- */
 
-/* What a receiver remembers. A caller keeps it between calls, together with the
- * carry buffer, and need not look inside. A bool is true or false: any other
- * byte in its place is undefined, as in C. */
+/* What a receiver was opened with and what it remembers. A caller keeps it
+ * between calls, together with the carry buffer, and need not look inside. A bool
+ * is true or false: any other byte in its place is undefined, as in C. */
 typedef struct {
     /* The codec mode that it was opened for. */
     uint8_t mode;
     /* 0 core, 1 enhanced. */
     uint8_t stream;
+    /* The value that the CRC's register starts with, any byte; every call keeps
+     * it, marking lost too. (Document 02, Ask 2.) */
+    uint8_t crc_start;
     /* Whether the last PDU's sequence is known. */
     bool known;
     /* The last PDU's sequence; 0 if not known. */
@@ -520,8 +556,21 @@ typedef struct {
     barzhilup_receiver receiver;
 } barzhilup_received;
 
-/* Opens a receiver for a mode and stream of document 01's table. */
+/* Opens a receiver for a mode and stream of document 01's table. The register of
+ * its CRCs starts at BARZHILUP_CRC_START, 0, as in document 01's examples. */
 barzhilup_receiver_opened barzhilup_open_receiver(uint8_t mode, uint8_t stream);
+
+/*
+ * Opens a receiver for a mode and stream, and with the value that the register of
+ * its CRCs starts with (document 02, Ask 2): the one that the PDUs were written
+ * with. Any byte will do: the opening is refused for its mode and stream only.
+ * With 0 this is barzhilup_open_receiver; recordings off the air check with
+ * BARZHILUP_CRC_START_OFF_AIR, 255. Nothing is promised for a writer and a
+ * receiver with unequal values.
+ */
+barzhilup_receiver_opened barzhilup_open_receiver_with(uint8_t mode,
+                                                       uint8_t stream,
+                                                       uint8_t crc_start);
 
 /*
  * Receives one PDU: corrects its header in place, joins its pieces to packets,
@@ -580,7 +629,7 @@ typedef struct {
     /* Its place in the PDU, and its length without its CRC byte. */
     uint16_t start;
     uint16_t length;
-    /* Whether its CRC is right. */
+    /* Whether its CRC is right, by the value that the list's caller gave. */
     bool right;
 } barzhilup_piece;
 
@@ -605,11 +654,17 @@ typedef struct {
  * corrected PDU, so damage among the first 96 bytes that is corrected leaves no
  * CRC wrong. Initialise the list: the bool of an entry is true or false.
  *
+ * `crc_start` is the value that the register of the CRCs starts with, any byte:
+ * the one that the PDU was written with (document 02, Ask 2). It decides verdicts
+ * and nothing else. 0 is document 01's, BARZHILUP_CRC_START; recordings off the
+ * air check with BARZHILUP_CRC_START_OFF_AIR, 255.
+ *
  * It is refused as barzhilup_read is, and with BARZHILUP_REFUSED_LIST_LENGTH for
  * a list of fewer than NOP entries. If it is refused, no byte and no entry has
  * changed.
  */
 barzhilup_reading barzhilup_list_pieces(uint8_t *pdu, size_t pdu_length,
+                                        uint8_t crc_start,
                                         barzhilup_piece *list, size_t count);
 
 /* As barzhilup_receive, with the next receiver stored in `receiver`. If it is
