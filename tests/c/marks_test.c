@@ -577,7 +577,8 @@ static void send(void)
 
 static int same_receiver(barzhilup_receiver one, barzhilup_receiver other)
 {
-    return one.mode == other.mode && one.stream == other.stream && one.known == other.known
+    return one.mode == other.mode && one.stream == other.stream
+           && one.crc_start == other.crc_start && one.known == other.known
            && one.sequence == other.sequence && one.held == other.held
            && one.number == other.number;
 }

@@ -2,10 +2,11 @@
  * Tests of the panel's functions against document 01, "After that, for the
  * panel": the list of a PDU's pieces, and the receiver stepped in place.
  *
- * Lists are made of written PDUs of every mode and stream, and compared with
- * what barzhilup_read and barzhilup_crc8 say and with the packets that were
- * written; some have wrong CRCs, and some are refused. Stepping in place is
- * compared with the same call by value on an equal copy of all that is lent.
+ * Lists are made of written PDUs of every mode and stream, with CRCs from any
+ * starting value (document 02, Ask 2), and compared with what barzhilup_read and
+ * barzhilup_crc8_from say and with the packets that were written; some have wrong
+ * CRCs, and some are refused. Stepping in place is compared with the same call by
+ * value on an equal copy of all that is lent.
  *
  * Every buffer lent to the library lies between guards. After each call all
  * buffers with their guards are compared whole with what they should hold, and
@@ -97,12 +98,32 @@ static uint8_t packets[60 * 4096]; /* the packets of the PDU, joined */
 static uint16_t sizes[60];
 static size_t sent_before, sent_now; /* how many of their bytes were sent before, and in it */
 
+/* The starting value of CRCs, for writers, receivers and lists. */
+static uint8_t crc_start = BARZHILUP_CRC_START;
+
+/* Any starting value from here on; the two that have names more often. */
+static void any_start(void)
+{
+    static const uint8_t named[2] = {BARZHILUP_CRC_START, BARZHILUP_CRC_START_OFF_AIR};
+    crc_start = random_below(2) == 0 ? named[random_below(2)] : (uint8_t)random_below(256);
+}
+
+static barzhilup_writer opened_writer(const struct line *l)
+{
+    return barzhilup_open_writer_with(l->mode, l->stream, crc_start).writer;
+}
+
+static barzhilup_receiver opened_receiver(const struct line *l)
+{
+    return barzhilup_open_receiver_with(l->mode, l->stream, crc_start).receiver;
+}
+
 /* Writes a PDU with so many packets of at most `longest` bytes, the first of
  * them already begun at times. It is just long enough for all of them and
  * `spare` bytes more, or as long as can be. */
 static void write_packets(const struct line *l, unsigned count, uint32_t longest, size_t spare)
 {
-    barzhilup_writer writer = barzhilup_open_writer(l->mode, l->stream).writer;
+    barzhilup_writer writer = opened_writer(l);
     barzhilup_settings s = none;
     barzhilup_written w;
     size_t psd = l->psd > 8 ? random_below((uint32_t)l->psd - 8) : 0, sum = 0, most;
@@ -146,7 +167,7 @@ static unsigned nop_of_made(void)
  * for. */
 static void simple(const struct line *l, unsigned n, bool displaced)
 {
-    barzhilup_writer writer = barzhilup_open_writer(l->mode, l->stream).writer;
+    barzhilup_writer writer = opened_writer(l);
     barzhilup_settings s = none;
     barzhilup_written w;
     unsigned k;
@@ -292,7 +313,8 @@ static void check_filled(const barzhilup_reading *r, size_t count, const char *w
 
     for (k = 0; k < nop; k++) {
         size_t end = (size_t)r->starts[k] + r->lengths[k];
-        uint8_t right = barzhilup_crc8(made + r->starts[k], r->lengths[k]) == made[end];
+        uint8_t right =
+            barzhilup_crc8_from(crc_start, made + r->starts[k], r->lengths[k]) == made[end];
         check(list.entries[k].start == r->starts[k], "start of an entry", k);
         check(list.entries[k].length == r->lengths[k], "length of an entry", k);
         check(verdict(&list.entries[k]) == right, "verdict of an entry", k);
@@ -315,7 +337,7 @@ static uint32_t list_made(size_t count, unsigned altered, const char *what, unsi
     memcpy(copy, lent + GUARD, made_length);
     fill_list();
     r = barzhilup_read(copy, made_length);
-    a = barzhilup_list_pieces(lent + GUARD, made_length, list.entries, count);
+    a = barzhilup_list_pieces(lent + GUARD, made_length, crc_start, list.entries, count);
     check(guards_kept(count), "what stands around the list", which);
     if (r.refusal == 0 && r.control.nop <= count) {
         check(same_reading(&a, &r), what, which);
@@ -375,6 +397,7 @@ static void test_written(void)
         unsigned limit = limit_of(&lines[i]);
         for (n = 0; n <= limit + 5; n++) {
             unsigned long which = i * 100 + n;
+            any_start();
             write_packets(&lines[i], n, 60, random_below(3) * random_below(40));
             check(nop_of_made() == (n < limit ? n : limit), "as many pieces as packets", which);
             list_lengths("a written PDU", which);
@@ -416,6 +439,7 @@ static void test_wrong(void)
         unsigned limit = limit_of(&lines[i]);
         for (n = 1; n <= limit; n += n < 5 ? 1 : random_below(7) + 1) {
             barzhilup_reading r;
+            any_start();
             write_packets(&lines[i], n, n < 5 ? 900 : 50, 20);
             memcpy(right, made, made_length);
             r = barzhilup_read(made, made_length);
@@ -604,7 +628,8 @@ static unsigned long refusals[18], notes[7]; /* how often each came */
 
 static int same_receiver(barzhilup_receiver one, barzhilup_receiver other)
 {
-    return one.mode == other.mode && one.stream == other.stream && one.known == other.known
+    return one.mode == other.mode && one.stream == other.stream
+           && one.crc_start == other.crc_start && one.known == other.known
            && one.sequence == other.sequence && one.held == other.held
            && one.number == other.number;
 }
@@ -615,7 +640,7 @@ static void fresh(const struct line *l)
 {
     random_bytes((uint8_t *)&in_place, sizeof in_place);
     random_bytes((uint8_t *)&place, sizeof place);
-    place.receiver = barzhilup_open_receiver(l->mode, l->stream).receiver;
+    place.receiver = opened_receiver(l);
     carry_length = CARRY;
     log_length = LOG;
 }
@@ -819,7 +844,8 @@ static void test_single_calls(void)
 
         if (n < 10)
             fresh(l);
-        place.receiver = barzhilup_open_receiver(l->mode, l->stream).receiver;
+        any_start();
+        place.receiver = opened_receiver(l);
         write_some(l);
         put_state(l);
         lend_made(random_below(5));
@@ -869,13 +895,15 @@ static void test_others(void)
         spoil_state(l);
         log_length = random_below(2);
         check(mark_lost_both("marking lost: state", n).refusal == 1, "marking lost: state", n);
-        place.receiver = barzhilup_open_receiver(l->mode, l->stream).receiver;
+        any_start();
+        place.receiver = opened_receiver(l);
         put_state(l);
         log_length = 0;
         check(mark_lost_both("marking lost: log", n).refusal == 13, "marking lost: log", n);
         log_length = 1 + random_below(2);
         check(mark_lost_both("marked lost", n).refusal == 0, "marked lost", n);
         check(!place.receiver.known && place.receiver.held == 0, "marked lost", n);
+        check(place.receiver.crc_start == crc_start, "marked lost, starting value kept", n);
         check(in_place.log[GUARD] == 0xc0060000, "note 6", n);
     }
     report("marking lost in place, and refusal 12");
@@ -888,7 +916,7 @@ static void test_others(void)
  * a call that is refused. */
 static void run(const struct line *l, unsigned lost, unsigned long which)
 {
-    barzhilup_writer writer = barzhilup_open_writer(l->mode, l->stream).writer;
+    barzhilup_writer writer = opened_writer(l);
     size_t first = 0, start = 0, i, received = 0;
 
     for (i = 0; i < PACKETS; i++)
@@ -924,6 +952,7 @@ static void run(const struct line *l, unsigned lost, unsigned long which)
         writer = w.writer;
     }
     check(received > 0 || lost > 0, "run, something received", which);
+    check(place.receiver.crc_start == crc_start, "run, starting value kept", which);
 }
 
 /* Each refusal 1 to 13 and each note came in place. */
@@ -955,8 +984,10 @@ int main(void)
     test_refused_bodies();
     test_single_calls();
     test_others();
-    for (n = 0; n < 60; n++)
+    for (n = 0; n < 60; n++) {
+        any_start();
         run(&lines[n % 10], (unsigned)(n / 10 % 3) * 15, n);
+    }
     report("runs with a receiver in its place");
     check_seen();
     printf("  panel: %lu checks, %lu failed\n", checks, failed);

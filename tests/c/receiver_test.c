@@ -2,7 +2,8 @@
  * Tests of the C library's receiver and packet log against document 01: opening,
  * example (n), each note, each refusal at its edges, and whole lists of packets
  * that are written, lost in part, damaged in up to four header bytes of each
- * PDU, received and joined.
+ * PDU, received and joined. PDUs of all kinds and lists of packets have CRCs from
+ * any starting value too (document 02, Ask 2).
  *
  * PDUs are put together here byte by byte, and what a call has to log and to
  * hold is worked out a second time. Every buffer lent to the library lies
@@ -104,6 +105,9 @@ static uint8_t some[BARZHILUP_PDU_MAX];     /* bytes to make packets of */
 static uint8_t made[BARZHILUP_PDU_MAX + 1]; /* the PDU that `make` makes */
 static size_t made_length;
 
+/* The starting value of the CRCs that are made, and of receivers. */
+static uint8_t crc_start = BARZHILUP_CRC_START;
+
 static void put_locator(unsigned bits, unsigned k, size_t value)
 {
     uint8_t *at = made + 14 + (bits == 16 ? 2 * k : k / 2 * 3);
@@ -164,7 +168,7 @@ static void make(const struct parts *p)
         memcpy(made + place, bytes, p->lengths[k]);
         bytes += p->lengths[k];
         place += p->lengths[k];
-        made[place] = barzhilup_crc8(made + place - p->lengths[k], p->lengths[k]);
+        made[place] = barzhilup_crc8_from(crc_start, made + place - p->lengths[k], p->lengths[k]);
         if (p->wrong[k])
             made[place] ^= 0x10;
         put_locator(bits, k, place);
@@ -312,7 +316,8 @@ static barzhilup_receiver receiver;
 
 static int same_receiver(barzhilup_receiver one, barzhilup_receiver other)
 {
-    return one.mode == other.mode && one.stream == other.stream && one.known == other.known
+    return one.mode == other.mode && one.stream == other.stream
+           && one.crc_start == other.crc_start && one.known == other.known
            && one.sequence == other.sequence && one.held == other.held
            && one.number == other.number;
 }
@@ -328,8 +333,9 @@ static void fill(void)
 /* A receiver that was just opened, and buffers with anything in them. */
 static void fresh(unsigned mode, unsigned stream)
 {
-    barzhilup_receiver_opened o = barzhilup_open_receiver((uint8_t)mode, (uint8_t)stream);
-    check(o.refusal == 0, "opened", mode * 256 + stream);
+    barzhilup_receiver_opened o =
+        barzhilup_open_receiver_with((uint8_t)mode, (uint8_t)stream, crc_start);
+    check(o.refusal == 0 && o.receiver.crc_start == crc_start, "opened", mode * 256 + stream);
     receiver = o.receiver;
     memset(&memory, 0, sizeof memory);
     carry_length = CARRY;
@@ -465,7 +471,7 @@ static void test_opening(void)
             barzhilup_receiver_opened o =
                 barzhilup_open_receiver((uint8_t)mode, (uint8_t)stream);
             const struct line *l = line_of(mode, stream);
-            barzhilup_receiver r = {255, 0, false, 0, 0, 0};
+            barzhilup_receiver r = {255, 0, 0, false, 0, 0, 0};
             if (l != NULL) {
                 r.mode = l->mode;
                 r.stream = l->stream;
@@ -1281,6 +1287,7 @@ static void test_random(void)
         if (n % 200 == 0) {
             i = (unsigned)(n / 200 % 10);
             l = &lines[i];
+            crc_start = (uint8_t)(n < 10000 ? BARZHILUP_CRC_START : random_below(256));
             fresh(l->mode, l->stream);
         }
         memset(&p, 0, sizeof p);
@@ -1427,7 +1434,7 @@ static void check_list(unsigned long which)
  * lost; the others are received, altered. */
 static void run(const struct line *l, unsigned lost, unsigned long which)
 {
-    barzhilup_writer writer = barzhilup_open_writer(l->mode, l->stream).writer;
+    barzhilup_writer writer = barzhilup_open_writer_with(l->mode, l->stream, crc_start).writer;
     size_t first = 0, from = 0, i;
 
     make_list();
@@ -1485,8 +1492,10 @@ int main(void)
     test_log();
     test_lowest();
     test_random();
-    for (n = 0; n < 60; n++)
+    for (n = 0; n < 120; n++) {
+        crc_start = (uint8_t)(n < 60 ? BARZHILUP_CRC_START : random_below(256));
         run(&lines[n % 10], n / 10 % 3 * 10, n);
+    }
     report("whole lists of packets");
     printf("  receiver: %lu checks, %lu failed\n", checks, failed);
     return failed == 0 ? 0 : 1;

@@ -38,6 +38,7 @@ for test in header_test marks_test writer_test receiver_test; do
     run "$test" "$library"
 done
 run panel_test "$panel" "$library"
+run registers_test "$panel" "$library"
 
 # libfec, where it is installed (Debian: apt-get install libfec-dev).
 if gcc -std=c99 "${warnings[@]}" -O2 -o "$build/fec_test" "$root/tests/c/fec_test.c" "$library" -lfec 2>"$build/fec.log"; then
@@ -77,10 +78,14 @@ int main()
     pdu[16] = 0x01;
     pdu[17] = 0x31;
     barzhilup_write_parity(pdu, sizeof pdu);
-    const barzhilup_reading reading = barzhilup_list_pieces(pdu, sizeof pdu, list, 2);
+    const barzhilup_reading reading =
+        barzhilup_list_pieces(pdu, sizeof pdu, BARZHILUP_CRC_START, list, 2);
     const bool listed = reading.refusal == 0 && list[0].start == 16 && list[0].length == 1
                         && list[0].right && list[1].start == 7 && !list[1].right;
-    return barzhilup_crc8(piece, sizeof piece) == 0x31 && lost && listed ? 0 : 1;
+    const bool opened =
+        barzhilup_open_receiver_with(0, 0, BARZHILUP_CRC_START_OFF_AIR).receiver.crc_start == 255
+        && barzhilup_crc8_from(255, piece, sizeof piece) == 0x9d;
+    return barzhilup_crc8(piece, sizeof piece) == 0x31 && lost && listed && opened ? 0 : 1;
 }
 CPP
 g++ -std=c++11 "${warnings[@]}" -o "$build/header_cpp" "$build/header.cpp" "$panel" "$library"

@@ -1,7 +1,8 @@
 /*
  * Tests of the C library's writer against document 01: its examples (j) to (m),
  * refusals that change nothing, and whole lists of packets that are written,
- * damaged in up to four header bytes of each PDU, read back and joined.
+ * with CRCs from any starting value (document 02, Ask 2), damaged in up to four
+ * header bytes of each PDU, read back and joined.
  */
 #include "barzhilup.h"
 
@@ -32,6 +33,13 @@ static uint32_t random_below(uint32_t n)
 
 static const barzhilup_settings none; /* all 0 */
 static uint8_t zeros[4096];
+
+static int same_writer(barzhilup_writer one, barzhilup_writer other)
+{
+    return one.mode == other.mode && one.stream == other.stream
+           && one.crc_start == other.crc_start && one.sequence == other.sequence
+           && one.number == other.number && one.sent == other.sent;
+}
 
 /* Offers packets of zeros in mode 0 with PDUs of 96 bytes. */
 static barzhilup_written offer(barzhilup_writer writer, size_t psd, const uint16_t *lengths,
@@ -74,7 +82,7 @@ static void test_examples(void)
     w = offer(fresh, 79, one, 1, pdu);
     check(w.refusal == BARZHILUP_REFUSED_ROOM && w.ended == 0, "(m)", 79);
     check(memcmp(pdu, before, sizeof pdu) == 0, "(m) changes nothing", 79);
-    check(memcmp(&w.writer, &fresh, sizeof fresh) == 0, "(m) leaves the writer", 79);
+    check(same_writer(w.writer, fresh), "(m) leaves the writer", 79);
 }
 
 /* A call that is refused with a number, and changes nothing. */
@@ -88,10 +96,7 @@ static void refused(uint32_t number, barzhilup_writer writer, barzhilup_settings
     w = barzhilup_write(writer, settings, zeros, psd, &length, 1, zeros, bytes, pdu, pdu_length);
     check(w.refusal == number && w.ended == 0, "refused with", number);
     check(memcmp(pdu, before, sizeof pdu) == 0, "refused, PDU unchanged", number);
-    check(w.writer.mode == writer.mode && w.writer.stream == writer.stream
-              && w.writer.sequence == writer.sequence && w.writer.number == writer.number
-              && w.writer.sent == writer.sent,
-          "refused, writer unchanged", number);
+    check(same_writer(w.writer, writer), "refused, writer unchanged", number);
 }
 
 static void test_refusals(void)
@@ -123,13 +128,14 @@ static void test_refusals(void)
 
 #define PACKETS 40
 
-/* Writes a list of packets in one mode, damages each header, and reads it. */
-static void run(uint8_t mode, uint8_t stream, unsigned long which)
+/* Writes a list of packets in one mode, with CRCs from one starting value,
+ * damages each header, and reads it. */
+static void run(uint8_t mode, uint8_t stream, uint8_t start_value, unsigned long which)
 {
     static uint8_t bytes[PACKETS * 4096], pdu[BARZHILUP_PDU_MAX], clean[BARZHILUP_PDU_MAX];
     static uint8_t back[PACKETS * 4096];
     uint16_t lengths[PACKETS];
-    barzhilup_writer writer = barzhilup_open_writer(mode, stream).writer;
+    barzhilup_writer writer = barzhilup_open_writer_with(mode, stream, start_value).writer;
     size_t first = 0, start = 0, total = 0, got = 0, i, k;
 
     for (i = 0; i < PACKETS; i++) {
@@ -156,7 +162,8 @@ static void run(uint8_t mode, uint8_t stream, unsigned long which)
         check(r.control.pfirst == (writer.sent > 0) && r.control.plast == (w.writer.sent > 0),
               "flags", which);
         for (k = 0; k < r.control.nop; k++) {
-            check(barzhilup_crc8(pdu + r.starts[k], r.lengths[k]) == pdu[r.starts[k] + r.lengths[k]],
+            check(barzhilup_crc8_from(start_value, pdu + r.starts[k], r.lengths[k])
+                      == pdu[r.starts[k] + r.lengths[k]],
                   "CRC", which);
             memcpy(back + got, pdu + r.starts[k], r.lengths[k]);
             got += r.lengths[k];
@@ -165,6 +172,7 @@ static void run(uint8_t mode, uint8_t stream, unsigned long which)
             start += lengths[first + i];
         first += w.ended;
         writer = w.writer;
+        check(writer.crc_start == start_value, "starting value kept", which);
     }
     check(got == total && memcmp(back, bytes, total) == 0, "all bytes, joined", which);
 }
@@ -177,8 +185,10 @@ int main(void)
 
     test_examples();
     test_refusals();
-    for (n = 0; n < 100; n++)
-        run(table[n % 10][0], table[n % 10][1], n);
+    for (n = 0; n < 200; n++) {
+        uint8_t start_value = (uint8_t)(n < 100 ? BARZHILUP_CRC_START : random_below(256));
+        run(table[n % 10][0], table[n % 10][1], start_value, n);
+    }
     printf("  writer: %lu checks, %lu failed\n", checks, failed);
     return failed == 0 ? 0 : 1;
 }
