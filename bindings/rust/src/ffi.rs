@@ -66,12 +66,13 @@ pub(crate) struct Reading {
     pub(crate) lengths: [u16; 64],
 }
 
-/// What a writer remembers.
+/// What a writer was opened with and what it remembers.
 #[repr(C)]
 #[derive(Clone, Copy, PartialEq, Eq)]
 pub(crate) struct Writer {
     pub(crate) mode: u8,
     pub(crate) stream: u8,
+    pub(crate) crc_start: u8,
     pub(crate) sequence: u8,
     pub(crate) number: u8,
     pub(crate) sent: u16,
@@ -113,12 +114,13 @@ pub(crate) struct Written {
     pub(crate) writer: Writer,
 }
 
-/// What a receiver remembers.
+/// What a receiver was opened with and what it remembers.
 #[repr(C)]
 #[derive(Clone, Copy, PartialEq, Eq)]
 pub(crate) struct Receiver {
     pub(crate) mode: u8,
     pub(crate) stream: u8,
+    pub(crate) crc_start: u8,
     pub(crate) known: bool,
     pub(crate) sequence: u8,
     pub(crate) held: u16,
@@ -150,6 +152,7 @@ mod c {
         pub fn barzhilup_list_pieces(
             pdu: *mut u8,
             pdu_length: usize,
+            crc_start: u8,
             list: *mut Piece,
             count: usize,
         ) -> Reading;
@@ -168,8 +171,9 @@ mod c {
             count: usize,
         ) -> Correction;
         pub fn barzhilup_crc8(bytes: *const u8, length: usize) -> u8;
+        pub fn barzhilup_crc8_from(start: u8, bytes: *const u8, length: usize) -> u8;
         pub fn barzhilup_read(pdu: *mut u8, length: usize) -> Reading;
-        pub fn barzhilup_open_writer(mode: u8, stream: u8) -> WriterOpened;
+        pub fn barzhilup_open_writer_with(mode: u8, stream: u8, crc_start: u8) -> WriterOpened;
         pub fn barzhilup_write(
             writer: Writer,
             settings: Settings,
@@ -182,7 +186,7 @@ mod c {
             pdu: *mut u8,
             pdu_length: usize,
         ) -> Written;
-        pub fn barzhilup_open_receiver(mode: u8, stream: u8) -> ReceiverOpened;
+        pub fn barzhilup_open_receiver_with(mode: u8, stream: u8, crc_start: u8) -> ReceiverOpened;
         pub fn barzhilup_receive(
             receiver: Receiver,
             carry: *mut u8,
@@ -250,6 +254,12 @@ pub(crate) fn crc8(bytes: &[u8]) -> u8 {
     unsafe { c::barzhilup_crc8(bytes.as_ptr(), bytes.len()) }
 }
 
+/// The CRC-8 of the bytes with a register that starts at this value.
+pub(crate) fn crc8_from(start: u8, bytes: &[u8]) -> u8 {
+    // SAFETY: a slice with its length.
+    unsafe { c::barzhilup_crc8_from(start, bytes.as_ptr(), bytes.len()) }
+}
+
 /// Reads a PDU without a receiver.
 pub(crate) fn read(pdu: &mut [u8]) -> Reading {
     // SAFETY: a slice with its length, borrowed alone.
@@ -257,15 +267,23 @@ pub(crate) fn read(pdu: &mut [u8]) -> Reading {
 }
 
 /// Reads a PDU without a receiver and fills a list with its pieces.
-pub(crate) fn list_pieces(pdu: &mut [u8], list: &mut [Piece]) -> Reading {
+pub(crate) fn list_pieces(pdu: &mut [u8], crc_start: u8, list: &mut [Piece]) -> Reading {
     // SAFETY: slices with their lengths, each borrowed alone.
-    unsafe { c::barzhilup_list_pieces(pdu.as_mut_ptr(), pdu.len(), list.as_mut_ptr(), list.len()) }
+    unsafe {
+        c::barzhilup_list_pieces(
+            pdu.as_mut_ptr(),
+            pdu.len(),
+            crc_start,
+            list.as_mut_ptr(),
+            list.len(),
+        )
+    }
 }
 
 /// Opens a writer.
-pub(crate) fn open_writer(mode: u8, stream: u8) -> WriterOpened {
+pub(crate) fn open_writer(mode: u8, stream: u8, crc_start: u8) -> WriterOpened {
     // SAFETY: no pointers.
-    unsafe { c::barzhilup_open_writer(mode, stream) }
+    unsafe { c::barzhilup_open_writer_with(mode, stream, crc_start) }
 }
 
 /// Writes a PDU.
@@ -296,9 +314,9 @@ pub(crate) fn write(
 }
 
 /// Opens a receiver.
-pub(crate) fn open_receiver(mode: u8, stream: u8) -> ReceiverOpened {
+pub(crate) fn open_receiver(mode: u8, stream: u8, crc_start: u8) -> ReceiverOpened {
     // SAFETY: no pointers.
-    unsafe { c::barzhilup_open_receiver(mode, stream) }
+    unsafe { c::barzhilup_open_receiver_with(mode, stream, crc_start) }
 }
 
 /// Receives a PDU.
@@ -361,13 +379,13 @@ const _: () = {
     assert!(size_of::<ControlWord>() == 13 && align_of::<ControlWord>() == 1);
     assert!(size_of::<Expansion>() == 12 && align_of::<Expansion>() == 4);
     assert!(size_of::<Reading>() == 300 && align_of::<Reading>() == 4);
-    assert!(size_of::<Writer>() == 6 && align_of::<Writer>() == 2);
+    assert!(size_of::<Writer>() == 8 && align_of::<Writer>() == 2);
     assert!(size_of::<WriterOpened>() == 12 && align_of::<WriterOpened>() == 4);
     assert!(size_of::<Settings>() == 20 && align_of::<Settings>() == 4);
     assert!(size_of::<Written>() == 16 && align_of::<Written>() == 4);
-    assert!(size_of::<Receiver>() == 8 && align_of::<Receiver>() == 2);
-    assert!(size_of::<ReceiverOpened>() == 12 && align_of::<ReceiverOpened>() == 4);
-    assert!(size_of::<Received>() == 20 && align_of::<Received>() == 4);
+    assert!(size_of::<Receiver>() == 10 && align_of::<Receiver>() == 2);
+    assert!(size_of::<ReceiverOpened>() == 16 && align_of::<ReceiverOpened>() == 4);
+    assert!(size_of::<Received>() == 24 && align_of::<Received>() == 4);
     assert!(size_of::<Piece>() == 6 && align_of::<Piece>() == 2);
 };
 

@@ -1,5 +1,5 @@
 //! The header code and the CRC-8 (document 01, "Header code" and "Expansion,
-//! PSD, pieces"; document 02, Ask 3; 001, 5.2.3.1 and 5.2.3.2).
+//! PSD, pieces"; document 02, Asks 2 and 3; 001, 5.2.3.1 and 5.2.3.2).
 
 use crate::{ffi, Refusal, HEADER_BYTES, PARITY_BYTES};
 
@@ -98,4 +98,18 @@ pub fn correct_header_marked(pdu: &mut [u8], marks: &[u8]) -> Result<usize, Refu
 /// ```
 pub fn crc8(bytes: &[u8]) -> u8 {
     ffi::crc8(bytes)
+}
+
+/// The CRC-8 of a piece with a register that starts at this value, any byte: it
+/// is added, with exclusive or, to the first byte. The CRC of no bytes is the
+/// start itself; from 0 this is [`crc8`]. (Document 02, Ask 2.)
+///
+/// ```
+/// use barzhilup::{crc8_from, CRC_START_OFF_AIR};
+///
+/// assert_eq!(crc8_from(CRC_START_OFF_AIR, &[0x01]), 0x9D);
+/// assert_eq!(crc8_from(CRC_START_OFF_AIR, b"123456789"), 0xF7);
+/// ```
+pub fn crc8_from(start: u8, bytes: &[u8]) -> u8 {
+    ffi::crc8_from(start, bytes)
 }

@@ -34,6 +34,14 @@
 //! }
 //! ```
 //!
+//! # Recordings off the air
+//!
+//! Each piece of a PDU has a CRC, whose register starts at 0 in document 01.
+//! Recordings off the air check with one that starts at [`CRC_START_OFF_AIR`]: a
+//! writer and a receiver are opened with it by [`Writer::open_with`] and
+//! [`Receiver::open_with`], and [`list_pieces`] is given it. Any byte will do, if
+//! both ends have the same.
+//!
 //! # Refusals
 //!
 //! A call that can't be done is refused: it answers with a [`Refusal`], which
@@ -64,7 +72,9 @@ mod receiver;
 mod refusal;
 mod writer;
 
-pub use header::{correct_header, correct_header_marked, crc8, parity, syndromes, write_parity};
+pub use header::{
+    correct_header, correct_header_marked, crc8, crc8_from, parity, syndromes, write_parity,
+};
 pub use log::{Bytes, Cause, Data, Entries, Entry, Log, MalformedLog};
 pub use mode::{Mode, Stream};
 pub use reading::{list_pieces, read, ControlWord, Expansion, Piece, Reading};
@@ -87,6 +97,13 @@ pub const CORRECTED_MAX: usize = 4;
 /// The most places of a header that can be marked; also the most bytes of it that
 /// are corrected with marks. (Document 02, Ask 3.)
 pub const MARKS_MAX: usize = 8;
+
+/// The value that the CRC's register starts with where none is given: that of
+/// document 01. (Document 02, Ask 2.)
+pub const CRC_START: u8 = 0;
+
+/// The value with which recordings off the air check. (Document 02, Ask 2.)
+pub const CRC_START_OFF_AIR: u8 = 255;
 
 /// The shortest PDU, in bytes. (Document 01, "What is turned down".)
 pub const PDU_MIN: usize = 96;

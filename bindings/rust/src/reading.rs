@@ -1,5 +1,5 @@
 //! Reading a PDU without a receiver, and the list of its pieces (document 01,
-//! "Receiver", and for the panel).
+//! "Receiver", and for the panel; document 02, Ask 2).
 
 use crate::{ffi, Mode, Refusal, Stream};
 use std::ops::Range;
@@ -156,7 +156,7 @@ pub struct Piece {
     pub start: u16,
     /// Its length without its CRC byte.
     pub length: u16,
-    /// Whether its CRC is right.
+    /// Whether its CRC is right, by the value that [`list_pieces`] was given.
     pub right: bool,
 }
 
@@ -172,11 +172,16 @@ impl Piece {
 /// they held. A wrong CRC is a verdict, and no refusal. (Document 01, for the
 /// panel.)
 ///
+/// `crc_start` is the value that the register of the CRCs starts with, any byte:
+/// the one that the PDU was written with. It decides verdicts and nothing else. 0
+/// is document 01's, [`CRC_START`](crate::CRC_START); recordings off the air check
+/// with [`CRC_START_OFF_AIR`](crate::CRC_START_OFF_AIR). (Document 02, Ask 2.)
+///
 /// # Errors
 ///
 /// Refused as [`read`] is, and with [`Refusal::LogLength`] for a list of fewer
 /// than NOP entries; then the PDU and the list are as they were. A list of 54
 /// entries is always long enough.
-pub fn list_pieces(pdu: &mut [u8], list: &mut [Piece]) -> Result<Reading, Refusal> {
-    Reading::accepted(ffi::list_pieces(pdu, list))
+pub fn list_pieces(pdu: &mut [u8], crc_start: u8, list: &mut [Piece]) -> Result<Reading, Refusal> {
+    Reading::accepted(ffi::list_pieces(pdu, crc_start, list))
 }

@@ -1,16 +1,20 @@
-//! The PDU receiver (document 01, "Receiver"; document 02, Ask 3).
+//! The PDU receiver (document 01, "Receiver"; document 02, Asks 2 and 3).
 
-use crate::{ffi, Log, Mode, Refusal, Stream, CARRY_BYTES, LOG_WORDS};
+use crate::{ffi, Log, Mode, Refusal, Stream, CARRY_BYTES, CRC_START, LOG_WORDS};
 use std::fmt;
 
-/// What a receiver remembers between calls, beside its carry buffer: to be kept
-/// and to go on from with [`Receiver::resume`]. (Document 01, "Receiver".)
+/// What a receiver was opened with and what it remembers between calls, beside
+/// its carry buffer: to be kept and to go on from with [`Receiver::resume`].
+/// (Document 01, "Receiver".)
 #[derive(Clone, Copy, Debug, PartialEq, Eq)]
 pub struct ReceiverState {
     /// The mode.
     pub mode: Mode,
     /// The stream.
     pub stream: Stream,
+    /// The value that the CRC's register starts with, any byte. (Document 02, Ask
+    /// 2.)
+    pub crc_start: u8,
     /// The last PDU's sequence, if it is known.
     pub sequence: Option<u8>,
     /// How many bytes of an unfinished packet are held, 0 to 4,096. 0: nothing is
@@ -26,6 +30,7 @@ impl ReceiverState {
         ffi::Receiver {
             mode: self.mode.number(),
             stream: self.stream.number(),
+            crc_start: self.crc_start,
             known: self.sequence.is_some(),
             sequence: self.sequence.unwrap_or(0),
             held: self.held,
@@ -38,6 +43,7 @@ impl ReceiverState {
         ReceiverState {
             mode,
             stream,
+            crc_start: receiver.crc_start,
             sequence: receiver.known.then_some(receiver.sequence),
             held: receiver.held,
             number: receiver.number,
@@ -62,13 +68,29 @@ pub struct Receiver {
 
 impl Receiver {
     /// Opens a receiver for a mode and stream: no sequence is known, nothing is
-    /// held.
+    /// held. The register of its CRCs starts at [`CRC_START`], 0, as in document
+    /// 01's examples.
     ///
     /// # Errors
     ///
     /// [`Refusal::Mode`]: the mode has no such stream.
     pub fn open(mode: Mode, stream: Stream) -> Result<Receiver, Refusal> {
-        let answer = ffi::open_receiver(mode.number(), stream.number());
+        Receiver::open_with(mode, stream, CRC_START)
+    }
+
+    /// Opens a receiver for a mode and stream, and with the value that the
+    /// register of its CRCs starts with, any byte: the one that the PDUs were
+    /// written with. Recordings off the air check with
+    /// [`CRC_START_OFF_AIR`](crate::CRC_START_OFF_AIR). (Document 02, Ask 2.)
+    ///
+    /// Nothing is promised for a writer and a receiver with unequal values; what a
+    /// user sees then is [`Cause::Crc`](crate::Cause::Crc) for every piece.
+    ///
+    /// # Errors
+    ///
+    /// [`Refusal::Mode`]: the mode has no such stream.
+    pub fn open_with(mode: Mode, stream: Stream, crc_start: u8) -> Result<Receiver, Refusal> {
+        let answer = ffi::open_receiver(mode.number(), stream.number(), crc_start);
         Refusal::check(answer.refusal, 0)?;
         let state = ReceiverState::after(mode, stream, answer.receiver);
         Ok(Receiver::new(state, vec![0; CARRY_BYTES]))

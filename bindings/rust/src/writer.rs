@@ -1,6 +1,6 @@
-//! The PDU writer (document 01, "Writer").
+//! The PDU writer (document 01, "Writer"; document 02, Ask 2).
 
-use crate::{ffi, Mode, Refusal, Stream};
+use crate::{ffi, Mode, Refusal, Stream, CRC_START};
 
 /// A PDU's settings: what its control word and its expansion say beside the
 /// packets. [`Settings::default`] is 0 everywhere and no expansion. (Document 01,
@@ -76,14 +76,17 @@ impl Settings {
     }
 }
 
-/// What a writer remembers between calls: to be kept and to go on from with
-/// [`Writer::resume`]. (Document 01, "Writer".)
+/// What a writer was opened with and what it remembers between calls: to be kept
+/// and to go on from with [`Writer::resume`]. (Document 01, "Writer".)
 #[derive(Clone, Copy, Debug, PartialEq, Eq)]
 pub struct WriterState {
     /// The mode.
     pub mode: Mode,
     /// The stream.
     pub stream: Stream,
+    /// The value that the CRC's register starts with, any byte. (Document 02, Ask
+    /// 2.)
+    pub crc_start: u8,
     /// The next PDU's sequence.
     pub sequence: u8,
     /// The number of the first unfinished packet, 0 to 63.
@@ -98,6 +101,7 @@ impl WriterState {
         ffi::Writer {
             mode: self.mode.number(),
             stream: self.stream.number(),
+            crc_start: self.crc_start,
             sequence: self.sequence,
             number: self.number,
             sent: self.sent,
@@ -115,13 +119,51 @@ pub struct Writer {
 
 impl Writer {
     /// Opens a writer for a mode and stream: its first PDU has sequence 0, its
-    /// first packet number 0.
+    /// first packet number 0. The register of its CRCs starts at [`CRC_START`], 0,
+    /// as in document 01's examples.
     ///
     /// # Errors
     ///
     /// [`Refusal::Mode`]: the mode has no such stream.
     pub fn open(mode: Mode, stream: Stream) -> Result<Writer, Refusal> {
-        let answer = ffi::open_writer(mode.number(), stream.number());
+        Writer::open_with(mode, stream, CRC_START)
+    }
+
+    /// Opens a writer for a mode and stream, and with the value that the register
+    /// of its CRCs starts with, any byte. Recordings off the air check with
+    /// [`CRC_START_OFF_AIR`](crate::CRC_START_OFF_AIR). (Document 02, Ask 2.)
+    ///
+    /// Open the receiver of its PDUs with the same value. Nothing is promised for
+    /// unequal ones; what a user sees then is [`Cause::Crc`](crate::Cause::Crc) for
+    /// every piece.
+    ///
+    /// # Errors
+    ///
+    /// [`Refusal::Mode`]: the mode has no such stream.
+    ///
+    /// # Example
+    ///
+    /// ```
+    /// use barzhilup::{Cause, Entry, Mode, Receiver, Settings, Stream, Writer, CRC_START_OFF_AIR};
+    ///
+    /// # fn main() -> Result<(), barzhilup::Refusal> {
+    /// let mut writer = Writer::open_with(Mode::M1, Stream::Core, CRC_START_OFF_AIR)?;
+    /// let mut pdu = [0; 96];
+    /// writer.write(&Settings::default(), b"", &[b"audio"], &mut pdu)?;
+    ///
+    /// let mut receiver = Receiver::open_with(Mode::M1, Stream::Core, CRC_START_OFF_AIR)?;
+    /// let log = receiver.receive(&mut pdu)?;
+    /// assert!(matches!(log.entries().next(), Some(Entry::Packet { number: 0, .. })));
+    ///
+    /// let mut other = Receiver::open(Mode::M1, Stream::Core)?; // with 0
+    /// let log = other.receive(&mut pdu)?;
+    /// let note = Entry::Note { cause: Cause::Crc, piece: Some(0) };
+    /// assert_eq!(log.entries().collect::<Vec<_>>(), [note]);
+    /// # Ok(())
+    /// # }
+    /// ```
+    pub fn open_with(mode: Mode, stream: Stream, crc_start: u8) -> Result<Writer, Refusal> {
+        let answer = ffi::open_writer(mode.number(), stream.number(), crc_start);
         Refusal::check(answer.refusal, 0)?;
         Ok(Writer::after(mode, stream, answer.writer))
     }
@@ -203,6 +245,7 @@ impl Writer {
         let state = WriterState {
             mode,
             stream,
+            crc_start: writer.crc_start,
             sequence: writer.sequence,
             number: writer.number,
             sent: writer.sent,

@@ -1,10 +1,10 @@
 //! Drives: PDUs that are lost, damaged in up to four header bytes (with marks,
 //! within their bound), or not what they should be, and the log that a receiver
-//! makes of them (document 01, "Receiver"; demand 3; document 02, Ask 3).
+//! makes of them (document 01, "Receiver"; demand 3; document 02, Asks 2 and 3).
 
 use barzhilup::{
     read, Cause, Entry, Log, Mode, Receiver, Refusal, Settings, Stream, Writer, WriterState,
-    MARKS_MAX,
+    CRC_START, MARKS_MAX,
 };
 use std::ops::Range;
 
@@ -18,8 +18,7 @@ struct Pdu {
 }
 
 /// Writes all packets, in PDUs of different lengths.
-fn write_all(random: &mut Random, row: Row, packets: &[Vec<u8>]) -> Vec<Pdu> {
-    let mut writer = Writer::open(row.mode, row.stream).unwrap();
+fn write_all(random: &mut Random, mut writer: Writer, packets: &[Vec<u8>]) -> Vec<Pdu> {
     let (mut ended, mut sent, mut pdus) = (0, 0, Vec::new());
     while ended < packets.len() {
         let mut bytes = vec![0; 96 + random.below(400)];
@@ -98,12 +97,14 @@ fn receive_marked<'a>(random: &mut Random, receiver: &'a mut Receiver, pdu: &mut
 /// How a PDU of a drive is received.
 type Receive = for<'a> fn(&mut Random, &'a mut Receiver, &mut [u8]) -> Log<'a>;
 
-/// One drive; answers how many packets were offered and how many arrived.
-fn drive(random: &mut Random, row: Row, receive: Receive) -> (usize, usize) {
+/// One drive, with a writer and a receiver that were opened with this value for
+/// their CRCs; answers how many packets were offered and how many arrived.
+fn drive(random: &mut Random, row: Row, crc_start: u8, receive: Receive) -> (usize, usize) {
     let packets = random.packets(150, 300);
-    let pdus = write_all(random, row, &packets);
+    let writer = Writer::open_with(row.mode, row.stream, crc_start).unwrap();
+    let pdus = write_all(random, writer, &packets);
     let mut received = vec![false; packets.iter().map(Vec::len).sum()];
-    let mut receiver = Receiver::open(row.mode, row.stream).unwrap();
+    let mut receiver = Receiver::open_with(row.mode, row.stream, crc_start).unwrap();
     let mut words = Vec::new();
     for Pdu { mut bytes, sent } in pdus {
         if random.below(5) == 0 {
@@ -116,16 +117,18 @@ fn drive(random: &mut Random, row: Row, receive: Receive) -> (usize, usize) {
     }
     let arrived = packets_of(Log::new(&words).unwrap());
     assert_eq!(arrived, whole(&packets, &received));
+    assert_eq!(receiver.state().crc_start, crc_start);
     (packets.len(), arrived.len())
 }
 
 /// Drives in each mode and stream, some packets of which arrive and some don't.
-fn drives(seed: u64, receive: Receive) {
+fn drives(seed: u64, crc_start: fn(&mut Random) -> u8, receive: Receive) {
     let mut random = Random::new(seed);
     for row in TABLE {
         let (mut offered, mut arrived) = (0, 0);
         for _ in 0..10 {
-            let (some, whole) = drive(&mut random, row, receive);
+            let crc_start = crc_start(&mut random);
+            let (some, whole) = drive(&mut random, row, crc_start, receive);
             offered += some;
             arrived += whole;
         }
@@ -135,12 +138,18 @@ fn drives(seed: u64, receive: Receive) {
 
 #[test]
 fn the_log_holds_exactly_what_arrived_whole() {
-    drives(3, receive);
+    drives(3, |_| CRC_START, receive);
 }
 
 #[test]
 fn so_it_does_with_marks() {
-    drives(19, receive_marked);
+    drives(19, |_| CRC_START, receive_marked);
+}
+
+#[test]
+fn so_it_does_from_any_crc_start() {
+    drives(2, |random| random.below(256) as u8, receive);
+    drives(255, |random| random.below(256) as u8, receive_marked);
 }
 
 /// A PDU of 96 bytes of mode 0, core, from this sequence, number and count of
@@ -154,6 +163,7 @@ fn pdu_of(length: usize, sequence: u8, number: u8, sent: u16, packets: &[Vec<u8>
     let state = WriterState {
         mode: Mode::M0,
         stream: Stream::Core,
+        crc_start: CRC_START,
         sequence,
         number,
         sent,

@@ -4,7 +4,7 @@
 use barzhilup::{
     correct_header, correct_header_marked, list_pieces, read, write_parity, Mode, Piece,
     ProgramType, Reading, Receiver, ReceiverState, Refusal, Services, Settings, Stream, Writer,
-    WriterState,
+    WriterState, CRC_START, CRC_START_OFF_AIR,
 };
 
 mod common;
@@ -75,7 +75,9 @@ fn refused(mut pdu: Vec<u8>) -> Refusal {
     let before = pdu.clone();
     let refusal = read(&mut pdu).unwrap_err();
     let mut list = [Piece::default(); 64];
-    assert_eq!(list_pieces(&mut pdu, &mut list), Err(refusal));
+    for crc_start in [CRC_START, CRC_START_OFF_AIR] {
+        assert_eq!(list_pieces(&mut pdu, crc_start, &mut list), Err(refusal));
+    }
     assert_eq!(list, [Piece::default(); 64]);
     let mut receiver = receiver_in_the_midst();
     let kept = receiver.clone();
@@ -102,6 +104,7 @@ fn n1_writer_state() {
     let right = WriterState {
         mode: Mode::M1,
         stream: Stream::Core,
+        crc_start: CRC_START,
         sequence: 7,
         number: 63,
         sent: 4095,
@@ -140,6 +143,7 @@ fn n1_receiver_state() {
     let right = ReceiverState {
         mode: Mode::M0,
         stream: Stream::Core,
+        crc_start: CRC_START,
         sequence: Some(1),
         held: 4096,
         number: 63,
@@ -438,10 +442,10 @@ fn n13_list_of_pieces() {
     pdu[30] ^= 0xFF;
     let damaged = pdu;
     let mut list = [Piece::default(); 2];
-    let answer: Result<Reading, Refusal> = list_pieces(&mut pdu, &mut list[..1]);
+    let answer: Result<Reading, Refusal> = list_pieces(&mut pdu, CRC_START, &mut list[..1]);
     assert_eq!(answer, Err(Refusal::LogLength));
     assert_eq!((pdu, list), (damaged, [Piece::default(); 2]));
-    list_pieces(&mut pdu, &mut list).unwrap();
+    list_pieces(&mut pdu, CRC_START, &mut list).unwrap();
     assert_eq!(pdu, clean);
     assert_eq!([list[0].range(), list[1].range()], [18..20, 21..23]);
 }

@@ -3,7 +3,7 @@
 
 use barzhilup::{
     list_pieces, read, ControlWord, Expansion, Mode, Piece, ProgramType, Services, Settings,
-    Stream, Writer, HEADER_BYTES, PDU_MAX, PDU_MAX_12_BITS,
+    Stream, Writer, CRC_START, HEADER_BYTES, PDU_MAX, PDU_MAX_12_BITS,
 };
 
 mod common;
@@ -167,7 +167,7 @@ fn a_listed_piece_has_a_verdict() {
         right: true,
     };
     let mut list = [unused; 5];
-    let reading = list_pieces(&mut pdu, &mut list).unwrap();
+    let reading = list_pieces(&mut pdu, CRC_START, &mut list).unwrap();
     assert_eq!(
         list[..3].iter().map(Piece::range).collect::<Vec<_>>(),
         reading.pieces

@@ -2,7 +2,7 @@
 
 use barzhilup::{
     correct_header, correct_header_marked, crc8, parity, read, syndromes, Entry, Log, Mode,
-    Receiver, Refusal, Settings, Stream, Writer, WriterState,
+    Receiver, Refusal, Settings, Stream, Writer, WriterState, CRC_START,
 };
 
 /// A writer of mode 0, core, with PDUs of 96 bytes, and what it is offered.
@@ -26,6 +26,7 @@ fn a_and_b_control_word_and_locators_of_16_bits() {
     let mut writer = Writer::resume(WriterState {
         mode: Mode::M0,
         stream: Stream::Core,
+        crc_start: CRC_START,
         sequence: 1,
         number: 32,
         sent: 10,
@@ -175,6 +176,7 @@ fn n_log_of_a_packet() {
     let mut writer = Writer::resume(WriterState {
         mode: Mode::M0,
         stream: Stream::Core,
+        crc_start: CRC_START,
         sequence: 0,
         number: 5,
         sent: 0,

@@ -65,6 +65,7 @@ fn writers() -> Vec<String> {
             Writer,
             mode,
             stream,
+            crc_start,
             sequence,
             number,
             sent
@@ -83,6 +84,7 @@ fn receivers() -> Vec<String> {
             Receiver,
             mode,
             stream,
+            crc_start,
             known,
             sequence,
             held,
@@ -224,6 +226,8 @@ fn sizes_are_as_in_c() {
         ("PACKET_MAX", crate::PACKET_MAX),
         ("CARRY_BYTES", crate::CARRY_BYTES),
         ("LOG_WORDS", crate::LOG_WORDS),
+        ("CRC_START", crate::CRC_START.into()),
+        ("CRC_START_OFF_AIR", crate::CRC_START_OFF_AIR.into()),
     ];
     let lines = sizes.map(|(name, value)| holds(&format!("BARZHILUP_{name}"), value));
     let (right, messages) = compile(&lines);
