@@ -3,7 +3,7 @@
 //! writer hands over parts that fit, and bytes that are all zero.
 
 use crate::control::{self, ControlWord};
-use crate::crc::crc8;
+use crate::crc::crc8_from;
 use crate::header;
 use crate::locators;
 
@@ -94,6 +94,8 @@ pub struct Parts {
     pub unused_bits: u8,
     pub expansion: Vec<u8>,
     pub psd: Vec<u8>,
+    /// What the register of the CRCs starts at.
+    pub register: u8,
     pub pieces: Vec<Piece>,
 }
 
@@ -104,7 +106,7 @@ impl Parts {
     /// in a PDU prevails.
     pub fn encode(&self, pdu: &mut [u8]) {
         for piece in self.pieces.iter().rev() {
-            let crc = crc8(&piece.bytes) ^ piece.crc_error;
+            let crc = crc8_from(self.register, &piece.bytes) ^ piece.crc_error;
             put(pdu, piece.start + piece.bytes.len(), &[crc]);
             put(pdu, piece.start, &piece.bytes);
         }
@@ -189,6 +191,7 @@ mod tests {
             unused_bits: 15,
             expansion: Vec::new(),
             psd: vec![0xAA],
+            register: 0,
             pieces: vec![
                 Piece {
                     start: 17,
@@ -214,6 +217,14 @@ mod tests {
             [0, 0, 0, 0, 2, 16, 18, 0, 0xAA, 0x01, 0x31, 0x55, 0x55, 0x22, 0x77, 0x77]
         );
         assert_eq!(pdu[93..], [0x77, 0x66, 0x66]);
+        // From another register the CRCs are others, and nothing else is.
+        let mut other = [0x77; 96];
+        let register = 255;
+        Parts { register, ..parts }.encode(&mut other);
+        assert_eq!(other[18], 0x9D);
+        assert!(header::is_code_word(&header::header_of(&other)));
+        let differing = (8..96).filter(|&place| pdu[place] != other[place]);
+        assert_eq!(differing.collect::<Vec<_>>(), [18, 21]);
     }
 
     #[test]

@@ -1,9 +1,10 @@
-//! The receiver (document 01, "Receiver"; with marks, document 02, Ask 3), with
-//! the refusals 1 to 13 and 19. All causes for a refusal are gathered first; of
-//! their numbers the one checked first is the answer.
+//! The receiver (document 01, "Receiver"; the CRC's register, document 02, Ask
+//! 2; with marks, Ask 3), with the refusals 1 to 13 and 19. All causes for a
+//! refusal are gathered first; of their numbers the one checked first is the
+//! answer.
 
 use crate::control::{self, ControlWord};
-use crate::crc::crc8;
+use crate::crc::crc8_from;
 use crate::erasures;
 use crate::log::{self, Entry, Note};
 use crate::modes;
@@ -17,11 +18,14 @@ pub const CARRY_BYTES: usize = 4_096;
 /// A log of so many words always suffices.
 pub const LOG_WORDS: usize = 8_400;
 
-/// What a receiver remembers. A field not known or not held is 0.
+/// What a receiver was opened with and what it remembers. A field not known or
+/// not held is 0.
 #[derive(Clone, Copy, Debug, Default, PartialEq, Eq)]
 pub struct Receiver {
     pub mode: u8,
     pub stream: u8,
+    /// What the register of the CRCs starts at: any byte.
+    pub register: u8,
     /// Whether the last PDU sequence is known.
     pub known: bool,
     pub sequence: u8,
@@ -31,14 +35,22 @@ pub struct Receiver {
     pub number: u8,
 }
 
-/// Opens a receiver for a mode and stream, or answers the refusal's number.
+/// Opens a receiver for a mode and stream, or answers the refusal's number. The
+/// register of its CRCs starts at 0.
 pub fn open(mode: u8, stream: u8) -> Result<Receiver, u32> {
+    open_with(mode, stream, 0)
+}
+
+/// Opens a receiver for a mode and stream with what the register of its CRCs
+/// starts at, any byte; or answers the refusal's number.
+pub fn open_with(mode: u8, stream: u8, register: u8) -> Result<Receiver, u32> {
     if modes::line_for(mode, stream).is_none() {
         return Err(refusal::MODE_AND_STREAM);
     }
     Ok(Receiver {
         mode,
         stream,
+        register,
         known: false,
         sequence: 0,
         held: 0,
@@ -152,6 +164,7 @@ pub fn mark_lost(receiver: Receiver, log: &mut [u32]) -> Answer {
         receiver: Receiver {
             mode: receiver.mode,
             stream: receiver.stream,
+            register: receiver.register,
             ..Receiver::default()
         },
     }
@@ -271,7 +284,7 @@ impl Heard {
         heard.step_1(receiver, word);
         heard.step_2(word);
         heard.step_3(reading, pdu);
-        heard.step_4(reading, pdu);
+        heard.step_4(receiver.register, reading, pdu);
         heard
     }
 
@@ -316,7 +329,7 @@ impl Heard {
     /// Step 4: each piece k: wrong CRC, note 2; continuing with nothing held,
     /// note 3; over 4,096 bytes with what was held, note 5; otherwise delivered
     /// if it ends here, held if Plast. A noted piece leaves nothing held.
-    fn step_4(&mut self, reading: &Reading, pdu: &[u8]) {
+    fn step_4(&mut self, register: u8, reading: &Reading, pdu: &[u8]) {
         let word = &reading.control;
         for (k, piece) in reading.pieces.iter().enumerate() {
             let locator = piece.start + piece.length;
@@ -328,7 +341,7 @@ impl Heard {
             let mut joined = before.map_or_else(Vec::new, |beginning| beginning.bytes);
             joined.extend(bytes);
             let number = piece_number(word, k);
-            if crc8(bytes) != pdu[locator] {
+            if crc8_from(register, bytes) != pdu[locator] {
                 self.note(Note::WrongCrc(k));
             } else if continues && nothing_held {
                 self.note(Note::NothingHeld(k));
@@ -358,6 +371,7 @@ impl Heard {
         Receiver {
             mode: receiver.mode,
             stream: receiver.stream,
+            register: receiver.register,
             known: true,
             sequence: self.sequence,
             held: u16::try_from(held).expect("no more than a packet"),
@@ -564,6 +578,9 @@ mod tests {
                 };
                 let wanted = if there { Ok(receiver) } else { Err(5) };
                 assert_eq!(open(mode, stream), wanted);
+                let register = mode ^ stream.rotate_left(3);
+                let wanted = wanted.map(|r| Receiver { register, ..r });
+                assert_eq!(open_with(mode, stream, register), wanted);
             }
         }
     }
@@ -789,6 +806,45 @@ mod tests {
         assert_eq!(log, [UNTOUCHED; 2]);
         let both = [ReceiverCause::Sequence, ReceiverCause::LogTooShort];
         assert_eq!(mark_lost(wrong, &mut []).causes, both);
+    }
+
+    /// A PDU written from one register, with known CRCs among those from 255:
+    /// received from that register, and from every other.
+    #[test]
+    fn registers() {
+        let packets: [&[u8]; 3] = [&[0x01], &[0x80], &[0x01, 0x00]];
+        let offer = Offer {
+            settings: Settings::default(),
+            psd: &[0x50],
+            lengths: &[1, 1, 2, 100],
+            bytes: &[&packets.concat()[..], &bytes(100)].concat(),
+        };
+        for written in [0, 1, 128, 255] {
+            let mut pdu = vec![0; 96];
+            let writer = writer::open_with(0, 0, written).unwrap();
+            let answer = writer::write(writer, &offer, &mut pdu);
+            assert_eq!((answer.ended, answer.writer.register), (3, written));
+            if written == 255 {
+                assert_eq!([pdu[24], pdu[26], pdu[29]], [0x9D, 0xD6, 0x75]);
+            }
+            for register in 0..=255 {
+                let opened = open_with(0, 0, register).unwrap();
+                let got = receive_from(opened, &carry_with(&[]), &pdu);
+                let mut wanted = vec![Entry::Psd(vec![0x50])];
+                if register == written {
+                    let numbered = (0..3).map(|k| Entry::Packet(k as u8, packets[k].to_vec()));
+                    wanted.extend(numbered);
+                    assert_eq!(got.state(), (true, 0, 64, 3));
+                } else {
+                    wanted.extend((0..4).map(|k| note(Note::WrongCrc(k))));
+                    assert_eq!(got.state(), (true, 0, 0, 0));
+                }
+                assert_eq!(got.entries(), wanted);
+                assert_eq!(got.answer.receiver.register, register);
+                let lost = mark_lost(got.answer.receiver, &mut [0]);
+                assert_eq!(lost.receiver, opened);
+            }
+        }
     }
 
     /// The most words that a call can write, 8,216.

@@ -1,6 +1,6 @@
-//! The writer (document 01, "Writer"), with the refusals 1, 3, 5, 10 and 14
-//! to 17. All causes for a refusal are gathered first; the lowest of their
-//! numbers is the answer.
+//! The writer (document 01, "Writer"; document 02, Ask 2), with the refusals 1,
+//! 3, 5, 10 and 14 to 17. All causes for a refusal are gathered first; the
+//! lowest of their numbers is the answer.
 
 use crate::control::ControlWord;
 use crate::encode::{self, Parts};
@@ -19,11 +19,13 @@ pub const LONGEST_PACKET: usize = 4_096;
 /// The longest PDU with 12-bit locators.
 pub const LONGEST_WITH_12_BITS: usize = 4_096;
 
-/// What a writer remembers.
+/// What a writer was opened with and what it remembers.
 #[derive(Clone, Copy, Debug, Default, PartialEq, Eq)]
 pub struct Writer {
     pub mode: u8,
     pub stream: u8,
+    /// What the register of the CRCs starts at: any byte.
+    pub register: u8,
     /// The PDU sequence of the next PDU.
     pub sequence: u8,
     /// The number of the first unfinished packet.
@@ -32,14 +34,22 @@ pub struct Writer {
     pub sent: u16,
 }
 
-/// Opens a writer for a mode and stream, or answers the refusal's number.
+/// Opens a writer for a mode and stream, or answers the refusal's number. The
+/// register of its CRCs starts at 0.
 pub fn open(mode: u8, stream: u8) -> Result<Writer, u32> {
+    open_with(mode, stream, 0)
+}
+
+/// Opens a writer for a mode and stream with what the register of its CRCs
+/// starts at, any byte; or answers the refusal's number.
+pub fn open_with(mode: u8, stream: u8, register: u8) -> Result<Writer, u32> {
     if modes::line_for(mode, stream).is_none() {
         return Err(refusal::MODE_AND_STREAM);
     }
     Ok(Writer {
         mode,
         stream,
+        register,
         sequence: 0,
         number: 0,
         sent: 0,
@@ -233,6 +243,7 @@ fn parts(writer: &Writer, offer: &Offer, room: &Room, pieces: &[Piece]) -> Parts
         unused_bits: 0,
         expansion: offer.settings.expansion(room.length - 1),
         psd: offer.psd.to_vec(),
+        register: writer.register,
         pieces: placed,
     }
 }
@@ -283,6 +294,7 @@ fn next(writer: &Writer, line: &Line, pieces: &[Piece]) -> Writer {
     Writer {
         mode: writer.mode,
         stream: writer.stream,
+        register: writer.register,
         sequence: (writer.sequence + 1) % line.sequences,
         number: number as u8,
         sent: u16::try_from(sent).expect("less than a packet"),
@@ -356,6 +368,9 @@ mod tests {
                 } else {
                     assert_eq!(opened, Err(5));
                 }
+                let register = mode ^ stream.rotate_left(3);
+                let opened_with = open_with(mode, stream, register);
+                assert_eq!(opened_with, opened.map(|w| Writer { register, ..w }));
             }
         }
     }

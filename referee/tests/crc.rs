@@ -1,5 +1,6 @@
 //! Compares the product's CRC-8 with the reference: all short messages, and
-//! every length from 0 to 20,480.
+//! every length from 0 to 20,480; and from each of the 256 values that the
+//! register can start at (document 02, Ask 2).
 
 mod lent;
 mod product;
@@ -108,6 +109,102 @@ fn single_bits() {
         cases += 1;
     }
     report("CRC, single bits", cases + 1);
+}
+
+/// Compares the call from a start on one message.
+fn check_from(start: u8, bytes: &[u8]) {
+    assert_eq!(
+        product::crc8_from(start, bytes),
+        crc::crc8_from(start, bytes),
+        "from {start}, length {}",
+        bytes.len()
+    );
+}
+
+/// Known values off the air, where the register starts at 255.
+#[test]
+fn known_from_255() {
+    for (bytes, wanted) in [
+        (&[0x01][..], 0x9D),
+        (&[0x80], 0xD6),
+        (&[0x01, 0x00], 0x75),
+        (b"123456789", 0xF7),
+    ] {
+        assert_eq!(product::crc8_from(255, bytes), wanted, "{bytes:?}");
+        assert_eq!(crc::crc8_on_paper(255, bytes), wanted, "{bytes:?}");
+    }
+    report("CRC from 255, known values", 4);
+}
+
+#[test]
+fn short_messages_from_each_start() {
+    let mut cases = 0;
+    for start in 0..=255 {
+        assert_eq!(product::crc8_from(start, &[]), start);
+        cases += 1;
+        for first in 0..=255 {
+            check_from(start, &[first]);
+            cases += 1;
+            for second in 0..=255 {
+                check_from(start, &[first, second]);
+                cases += 1;
+            }
+        }
+    }
+    report("CRC from each start, all messages up to two bytes", cases);
+}
+
+/// Each start with every length from 0 to 300 and with longer ones; the same
+/// from 0 is the call without a start.
+#[test]
+fn lengths_from_each_start() {
+    let class = "CRC from each start, every length from 0 to 300 and 20 more to 20,480";
+    let mut rng = seeded(class, 0xC8_0004);
+    let mut cases = 0;
+    for start in 0..=255 {
+        for length in 0..=300 {
+            let lent = Lent::random(&mut rng, length);
+            check_from(start, lent.bytes());
+            assert_eq!(product::crc8_from(0, lent.bytes()), crc::crc8(lent.bytes()));
+            cases += 2;
+        }
+        for length in [4_095, 4_096, LONGEST - 1, LONGEST] {
+            let lent = Lent::random(&mut rng, length);
+            check_from(start, lent.bytes());
+            cases += 1;
+        }
+        for _ in 0..16 {
+            let length = rng.within(301, LONGEST);
+            let lent = Lent::random(&mut rng, length);
+            check_from(start, lent.bytes());
+            cases += 1;
+        }
+    }
+    report(class, cases);
+    assert!(cases >= 100_000);
+}
+
+/// A message followed by its own CRC has a CRC of 0, from each start; and what
+/// comes before a cut is the start of what comes behind it.
+#[test]
+fn cut_and_with_its_crc() {
+    let class = "CRC from each start, cut, and with its CRC";
+    let mut rng = seeded(class, 0xC8_0005);
+    let mut cases = 0;
+    for start in 0..=255 {
+        for _ in 0..40 {
+            let mut bytes = vec![0; rng.within(0, 400)];
+            rng.fill(&mut bytes);
+            let crc = product::crc8_from(start, &bytes);
+            let (before, behind) = bytes.split_at(rng.below(bytes.len() + 1));
+            let begun = product::crc8_from(start, before);
+            assert_eq!(product::crc8_from(begun, behind), crc);
+            bytes.push(crc);
+            assert_eq!(product::crc8_from(start, &bytes), 0);
+            cases += 4;
+        }
+    }
+    report(class, cases);
 }
 
 /// A message followed by its own CRC has a CRC of 0.

@@ -128,7 +128,7 @@ fn answered(pdu: &Lent, line: Line, beside: &Beside) -> [(u32, u32); 4] {
     let mut lent = [pdu.clone(), pdu.clone(), pdu.clone(), pdu.clone()];
     let [first, second, third, fourth] = &mut lent;
     let read = product::read(first.bytes_mut());
-    let listed = product::list_pieces(second.bytes_mut(), list.entries_mut());
+    let listed = product::list_pieces(second.bytes_mut(), 0, list.entries_mut());
     let fresh = receiving::open(line.mode, line.stream).receiver;
     let received = receiving::receive(fresh, &mut carry, third, &mut log);
     let mut place = Place::of(fresh);

@@ -805,7 +805,7 @@ fn driving() {
     for case in 0..22_000 {
         let line = TABLE[case % TABLE.len()];
         let style = STYLES[case / TABLE.len() % STYLES.len()];
-        let list = drives::List::random(&mut class.rng, line, style);
+        let list = drives::List::random(&mut class.rng, line, style, 0);
         let run = drives::some_run(&mut class.rng, list.pdus.len());
         let range = usize::from(line.sequences);
         let lost = drives::some_lost(&mut class.rng, run.len(), range);
@@ -815,7 +815,7 @@ fn driving() {
     for case in 0..1_000 {
         let line = TABLE[case % TABLE.len()];
         let another = case % 20 < TABLE.len();
-        let (list, in_a_row) = drives::trap(&mut class.rng, line, another);
+        let (list, in_a_row) = drives::trap(&mut class.rng, line, another, 0);
         let count = list.pdus.len();
         let mut lost = vec![false; count];
         lost[1..=in_a_row].fill(true);
@@ -877,6 +877,7 @@ fn opening() {
                 let wanted = Receiver {
                     mode,
                     stream,
+                    register: 0,
                     known: false,
                     sequence: 0,
                     held: 0,

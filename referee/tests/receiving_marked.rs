@@ -221,7 +221,7 @@ fn runs_with_marks() {
     for case in 0..6_000 {
         let line = TABLE[case % TABLE.len()];
         let style = STYLES[case / TABLE.len() % STYLES.len()];
-        let list = drives::List::random(&mut class.rng, line, style);
+        let list = drives::List::random(&mut class.rng, line, style, 0);
         let run = drives::some_run(&mut class.rng, list.pdus.len());
         let range = usize::from(line.sequences);
         let lost = drives::some_lost(&mut class.rng, run.len(), range);
@@ -231,7 +231,7 @@ fn runs_with_marks() {
     for case in 0..300 {
         let line = TABLE[case % TABLE.len()];
         let another = case % 20 < TABLE.len();
-        let (list, in_a_row) = drives::trap(&mut class.rng, line, another);
+        let (list, in_a_row) = drives::trap(&mut class.rng, line, another, 0);
         let count = list.pdus.len();
         let mut lost = vec![false; count];
         lost[1..=in_a_row].fill(true);

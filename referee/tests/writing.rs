@@ -42,7 +42,7 @@ fn chains(total: &mut Outcomes) {
     for line in TABLE {
         for style in STYLES {
             for _ in 0..20 {
-                Chain::new(&mut class.rng, line, style).run(&mut class);
+                Chain::new(&mut class.rng, line, style, 0).run(&mut class);
             }
         }
     }
@@ -920,6 +920,7 @@ fn opening() {
                 let wanted = Writer {
                     mode,
                     stream,
+                    register: 0,
                     sequence: 0,
                     number: 0,
                     sent: 0,

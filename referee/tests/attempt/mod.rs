@@ -327,7 +327,7 @@ fn marked(receiver: Receiver, before: &LentLog, known: &Known) -> (Answer, LentL
     let answer = receiver::mark_lost(receiver, log.words_mut());
     check_answer(&receiver, &answer, known);
     if answer.refusal == 0 {
-        let fresh = receiver::open(receiver.mode, receiver.stream);
+        let fresh = receiver::open_with(receiver.mode, receiver.stream, receiver.register);
         assert_eq!(Ok(answer.receiver), fresh);
         assert_eq!(answer.words, 1);
         assert_eq!(log.words()[0], 0xC006_0000);
@@ -513,6 +513,7 @@ pub mod against_product {
         product::Receiver {
             mode: receiver.mode,
             stream: receiver.stream,
+            register: receiver.register,
             known: u8::from(receiver.known),
             sequence: receiver.sequence,
             held: receiver.held,

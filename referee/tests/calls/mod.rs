@@ -25,6 +25,8 @@ pub struct Call {
 #[derive(Clone, Default)]
 pub struct Wish {
     pub line: Option<Line>,
+    /// What the register of the CRCs starts at; 0 where nothing is said.
+    pub register: Option<u8>,
     pub length: Option<usize>,
     pub settings: Option<Settings>,
     /// How many bytes the PSD has.
@@ -51,7 +53,10 @@ impl Call {
         let sent = wish.sent.unwrap_or_else(|| some_sent(rng, &lengths));
         let total = sum(&lengths);
         Call {
-            writer: some_writer(rng, &line, sent),
+            writer: Writer {
+                register: wish.register.unwrap_or(0),
+                ..some_writer(rng, &line, sent)
+            },
             settings,
             psd: some_bytes(rng, psd),
             lengths,
@@ -230,6 +235,7 @@ fn some_writer(rng: &mut Rng, line: &Line, sent: u16) -> Writer {
     Writer {
         mode: line.mode,
         stream: line.stream,
+        register: 0,
         sequence: rng.below(usize::from(line.sequences)) as u8,
         number,
         sent,

@@ -56,7 +56,8 @@ pub struct Chain {
 }
 
 impl Chain {
-    pub fn new(rng: &mut Rng, line: Line, style: Style) -> Chain {
+    /// A chain whose CRCs start from this register.
+    pub fn new(rng: &mut Rng, line: Line, style: Style, register: u8) -> Chain {
         let packets = (0..style.packets)
             .map(|_| {
                 let length = some_packet(rng, style.longest_packet);
@@ -67,7 +68,8 @@ impl Chain {
             line,
             style,
             packets,
-            writer: writer::open(line.mode, line.stream).expect("a line of the table"),
+            writer: writer::open_with(line.mode, line.stream, register)
+                .expect("a line of the table"),
             sent: 0,
             received: vec![Vec::new(); style.packets],
             accepted: 0,

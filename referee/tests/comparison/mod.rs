@@ -87,6 +87,8 @@ pub struct Class {
     pub rng: Rng,
     /// For the lent lists, so that the PDUs don't depend on them.
     list_rng: Rng,
+    /// What lists are told that the register of the CRCs starts at.
+    pub register: u8,
     pub outcomes: Outcomes,
 }
 
@@ -97,6 +99,7 @@ impl Class {
             seed,
             rng: Rng::new(seed),
             list_rng: Rng::new(!seed),
+            register: 0,
             outcomes: Outcomes::default(),
         }
     }
@@ -189,12 +192,15 @@ impl Class {
         let number = lists::number(outcome, count);
         let list_before = LentList::random(&mut self.list_rng, count);
         let (right, pieces) = match (number, outcome) {
-            (0, Ok(reading)) => (wanted, lists::pieces(wanted.bytes(), reading)),
+            (0, Ok(reading)) => {
+                let pieces = lists::pieces(wanted.bytes(), self.register, reading);
+                (wanted, pieces)
+            }
             _ => (before, Vec::new()),
         };
         let mut lent = before.clone();
         let mut list = list_before.clone();
-        let answer = product::list_pieces(lent.bytes_mut(), list.entries_mut());
+        let answer = product::list_pieces(lent.bytes_mut(), self.register, list.entries_mut());
         self.check_answer(&answer, number, outcome, before);
         self.check_pdu(&lent, right, number, before);
         let filled = list_before.filled(&pieces);
@@ -280,10 +286,11 @@ impl Class {
         let shown = &before.bytes()[..before.bytes().len().min(128)];
         let hex: String = shown.iter().map(|byte| format!("{byte:02x}")).collect();
         format!(
-            "{}: seed {:#x}, case {}, length {}, PDU {hex}",
+            "{}: seed {:#x}, case {}, register {}, length {}, PDU {hex}",
             self.name,
             self.seed,
             self.outcomes.cases,
+            self.register,
             before.bytes().len()
         )
     }

@@ -8,6 +8,9 @@
 //! In a run with marks (document 02, Ask 3) each received PDU comes with its own
 //! marked places, and its header is altered within their bound. Stepping in
 //! place takes no marks, so no receiver goes along.
+//!
+//! Writer and receiver have the same register for their CRCs (document 02, Ask
+//! 2), or unequal ones: then each piece has a wrong CRC.
 
 use crate::attempt::{against_product, Class, Known, Loan};
 use crate::calls::{self, some_bytes, some_packet, Call};
@@ -66,6 +69,13 @@ pub struct Sent {
     psd: Vec<u8>,
 }
 
+impl Sent {
+    /// How many pieces it has: NOP, bits 6-1 of byte 12.
+    fn pieces(&self) -> usize {
+        usize::from(self.pdu[12] >> 1 & 63)
+    }
+}
+
 /// A list of packets, sent by one writer.
 pub struct List {
     line: Line,
@@ -78,19 +88,20 @@ pub struct List {
 }
 
 impl List {
-    /// A list of which nothing is sent yet.
-    pub fn new(line: Line, packets: Vec<Vec<u8>>) -> List {
+    /// A list of which nothing is sent yet, for a writer with this register.
+    pub fn new(line: Line, packets: Vec<Vec<u8>>, register: u8) -> List {
         List {
             line,
             packets,
             sent: 0,
-            writer: writer::open(line.mode, line.stream).expect("a line of the table"),
+            writer: writer::open_with(line.mode, line.stream, register)
+                .expect("a line of the table"),
             pdus: Vec::new(),
         }
     }
 
     /// A random list, sent to its end or until there are many PDUs.
-    pub fn random(rng: &mut Rng, line: Line, style: Style) -> List {
+    pub fn random(rng: &mut Rng, line: Line, style: Style, register: u8) -> List {
         let count = match rng.below(16) {
             0 => rng.below(3),
             _ => rng.within(style.packets / 3, style.packets),
@@ -101,7 +112,7 @@ impl List {
                 some_bytes(rng, usize::from(length))
             })
             .collect();
-        let mut list = List::new(line, packets);
+        let mut list = List::new(line, packets, register);
         let longest = style.longest_pdu.min(calls::longest(&line));
         let most_pdus = rng.within(5, 45);
         while list.pdus.len() < most_pdus {
@@ -125,6 +136,11 @@ impl List {
             list.send(&call);
         }
         list
+    }
+
+    /// The writer's register.
+    pub fn register(&self) -> u8 {
+        self.writer.register
     }
 
     /// The unfinished packet, and how many of its bytes are sent, told from G.
@@ -346,6 +362,8 @@ pub struct Seen {
     /// Refused calls, by number.
     pub refused: BTreeMap<u32, u64>,
     pub lines: BTreeMap<(u8, u8), u64>,
+    /// By the writer's register.
+    pub registers: BTreeMap<u8, u64>,
 }
 
 /// A receiver on its drive.
@@ -411,10 +429,40 @@ impl Stepped {
     }
 }
 
+/// How a run is gone through.
+#[derive(Clone, Copy)]
+struct Way {
+    /// With marks.
+    marked: bool,
+    /// The receiver's register.
+    register: u8,
+}
+
 /// Goes through a run of the list's PDUs, of which some are lost.
 #[allow(dead_code)]
 pub fn drive(class: &mut Class, seen: &mut Seen, list: &List, run: Range<usize>, lost: &[bool]) {
-    through(class, seen, list, run, lost, false);
+    let way = Way {
+        marked: false,
+        register: list.register(),
+    };
+    through(class, seen, list, run, lost, way);
+}
+
+/// Goes through a run with a receiver of this register.
+#[allow(dead_code)]
+pub fn drive_from(
+    class: &mut Class,
+    seen: &mut Seen,
+    list: &List,
+    run: Range<usize>,
+    lost: &[bool],
+    register: u8,
+) {
+    let way = Way {
+        marked: false,
+        register,
+    };
+    through(class, seen, list, run, lost, way);
 }
 
 /// Goes through a run, each received PDU with marks.
@@ -426,27 +474,32 @@ pub fn run_with_marks(
     run: Range<usize>,
     lost: &[bool],
 ) {
-    through(class, seen, list, run, lost, true);
+    let way = Way {
+        marked: true,
+        register: list.register(),
+    };
+    through(class, seen, list, run, lost, way);
 }
 
-/// Goes through a run, with marks or without.
+/// Goes through a run in this way.
 fn through(
     class: &mut Class,
     seen: &mut Seen,
     list: &List,
     run: Range<usize>,
     lost: &[bool],
-    marked: bool,
+    way: Way,
 ) {
     assert_eq!(lost.len(), run.len());
     let line = list.line;
     let carry = receptions::some_carry(&mut class.rng);
     let log = LOG_WORDS + class.rng.below(3);
-    let receiver = receiver::open(line.mode, line.stream).expect("a line of the table");
+    let receiver =
+        receiver::open_with(line.mode, line.stream, way.register).expect("a line of the table");
     let carry = Lent::of(&mut class.rng, &carry);
     let log = LentLog::random(&mut class.rng, log);
     let along = Stepped {
-        place: Place::of(product::open(line.mode, line.stream).receiver),
+        place: Place::of(product::open_with(line.mode, line.stream, way.register).receiver),
         carry: carry.clone(),
         log: log.clone(),
         joined: Vec::new(),
@@ -454,7 +507,7 @@ fn through(
     };
     let mut drive = Drive {
         receiver,
-        along: (!marked).then_some(along),
+        along: (!way.marked).then_some(along),
         carry,
         log,
         joined: Vec::new(),
@@ -477,24 +530,32 @@ fn through(
     }
     drive.check_along();
     let joined = drive.joined;
-    check(seen.drives, list, &run, lost, &joined);
-    count(seen, list, &run, lost);
+    let equal = way.register == list.register();
+    check(seen.drives, list, &run, lost, equal, &joined);
+    count(seen, list, &run, lost, equal);
 }
 
-/// The joined logs of a drive against what they have to hold.
-fn check(drive: u64, list: &List, run: &Range<usize>, lost: &[bool], joined: &[u32]) {
+/// The joined logs of a drive against what they have to hold, where the
+/// registers are equal and where they aren't.
+fn check(drive: u64, list: &List, run: &Range<usize>, lost: &[bool], equal: bool, joined: &[u32]) {
     let told = || {
         format!(
-            "drive {drive}: mode {}, stream {}, run {run:?}, lost {lost:?}",
-            list.line.mode, list.line.stream
+            "drive {drive}: mode {}, stream {}, register {}, equal {equal}, run {run:?}, \
+             lost {lost:?}",
+            list.line.mode,
+            list.line.stream,
+            list.register()
         )
     };
     let kinds = Kinds::of(joined);
-    let (_, packets) = list.wanted(run, lost);
+    let packets = match equal {
+        true => list.wanted(run, lost).1,
+        false => Vec::new(),
+    };
     assert!(kinds.packets == packets, "packets; {}", told());
     // Besides: the PSD of each received PDU, note 6 for each lost one, and
     // note 3 where a received one begins inside a packet of which not all
-    // before it is received.
+    // before it is received. From another register, note 2 for each piece.
     let received = list.received(run, lost);
     let mut psd = Vec::new();
     let mut notes = Vec::new();
@@ -507,7 +568,9 @@ fn check(drive: u64, list: &List, run: &Range<usize>, lost: &[bool], joined: &[u
         if !sent.psd.is_empty() {
             psd.extend(told::psd(&sent.psd));
         }
-        if received[list.begun(sent.first)].contains(&false) {
+        if !equal {
+            notes.extend((0..sent.pieces()).map(|k| told::note(2, k)));
+        } else if received[list.begun(sent.first)].contains(&false) {
             notes.push(told::note(3, 0));
         }
     }
@@ -741,8 +804,9 @@ impl Drive<'_> {
 }
 
 /// Counts what a drive had.
-fn count(seen: &mut Seen, list: &List, run: &Range<usize>, lost: &[bool]) {
+fn count(seen: &mut Seen, list: &List, run: &Range<usize>, lost: &[bool], equal: bool) {
     seen.drives += 1;
+    *seen.registers.entry(list.register()).or_default() += 1;
     seen.empty_runs += u64::from(run.is_empty());
     let first = list.pdus.get(run.start).map(|sent| sent.first);
     let begun_inside = !run.is_empty() && first.is_some_and(|first| list.inside(first));
@@ -751,7 +815,9 @@ fn count(seen: &mut Seen, list: &List, run: &Range<usize>, lost: &[bool]) {
     seen.lost += gone as u64;
     seen.received += (lost.len() - gone) as u64;
     seen.packets += list.packets.len() as u64;
-    seen.logged += list.wanted(run, lost).0 as u64;
+    if equal {
+        seen.logged += list.wanted(run, lost).0 as u64;
+    }
     let line = (list.line.mode, list.line.stream);
     *seen.lines.entry(line).or_default() += 1;
     for (from, to) in lost_runs(lost) {
@@ -857,7 +923,7 @@ pub fn some_run(rng: &mut Rng, count: usize) -> Range<usize> {
 /// A list for a trap: its first PDU ends inside packet 0, and so many PDUs
 /// later, a multiple of the sequences, one begins inside packet 64 or inside
 /// packet 0 still.
-pub fn trap(rng: &mut Rng, line: Line, another: bool) -> (List, usize) {
+pub fn trap(rng: &mut Rng, line: Line, another: bool, register: u8) -> (List, usize) {
     let range = usize::from(line.sequences);
     let in_a_row = range * rng.within(1, if range == 2 { 4 } else { 2 });
     let mut lengths = vec![rng.within(2_500, 4_096)];
@@ -870,7 +936,7 @@ pub fn trap(rng: &mut Rng, line: Line, another: bool) -> (List, usize) {
         .into_iter()
         .map(|length| some_bytes(rng, length))
         .collect();
-    let mut list = List::new(line, packets);
+    let mut list = List::new(line, packets, register);
     let mut send = |list: &mut List, offered: usize, length: usize| {
         let call = list.call(rng, offered, length);
         list.send(&call);

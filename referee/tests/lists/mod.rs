@@ -4,7 +4,7 @@
 use crate::lent::Lent;
 use crate::product::Piece;
 use referee::control::{self, ControlWord};
-use referee::crc::crc8;
+use referee::crc::crc8_from;
 use referee::reading::{Reading, Refusal};
 use referee::refusal;
 use referee::rng::Rng;
@@ -89,14 +89,14 @@ impl PartialEq for LentList {
 }
 
 /// The pieces of an accepted PDU, which has been mended: where they are, and
-/// whether the byte behind each is its CRC.
-pub fn pieces(pdu: &[u8], reading: &Reading) -> Vec<Piece> {
+/// whether the byte behind each is its CRC from this register.
+pub fn pieces(pdu: &[u8], register: u8, reading: &Reading) -> Vec<Piece> {
     let listed = |piece: &referee::reading::Piece| {
         let end = piece.start + piece.length;
         Piece {
             start: piece.start as u16,
             length: piece.length as u16,
-            right: u8::from(crc8(&pdu[piece.start..end]) == pdu[end]),
+            right: u8::from(crc8_from(register, &pdu[piece.start..end]) == pdu[end]),
             unused: 0,
         }
     };

@@ -34,6 +34,7 @@ mod c {
         pub fn barzhilup_list_pieces(
             pdu: *mut u8,
             length: usize,
+            register: u8,
             list: *mut super::Piece,
             count: usize,
         ) -> super::Reading;
@@ -53,6 +54,7 @@ mod c {
             count: usize,
         ) -> Correction;
         pub fn barzhilup_crc8(bytes: *const u8, length: usize) -> u8;
+        pub fn barzhilup_crc8_from(start: u8, bytes: *const u8, length: usize) -> u8;
         pub fn barzhilup_read(pdu: *mut u8, length: usize) -> super::Reading;
     }
 }
@@ -193,12 +195,26 @@ pub fn crc8(bytes: &[u8]) -> u8 {
     unsafe { c::barzhilup_crc8(bytes.as_ptr(), bytes.len()) }
 }
 
+/// The CRC-8 of the bytes with the register starting at this value.
+pub fn crc8_from(start: u8, bytes: &[u8]) -> u8 {
+    unsafe { c::barzhilup_crc8_from(start, bytes.as_ptr(), bytes.len()) }
+}
+
 /// Reads a PDU without a receiver.
 pub fn read(pdu: &mut [u8]) -> Reading {
     unsafe { c::barzhilup_read(pdu.as_mut_ptr(), pdu.len()) }
 }
 
-/// Fills a list with the pieces of a PDU.
-pub fn list_pieces(pdu: &mut [u8], list: &mut [Piece]) -> Reading {
-    unsafe { c::barzhilup_list_pieces(pdu.as_mut_ptr(), pdu.len(), list.as_mut_ptr(), list.len()) }
+/// Fills a list with the pieces of a PDU, the register of whose CRCs starts at
+/// this value.
+pub fn list_pieces(pdu: &mut [u8], register: u8, list: &mut [Piece]) -> Reading {
+    unsafe {
+        c::barzhilup_list_pieces(
+            pdu.as_mut_ptr(),
+            pdu.len(),
+            register,
+            list.as_mut_ptr(),
+            list.len(),
+        )
+    }
 }

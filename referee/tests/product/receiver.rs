@@ -10,6 +10,7 @@ use std::cell::Cell;
 pub struct Receiver {
     pub mode: u8,
     pub stream: u8,
+    pub register: u8,
     pub known: u8,
     pub sequence: u8,
     pub held: u16,
@@ -73,6 +74,7 @@ impl Place {
 
 extern "C" {
     fn barzhilup_open_receiver(mode: u8, stream: u8) -> Opened;
+    fn barzhilup_open_receiver_with(mode: u8, stream: u8, register: u8) -> Opened;
     fn barzhilup_receive(
         receiver: Receiver,
         carry: *mut u8,
@@ -113,6 +115,11 @@ extern "C" {
 /// Opens a receiver.
 pub fn open(mode: u8, stream: u8) -> Opened {
     unsafe { barzhilup_open_receiver(mode, stream) }
+}
+
+/// Opens a receiver with what the register of its CRCs starts at.
+pub fn open_with(mode: u8, stream: u8, register: u8) -> Opened {
+    unsafe { barzhilup_open_receiver_with(mode, stream, register) }
 }
 
 /// Receives a PDU.

@@ -8,6 +8,7 @@ use crate::lent::{Lent, LentLengths};
 pub struct Writer {
     pub mode: u8,
     pub stream: u8,
+    pub register: u8,
     pub sequence: u8,
     pub number: u8,
     pub sent: u16,
@@ -54,6 +55,7 @@ pub struct Written {
 
 extern "C" {
     fn barzhilup_open_writer(mode: u8, stream: u8) -> Opened;
+    fn barzhilup_open_writer_with(mode: u8, stream: u8, register: u8) -> Opened;
     fn barzhilup_write(
         writer: Writer,
         settings: Settings,
@@ -71,6 +73,11 @@ extern "C" {
 /// Opens a writer.
 pub fn open(mode: u8, stream: u8) -> Opened {
     unsafe { barzhilup_open_writer(mode, stream) }
+}
+
+/// Opens a writer with what the register of its CRCs starts at.
+pub fn open_with(mode: u8, stream: u8, register: u8) -> Opened {
+    unsafe { barzhilup_open_writer_with(mode, stream, register) }
 }
 
 /// What is lent to a writing call. All of it is lent so that a change of what

@@ -3,7 +3,7 @@
 //! would have fitted.
 
 use crate::calls::{self, Call};
-use referee::crc::crc8;
+use referee::crc::crc8_from;
 use referee::expansion::Fields;
 use referee::header;
 use referee::modes::{self, Line};
@@ -175,7 +175,8 @@ fn check_psd_and_pieces(unsent: &Unsent, reading: &Reading, pdu: &[u8]) {
         let first = usize::from(call.writer.sent) + unsent.begins[k];
         let sent = &pdu[piece.start..piece.start + piece.length];
         assert_eq!(*sent, call.bytes[first..first + piece.length]);
-        assert_eq!(pdu[piece.start + piece.length], crc8(sent));
+        let crc = crc8_from(call.writer.register, sent);
+        assert_eq!(pdu[piece.start + piece.length], crc);
         assert!(piece.length == unsent.ends[k] - unsent.begins[k] || k + 1 == pieces);
         behind = piece.start + piece.length + 1;
     }

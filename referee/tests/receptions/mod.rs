@@ -60,6 +60,7 @@ impl Reception {
             receiver: Receiver {
                 mode: line.mode,
                 stream: line.stream,
+                register: sample.parts.register,
                 ..Receiver::default()
             },
             carry: some_carry(rng),
@@ -123,9 +124,16 @@ impl Reception {
         pdu
     }
 
+    /// Whether a piece's CRC is right for the receiver: what is added to it is
+    /// just what the receiver's register adds to the sender's. Where these are
+    /// equal, that is nothing.
+    pub fn is_right(&self, piece: &Piece) -> bool {
+        let registers = self.receiver.register ^ self.sample.parts.register;
+        piece.crc_error == told::added(registers, piece.bytes.len())
+    }
+
     /// What has to be answered and left, if everything is right. A piece's
-    /// place makes no difference, and its CRC is wrong where something is
-    /// added to it.
+    /// place makes no difference, and its CRC is right or wrong as above.
     pub fn wanted(&self) -> Wanted {
         let word = &self.sample.parts.control;
         let held = usize::from(self.receiver.held);
@@ -164,8 +172,8 @@ impl Reception {
                 (false, true) => start + k - 1,
                 (false, false) => start + k,
             } % 64;
-            match (piece.crc_error, total) {
-                (1.., _) => words.push(told::note(2, k)),
+            match (self.is_right(piece), total) {
+                (false, _) => words.push(told::note(2, k)),
                 _ if first && !continued => words.push(told::note(3, k)),
                 (_, 4_097..) => words.push(told::note(5, k)),
                 _ if last => {

@@ -72,6 +72,7 @@ impl Sample {
                 unused_bits: rng.below(16) as u8,
                 expansion,
                 psd: some_bytes(rng, psd),
+                register: 0,
             },
             fields,
         };

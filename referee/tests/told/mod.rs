@@ -1,5 +1,5 @@
 //! The words of the packet log once more, byte by byte from the top (document
-//! 01, "Receiver"), and the packets in a log.
+//! 01, "Receiver"), the packets in a log, and what the CRC's register adds.
 
 /// A packet: kind 0, its number in the second byte, its length in the last
 /// two.
@@ -39,6 +39,21 @@ fn data(bytes: &[u8]) -> Vec<u32> {
         left = &left[left.len().min(3)..];
     }
     words
+}
+
+/// What a register that starts at this value in place of 0 adds to the CRC of
+/// so many bytes: the value times x^8 for each of them, divided by the CRC's
+/// polynomial.
+pub fn added(register: u8, bytes: usize) -> u8 {
+    let mut value = u32::from(register);
+    let steps = if register == 0 { 0 } else { 8 * bytes };
+    for _ in 0..steps {
+        value <<= 1;
+        if value & 0x100 != 0 {
+            value ^= 0x131;
+        }
+    }
+    value as u8
 }
 
 /// What a log holds, by kind.

@@ -288,6 +288,7 @@ pub fn writer_for(writer: &writer::Writer) -> product::Writer {
     product::Writer {
         mode: writer.mode,
         stream: writer.stream,
+        register: writer.register,
         sequence: writer.sequence,
         number: writer.number,
         sent: writer.sent,
