@@ -39,8 +39,8 @@ static barzhilup_written call_write(write_call *write, const struct lent *l, uin
 
 static int same_writer(const barzhilup_writer *x, const barzhilup_writer *y)
 {
-    return x->mode == y->mode && x->stream == y->stream && x->sequence == y->sequence
-           && x->number == y->number && x->sent == y->sent;
+    return x->mode == y->mode && x->stream == y->stream && x->crc_start == y->crc_start
+           && x->sequence == y->sequence && x->number == y->number && x->sent == y->sent;
 }
 
 /* Writes a PDU with both; the library's answer. */
@@ -74,8 +74,9 @@ static struct reception ours, theirs;
 
 static int same_receiver(const barzhilup_receiver *x, const barzhilup_receiver *y)
 {
-    return x->mode == y->mode && x->stream == y->stream && x->known == y->known
-           && x->sequence == y->sequence && x->held == y->held && x->number == y->number;
+    return x->mode == y->mode && x->stream == y->stream && x->crc_start == y->crc_start
+           && x->known == y->known && x->sequence == y->sequence && x->held == y->held
+           && x->number == y->number;
 }
 
 static barzhilup_received call_receive(receive_call *receive, struct reception *r, size_t length,
@@ -185,13 +186,15 @@ static barzhilup_settings random_settings(void)
     return s;
 }
 
-/* A writer of any mode, seldom with fields out of range. */
+/* A writer of any mode and any start of its CRCs, seldom with fields out of
+ * range. */
 static barzhilup_writer random_writer(void)
 {
     static const uint8_t table[10][2] = {{0, 0}, {1, 0}, {2, 0}, {3, 0}, {1, 1},
                                          {2, 1}, {3, 1}, {10, 0}, {10, 1}, {13, 0}};
     const uint8_t *line = table[random_below(10)];
-    barzhilup_writer writer = barzhilup_open_writer(line[0], line[1]).writer;
+    uint8_t crc_start = (uint8_t)random_below(random_below(2) == 0 ? 1 : 256);
+    barzhilup_writer writer = barzhilup_open_writer_with(line[0], line[1], crc_start).writer;
     writer.sequence = value(1);
     writer.number = value(63);
     if (seldom())
@@ -231,10 +234,10 @@ static unsigned random_reception(const struct implementation *peer, barzhilup_wr
                                  const uint8_t *pdu, size_t length)
 {
     barzhilup_received received;
-    if (writer.mode != ours.receiver.mode || writer.stream != ours.receiver.stream) {
-        barzhilup_receiver opened = barzhilup_open_receiver(writer.mode, writer.stream).receiver;
-        ours.receiver = theirs.receiver = opened;
-    }
+    if (writer.mode != ours.receiver.mode || writer.stream != ours.receiver.stream
+        || (writer.crc_start != ours.receiver.crc_start && !seldom()))
+        ours.receiver = theirs.receiver =
+            barzhilup_open_receiver_with(writer.mode, writer.stream, writer.crc_start).receiver;
     if (seldom())
         ours.receiver.sequence = theirs.receiver.sequence = (uint8_t)random_below(9);
     received = same_receive(peer, pdu, length, seldom() ? random_below(200) : LOG);

@@ -231,8 +231,9 @@ static void compare_crc(const uint8_t *bytes, size_t most)
 {
     size_t length;
     for (length = 0; length <= most; length++) {
-        uint8_t crc = barzhilup_crc8(bytes, length);
-        if (crc != table_crc8(bytes, length) || crc != bit_crc8(bytes, length))
+        uint8_t crc = barzhilup_crc8(bytes, length), start = (uint8_t)length;
+        if (crc != table_crc8(0, bytes, length) || crc != bit_crc8(0, bytes, length)
+            || barzhilup_crc8_from(start, bytes, length) != table_crc8(start, bytes, length))
             disagree("CRC-8 (plain C)");
     }
 }
@@ -341,14 +342,14 @@ static void peer_table_crc(const void *inputs, size_t passes)
 {
     const struct piece *piece = inputs;
     while (passes-- > 0)
-        sink = table_crc8(piece->bytes, piece->length);
+        sink = table_crc8(0, piece->bytes, piece->length);
 }
 
 static void peer_bit_crc(const void *inputs, size_t passes)
 {
     const struct piece *piece = inputs;
     while (passes-- > 0)
-        sink = bit_crc8(piece->bytes, piece->length);
+        sink = bit_crc8(0, piece->bytes, piece->length);
 }
 
 /* ---- Rows and tables ----------------------------------------------------- */

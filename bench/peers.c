@@ -73,22 +73,22 @@ void table_crc8_open(void)
     unsigned i;
     for (i = 0; i < 256; i++) {
         uint8_t byte = (uint8_t)i;
-        crc_table[i] = bit_crc8(&byte, 1);
+        crc_table[i] = bit_crc8(0, &byte, 1);
     }
 }
 
-uint8_t table_crc8(const uint8_t *bytes, size_t length)
+uint8_t table_crc8(uint8_t start, const uint8_t *bytes, size_t length)
 {
-    uint8_t r = 0;
+    uint8_t r = start;
     size_t i;
     for (i = 0; i < length; i++)
         r = crc_table[r ^ bytes[i]];
     return r;
 }
 
-uint8_t bit_crc8(const uint8_t *bytes, size_t length)
+uint8_t bit_crc8(uint8_t start, const uint8_t *bytes, size_t length)
 {
-    unsigned r = 0;
+    unsigned r = start;
     size_t i;
     int bit;
     for (i = 0; i < length; i++) {

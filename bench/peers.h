@@ -32,10 +32,11 @@ int fec_correct_erased(uint8_t word[96], int erased[8], int count);
 /* Fills the table of table_crc8. */
 void table_crc8_open(void);
 
-/* The CRC-8 with a table of 256 bytes, a byte at a time. */
-uint8_t table_crc8(const uint8_t *bytes, size_t length);
+/* The CRC-8 with a table of 256 bytes, a byte at a time, from a register that
+ * starts at `start`. */
+uint8_t table_crc8(uint8_t start, const uint8_t *bytes, size_t length);
 
-/* The CRC-8 a bit at a time. */
-uint8_t bit_crc8(const uint8_t *bytes, size_t length);
+/* The CRC-8 a bit at a time, from the same. */
+uint8_t bit_crc8(uint8_t start, const uint8_t *bytes, size_t length);
 
 #endif

@@ -188,14 +188,14 @@ static void put_parity(uint8_t *pdu)
 }
 
 /* The pieces with CRC bytes and locators, and zeros after them. */
-static void put_pieces(const struct mode *m, uint8_t *pdu, size_t size, size_t at,
-                       const struct placed *p, const uint8_t *bytes)
+static void put_pieces(const struct mode *m, uint8_t crc_start, uint8_t *pdu, size_t size,
+                       size_t at, const struct placed *p, const uint8_t *bytes)
 {
     size_t k;
     for (k = 0; k < p->pieces; k++) {
         size_t n = p->lengths[k];
         memcpy(pdu + at, bytes, n);
-        pdu[at + n] = table_crc8(bytes, n);
+        pdu[at + n] = table_crc8(crc_start, bytes, n);
         put_locator(m, pdu, k, at + n);
         at += n + 1;
         bytes += n;
@@ -207,7 +207,7 @@ static void put_pieces(const struct mode *m, uint8_t *pdu, size_t size, size_t a
 
 static barzhilup_written write_refused(barzhilup_writer writer, uint32_t number)
 {
-    barzhilup_written answer = {0, 0, {0, 0, 0, 0, 0}};
+    barzhilup_written answer = {0, 0, {0, 0, 0, 0, 0, 0}};
     answer.refusal = number;
     answer.writer = writer;
     return answer;
@@ -216,7 +216,7 @@ static barzhilup_written write_refused(barzhilup_writer writer, uint32_t number)
 static barzhilup_written written(barzhilup_writer writer, const struct mode *m,
                                  const struct placed *p)
 {
-    barzhilup_written answer = {0, 0, {0, 0, 0, 0, 0}};
+    barzhilup_written answer = {0, 0, {0, 0, 0, 0, 0, 0}};
     answer.ended = (uint32_t)p->ended;
     answer.writer = writer;
     answer.writer.sequence = (uint8_t)((writer.sequence + 1u) % m->sequences);
@@ -266,7 +266,7 @@ barzhilup_written plain_write(barzhilup_writer writer, barzhilup_settings settin
     put_control(pdu, &writer, &settings, &p, expanded > 0, first - 1);
     memcpy(pdu + first - psd_length - expanded, expansion, expanded);
     memcpy(pdu + first - psd_length, psd, psd_length);
-    put_pieces(m, pdu, pdu_length, first, &p, bytes + writer.sent);
+    put_pieces(m, writer.crc_start, pdu, pdu_length, first, &p, bytes + writer.sent);
     put_parity(pdu);
     return written(writer, m, &p);
 }
@@ -397,12 +397,12 @@ static uint32_t read_pdu(struct reading *r, const barzhilup_receiver *receiver,
     return BARZHILUP_ACCEPTED;
 }
 
-static void check_pieces(struct reading *r, const uint8_t *pdu)
+static void check_pieces(struct reading *r, uint8_t crc_start, const uint8_t *pdu)
 {
     size_t k;
     for (k = 0; k < r->pieces; k++) {
         size_t start = r->marks[k] + 1, end = r->marks[k + 1];
-        r->right[k] = table_crc8(pdu + start, end - start) == pdu[end];
+        r->right[k] = table_crc8(crc_start, pdu + start, end - start) == pdu[end];
     }
 }
 
@@ -570,7 +570,7 @@ barzhilup_received plain_receive(barzhilup_receiver receiver,
                                  uint8_t *pdu, size_t pdu_length,
                                  uint32_t *log, size_t log_length)
 {
-    barzhilup_received answer = {0, 0, 0, {0, 0, false, 0, 0, 0}};
+    barzhilup_received answer = {0, 0, 0, {0, 0, 0, false, 0, 0, 0}};
     uint8_t before[HEADER];
     struct reading r;
     answer.receiver = receiver;
@@ -583,7 +583,7 @@ barzhilup_received plain_receive(barzhilup_receiver receiver,
     }
     answer.refusal = read_pdu(&r, &receiver, pdu, pdu_length);
     if (answer.refusal == BARZHILUP_ACCEPTED) {
-        check_pieces(&r, pdu);
+        check_pieces(&r, receiver.crc_start, pdu);
         answer.refusal = take_pdu(&r, pdu, carry, log, log_length, &answer);
     }
     if (answer.refusal != BARZHILUP_ACCEPTED) {

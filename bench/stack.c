@@ -141,6 +141,11 @@ static void crc8(void)
     MEASURE(sink = barzhilup_crc8(pdu, drive->pdu_length));
 }
 
+static void crc8_from(void)
+{
+    MEASURE(sink = barzhilup_crc8_from(255, pdu, drive->pdu_length));
+}
+
 static void read_pdu(void)
 {
     MEASURE(sink = barzhilup_read(pdu, drive->pdu_length).refusal);
@@ -151,9 +156,19 @@ static void open_writer(void)
     MEASURE(sink = barzhilup_open_writer(10, 1).refusal);
 }
 
+static void open_writer_with(void)
+{
+    MEASURE(sink = barzhilup_open_writer_with(10, 1, 255).refusal);
+}
+
 static void open_receiver(void)
 {
     MEASURE(sink = barzhilup_open_receiver(10, 1).refusal);
+}
+
+static void open_receiver_with(void)
+{
+    MEASURE(sink = barzhilup_open_receiver_with(10, 1, 255).refusal);
 }
 
 static void write_pdu(void)
@@ -188,7 +203,8 @@ static void mark_lost(void)
 
 static void list_pieces(void)
 {
-    MEASURE(sink = barzhilup_list_pieces(pdu, drive->pdu_length, pieces, 64).refusal);
+    MEASURE(sink = barzhilup_list_pieces(pdu, drive->pdu_length, BARZHILUP_CRC_START, pieces, 64)
+                       .refusal);
 }
 
 static void receive_in_place(void)
@@ -232,10 +248,13 @@ static const struct {
     {"barzhilup_correct_header", correct_header},
     {"barzhilup_correct_header_marked", correct_header_marked},
     {"barzhilup_crc8", crc8},
+    {"barzhilup_crc8_from", crc8_from},
     {"barzhilup_read", read_pdu},
     {"barzhilup_open_writer", open_writer},
+    {"barzhilup_open_writer_with", open_writer_with},
     {"barzhilup_write", write_pdu},
     {"barzhilup_open_receiver", open_receiver},
+    {"barzhilup_open_receiver_with", open_receiver_with},
     {"barzhilup_receive", receive},
     {"barzhilup_receive_marked", receive_marked},
     {"barzhilup_mark_lost", mark_lost},

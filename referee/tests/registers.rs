@@ -14,6 +14,7 @@ mod chains;
 mod comparison;
 mod drives;
 mod lent;
+#[allow(dead_code)]
 mod lists;
 mod noise;
 mod product;

@@ -15,6 +15,7 @@ use std::slice::{from_raw_parts, from_raw_parts_mut};
 pub struct CWriter {
     mode: u8,
     stream: u8,
+    crc_start: u8,
     sequence: u8,
     number: u8,
     sent: u16,
@@ -52,6 +53,7 @@ pub struct CWritten {
 pub struct CReceiver {
     mode: u8,
     stream: u8,
+    crc_start: u8,
     known: bool,
     sequence: u8,
     held: u16,
@@ -93,6 +95,7 @@ impl From<CWriter> for Writer {
         Writer {
             mode: w.mode,
             stream: w.stream,
+            register: w.crc_start,
             sequence: w.sequence,
             number: w.number,
             sent: w.sent,
@@ -105,6 +108,7 @@ impl From<Writer> for CWriter {
         CWriter {
             mode: w.mode,
             stream: w.stream,
+            crc_start: w.register,
             sequence: w.sequence,
             number: w.number,
             sent: w.sent,
@@ -117,6 +121,7 @@ impl From<CReceiver> for Receiver {
         Receiver {
             mode: r.mode,
             stream: r.stream,
+            register: r.crc_start,
             known: r.known,
             sequence: r.sequence,
             held: r.held,
@@ -130,6 +135,7 @@ impl From<Receiver> for CReceiver {
         CReceiver {
             mode: r.mode,
             stream: r.stream,
+            crc_start: r.register,
             known: r.known,
             sequence: r.sequence,
             held: r.held,
