@@ -98,7 +98,10 @@ fn opening() {
         }
     }
     assert_eq!(opened, 10 * 256);
-    println!("opening: 16,777,216 modes, streams and registers, {opened} opened, as writers and as receivers");
+    println!(
+        "opening: 16,777,216 modes, streams and registers, {opened} opened, as a writer and as a \
+         receiver each"
+    );
 }
 
 /// Compares the product's opening of a writer and of a receiver with the
@@ -160,7 +163,7 @@ fn right_calls(total: &mut trial::Outcomes, registers: &mut Registers) {
         };
         let mut call = class.call(&wish);
         let one = write(&mut class, registers, &call, trial::Known::Taken);
-        if case % 2 == 0 {
+        if class.rng.below(2) == 0 {
             call.writer.register = another(&mut class.rng, register);
             let other = write(&mut class, registers, &call, trial::Known::Taken);
             check_alike(&one, &other);
@@ -331,10 +334,10 @@ fn equal(total: &mut attempt::Outcomes, heard: &mut Heard) {
     assert_eq!(class.outcomes.taken, class.outcomes.calls);
 }
 
-/// Bytes of a piece altered on the way, with equal registers: what was sent as
-/// its CRC is what it was, so it is off by what the alteration adds.
+/// A byte of a piece that is another than its CRC was made of, with equal
+/// registers: the CRC is off by what the difference adds to it.
 fn altered_pieces(total: &mut attempt::Outcomes, heard: &mut Heard) {
-    let mut class = attempt::Class::new("equal registers, bytes of a piece altered", 0x4E61_0012);
+    let mut class = attempt::Class::new("equal registers, a byte of a piece altered", 0x4E61_0012);
     for case in 0..256 * 30 {
         let mut reception = some_reception(&mut class.rng, case / 256, (case % 256) as u8);
         right_crcs(&mut reception.sample);
@@ -397,7 +400,7 @@ fn marked(total: &mut attempt::Outcomes, heard: &mut Heard) {
         let register = (case % 256) as u8;
         let mut reception = some_reception(&mut class.rng, case / 256, register);
         reception.noise = Noise::within_bound(&mut class.rng);
-        if case % 4 == 0 {
+        if class.rng.below(4) == 0 {
             reception.receiver.register = another(&mut class.rng, register);
         }
         take(&mut class, heard, &reception);
@@ -557,7 +560,7 @@ fn driving() {
     for case in 0..256 * 12 {
         let register = (case % 256) as u8;
         let line = TABLE[case / 256 % TABLE.len()];
-        let list = some_list(&mut class.rng, line, case, register);
+        let list = some_list(&mut class.rng, line, register);
         let (run, lost) = some_run(&mut class.rng, &list, line);
         drives::drive(&mut class, &mut seen, &list, run, &lost);
     }
@@ -587,7 +590,7 @@ fn runs_with_marks() {
     for case in 0..256 * 4 {
         let register = (case % 256) as u8;
         let line = TABLE[case % TABLE.len()];
-        let list = some_list(&mut class.rng, line, case, register);
+        let list = some_list(&mut class.rng, line, register);
         let (run, lost) = some_run(&mut class.rng, &list, line);
         drives::run_with_marks(&mut class, &mut seen, &list, run, &lost);
     }
@@ -605,7 +608,7 @@ fn driving_with_unequal_registers() {
     for case in 0..256 * 8 {
         let register = (case % 256) as u8;
         let line = TABLE[case % TABLE.len()];
-        let list = some_list(&mut class.rng, line, case, register);
+        let list = some_list(&mut class.rng, line, register);
         let (run, lost) = some_run(&mut class.rng, &list, line);
         let other = another(&mut class.rng, register);
         drives::drive_from(&mut class, &mut seen, &list, run, &lost, other);
@@ -618,8 +621,8 @@ fn driving_with_unequal_registers() {
 }
 
 /// A list of packets sent from this register.
-fn some_list(rng: &mut Rng, line: Line, case: usize, register: u8) -> drives::List {
-    let style = drives::STYLES[case / 256 % drives::STYLES.len()];
+fn some_list(rng: &mut Rng, line: Line, register: u8) -> drives::List {
+    let style = drives::STYLES[rng.below(drives::STYLES.len())];
     drives::List::random(rng, line, style, register)
 }
 
