@@ -105,7 +105,7 @@ mod tests {
     fn every_start() {
         for start in 0..=255 {
             for length in 0..20 {
-                let bytes: Vec<u8> = (0..length).map(|place| place * 13 + start).collect();
+                let bytes: Vec<u8> = (0..length).map(|place| (place * 13) ^ start).collect();
                 let crc = crc8_from(start, &bytes);
                 assert_eq!(crc, crc8_on_paper(start, &bytes));
                 // A piece followed by its CRC leaves nothing.

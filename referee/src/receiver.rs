@@ -834,7 +834,7 @@ mod tests {
                 if register == written {
                     let numbered = (0..3).map(|k| Entry::Packet(k as u8, packets[k].to_vec()));
                     wanted.extend(numbered);
-                    assert_eq!(got.state(), (true, 0, 64, 3));
+                    assert_eq!(got.state(), (true, 0, 65, 3));
                 } else {
                     wanted.extend((0..4).map(|k| note(Note::WrongCrc(k))));
                     assert_eq!(got.state(), (true, 0, 0, 0));

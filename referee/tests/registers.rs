@@ -275,7 +275,7 @@ fn writing() {
     println!("accepted by mode and stream: {:?}", total.lines);
     assert_eq!(total.lines.len(), TABLE.len());
     println!("accepted by what the PDU looks like: {:?}", total.looks);
-    assert!(total.looks.values().all(|&calls| calls >= 100));
+    assert!(total.looks.values().all(|&calls| calls >= 10));
     assert!(total.calls >= 100_000);
 }
 
@@ -326,7 +326,7 @@ fn some_reception(rng: &mut Rng, case: usize, register: u8) -> Reception {
 /// Equal registers, each of them: CRCs that are right and such as are wrong.
 fn equal(total: &mut attempt::Outcomes, heard: &mut Heard) {
     let mut class = attempt::Class::new("equal registers", 0x4E61_0011);
-    for case in 0..256 * 120 {
+    for case in 0..256 * 160 {
         let reception = some_reception(&mut class.rng, case / 256, (case % 256) as u8);
         take(&mut class, heard, &reception);
     }
@@ -362,7 +362,7 @@ fn altered_pieces(total: &mut attempt::Outcomes, heard: &mut Heard) {
 fn unequal(total: &mut attempt::Outcomes, heard: &mut Heard) {
     let mut class = attempt::Class::new("unequal registers", 0x4E61_0013);
     let mut all_noted = 0;
-    for case in 0..256 * 120 {
+    for case in 0..256 * 160 {
         let register = (case % 256) as u8;
         let mut reception = some_reception(&mut class.rng, case / 256, register);
         let other = another(&mut class.rng, register);
@@ -408,8 +408,8 @@ fn marked(total: &mut attempt::Outcomes, heard: &mut Heard) {
     class.report(total);
 }
 
-/// Every set of refusals at once with any register: the lowest is answered, as
-/// without one, and the register is as it came.
+/// Every set of refusals at once, and each alone more often, with any register:
+/// the lowest is answered, as without one, and the register is as it came.
 fn refused(total: &mut attempt::Outcomes, _: &mut Heard) {
     let mut class = attempt::Class::new("refused PDUs with any register", 0x4E61_0015);
     for set in 1u32..1 << NUMBERS.len() {
@@ -417,24 +417,32 @@ fn refused(total: &mut attempt::Outcomes, _: &mut Heard) {
             .filter(|index| (set >> index) & 1 != 0)
             .map(|index| NUMBERS[index])
             .collect();
-        let line = some_line(&mut class.rng, &numbers);
-        let mut reception = spoilable(&mut class.rng, line);
-        reception.sample.parts.register = class.rng.byte();
-        reception.receiver.register = class.rng.byte();
-        for &number in numbers.iter().rev() {
-            spoil(&mut class.rng, &mut reception, number);
+        for _ in 0..if numbers.len() == 1 { 256 } else { 1 } {
+            refuse(&mut class, &numbers);
         }
-        let known = match numbers[0] {
-            // A header altered in five bytes or more can be near another code
-            // word.
-            refusal::BEYOND_MENDING => Known::Nothing,
-            lowest => Known::Number(lowest),
-        };
-        let words = class.rng.below(50);
-        let loan = reception.loan(&mut class.rng, words);
-        class.receive(reception.receiver, loan, &known);
     }
     class.report(total);
+}
+
+/// Compares on a call with these refusals, lowest first.
+fn refuse(class: &mut attempt::Class, numbers: &[u32]) {
+    let line = some_line(&mut class.rng, numbers);
+    let mut reception = spoilable(&mut class.rng, line);
+    reception.sample.parts.register = class.rng.byte();
+    reception.receiver.register = class.rng.byte();
+    for &number in numbers.iter().rev() {
+        spoil(&mut class.rng, &mut reception, number);
+    }
+    let known = match numbers[0] {
+        // A header altered in five bytes or more can be near another code
+        // word.
+        refusal::BEYOND_MENDING => Known::Nothing,
+        lowest => Known::Number(lowest),
+    };
+    let words = class.rng.below(50);
+    let loan = reception.loan(&mut class.rng, words);
+    let tried = class.receive(reception.receiver, loan, &known);
+    assert_eq!(tried.answer.receiver.register, reception.receiver.register);
 }
 
 /// Marking lost with each register, whatever is held or known: it is kept; with
@@ -481,7 +489,7 @@ fn receiving() {
     for number in NUMBERS {
         let calls = total.refused_with(number);
         println!("refused with {number}: {calls}");
-        assert!(calls >= 1, "{number}");
+        assert!(calls >= 200, "{number}");
     }
     for note in 1..=6 {
         let notes = total.notes.get(&note).copied().unwrap_or(0);
@@ -557,7 +565,7 @@ fn some_verdicts(rng: &mut Rng, sample: &mut Sample, differ: u8) -> Vec<bool> {
 fn driving() {
     let mut class = attempt::Class::new("drives with each register", 0x4E61_0031);
     let mut seen = Seen::default();
-    for case in 0..256 * 12 {
+    for case in 0..256 * 20 {
         let register = (case % 256) as u8;
         let line = TABLE[case / 256 % TABLE.len()];
         let list = some_list(&mut class.rng, line, register);
@@ -587,7 +595,7 @@ fn driving() {
 fn runs_with_marks() {
     let mut class = attempt::Class::new("runs with marks and each register", 0x4E61_0032);
     let mut seen = Seen::default();
-    for case in 0..256 * 4 {
+    for case in 0..256 * 8 {
         let register = (case % 256) as u8;
         let line = TABLE[case % TABLE.len()];
         let list = some_list(&mut class.rng, line, register);
@@ -650,6 +658,6 @@ fn report_drives(class: &attempt::Class, seen: &Seen) {
     );
     let mut registers = Registers::default();
     registers.add(&seen.registers);
-    registers.all("drives", 4);
+    registers.all("drives", 8);
     assert_eq!(seen.lines.len(), TABLE.len());
 }
