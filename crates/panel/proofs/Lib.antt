@@ -1,3 +1,4 @@
 pub mod Apart
 pub mod Facts
 pub mod Listing
+pub mod Written

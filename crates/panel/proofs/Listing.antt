@@ -45,7 +45,7 @@ module _ (p : List ℕ) where
   unfolding listNumber readNumber
   number-read room d = first-stays (readTests p) ((ltb room (controlAt y .nop), 13) ∷ []) d
 
-  number-room : (room : ℕ) → readNumber p ≡ 0 → listNumber p room ≡ cond (ltb room (controlAt y .nop)) 13 0
+  pub number-room : (room : ℕ) → readNumber p ≡ 0 → listNumber p room ≡ cond (ltb room (controlAt y .nop)) 13 0
   unfolding listNumber readNumber
   number-room room z = past (readTests p) ((ltb room (controlAt y .nop), 13) ∷ []) refl z
 
