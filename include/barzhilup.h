@@ -430,7 +430,8 @@ barzhilup_writer_opened barzhilup_open_writer(uint8_t mode, uint8_t stream);
  * recordings off the air check with BARZHILUP_CRC_START_OFF_AIR, 255.
  *
  * Open the receiver of these PDUs with the same value. Nothing is promised for
- * unequal ones; what a user sees then is BARZHILUP_NOTE_CRC for every piece.
+ * unequal ones; what a user sees then is BARZHILUP_NOTE_CRC for every piece that
+ * came as it was sent.
  */
 barzhilup_writer_opened barzhilup_open_writer_with(uint8_t mode, uint8_t stream,
                                                    uint8_t crc_start);
@@ -487,9 +488,9 @@ barzhilup_written barzhilup_write(barzhilup_writer writer,
  * twice. What was held is dropped. About no piece. */
 #define BARZHILUP_NOTE_SEQUENCE 1
 
-/* The piece's CRC is wrong; its bytes are dropped. If every piece has this note,
- * the receiver may have been opened with another `crc_start` than the PDUs were
- * written with; off the air it is BARZHILUP_CRC_START_OFF_AIR. */
+/* The piece's CRC is wrong; its bytes are dropped. If nearly every piece has this
+ * note, the receiver may have been opened with another `crc_start` than the PDUs
+ * were written with; off the air it is BARZHILUP_CRC_START_OFF_AIR. */
 #define BARZHILUP_NOTE_CRC 2
 
 /* The piece continues a packet of which nothing is held; its bytes are

@@ -84,7 +84,8 @@ impl Receiver {
     /// [`CRC_START_OFF_AIR`](crate::CRC_START_OFF_AIR). (Document 02, Ask 2.)
     ///
     /// Nothing is promised for a writer and a receiver with unequal values; what a
-    /// user sees then is [`Cause::Crc`](crate::Cause::Crc) for every piece.
+    /// user sees then is [`Cause::Crc`](crate::Cause::Crc) for every piece that came
+    /// as it was sent.
     ///
     /// # Errors
     ///

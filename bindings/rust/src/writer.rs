@@ -135,7 +135,7 @@ impl Writer {
     ///
     /// Open the receiver of its PDUs with the same value. Nothing is promised for
     /// unequal ones; what a user sees then is [`Cause::Crc`](crate::Cause::Crc) for
-    /// every piece.
+    /// every piece that came as it was sent.
     ///
     /// # Errors
     ///
