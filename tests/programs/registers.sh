@@ -5,14 +5,26 @@ pieces_of() {
     od -An -v -tu1 -w302 "$1" | awk '{ n += int($15 / 2) % 64 } END { print n + 0 }'
 }
 
-# What is said where every CRC is wrong: the register that was asked for.
+# What is said where every CRC is wrong, or nearly every one: the register that was asked for.
 all_wrong_line() {
     echo "barzhilup log: all CRCs were wrong: is $1 the start of this file's CRCs (--crc-start)?"
 }
 
-# A check that nothing is said of all CRCs in the last log.
+nearly_all_wrong_line() {
+    echo "barzhilup log: nearly all CRCs were wrong: is $1 the start of this file's CRCs (--crc-start)?"
+}
+
+# A check that nothing is said of all CRCs, nor of nearly all, in the last log.
 not_all_wrong() {
     same "$1: nothing is said of all CRCs" 0 "$(grep -c 'all CRCs' err || true)"
+}
+
+# So many copies of a file.
+copies() {
+    local turn
+    for ((turn = 0; turn < $1; turn += 1)); do
+        cat "$2"
+    done
 }
 
 # The CRC byte of a packet of these bytes, written in one piece with this register, in hexadecimal: the piece stands from byte 16 of the PDU on.
@@ -104,8 +116,8 @@ check_register_drive() {
     same "a drive at 255 logged at 0, the last line" "$(all_wrong_line 0)" "$(tail -n 1 err)"
 }
 
-# What is said of PDUs logged with another register, and that it is said of nothing else: not where one CRC is right, though its piece is only held
-# or continues nothing, nor where no piece came.
+# What is said of PDUs logged with another register, and that it is said of nothing else: not where one CRC in a few is right, though its piece is only
+# held or continues nothing, nor where no piece came.
 check_register_said() {
     local pieces
     pieces=$(pieces_of started)
@@ -115,15 +127,16 @@ barzhilup log: headers corrected 0, bytes corrected 0
 barzhilup log: packets 0, PSD entries $(sent_pdus), notes $pieces
 barzhilup log:   note wrong CRC: $pieces
 $(all_wrong_line 0)"
-    { cat started; pdus 0 1; } >mixed
+    { cat started; cat sent; } >mixed
     run log --in mixed
-    not_all_wrong "one PDU of the right register"
+    not_all_wrong "as many PDUs of the right register"
     run log --in empty --crc-start 255
     not_all_wrong "no PDUs"
     { record 0; record 95; } >mixed
     run log --in mixed --crc-start 255
     not_all_wrong "a lost and a refused PDU"
     check_register_held
+    check_register_nearly
 }
 
 # A packet in three PDUs of one piece each, some of them written with another register.
@@ -149,4 +162,50 @@ check_register_held() {
     same "a cut file whose CRCs are all wrong" "$(all_wrong_line 0)
 barzhilup log: stopped early" "$(tail -n 2 err)"
     ended "a cut file whose CRCs are all wrong" 1 log
+}
+
+# Nearly all are wrong where there are more than 16 wrong ones to each right one. PDUs of one piece each, and then one whose CRC is right: its packet is
+# delivered, its piece is held, it continues nothing, or it was damaged and is right by chance.
+check_register_nearly() {
+    local right
+    run generate --in one --length 300
+    cp out one.right
+    run generate --in one --length 300 --crc-start 255
+    cp out one.wrong
+    head -c 98 parts >held.right
+    tail -c 98 parts >ends.right
+    { head -c 118 one.wrong; printf '\0'; tail -c +120 one.wrong; } >chance.right
+    for right in one held ends chance; do
+        { copies 16 one.wrong; cat "$right.right"; } >mixed
+        run log --in mixed
+        has_line "16 wrong ones to a right one, $right" "barzhilup log:   note wrong CRC: 16" err
+        not_all_wrong "16 wrong ones to a right one, $right"
+        { copies 17 one.wrong; cat "$right.right"; } >mixed
+        run log --in mixed
+        has_line "17 wrong ones to a right one, $right" "barzhilup log:   note wrong CRC: 17" err
+        same "17 wrong ones to a right one, $right, the last line" "$(nearly_all_wrong_line 0)" "$(tail -n 1 err)"
+        same "17 wrong ones to a right one, $right, said once" 1 "$(grep -c 'all CRCs' err)"
+        ended "17 wrong ones to a right one, $right" 0 log
+    done
+    check_register_more
+}
+
+# The same with three right ones and with the other register, and where none is wrong or none right.
+check_register_more() {
+    { copies 48 one.wrong; copies 3 one.right; } >mixed
+    run log --in mixed
+    not_all_wrong "48 wrong ones to three"
+    { copies 49 one.wrong; copies 3 one.right; } >mixed
+    run log --in mixed
+    same "49 wrong ones to three, the last line" "$(nearly_all_wrong_line 0)" "$(tail -n 1 err)"
+    run log --in mixed --crc-start 255
+    not_all_wrong "three wrong ones to 49"
+    { copies 17 one.right; cat one.wrong; } >mixed
+    run log --in mixed --crc-start 255
+    same "17 wrong ones to one by 255, the last line" "$(nearly_all_wrong_line 255)" "$(tail -n 1 err)"
+    copies 17 one.right >mixed
+    run log --in mixed
+    not_all_wrong "no wrong one"
+    run log --in one.wrong
+    same "a wrong one alone, the last line" "$(all_wrong_line 0)" "$(tail -n 1 err)"
 }

@@ -153,6 +153,17 @@ pub fn is_every_crc_wrong(counts: &[u64]) -> bool {
     (at(counts, WRONG_CRCS) != 0) & (right_crcs(counts) == 0)
 }
 
+// Whether pieces had a right CRC, and more than 16 times as many a wrong one. By another register than the file's a damaged piece may have a
+// right CRC by chance, one in 256, and no other has.
+pub fn is_nearly_every_crc_wrong(counts: &[u64]) -> bool {
+    let wrong = at(counts, WRONG_CRCS);
+    let right = right_crcs(counts);
+    if wrong == 0 {
+        return false;
+    }
+    (right != 0) & (right <= (wrong - 1) / 16)
+}
+
 // The refusals with a number.
 fn put_refusals(out: &mut [u8], at: usize, number: u32, count: u64) -> usize
     ensures { λ r. ⌜ Counts r (now (out .exit)) ⌝ }

@@ -127,7 +127,10 @@ fn finish(job: Job, run: Run, output: i32, onto: &[u8], counts: &[u64]) -> bool 
         report::none_received(job.mode, job.stream);
     }
     if counts::is_every_crc_wrong(counts) {
-        report::all_crcs_wrong(job.register);
+        report::crcs_wrong(b"all", job.register);
+    }
+    if counts::is_nearly_every_crc_wrong(counts) {
+        report::crcs_wrong(b"nearly all", job.register);
     }
     (run.status == records::END) & closed
 }

@@ -77,13 +77,15 @@ pub fn none_received(mode: u8, stream: u8) {
     say(&line[..n]);
 }
 
-// Every piece had a wrong CRC: the register that is asked for may not be the one that the file's CRCs start with.
-pub fn all_crcs_wrong(register: u8) {
+// Every piece, or nearly every one, had a wrong CRC: the register that is asked for may not be the one that the file's CRCs start with.
+pub fn crcs_wrong(share: &[u8], register: u8) {
     let mut line = [0u8; 128];
-    let n = text::fill(
+    let mut n = text::put(&mut line, 0, b"barzhilup log: ");
+    n = text::put(&mut line, n, share);
+    n = text::fill(
         &mut line,
-        0,
-        b"barzhilup log: all CRCs were wrong: is @ the start of this file's CRCs (--crc-start)?\n",
+        n,
+        b" CRCs were wrong: is @ the start of this file's CRCs (--crc-start)?\n",
         &[register as u64],
     );
     say(&line[..n]);
