@@ -1,15 +1,10 @@
 -- Eight bits of a byte into the register are eight shifts of the sum of both.
 use mathlib.Core.Path.{_≡_, _∙_, refl, ap, ap₂, sym}
-use mathlib.Core.Bool.{Bool, true, false}
-use mathlib.Core.List.{List, [], _∷_}
 use Prim.Native.Nat.{ℕ, zero, suc, _+_, _*_, _/_, _%_, _<_}
 use native.Mathlib.Omega.{arith}
 use lib.Bits.{bitXor, xor-zero-r, xor-shr, xor-mod, xor-lt}
-use lib.Dec.{T, eqb, eqb→eq}
-use lib.ListN.{getD}
 use Rattle.crc.specs.Crc.{divisor, crcBit, crcBits, crcByte}
 use Rattle.crc.specs.Ring.{shiftOne, shifts}
-use Rattle.bits.proofs.Computed.{at}
 use Rattle.bits.proofs.Xor.{xor-swap, bit-times, double, mod-xor}
 
 -- a bit of b into r, with the rest of b beside: as one shift of both together

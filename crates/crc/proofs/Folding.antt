@@ -1,16 +1,13 @@
 -- Folding halves the bits that are kept: x^n is x^p + x^q + 1 modulo the divisor for n = 64, 32, 16 and 8.
 use mathlib.Core.Path.{_≡_, refl, sym, ap, ap₂, _∙_}
-use mathlib.Core.Bool.{Bool}
 use Prim.Native.Nat.{ℕ, zero, suc, _+_, _*_, _/_, _%_, _^_, _<_}
 use native.Mathlib.Nat.{add-comm, mod-lt, lt-of-le-of-lt, div-le-self}
 use native.Mathlib.Omega.{arith}
 use lib.Bits.{bitXor, xor-comm, xor-lt, xor-mod, xor-block, xor-zero-r}
 use lib.Pow.{pow-pos}
-use lib.Dec.{T, eqb, eqb→eq, lit<}
-use Rattle.bits.proofs.Computed.{below}
 use Rattle.bits.proofs.Xor.{xor-assoc, xor-swap}
 use Rattle.crc.specs.Ring.{shiftOne, shifts, red, val, over, within, folded}
-use Rattle.crc.proofs.Ring.{shifts-xor, shifts-add, shifts-zero, red-xor, red-lt, red-more, red-shift, red-join, red-byte, red-zero}
+use Rattle.crc.proofs.Ring.{shifts-xor, shifts-add, shifts-zero, red-xor, red-lt, red-more, red-shift, red-join, red-byte, red-zero, linear-same, linear-shifts, linear-sum, by-one}
 
 -- ---- sums of numbers that are cut and moved up
 
@@ -83,26 +80,28 @@ module _ (n q′ q p′ p : ℕ) (sq : q + q′ ≡ n) (sp : p + p′ ≡ n)
       ∙ xor-comm (red n (f (bitXor (bitXor h a) b))) (red n l)
       ∙ sym (red-xor n l (f (bitXor (bitXor h a) b)))
 
--- ---- the four powers of x, each by a test that antt computes
+-- ---- the four powers of x, each computed for 1
 
-ruleTest : ℕ → ℕ → ℕ → ℕ → Bool
-ruleTest n q p x = eqb (shifts n x) (bitXor x (bitXor (shifts q x) (shifts p x)))
+rule : (n q p : ℕ) → shifts n 1 ≡ bitXor 1 (bitXor (shifts q 1) (shifts p 1)) → (x : ℕ) → x < 256 → shifts n x ≡ bitXor x (bitXor (shifts q x) (shifts p x))
+rule n q p =
+    by-one (shifts n) (λ (x : ℕ). bitXor x (bitXor (shifts q x) (shifts p x))) (linear-shifts n)
+    (linear-sum (λ (x : ℕ). x) (λ (x : ℕ). bitXor (shifts q x) (shifts p x)) linear-same (linear-sum (shifts q) (shifts p) (linear-shifts q) (linear-shifts p)))
 
 rule-64 : (x : ℕ) → x < 256 → shifts 64 x ≡ bitXor x (bitXor (shifts 32 x) (shifts 40 x))
-unfolding ruleTest shifts shiftOne
-rule-64 x h = eqb→eq (shifts 64 x) (bitXor x (bitXor (shifts 32 x) (shifts 40 x))) (below (ruleTest 64 32 40) 256 tt x h)
+unfolding shifts shiftOne
+rule-64 = rule 64 32 40 refl
 
 rule-32 : (x : ℕ) → x < 256 → shifts 32 x ≡ bitXor x (bitXor (shifts 16 x) (shifts 20 x))
-unfolding ruleTest shifts shiftOne
-rule-32 x h = eqb→eq (shifts 32 x) (bitXor x (bitXor (shifts 16 x) (shifts 20 x))) (below (ruleTest 32 16 20) 256 tt x h)
+unfolding shifts shiftOne
+rule-32 = rule 32 16 20 refl
 
 rule-16 : (x : ℕ) → x < 256 → shifts 16 x ≡ bitXor x (bitXor (shifts 8 x) (shifts 10 x))
-unfolding ruleTest shifts shiftOne
-rule-16 x h = eqb→eq (shifts 16 x) (bitXor x (bitXor (shifts 8 x) (shifts 10 x))) (below (ruleTest 16 8 10) 256 tt x h)
+unfolding shifts shiftOne
+rule-16 = rule 16 8 10 refl
 
 rule-8 : (x : ℕ) → x < 256 → shifts 8 x ≡ bitXor x (bitXor (shifts 4 x) (shifts 5 x))
-unfolding ruleTest shifts shiftOne
-rule-8 x h = eqb→eq (shifts 8 x) (bitXor x (bitXor (shifts 4 x) (shifts 5 x))) (below (ruleTest 8 4 5) 256 tt x h)
+unfolding shifts shiftOne
+rule-8 = rule 8 4 5 refl
 
 -- ---- the four folds
 

@@ -1,16 +1,14 @@
 -- Modulo the divisor x^128 is x: what is read is kept as 128 bits; sixteen bytes more are those times x, plus the bytes, and 32 more those times x^2.
 use mathlib.Core.Path.{_≡_, refl, sym, ap, ap₂, _∙_, subst}
-use mathlib.Core.Bool.{Bool}
 use mathlib.Core.List.{List, [], _∷_}
 use Prim.Native.Nat.{ℕ, zero, suc, _+_, _-_, _*_, _/_, _%_, _^_, _<_, _≤_}
 use native.Mathlib.Nat.{zero-add, suc-add, add-suc, add-comm, pow-suc, mod-lt}
 use native.Mathlib.Omega.{arith}
 use lib.Bits.{bitXor, bitOr, or-shifted-r, xor-comm, xor-lt, xor-shr, xor-mod, xor-zero-l, xor-zero-r, xor-shifted, shifted-half, shifted-even}
-use lib.Dec.{T, eqb, eqb→eq, lit<, lit≤}
+use lib.Dec.{lit<, lit≤}
 use lib.ListN.{length, getD, drop, drop-of-length-le}
 use lib.Seq.{drop-cons}
-use Rattle.bits.proofs.Computed.{below}
-use Rattle.bits.proofs.Xor.{xor-assoc, xor-swap, bit-times, double}
+use Rattle.bits.proofs.Xor.{by-bit, xor-assoc, xor-swap, bit-times, double}
 use Rattle.crc.specs.Crc.{divisor, crcByte, crcFrom}
 use Rattle.crc.specs.Ring.{up, wordAt, pushHigh, pushLow, nextHigh, nextLow, shiftOne, shifts, red, val, farHigh, farLow, horner}
 use Rattle.crc.proofs.Byte.{byte-shifts}
@@ -62,18 +60,6 @@ shifts-1 : (x : ℕ) → shifts 1 x ≡ shiftOne x
 unfolding shifts
 shifts-1 x = refl
 
--- x^127 is 1: a test that antt computes
-cycleTest : ℕ → Bool
-cycleTest x = eqb (shifts 127 x) x
-
-pub cycle : (x : ℕ) → x < 256 → shifts 127 x ≡ x
-unfolding cycleTest shifts shiftOne
-cycle x h = eqb→eq (shifts 127 x) x (below cycleTest 256 tt x h)
-
--- so x^128 is x
-pub turn : (x : ℕ) → x < 256 → shifts 128 x ≡ shiftOne x
-turn x h = shifts-add 127 1 x ∙ ap (shifts 127) (shifts-1 x) ∙ cycle (shiftOne x) (shiftOne-lt x)
-
 -- ---- numbers as polynomials
 
 pub red-zero : (n : ℕ) → red n 0 ≡ 0
@@ -116,13 +102,75 @@ red-join n k u v h =
     ap (red (n + k)) (sym (xor-shifted u k v h)) ∙ red-xor (n + k) (u * 2 ^ k) v
     ∙ ap₂ bitXor (red-shift n k u) (red-more n k v h)
 
--- a byte is itself
-byteTest : ℕ → Bool
-byteTest x = eqb (red 8 x) x
+-- times x, where nothing leaves
+shiftOne-twice : (x : ℕ) → x < 128 → shiftOne x ≡ x * 2
+unfolding shiftOne
+shiftOne-twice x h =
+    let a : x % 128 ≡ x = omega arith in
+    let b : x / 128 ≡ 0 = omega arith in
+    ap₂ (λ (m n : ℕ). bitXor (m * 2) (n % 2 * divisor)) a b ∙ xor-zero-r (x * 2)
+
+-- a byte is its own remainder
+red-self : (n v : ℕ) → v < 2 ^ n → v < 256 → red n v ≡ v
+unfolding red
+red-self zero v h b = (let e : 0 ≡ v = omega arith in e)
+red-self (suc n) v h b =
+    let p : 2 ^ suc n ≡ 2 ^ n * 2 = pow-suc 2 n in
+    let e : v / 2 * 2 + v % 2 ≡ v = omega arith in
+    ap (λ (x : ℕ). bitXor (v % 2) (shiftOne x)) (red-self n (v / 2) (omega arith) (omega arith))
+    ∙ ap (bitXor (v % 2)) (shiftOne-twice (v / 2) (omega arith))
+    ∙ xor-comm (v % 2) (v / 2 * 2) ∙ xor-shifted (v / 2) 1 (v % 2) (omega arith) ∙ e
 
 pub red-byte : (x : ℕ) → x < 256 → red 8 x ≡ x
-unfolding byteTest red shiftOne
-red-byte x h = eqb→eq (red 8 x) x (below byteTest 256 tt x h)
+red-byte x h = red-self 8 x h h
+
+-- ---- functions that keep sums and times x: two that agree at 1 agree at every byte
+
+pub record Linear (f : ℕ → ℕ) : Type 0 where
+  pub of-zero : f 0 ≡ 0
+  pub of-sum : (x y : ℕ) → f (bitXor x y) ≡ bitXor (f x) (f y)
+  pub of-shift : (x : ℕ) → f (shiftOne x) ≡ shiftOne (f x)
+
+pub linear-same : Linear (λ (x : ℕ). x)
+linear-same = record { of-zero = refl; of-sum = λ x y. refl; of-shift = λ x. refl }
+
+pub linear-shifts : (n : ℕ) → Linear (shifts n)
+linear-shifts n = record { of-zero = shifts-zero n; of-sum = shifts-xor n; of-shift = shifts-one n }
+
+pub linear-sum : (f g : ℕ → ℕ) → Linear f → Linear g → Linear (λ (x : ℕ). bitXor (f x) (g x))
+linear-sum f g a b = record {
+  of-zero = ap₂ bitXor (a .of-zero) (b .of-zero);
+  of-sum = λ x y. ap₂ bitXor (a .of-sum x y) (b .of-sum x y) ∙ xor-swap (f x) (f y) (g x) (g y);
+  of-shift = λ x. ap₂ bitXor (a .of-shift x) (b .of-shift x) ∙ sym (shiftOne-xor (f x) (g x));
+}
+
+module _ (f g : ℕ → ℕ) (a : Linear f) (b : Linear g) (one : f 1 ≡ g 1) where
+  at-zero : f 0 ≡ g 0
+  at-zero = a .of-zero ∙ sym (b .of-zero)
+
+  at-red : (n v : ℕ) → f (red n v) ≡ g (red n v)
+  unfolding red
+  at-red zero v = at-zero
+  at-red (suc n) v =
+      let r : ℕ = red n (v / 2) in
+      a .of-sum (v % 2) (shiftOne r)
+      ∙ ap₂ bitXor (by-bit (λ (x : ℕ). f x ≡ g x) at-zero one v) (a .of-shift r ∙ ap shiftOne (at-red n (v / 2)) ∙ sym (b .of-shift r))
+      ∙ sym (b .of-sum (v % 2) (shiftOne r))
+
+  pub by-one : (x : ℕ) → x < 256 → f x ≡ g x
+  by-one x h = subst (λ (y : ℕ). f y ≡ g y) (red-byte x h) (at-red 8 x)
+
+-- x^127 is 1
+one-cycle : shifts 127 1 ≡ 1
+unfolding shifts shiftOne
+one-cycle = refl
+
+pub cycle : (x : ℕ) → x < 256 → shifts 127 x ≡ x
+cycle = by-one (shifts 127) (λ (x : ℕ). x) (linear-shifts 127) linear-same one-cycle
+
+-- so x^128 is x
+pub turn : (x : ℕ) → x < 256 → shifts 128 x ≡ shiftOne x
+turn x h = shifts-add 127 1 x ∙ ap (shifts 127) (shifts-1 x) ∙ cycle (shiftOne x) (shiftOne-lt x)
 
 -- twice a number
 red-twice : (k t : ℕ) → k ≤ 63 → t < 2 ^ k → red 64 (t * 2) ≡ shiftOne (red k t)
