@@ -7,6 +7,7 @@ use native.Mathlib.Nat.{le-of-suc-le-suc, not-suc-le-zero}
 use native.Mathlib.Omega.{arith}
 use lib.Dec.{T, eqb, ltb, eqb→eq, ltb→lt, lit<}
 use lib.ListN.{length, getD, take}
+use lib.Seq.{getD-take}
 use Rattle.field.specs.Field.{timesA, shift, pow}
 use Rattle.bits.proofs.Computed.{both, both-left, both-right, at}
 
@@ -87,14 +88,6 @@ getD-run (suc n) x zero h = refl
 getD-run (suc n) x (suc k) h = getD-run n (timesA x) k (le-of-suc-le-suc h) ∙ shift-timesA k x
 
 -- the rule of the table of powers, over the whole table
-pow-run : powTable ≡ run 255 1
-unfolding powTable longTable run timesA
-pow-run = refl
-
-pub pow-rule : (k : ℕ) → k < 255 → getD powTable k 0 ≡ pow k
-unfolding pow
-pow-rule k h = ap (λ (l : List ℕ). getD l k 0) pow-run ∙ getD-run 255 1 k h
-
 long-run : longTable ≡ run 510 1
 unfolding longTable run timesA
 long-run = refl
@@ -102,6 +95,10 @@ long-run = refl
 pub long-rule : (k : ℕ) → k < 510 → getD longTable k 0 ≡ pow k
 unfolding pow
 long-rule k h = ap (λ (l : List ℕ). getD l k 0) long-run ∙ getD-run 510 1 k h
+
+pub pow-rule : (k : ℕ) → k < 255 → getD powTable k 0 ≡ pow k
+unfolding powTable
+pow-rule k h = getD-take 255 longTable k 0 h ∙ long-rule k (omega arith)
 
 -- the test at each entry of the table of logarithms: the entry x of a nonzero place i has a power of a at x, and it is i
 logRight : ℕ → ℕ → Bool
