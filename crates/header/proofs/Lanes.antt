@@ -217,6 +217,11 @@ module _ (r : ℕ) where
       ∙ ap₂ addAll (moved r) (e ∙ ap₂ timesAll (sym (xor-zero-l (r / 72057594037927936 % 256) ∙ t)) (sym generator-low))
       ∙ step-parts
 
+-- X times X^(8 + k)
+pub next-left : (k : ℕ) {x y : List ℕ} → y ≡ divideStep x 0 → x ≡ leftOf k → y ≡ leftOf (suc k)
+unfolding leftOf remainder
+next-left k e f = e ∙ ap (λ (l : List ℕ). divideStep l 0) f
+
 power-bytes : (k : ℕ) → Bytes (replicate k 0 ++ 1 ∷ [])
 power-bytes zero zero = lit< tt
 power-bytes zero (suc i) = lit< tt

@@ -164,55 +164,6 @@ fn next(r: u64) -> u64
     (r % 72057594037927936 * 256) ^ by_byte(x8(), r / 72057594037927936)
 }
 
-// X^9 modulo the generator, packed.
-fn x9() -> u64
-    ensures { λ r. ⌜ unpacked r ≡ leftOf 1 ⌝ }
-{
-    next(x8())
-}
-
-// X^10 modulo the generator, packed.
-fn x10() -> u64
-    ensures { λ r. ⌜ unpacked r ≡ leftOf 2 ⌝ }
-{
-    next(x9())
-}
-
-// X^11 modulo the generator, packed.
-fn x11() -> u64
-    ensures { λ r. ⌜ unpacked r ≡ leftOf 3 ⌝ }
-{
-    next(x10())
-}
-
-// X^12 modulo the generator, packed.
-fn x12() -> u64
-    ensures { λ r. ⌜ unpacked r ≡ leftOf 4 ⌝ }
-{
-    next(x11())
-}
-
-// X^13 modulo the generator, packed.
-fn x13() -> u64
-    ensures { λ r. ⌜ unpacked r ≡ leftOf 5 ⌝ }
-{
-    next(x12())
-}
-
-// X^14 modulo the generator, packed.
-fn x14() -> u64
-    ensures { λ r. ⌜ unpacked r ≡ leftOf 6 ⌝ }
-{
-    next(x13())
-}
-
-// X^15 modulo the generator, packed.
-fn x15() -> u64
-    ensures { λ r. ⌜ unpacked r ≡ leftOf 7 ⌝ }
-{
-    next(x14())
-}
-
 // Eight bytes of a header from byte i on, packed.
 fn word(header: &[u8], i: usize) -> u64
     requires { ⌜ i + 8 ≤ length (now header) ⌝ }
@@ -249,13 +200,13 @@ fn remainder(header: &[u8]) -> u64
     ensures { λ r. ⌜ unpacked r ≡ parityOf (now (header .entry)) ⌝ }
 {
     let a = x8();
-    let b = x9();
-    let c = x10();
-    let d = x11();
-    let e = x12();
-    let f = x13();
-    let g = x14();
-    let h = x15();
+    let b = next(a);
+    let c = next(b);
+    let d = next(c);
+    let e = next(d);
+    let f = next(e);
+    let g = next(f);
+    let h = next(g);
     let mut r: u64 = 0;
     let mut i: usize = 96;
     while 8 < i {

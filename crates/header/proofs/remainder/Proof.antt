@@ -2,7 +2,7 @@
 use borrow.Author.Needs.{needs}
 use denote.Ref.{now}
 use Rattle.header.specs.Packed.{LeftOver}
-use Rattle.header.proofs.Lanes.{nothing-left, eight-more, parity-left}
+use Rattle.header.proofs.Lanes.{next-left, nothing-left, eight-more, parity-left}
 use native.Mathlib.Omega.{arith}
 use mathlib.Core.Path.{_≡_, refl, ap, sym, _∙_, subst}
 use Prim.Native.Nat.{ℕ, _+_, _-_, _*_, _%_, _≤_, _<_}
@@ -13,15 +13,9 @@ use Rattle.header.proofs.remainder.Tie as tie
 use Rattle.header.proofs.remainder.Reads as reads
 use Rattle.header.proofs.remainder.Lts as lts
 use Rattle.header.proofs.step.Reads as step-reads
+use Rattle.header.proofs.next.Reads as next-reads
 use Rattle.header.proofs.word.Reads as word-reads
-use Rattle.header.proofs.x10.Reads as x10-reads
-use Rattle.header.proofs.x11.Reads as x11-reads
-use Rattle.header.proofs.x12.Reads as x12-reads
-use Rattle.header.proofs.x13.Reads as x13-reads
-use Rattle.header.proofs.x14.Reads as x14-reads
-use Rattle.header.proofs.x15.Reads as x15-reads
 use Rattle.header.proofs.x8.Reads as x8-reads
-use Rattle.header.proofs.x9.Reads as x9-reads
 
 abbrev Inv-loop : tie.InvT-loop
 Inv-loop header a b c d e f g h r₀ i₀ r i = (8 ≤ i) × (i ≤ 96) × (i % 8 ≡ 0) × LeftOver r (drop i header)
@@ -35,26 +29,26 @@ header l = now (l .before .before .before .before .before .before .before .befor
 x8-requires : tie.Need-x8-requires Inv-loop μ-loop
 x8-requires c κs = search needs
 
-x9-requires : tie.Need-x9-requires Inv-loop μ-loop
-x9-requires c κs = search needs
+next-requires : tie.Need-next-requires Inv-loop μ-loop
+next-requires c κs = search needs
 
-x10-requires : tie.Need-x10-requires Inv-loop μ-loop
-x10-requires c κs = search needs
+next-requires-2 : tie.Need-next-requires-2 Inv-loop μ-loop
+next-requires-2 c κs = search needs
 
-x11-requires : tie.Need-x11-requires Inv-loop μ-loop
-x11-requires c κs = search needs
+next-requires-3 : tie.Need-next-requires-3 Inv-loop μ-loop
+next-requires-3 c κs = search needs
 
-x12-requires : tie.Need-x12-requires Inv-loop μ-loop
-x12-requires c κs = search needs
+next-requires-4 : tie.Need-next-requires-4 Inv-loop μ-loop
+next-requires-4 c κs = search needs
 
-x13-requires : tie.Need-x13-requires Inv-loop μ-loop
-x13-requires c κs = search needs
+next-requires-5 : tie.Need-next-requires-5 Inv-loop μ-loop
+next-requires-5 c κs = search needs
 
-x14-requires : tie.Need-x14-requires Inv-loop μ-loop
-x14-requires c κs = search needs
+next-requires-6 : tie.Need-next-requires-6 Inv-loop μ-loop
+next-requires-6 c κs = search needs
 
-x15-requires : tie.Need-x15-requires Inv-loop μ-loop
-x15-requires c κs = search needs
+next-requires-7 : tie.Need-next-requires-7 Inv-loop μ-loop
+next-requires-7 c κs = search needs
 
 loop-holds : tie.Need-loop-holds Inv-loop μ-loop
 loop-holds c = (omega arith, omega arith, refl, nothing-left (now (c .before .before .before .before .before .before .before .before .before .args .header)) (omega arith))
@@ -68,7 +62,15 @@ word-requires c κs = search needs
 step-requires : tie.Need-step-requires Inv-loop μ-loop
 step-requires c κs =
     let l = c .before .before .before in
-    ((l .before .before .before .before .before .before .before .x8 .ensures, l .before .before .before .before .before .before .x9 .ensures, l .before .before .before .before .before .x10 .ensures, l .before .before .before .before .x11 .ensures), (l .before .before .before .x12 .ensures, l .before .before .x13 .ensures, l .before .x14 .ensures, l .x15 .ensures))
+    let a = l .before .before .before .before .before .before .before .x8 .ensures in
+    let b = next-left 0 (l .before .before .before .before .before .before .next .ensures) a in
+    let x = next-left 1 (l .before .before .before .before .before .next2 .ensures) b in
+    let d = next-left 2 (l .before .before .before .before .next3 .ensures) x in
+    let e = next-left 3 (l .before .before .before .next4 .ensures) d in
+    let f = next-left 4 (l .before .before .next5 .ensures) e in
+    let g = next-left 5 (l .before .next6 .ensures) f in
+    let h = next-left 6 (l .next7 .ensures) g in
+    ((a, b, x, d), (e, f, g, h))
 
 loop-less : tie.Need-loop-less Inv-loop μ-loop
 loop-less c = search needs
@@ -97,13 +99,13 @@ remainder-spec =
     Inv-loop
     μ-loop
     x8-requires
-    x9-requires
-    x10-requires
-    x11-requires
-    x12-requires
-    x13-requires
-    x14-requires
-    x15-requires
+    next-requires
+    next-requires-2
+    next-requires-3
+    next-requires-4
+    next-requires-5
+    next-requires-6
+    next-requires-7
     loop-holds
     sub-i
     word-requires
