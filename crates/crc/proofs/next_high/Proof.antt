@@ -9,15 +9,12 @@ use Rattle.crc.proofs.next_high.Tie as tie
 use Rattle.crc.proofs.next_high.Reads as reads
 use Rattle.crc.proofs.next_high.Lts as lts
 
--- src/lib.rt:325:6
 mul-result : tie.Need-mul-result
 mul-result c = search needs
 
--- src/lib.rt:325:6
 add-result : tie.Need-add-result
 add-result c = record { fits = next-fits (c .args .h) (c .args .l) (c .fits .l .fits) }
 
--- src/lib.rt:322:1
 returns : tie.Need-returns
 unfolding nextHigh
 returns c = (refl, xor-lt 64 _ (c .args .a) (next-fits (c .args .h) (c .args .l) (c .fits .l .fits)) (c .fits .a .fits))

@@ -9,15 +9,12 @@ use Rattle.crc.proofs.next_low.Tie as tie
 use Rattle.crc.proofs.next_low.Reads as reads
 use Rattle.crc.proofs.next_low.Lts as lts
 
--- src/lib.rt:331:6
 mul-result : tie.Need-mul-result
 mul-result c = search needs
 
--- src/lib.rt:331:38
 mul-result-2 : tie.Need-mul-result-2
 mul-result-2 c = search needs
 
--- src/lib.rt:328:1
 returns : tie.Need-returns
 unfolding nextLow
 returns c = (refl, xor-lt 64 _ (c .args .b) (xor-lt 64 _ _ (next-low-fits (c .args .l)) (bit-fits (c .args .h) (c .fits .h .fits))) (c .fits .b .fits))

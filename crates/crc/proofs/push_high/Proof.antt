@@ -8,15 +8,12 @@ use Rattle.crc.proofs.push_high.Tie as tie
 use Rattle.crc.proofs.push_high.Reads as reads
 use Rattle.crc.proofs.push_high.Lts as lts
 
--- src/lib.rt:313:5
 mul-result : tie.Need-mul-result
 mul-result c = search needs
 
--- src/lib.rt:313:5
 add-result : tie.Need-add-result
 add-result c = record { fits = high-fits (c .args .h) (c .args .l) (c .fits .l .fits) }
 
--- src/lib.rt:310:1
 returns : tie.Need-returns
 unfolding pushHigh
 returns c = (refl, high-fits (c .args .h) (c .args .l) (c .fits .l .fits))

@@ -9,19 +9,15 @@ use Rattle.crc.proofs.push_low.Tie as tie
 use Rattle.crc.proofs.push_low.Reads as reads
 use Rattle.crc.proofs.push_low.Lts as lts
 
--- src/lib.rt:319:6
 mul-result : tie.Need-mul-result
 mul-result c = search needs
 
--- src/lib.rt:319:6
 add-result : tie.Need-add-result
 add-result c = search needs
 
--- src/lib.rt:319:49
 mul-result-2 : tie.Need-mul-result-2
 mul-result-2 c = search needs
 
--- src/lib.rt:316:1
 returns : tie.Need-returns
 unfolding pushLow
 returns c = (refl, xor-lt 64 _ _ (low-fits (c .args .l) (c .args .b) (c .fits .b .fits)) (top-fits (c .args .h) (c .fits .h .fits)))

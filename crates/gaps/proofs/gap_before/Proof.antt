@@ -7,26 +7,21 @@ use Rattle.gaps.specs.Gaps.{missingOf}
 use Rattle.gaps.proofs.gap_before.Statement.{statement}
 use Rattle.gaps.proofs.gap_before.Tie as tie
 
--- src/lib.rt:45:9
 returns : tie.Need-returns
 returns c = simp (c .if1 .taken)
 
--- src/lib.rt:50:17
 missing-requires : tie.Need-missing-requires
 missing-requires c κs = search needs
 
--- src/lib.rt:52:9
 returns-2 : tie.Need-returns-2
 returns-2 c =
     let a = c .before .before .before .before .args in
     let follows : eqb (missingOf (a .before .last) (a .number)) 0 ≡ true = eq-eqb _ _ (sym (c .before .missing .ensures .1) ∙ c .if2 .taken) in
     simp (c .before .before .if1 .left, follows)
 
--- src/lib.rt:57:9
 is-told-requires : tie.Need-is-told-requires
 is-told-requires c κs = search needs
 
--- src/lib.rt:58:9
 returns-3 : tie.Need-returns-3
 returns-3 c =
     let a = c .before .before .before .before .before .before .args in
@@ -34,7 +29,6 @@ returns-3 c =
     ne-eqb _ _ (λ e. c .before .before .if2 .left (c .before .before .before .missing .ensures .1 ∙ e)) in
     simp (c .before .before .before .before .if1 .left, counts, sym (c .before .is-told .ensures), c .if3 .taken)
 
--- src/lib.rt:41:1
 returns-4 : tie.Need-returns-4
 returns-4 c =
     let a = c .before .before .before .before .before .before .args in

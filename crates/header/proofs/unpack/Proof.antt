@@ -7,39 +7,30 @@ use Rattle.header.proofs.unpack.Reads as reads
 use Rattle.header.proofs.unpack.Lts as lts
 use Rattle.header.proofs.byte_from.Reads as byte-from-reads
 
--- src/lib.rt:181:9
 byte-from-requires : tie.Need-byte-from-requires
 byte-from-requires c κs = search needs
 
--- src/lib.rt:182:9
 byte-from-requires-2 : tie.Need-byte-from-requires-2
 byte-from-requires-2 c κs = search needs
 
--- src/lib.rt:183:9
 byte-from-requires-3 : tie.Need-byte-from-requires-3
 byte-from-requires-3 c κs = search needs
 
--- src/lib.rt:184:9
 byte-from-requires-4 : tie.Need-byte-from-requires-4
 byte-from-requires-4 c κs = search needs
 
--- src/lib.rt:185:9
 byte-from-requires-5 : tie.Need-byte-from-requires-5
 byte-from-requires-5 c κs = search needs
 
--- src/lib.rt:186:9
 byte-from-requires-6 : tie.Need-byte-from-requires-6
 byte-from-requires-6 c κs = search needs
 
--- src/lib.rt:187:9
 byte-from-requires-7 : tie.Need-byte-from-requires-7
 byte-from-requires-7 c κs = search needs
 
--- src/lib.rt:188:9
 byte-from-requires-8 : tie.Need-byte-from-requires-8
 byte-from-requires-8 c κs = search needs
 
--- src/lib.rt:177:1
 returns : tie.Need-returns
 unfolding unpacked
 returns c =

@@ -19,51 +19,39 @@ Inv-loop out₀ at template numbers n₀ used₀ i₀ out n used i = (length out
 abbrev μ-loop : tie.MeasureT-loop
 μ-loop out₀ at template numbers n₀ used₀ i₀ out n used i = length template - i
 
--- src/lib.rt:68:30
 slice-aggregate-put : tie.Need-slice-aggregate-put Inv-loop μ-loop
 slice-aggregate-put c = search needs
 
--- src/lib.rt:68:9
 put-requires : tie.Need-put-requires Inv-loop μ-loop
 put-requires c κs = search needs
 
--- src/lib.rt:71:5
 loop-holds : tie.Need-loop-holds Inv-loop μ-loop
 loop-holds c = search needs
 
--- src/lib.rt:72:30
 shared-slice-read-put-part : tie.Need-shared-slice-read-put-part Inv-loop μ-loop
 shared-slice-read-put-part c = search needs
 
--- src/lib.rt:72:9
 put-part-requires : tie.Need-put-part-requires Inv-loop μ-loop
 put-part-requires c κs = search needs
 
--- src/lib.rt:73:27
 shared-slice-read-used-after : tie.Need-shared-slice-read-used-after Inv-loop μ-loop
 shared-slice-read-used-after c = search needs
 
--- src/lib.rt:73:9
 used-after-requires : tie.Need-used-after-requires Inv-loop μ-loop
 used-after-requires c κs = search needs
 
--- src/lib.rt:74:9
 add-i : tie.Need-add-i Inv-loop μ-loop
 add-i c = search needs
 
--- src/lib.rt:71:5
 loop-less : tie.Need-loop-less Inv-loop μ-loop
 loop-less c = search needs
 
--- src/lib.rt:71:5
 loop-again : tie.Need-loop-again Inv-loop μ-loop
 loop-again c = search needs
 
--- src/lib.rt:65:1
 same-length : tie.Need-same-length Inv-loop μ-loop
 same-length c = search needs
 
--- src/lib.rt:65:1
 returns : tie.Need-returns Inv-loop μ-loop
 returns c = search needs
 

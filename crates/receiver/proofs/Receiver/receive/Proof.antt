@@ -10,31 +10,24 @@ use Rattle.receiver.proofs.Receiver.receive.Reads as reads
 use Rattle.receiver.proofs.Receiver.receive.Lts as lts
 use Rattle.receiver.proofs.Receiver.receive_marked.Reads as receive-marked-reads
 
--- src/lib.rt:403:41
 array-share-prefix-marks : tie.Need-array-share-prefix-marks
 array-share-prefix-marks c = search needs
 
--- src/lib.rt:403:41
 slice-aggregate-receive-marked : tie.Need-slice-aggregate-receive-marked
 slice-aggregate-receive-marked c = search needs
 
--- src/lib.rt:403:9
 receive-marked-requires : tie.Need-receive-marked-requires
 receive-marked-requires c κs = search needs
 
--- src/lib.rt:395:5
 same-length : tie.Need-same-length
 same-length c = search needs
 
--- src/lib.rt:395:5
 same-length-2 : tie.Need-same-length-2
 same-length-2 c = search needs
 
--- src/lib.rt:395:5
 same-length-3 : tie.Need-same-length-3
 same-length-3 c = search needs
 
--- src/lib.rt:395:5
 returns : tie.Need-returns
 returns c = c .before .before .before .before .before .before .receive-marked .ensures
 
