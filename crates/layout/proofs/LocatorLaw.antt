@@ -7,7 +7,7 @@ use native.Mathlib.Omega.{arith}
 use lib.Dec.{eqb}
 use borrow.Author.Tests.{eq-eqb}
 use lib.ListN.{length, getD}
-use Rattle.layout.specs.Locators.{bytes16, bytes12, locatorBytes, locatorSize, mostPieces, locator16, locator12, locatorAt}
+use Rattle.layout.specs.Locators.{bytes16, bytes12, locatorBytes, locatorSize, locator16, locator12, locatorAt}
 
 -- a byte after the first 14
 after : (pre q : List ℕ) (n j : ℕ) → length pre ≡ n → getD (pre ++ q) (n + j) 0 ≡ getD q j 0
@@ -111,10 +111,10 @@ length-locators width ls = go (eqb width 16)
     go true = length16 ls
     go false = length12 ls
 
--- locators within the limits of pieces end by byte 95
-pub locators-end : (width n : ℕ) → n ≤ mostPieces width → 13 + locatorSize width n ≤ 95
-locators-end width n = go (eqb width 16)
+-- more locators take no fewer bytes
+pub size-grows : (width j k : ℕ) → j ≤ k → locatorSize width j ≤ locatorSize width k
+size-grows width j k h = go (eqb width 16)
   where
-    go : (b : Bool) → n ≤ cond b 41 54 → 13 + cond b ((16 * n + 7) / 8) ((12 * n + 7) / 8) ≤ 95
-    go true h = omega arith
-    go false h = omega arith
+    go : (b : Bool) → cond b ((16 * j + 7) / 8) ((12 * j + 7) / 8) ≤ cond b ((16 * k + 7) / 8) ((12 * k + 7) / 8)
+    go true = omega arith
+    go false = omega arith

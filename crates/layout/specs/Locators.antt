@@ -24,10 +24,6 @@ locatorBytes width ls = cond (eqb width 16) (bytes16 ls) (bytes12 ls)
 abbrev pub locatorSize : ℕ → ℕ → ℕ
 locatorSize width n = cond (eqb width 16) ((16 * n + 7) / 8) ((12 * n + 7) / 8)
 
--- the most pieces: 41 (16 bits) or 54 (12 bits)
-abbrev pub mostPieces : ℕ → ℕ
-mostPieces width = cond (eqb width 16) 41 54
-
 -- locator k of a PDU, k from 0
 unfoldable pub locator16 : List ℕ → ℕ → ℕ
 locator16 p k = getD p (14 + 2 * k) 0 + 256 * getD p (15 + 2 * k) 0

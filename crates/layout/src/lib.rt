@@ -4,7 +4,7 @@ ghost use Prim.Native.Nat.{_+_, _*_, _/_, _%_, _<_, _≤_};
 ghost use lib.ListN.{length, getD};
 ghost use Rattle.buffer.specs.Buffer.{putAt};
 ghost use Rattle.layout.specs.Control.{bit, controlBytes, controlOf, controlAt};
-ghost use Rattle.layout.specs.Locators.{bytes16, bytes12, locatorBytes, locatorSize, mostPieces, locator16 as locator16Of, locator12 as locator12Of, locatorAt};
+ghost use Rattle.layout.specs.Locators.{bytes16, bytes12, locatorBytes, locatorSize, locator16 as locator16Of, locator12 as locator12Of, locatorAt};
 
 // The control word, bytes 8 to 13.
 #[repr(C)]
@@ -232,14 +232,4 @@ pub fn locator_size(width: u8, n: u8) -> usize
         return (16 * (n as usize) + 7) / 8;
     }
     (12 * (n as usize) + 7) / 8
-}
-
-// The most pieces.
-pub fn most_pieces(width: u8) -> u8
-    ensures { λ r. ⌜ r ≡ mostPieces width ⌝ }
-{
-    if width == 16 {
-        return 41;
-    }
-    54
 }

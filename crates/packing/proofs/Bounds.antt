@@ -7,9 +7,8 @@ use native.Mathlib.Omega.{arith}
 use lib.Dec.{eqb, leb, T}
 use borrow.Author.Tests.{ne-eqb, leb-false, le-leb}
 use lib.ListN.{length}
-use Rattle.layout.specs.Locators.{locatorSize, mostPieces}
 use Rattle.pieces.specs.Pieces.{total}
-use Rattle.packing.specs.Packing.{overhead, fit, wholesFrom, partAfter, partFrom, ifAny, pieceLengths, wholes, part}
+use Rattle.packing.specs.Packing.{overhead, mostPieces, fit, wholesFrom, partAfter, partFrom, ifAny, pieceLengths, wholes, part}
 use Rattle.packing.proofs.Fitting.{fit-most, fit-room, fit-past, fit-within}
 
 -- the bytes that are left of the packets offered
@@ -38,11 +37,11 @@ module _ (width extra size : ℕ) where
   -- what holds of the pieces `ps` that are placed of `ns`
   pub record Kept (k used s : ℕ) (ns ps : List ℕ) : Type 0 where
     pub room : overhead width extra (k + length ps) + (used + (total ps + length ps)) ≤ size
-    pub few : k + length ps ≤ mostPieces width
+    pub few : k + length ps ≤ mostPieces width extra
     pub offered : total ps ≤ left s ns
     pub bytes : Bytes s ns → Positive ps
 
-  none-kept : (k used s : ℕ) (ns : List ℕ) → overhead width extra k + used ≤ size → k ≤ mostPieces width → Kept k used s ns []
+  none-kept : (k used s : ℕ) (ns : List ℕ) → overhead width extra k + used ≤ size → k ≤ mostPieces width extra → Kept k used s ns []
   unfolding total
   none-kept k used s ns h m =
       let e : k + 0 ≡ k = omega arith in
@@ -61,13 +60,13 @@ module _ (width extra size : ℕ) where
       least [] q = q
       least (m ∷ ns) q = omega arith
 
-  part-kept : (k used s n p : ℕ) (ns : List ℕ) → overhead width extra (suc k) + used + 1 + p ≡ size → suc k ≤ mostPieces width → 0 < p → p ≤ n - s → Kept k used s (n ∷ ns) (p ∷ [])
+  part-kept : (k used s n p : ℕ) (ns : List ℕ) → overhead width extra (suc k) + used + 1 + p ≡ size → suc k ≤ mostPieces width extra → 0 < p → p ≤ n - s → Kept k used s (n ∷ ns) (p ∷ [])
   unfolding total
   part-kept k used s n p ns e m z h =
       let f : k + 1 ≡ suc k = omega arith in
       record { room = rw f (omega arith); few = omega arith; offered = omega arith; bytes = λ b. (z, tt) }
 
-  last-kept : (k used s n : ℕ) (ns : List ℕ) → overhead width extra k + used ≤ size → k ≤ mostPieces width → fit width extra size (suc k) (used + (n - s) + 1) ≡ false
+  last-kept : (k used s n : ℕ) (ns : List ℕ) → overhead width extra k + used ≤ size → k ≤ mostPieces width extra → fit width extra size (suc k) (used + (n - s) + 1) ≡ false
       → Kept k used s (n ∷ ns) (ifAny (partAfter width extra size k used))
   unfolding partAfter
   last-kept k used s n ns h m past = go (fit width extra size (suc k) (used + 2)) refl
@@ -84,13 +83,13 @@ module _ (width extra size : ℕ) where
           let kept : Kept k used s (n ∷ ns) (p ∷ []) = part-kept k used s n p ns (omega (arith, r)) f (omega (arith, r)) (omega (arith, r, o)) in
           rw t kept
 
-  pub kept-from : (ns : List ℕ) (k used s : ℕ) → overhead width extra k + used ≤ size → k ≤ mostPieces width → Kept k used s ns (placedFrom k used s ns)
+  pub kept-from : (ns : List ℕ) (k used s : ℕ) → overhead width extra k + used ≤ size → k ≤ mostPieces width extra → Kept k used s ns (placedFrom k used s ns)
   unfolding wholesFrom partFrom
   kept-from [] k used s h m = none-kept k used s [] h m
   kept-from (n ∷ ns) k used s h m = go (fit width extra size (suc k) (used + (n - s) + 1)) refl (kept-from ns (suc k) (used + (n - s) + 1) 0)
     where
       go : (b : Bool) → fit width extra size (suc k) (used + (n - s) + 1) ≡ b
-          → (overhead width extra (suc k) + (used + (n - s) + 1) ≤ size → suc k ≤ mostPieces width → Kept (suc k) (used + (n - s) + 1) 0 ns (placedFrom (suc k) (used + (n - s) + 1) 0 ns))
+          → (overhead width extra (suc k) + (used + (n - s) + 1) ≤ size → suc k ≤ mostPieces width extra → Kept (suc k) (used + (n - s) + 1) 0 ns (placedFrom (suc k) (used + (n - s) + 1) 0 ns))
           → Kept k used s (n ∷ ns) (cond b ((n - s) ∷ wholesFrom width extra size (suc k) (used + (n - s) + 1) 0 ns) [] ++ ifAny (cond b (partFrom width extra size (suc k) (used + (n - s) + 1) 0 ns) (partAfter width extra size k used)))
       go true e r = one-more k used s n ns (placedFrom (suc k) (used + (n - s) + 1) 0 ns) (r (fit-room width extra size (suc k) (used + (n - s) + 1) e) (fit-most width extra size (suc k) (used + (n - s) + 1) e))
       go false e r = last-kept k used s n ns h m e
@@ -115,7 +114,7 @@ module _ (width extra size : ℕ) where
       go false h p = omega arith
 
   -- with room for a piece of one byte and its CRC, a piece is placed if a packet is offered
-  pub some-placed : (s n : ℕ) (ns : List ℕ) → overhead width extra 1 + 2 ≤ size → 1 ≤ mostPieces width → 0 < length (pieceLengths width extra size s (n ∷ ns))
+  pub some-placed : (s n : ℕ) (ns : List ℕ) → overhead width extra 1 + 2 ≤ size → 1 ≤ mostPieces width extra → 0 < length (pieceLengths width extra size s (n ∷ ns))
   unfolding wholesFrom partFrom partAfter
   some-placed s n ns h m = go (fit width extra size 1 (0 + (n - s) + 1))
     where

@@ -5,44 +5,29 @@ use Prim.Native.Nat.{ℕ, zero, suc, _+_, _*_, _/_, _-_, _<_, _≤_}
 use native.Mathlib.Omega.{arith}
 use native.Mathlib.Numerals.{add-one}
 use lib.Dec.{eqb, leb, T}
-use borrow.Author.Tests.{leb-true, le-leb, lt-leb}
-use Rattle.layout.specs.Locators.{locatorSize, mostPieces}
-use Rattle.packing.specs.Packing.{overhead, fit, partAfter}
-
-pub size-small : (width k : ℕ) → locatorSize width k ≤ 2 * k
-size-small width k = go (eqb width 16)
-  where
-    go : (b : Bool) → cond b ((16 * k + 7) / 8) ((12 * k + 7) / 8) ≤ 2 * k
-    go true = omega arith
-    go false = omega arith
-
-pub most-small : (width : ℕ) → mostPieces width ≤ 54
-most-small width = go (eqb width 16)
-  where
-    go : (b : Bool) → cond b 41 54 ≤ 54
-    go true = omega arith
-    go false = omega arith
+use borrow.Author.Tests.{leb-true, le-leb}
+use Rattle.packing.specs.Packing.{overhead, mostPieces, fit, partAfter}
 
 both : (a b : Bool) → (a && b) ≡ true → (a ≡ true) × (b ≡ true)
 both true b e = (refl, e)
 both false b e = absurd (subst T (sym e) tt)
 
 module _ (width extra size k used : ℕ) where
-  pub fit-most : fit width extra size k used ≡ true → k ≤ mostPieces width
+  pub fit-most : fit width extra size k used ≡ true → k ≤ mostPieces width extra
   unfolding fit
-  fit-most e = leb-true k (mostPieces width) (both (leb k (mostPieces width)) (leb (overhead width extra k + used) size) e .0)
+  fit-most e = leb-true k (mostPieces width extra) (both (leb k (mostPieces width extra)) (leb (overhead width extra k + used) size) e .0)
 
   pub fit-room : fit width extra size k used ≡ true → overhead width extra k + used ≤ size
   unfolding fit
-  fit-room e = leb-true (overhead width extra k + used) size (both (leb k (mostPieces width)) (leb (overhead width extra k + used) size) e .1)
+  fit-room e = leb-true (overhead width extra k + used) size (both (leb k (mostPieces width extra)) (leb (overhead width extra k + used) size) e .1)
 
-  pub fit-within : k ≤ mostPieces width → leb (overhead width extra k + used) size ≡ fit width extra size k used
+  pub fit-within : k ≤ mostPieces width extra → leb (overhead width extra k + used) size ≡ fit width extra size k used
   unfolding fit
-  fit-within h = rw (le-leb k (mostPieces width) h)
+  fit-within h = rw (le-leb k (mostPieces width extra) h)
 
-  pub fit-past : mostPieces width < k → false ≡ fit width extra size k used
+  pub fit-past : leb k (mostPieces width extra) ≡ false → false ≡ fit width extra size k used
   unfolding fit
-  fit-past h = rw (lt-leb k (mostPieces width) h)
+  fit-past e = rw e
 
   pub part-none : fit width extra size (k + 1) (used + 2) ≡ false → 0 ≡ partAfter width extra size k used
   unfolding partAfter

@@ -1,3 +1,4 @@
+pub mod Limit
 pub mod Fitting
 pub mod Packs
 pub mod Bounds

@@ -1,20 +1,33 @@
--- Document 01, "Writer": the placing rule, which packs packets into a PDU. Packets are given by their lengths, the unfinished one
--- first and whole; s bytes of it are sent already.
+-- Document 01, "Writer": the placing rule, which packs packets into a PDU, with the count limit of document 02, Ask 9. Packets are given by their
+-- lengths, the unfinished one first and whole; s bytes of it are sent already.
 use mathlib.Core.Bool.{Bool, _&&_, cond}
 use mathlib.Core.List.{List, [], _∷_, _++_}
 use Prim.Native.Nat.{ℕ, zero, suc, _+_, _-_}
 use lib.Dec.{eqb, leb}
-use Rattle.layout.specs.Locators.{locatorSize, mostPieces}
+use Rattle.layout.specs.Locators.{locatorSize}
 
 -- with k pieces, overhead is 14, plus locator bytes rounded up, plus expansion and PSD
 abbrev pub overhead : ℕ → ℕ → ℕ → ℕ
 overhead width extra k = 14 + locatorSize width k + extra
 
+-- La with k pieces, the place of the last byte before the first piece
+abbrev pub laWith : ℕ → ℕ → ℕ → ℕ
+laWith width extra k = overhead width extra k - 1
+
+-- the largest number up to n that passes a test, 0 where none from 1 on does
+unfoldable pub largestUpTo : ℕ → (ℕ → Bool) → ℕ
+largestUpTo zero t = 0
+largestUpTo (suc n) t = cond (t (suc n)) (suc n) (largestUpTo n t)
+
+-- the count limit: the largest k up to 63 for which La is at most 255
+unfoldable pub mostPieces : ℕ → ℕ → ℕ
+mostPieces width extra = largestUpTo 63 (λ k. leb (laWith width extra k) 255)
+
 -- for locators of a width, `extra` bytes of expansion and PSD, and a PDU of `size` bytes
 module _ (width extra size : ℕ) where
-  -- k is within the NOP limit, and overhead and k pieces that take `used` bytes with their CRCs fit
+  -- k is within the count limit, and overhead and k pieces that take `used` bytes with their CRCs fit
   unfoldable pub fit : ℕ → ℕ → Bool
-  fit k used = leb k (mostPieces width) && leb (overhead width extra k + used) size
+  fit k used = leb k (mostPieces width extra) && leb (overhead width extra k + used) size
 
   -- whole remainders while they fit, after k pieces that take `used` bytes
   unfoldable pub wholesFrom : ℕ → ℕ → ℕ → List ℕ → List ℕ

@@ -2,9 +2,10 @@
 ghost use mathlib.Core.Path.{_≡_};
 ghost use mathlib.Core.List.{List, _++_};
 ghost use Prim.Native.Nat.{_+_, _-_, _≤_, _<_};
+ghost use lib.Dec.{leb};
 ghost use lib.ListN.{length, take};
 ghost use Rattle.layout.specs.Locators.{locatorSize};
-ghost use Rattle.packing.specs.Packing.{overhead as overheadOf, fit, partAfter, wholes, part as partOf, ifAny, pieceLengths};
+ghost use Rattle.packing.specs.Packing.{overhead as overheadOf, mostPieces, fit, partAfter, wholes, part as partOf, ifAny, pieceLengths};
 
 // The overhead of k pieces, with `extra` bytes of expansion and PSD.
 pub fn overhead(width: u8, extra: usize, k: u8) -> usize
@@ -14,12 +15,20 @@ pub fn overhead(width: u8, extra: usize, k: u8) -> usize
     14 + layout::locator_size(width, k) + extra
 }
 
+// Whether k pieces are within the count limit: at most 63, and La, the place before the first of them, at most 255.
+fn within_limit(width: u8, extra: usize, k: u8) -> bool
+    requires { ⌜ (extra ≤ 65536) × (0 < k) ⌝ }
+    ensures { λ r. ⌜ r ≡ leb k (mostPieces width extra) ⌝ }
+{
+    (k <= 63) & (overhead(width, extra, k) <= 256)
+}
+
 // Whether k pieces that take `used` bytes with their CRCs fit a PDU of `size` bytes.
 fn fits(width: u8, extra: usize, size: usize, k: u8, used: usize) -> bool
-    requires { ⌜ (extra ≤ 65536) × (used ≤ 100000) ⌝ }
+    requires { ⌜ (extra ≤ 65536) × (0 < k) × (used ≤ 100000) ⌝ }
     ensures { λ r. ⌜ r ≡ fit width extra size k used ⌝ }
 {
-    if layout::most_pieces(width) < k {
+    if !within_limit(width, extra, k) {
         return false;
     }
     overhead(width, extra, k) + used <= size

@@ -1,7 +1,7 @@
 use lib.Dec.{leb}
+use borrow.Author.Tests.{leb-true, not-true, not-false}
 use Rattle.packing.proofs.Fitting.{fit-past, fit-within}
-use Rattle.packing.specs.Packing.{overhead, fit}
-use Rattle.layout.specs.Locators.{locatorSize, mostPieces}
+use Rattle.packing.specs.Packing.{overhead, mostPieces, fit}
 use native.Mathlib.Omega.{arith}
 use mathlib.Core.Path.{_≡_, refl, ap, sym, _∙_}
 use Prim.Native.Nat.{ℕ, _+_, _-_, _*_, _≤_, _<_}
@@ -12,16 +12,16 @@ use Rattle.packing.proofs.fits.Statement.{statement}
 use Rattle.packing.proofs.fits.Tie as tie
 use Rattle.packing.proofs.fits.Reads as reads
 use Rattle.packing.proofs.fits.Lts as lts
-use Rattle.layout.proofs.most_pieces.Reads as most-pieces-reads
 use Rattle.packing.proofs.overhead.Reads as overhead-reads
+use Rattle.packing.proofs.within_limit.Reads as within-limit-reads
 
-most-pieces-requires : tie.Need-most-pieces-requires
-most-pieces-requires c κs = search needs
+within-limit-requires : tie.Need-within-limit-requires
+within-limit-requires c κs = search needs
 
 returns : tie.Need-returns
 returns c =
     let a = c .before .before .args in
-    fit-past (a .width) (a .extra) (a .size) (a .k) (a .used) (omega (arith, c .if1 .taken, c .before .most-pieces .ensures))
+    fit-past (a .width) (a .extra) (a .size) (a .k) (a .used) (sym (c .before .within-limit .ensures) ∙ not-true _ (c .if1 .taken))
 
 overhead-requires : tie.Need-overhead-requires
 overhead-requires c κs = search needs
@@ -32,8 +32,9 @@ add-result c = search needs
 returns-2 : tie.Need-returns-2
 returns-2 c =
     let a = c .before .before .before .args in
-    ap (λ (n : ℕ). leb (n + a .used) (a .size)) (c .overhead .ensures .0) ∙ fit-within (a .width) (a .extra) (a .size) (a .k) (a .used) (omega (arith, c .before .if1 .left, c .before .before .most-pieces .ensures))
+    ap (λ (n : ℕ). leb (n + a .used) (a .size)) (c .overhead .ensures .0)
+    ∙ fit-within (a .width) (a .extra) (a .size) (a .k) (a .used) (leb-true (a .k) (mostPieces (a .width) (a .extra)) (sym (c .before .before .within-limit .ensures) ∙ not-false _ (c .before .if1 .left)))
 
 pub fits-spec : {M : Type 1} → statement M
 fits-spec =
-    tie.close (tie.spec most-pieces-requires returns overhead-requires add-result returns-2)
+    tie.close (tie.spec within-limit-requires returns overhead-requires add-result returns-2)

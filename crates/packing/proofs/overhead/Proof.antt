@@ -1,4 +1,4 @@
-use Rattle.packing.proofs.Fitting.{size-small}
+use Rattle.packing.proofs.Limit.{size-small}
 use Rattle.layout.specs.Locators.{locatorSize}
 use native.Mathlib.Omega.{arith}
 use mathlib.Core.Path.{_≡_, refl, ap, sym, _∙_}

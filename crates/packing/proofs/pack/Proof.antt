@@ -1,7 +1,8 @@
 use borrow.Author.Tests.{not-true, not-false}
 use mathlib.Core.Bool.{Bool, true, false}
 use Rattle.packing.proofs.Packs.{wholesLeft, partLeft, one-whole, same-part, no-whole, last-part, none-whole, none-part, finished}
-use Rattle.packing.proofs.Fitting.{fit-most, fit-room, most-small}
+use Rattle.packing.proofs.Fitting.{fit-most, fit-room}
+use Rattle.packing.proofs.Limit.{most-small}
 use Rattle.packing.specs.Packing.{fit, wholes, part, wholesFrom, partFrom}
 use Rattle.buffer.proofs.Laws.{put-cons}
 use Rattle.buffer.specs.Buffer.{putAt}
@@ -24,7 +25,7 @@ use Rattle.packing.proofs.with_part.Reads as with-part-reads
 
 abbrev Inv-loop : tie.InvT-loop
 Inv-loop width extra size sent lengths out₀ k₀ used₀ gone₀ out k used gone =
-    (k ≤ 54) × (length out ≡ 64) × (used ≤ size)
+    (k ≤ 63) × (length out ≡ 64) × (used ≤ size)
     × (putAt out k (wholesLeft width extra size lengths k used gone) ≡ putAt out₀ 0 (wholes width extra size sent lengths))
     × (k + length (wholesLeft width extra size lengths k used gone) ≡ length (wholes width extra size sent lengths))
     × (partLeft width extra size lengths k used gone ≡ part width extra size sent lengths)
@@ -63,7 +64,7 @@ add-fits-3 : tie.Need-add-fits-3 Inv-loop μ-loop
 add-fits-3 c = omega (arith, c .before .before .before .loop .inv .2, c .remainder .ensures .1, c .before .before .before .before .before .pre .1)
 
 fits-requires : tie.Need-fits-requires Inv-loop μ-loop
-fits-requires c κs = (c .before .before .before .before .before .pre .0, omega (arith, c .before .before .before .loop .inv .2, c .remainder .ensures .1, c .before .before .before .before .before .pre .1))
+fits-requires c κs = (c .before .before .before .before .before .pre .0, omega arith, omega (arith, c .before .before .before .loop .inv .2, c .remainder .ensures .1, c .before .before .before .before .before .pre .1))
 
 part-after-requires : tie.Need-part-after-requires Inv-loop μ-loop
 part-after-requires c κs = (c .before .before .before .before .before .before .before .pre .0, omega (arith, c .before .before .before .before .before .loop .inv .0), omega (arith, c .before .before .before .before .before .loop .inv .2, c .before .before .before .before .before .before .before .pre .1), c .before .before .before .before .before .before .before .pre .1)
@@ -123,7 +124,7 @@ loop-again c =
     let w : wholesLeft (a .width) (a .extra) (a .size) ls k used (p .loop .gone) ≡ n ∷ wholesLeft (a .width) (a .extra) (a .size) ls (k + 1) (used + n + 1) 0 = one-whole (a .width) (a .extra) (a .size) ls k used (p .loop .gone) n h e t in
     let i3 : putAt (p .loop .out) k (n ∷ wholesLeft (a .width) (a .extra) (a .size) ls (k + 1) (used + n + 1) 0) ≡ putAt _ 0 (wholes (a .width) (a .extra) (a .size) (a .sent) ls) = rw w at (p .loop .inv .3) in
     let i4 : k + suc (length (wholesLeft (a .width) (a .extra) (a .size) ls (k + 1) (used + n + 1) 0)) ≡ length (wholes (a .width) (a .extra) (a .size) (a .sent) ls) = rw w at (p .loop .inv .4) in
-    (omega (arith, fit-most (a .width) (a .extra) (a .size) (k + 1) (used + n + 1) t, most-small (a .width)), length-set (p .loop .out) k n ∙ p .loop .inv .1, omega (arith, fit-room (a .width) (a .extra) (a .size) (k + 1) (used + n + 1) t), put-cons (p .loop .out) (wholesLeft (a .width) (a .extra) (a .size) ls (k + 1) (used + n + 1) 0) k n (omega (arith, p .loop .inv .0, p .loop .inv .1)) ∙ i3, omega (arith, i4), sym (same-part (a .width) (a .extra) (a .size) ls k used (p .loop .gone) n h e t) ∙ p .loop .inv .5)
+    (omega (arith, fit-most (a .width) (a .extra) (a .size) (k + 1) (used + n + 1) t, most-small (a .width) (a .extra)), length-set (p .loop .out) k n ∙ p .loop .inv .1, omega (arith, fit-room (a .width) (a .extra) (a .size) (k + 1) (used + n + 1) t), put-cons (p .loop .out) (wholesLeft (a .width) (a .extra) (a .size) ls (k + 1) (used + n + 1) 0) k n (omega (arith, p .loop .inv .0, p .loop .inv .1)) ∙ i3, omega (arith, i4), sym (same-part (a .width) (a .extra) (a .size) ls k used (p .loop .gone) n h e t) ∙ p .loop .inv .5)
 
 with-part-requires-2 : tie.Need-with-part-requires-2 Inv-loop μ-loop
 with-part-requires-2 c κs = search needs
