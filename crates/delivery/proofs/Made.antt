@@ -23,14 +23,15 @@ use Rattle.correction.specs.Marks.{marksRefusal, correctedWith, correctedPduWit
 use Rattle.pdu.specs.Reading.{judged, uncorrectable}
 use Rattle.pieces.specs.Pieces.{cutBy, total}
 use Rattle.packing.specs.Packing.{overhead}
-use Rattle.packing.proofs.Fitting.{fit-within, most-small}
+use Rattle.packing.proofs.Limit.{most-small, one-piece}
+use Rattle.packing.proofs.Fitting.{fit-within}
 use Rattle.reassembly.specs.Reassembly.{Piece, Said, following}
 use Rattle.reassembly.proofs.Fitting.{SaneSaid, SanePiece, SanePieces}
 use Rattle.receiver.specs.Receiving.{saidBy}
 use Rattle.writer.specs.Writing.{noRoom, wrongUnfinished, writerTests, extraOf, placed, endedOf, partOf, piecesOf, pduOf, nextOf}
 use Rattle.writer.specs.declared.Writer.{Writer}
 use Rattle.writer.proofs.Accepted.{Fine, fine, few}
-use Rattle.writer.proofs.Sending.{one-piece}
+use Rattle.writer.proofs.Sending.{extra-small}
 use Rattle.writer.proofs.RoundTrip.{pdu-bytes, code-word}
 use Rattle.header.specs.Header.{isCodeWord}
 use Rattle.runs.specs.Model.{cut, Fits, sentAfter, Plan, lose, later, readPieces, saidOf, Sized}
@@ -138,11 +139,11 @@ abbrev pub planFor : Load → Plan
 planFor c = planOf (transmissionOf c gone) lose
 
 -- with an unfinished packet, one is offered, and a byte of it has room
-offered-room : (m : Mode) (extra size s : ℕ) (ns : List ℕ) → wrongUnfinished s ns ≡ false → noRoom m extra size ns ≡ false → RoomFor (m .width) extra size 0 0 s
-offered-room m extra size s [] u r h = absurd (let q = ltb-false 0 s u in omega (arith, q, h))
-offered-room m extra size s (n ∷ ns) u r h =
+offered-room : (m : Mode) (extra size s : ℕ) (ns : List ℕ) → extra ≤ 128 → wrongUnfinished s ns ≡ false → noRoom m extra size ns ≡ false → RoomFor (m .width) extra size 0 0 s
+offered-room m extra size s [] x u r h = absurd (let q = ltb-false 0 s u in omega (arith, q, h))
+offered-room m extra size s (n ∷ ns) x u r h =
     let q = ltb-false size (overhead (m .width) extra 1 + 2) r in
-    sym (fit-within (m .width) extra size 1 (0 + 2) (one-piece (m .width))) ∙ le-leb (overhead (m .width) extra 1 + (0 + 2)) size (omega (arith, q))
+    sym (fit-within (m .width) extra size 1 (0 + 2) (one-piece (m .width) extra x)) ∙ le-leb (overhead (m .width) extra 1 + (0 + 2)) size (omega (arith, q))
 
 offered-unfinished : (s k : ℕ) (rest : List (List ℕ)) → wrongUnfinished s (map length (take k rest)) ≡ false → Unfinished s rest → Unfinished s (take k rest)
 offered-unfinished s zero rest u h = let q = ltb-false 0 s u in omega (arith, q)
@@ -195,7 +196,7 @@ module _ (mode stream register : ℕ) (m : Mode) (l : listing mode stream ≡ Li
     uo = offered-unfinished s k (drop i ps) (f .unfinished) u
 
     fo : Fits s ended over os
-    fo = placed-fits (m .width) extra size os 0 0 s (sized-of os yo) uo (offered-room m extra size s (map length os) (f .unfinished) (f .room))
+    fo = placed-fits (m .width) extra size os 0 0 s (sized-of os yo) uo (offered-room m extra size s (map length os) (extra-small settings psd (map length os) (joined os) size m w f l) (f .unfinished) (f .room))
 
     lengths-are : placed settings psd (map length os) (joined os) size m w ≡ map length (cut s ended over os)
     lengths-are = placed-lengths (m .width) extra size os 0 0 s fo
@@ -235,7 +236,7 @@ module _ (mode stream register : ℕ) (m : Mode) (l : listing mode stream ≡ Li
             sane = record {
               psd = (let e = f .extra in let b = listable mode stream m l .limit in omega (arith, e, b), bytes-of psd hp);
               pieces = sane-cut s ended over (drop i ps) fs (packets-drop i ps y) u;
-              few = (let n = few settings psd (map length os) (joined os) size m w f in let b = most-small (m .width) in let c = read-count (λ k. 0) (cut s ended over (drop i ps)) in omega (arith, n, b, c, counted));
+              few = (let n = few settings psd (map length os) (joined os) size m w f in let b = most-small (m .width) extra in let c = read-count (λ k. 0) (cut s ended over (drop i ps)) in omega (arith, n, b, c, counted));
             };
           };
           next = ap₂ (λ (a b : ℕ). record { mode = mode; stream = stream; register = register; sequence = a; number = (i % 64 + ended) % 64; sent = b }) (next-sequence (m .sequences) q hq) (sent-is s ended over)

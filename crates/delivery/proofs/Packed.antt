@@ -7,7 +7,6 @@ use native.Mathlib.Omega.{arith}
 use lib.Dec.{eqb·suc-zero}
 use lib.ListN.{length, take, drop, length-drop, length-take}
 use lib.Seq.{take-append-seam, drop-append-seam, drop-append-le, take-append-le, length-take-le}
-use Rattle.layout.specs.Locators.{locatorSize, mostPieces}
 use Rattle.pieces.specs.Pieces.{cutBy}
 use Rattle.packing.specs.Packing.{overhead, fit, wholesFrom, partAfter, partFrom, ifAny}
 use Rattle.packing.proofs.Fitting.{fit-room}

@@ -17,7 +17,7 @@ use Rattle.layout.specs.Locators.{bytes16, locator16}
 use Rattle.settings.specs.Settings.{fieldsFor}
 use Rattle.expansion.specs.Expansion.{chained}
 use Rattle.expansion.specs.Writing.{expansionBytes}
-use Rattle.packing.specs.Packing.{fit, wholesFrom, partAfter, partFrom}
+use Rattle.packing.specs.Packing.{largestUpTo, mostPieces, fit, wholesFrom, partAfter, partFrom}
 use Rattle.pieces.specs.Pieces.{cutBy, pieceBytes, locatorsFrom, total}
 use Rattle.correction.specs.Marks.{marksRefusal}
 use Rattle.correction.proofs.Marking.{unmarked-self}
@@ -45,7 +45,7 @@ one-right : Packets one
 one-right = (omega arith, omega arith, bytes-same 100 2 (omega arith), tt)
 
 in-order : InOrder 0 0 one 0 once
-unfolding writeAnswer listing fieldsFor expansionBytes chained total fit wholesFrom partAfter partFrom
+unfolding writeAnswer listing fieldsFor expansionBytes chained total largestUpTo mostPieces fit wholesFrom partAfter partFrom
 in-order = ((1, refl, refl), tt)
 
 opens : (register : ℕ) → writerOpened 0 0 register .refusal ≡ 0
@@ -53,7 +53,7 @@ unfolding writerOpened listing
 opens register = refl
 
 spans-are : spans 0 0 one once ≡ record { from = 0; count = 100 } ∷ []
-unfolding spansFrom writeAnswer listing fieldsFor expansionBytes chained total fit wholesFrom partAfter partFrom
+unfolding spansFrom writeAnswer listing fieldsFor expansionBytes chained total largestUpTo mostPieces fit wholesFrom partAfter partFrom
 spans-are = refl
 
 -- ---- the PDU by a register: control word, locator 116, the packet, its CRC, zeros
@@ -93,7 +93,7 @@ pdu-is register =
     ∙ ap (λ (l : List ℕ). l ++ rest (crcBy register)) (same-parity register ∙ gets-all 8 (parityOf (base 0)) (parity-length (base 0)))
 
 written-is : (register : ℕ) → made 0 0 register once ≡ withParity (base register) ∷ []
-unfolding pdusFrom writerOpened writeAnswer writtenPdu pduOf listing fieldsFor expansionBytes chained total fit wholesFrom partAfter partFrom cutBy pieceBytes locatorsFrom controlBytes bytes16
+unfolding pdusFrom writerOpened writeAnswer writtenPdu pduOf listing fieldsFor expansionBytes chained total largestUpTo mostPieces fit wholesFrom partAfter partFrom cutBy pieceBytes locatorsFrom controlBytes bytes16
 written-is register = refl
 
 made-is : (register : ℕ) → made 0 0 register once ≡ pdu register ∷ []

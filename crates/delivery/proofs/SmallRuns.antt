@@ -20,7 +20,7 @@ use Rattle.settings.specs.Settings.{fieldsFor}
 use Rattle.settings.specs.declared.Settings.{Settings}
 use Rattle.expansion.specs.Expansion.{chained}
 use Rattle.expansion.specs.Writing.{expansionBytes}
-use Rattle.packing.specs.Packing.{fit, wholesFrom, partAfter, partFrom}
+use Rattle.packing.specs.Packing.{largestUpTo, mostPieces, fit, wholesFrom, partAfter, partFrom}
 use Rattle.pieces.specs.Pieces.{total}
 use Rattle.log.specs.Log.{Entry, packet, entryWords, logWords, packetWords}
 use Rattle.writer.specs.Writing.{opened as writerOpened, writeAnswer}
@@ -56,7 +56,7 @@ fiveSpans =
     record { from = 0; count = 76 } ∷ record { from = 76; count = 79 } ∷ record { from = 155; count = 79 } ∷ record { from = 234; count = 79 } ∷ record { from = 313; count = 17 } ∷ []
 
 spans-are : spans 0 0 three six ≡ fiveSpans
-unfolding spansFrom writeAnswer listing fieldsFor expansionBytes chained total fit wholesFrom partAfter partFrom
+unfolding spansFrom writeAnswer listing fieldsFor expansionBytes chained total largestUpTo mostPieces fit wholesFrom partAfter partFrom
 spans-are = refl
 
 pub bytes-same : (n v : ℕ) → v < 256 → Bytes (replicate n v)
@@ -73,7 +73,7 @@ packets-right = (
 
 -- each accepted call offers the packets from the unfinished one on
 pub in-order : InOrder 0 0 three 0 six
-unfolding writeAnswer listing fieldsFor expansionBytes chained total fit wholesFrom partAfter partFrom
+unfolding writeAnswer listing fieldsFor expansionBytes chained total largestUpTo mostPieces fit wholesFrom partAfter partFrom
 in-order = ((3, refl, refl), ((2, refl, refl), ((2, refl, refl), ((2, refl, refl), ((2, refl, refl), tt)))))
 
 pub opens : writerOpened 0 0 0 .refusal ≡ 0

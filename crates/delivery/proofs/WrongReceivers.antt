@@ -16,7 +16,7 @@ use Rattle.layout.specs.Locators.{locatorBytes}
 use Rattle.settings.specs.Settings.{fieldsFor}
 use Rattle.expansion.specs.Expansion.{chained}
 use Rattle.expansion.specs.Writing.{expansionBytes}
-use Rattle.packing.specs.Packing.{fit, wholesFrom, partAfter, partFrom}
+use Rattle.packing.specs.Packing.{largestUpTo, mostPieces, fit, wholesFrom, partAfter, partFrom}
 use Rattle.pieces.specs.Pieces.{cutBy, pieceBytes, locatorsFrom, total}
 use Rattle.log.specs.Log.{Entry, packet, dataWords, entryWords, logWords, kindOf, ofPacket, packetWordsAfter, packetWords, packetsOf}
 use Rattle.log.proofs.Packets.{Fit, packet-words}
@@ -218,19 +218,19 @@ abbrev writtenAt : List (List ℕ) → ℕ → ℕ → List ℕ
 writtenAt ps q s = bufferAfter (record { mode = 0; stream = 0; register = 0; sequence = q; number = 0; sent = s }) (offering 96 ps)
 
 same-first : writtenAt short 0 0 ≡ writtenAt long 0 0
-unfolding writtenPdu pduOf listing fieldsFor expansionBytes chained fit wholesFrom partAfter partFrom cutBy pieceBytes locatorsFrom total
+unfolding writtenPdu pduOf listing fieldsFor expansionBytes chained largestUpTo mostPieces fit wholesFrom partAfter partFrom cutBy pieceBytes locatorsFrom total
 same-first = refl
 
 same-last : writtenAt short 1 79 ≡ writtenAt long 1 237
-unfolding writtenPdu pduOf listing fieldsFor expansionBytes chained fit wholesFrom partAfter partFrom cutBy pieceBytes locatorsFrom total
+unfolding writtenPdu pduOf listing fieldsFor expansionBytes chained largestUpTo mostPieces fit wholesFrom partAfter partFrom cutBy pieceBytes locatorsFrom total
 same-last = refl
 
 long-made : made 0 0 0 fourTimes ≡ writtenAt long 0 0 ∷ writtenAt long 1 79 ∷ writtenAt long 0 158 ∷ writtenAt long 1 237 ∷ []
-unfolding pdusFrom writerOpened writeAnswer listing fieldsFor expansionBytes chained total fit wholesFrom partAfter partFrom
+unfolding pdusFrom writerOpened writeAnswer listing fieldsFor expansionBytes chained total largestUpTo mostPieces fit wholesFrom partAfter partFrom
 long-made = refl
 
 two-made : made 0 0 0 twice ≡ writtenAt short 0 0 ∷ writtenAt short 1 79 ∷ []
-unfolding pdusFrom writerOpened writeAnswer listing fieldsFor expansionBytes chained total fit wholesFrom partAfter partFrom
+unfolding pdusFrom writerOpened writeAnswer listing fieldsFor expansionBytes chained total largestUpTo mostPieces fit wholesFrom partAfter partFrom
 two-made = refl
 
 short-made : made 0 0 0 twice ≡ writtenAt long 0 0 ∷ writtenAt long 1 237 ∷ []
@@ -243,25 +243,25 @@ short-right : Packets short
 short-right = (omega arith, omega arith, bytes-same 142 2 (omega arith), tt)
 
 long-order : InOrder 0 0 long 0 fourTimes
-unfolding writeAnswer listing fieldsFor expansionBytes chained total fit wholesFrom partAfter partFrom
+unfolding writeAnswer listing fieldsFor expansionBytes chained total largestUpTo mostPieces fit wholesFrom partAfter partFrom
 long-order = ((1, refl, refl), ((1, refl, refl), ((1, refl, refl), ((1, refl, refl), tt))))
 
 short-order : InOrder 0 0 short 0 twice
-unfolding writeAnswer listing fieldsFor expansionBytes chained total fit wholesFrom partAfter partFrom
+unfolding writeAnswer listing fieldsFor expansionBytes chained total largestUpTo mostPieces fit wholesFrom partAfter partFrom
 short-order = ((1, refl, refl), ((1, refl, refl), tt))
 
 abbrev longSpans : List Span
 longSpans = record { from = 0; count = 79 } ∷ record { from = 79; count = 79 } ∷ record { from = 158; count = 79 } ∷ record { from = 237; count = 63 } ∷ []
 
 long-spans : spans 0 0 long fourTimes ≡ longSpans
-unfolding spansFrom writeAnswer listing fieldsFor expansionBytes chained total fit wholesFrom partAfter partFrom
+unfolding spansFrom writeAnswer listing fieldsFor expansionBytes chained total largestUpTo mostPieces fit wholesFrom partAfter partFrom
 long-spans = refl
 
 abbrev shortSpans : List Span
 shortSpans = record { from = 0; count = 79 } ∷ record { from = 79; count = 63 } ∷ []
 
 short-spans : spans 0 0 short twice ≡ shortSpans
-unfolding spansFrom writeAnswer listing fieldsFor expansionBytes chained total fit wholesFrom partAfter partFrom
+unfolding spansFrom writeAnswer listing fieldsFor expansionBytes chained total largestUpTo mostPieces fit wholesFrom partAfter partFrom
 short-spans = refl
 
 -- the claim for PDUs that are written so

@@ -92,7 +92,7 @@ fn moved(w: Window, lengths: &mut [u16], bytes: &mut [u8]) -> Window {
     }
 }
 
-// Whether what waits fills any PDU: over 54 packets, or more bytes than a PDU of 20,480 and the part of a packet that is sent.
+// Whether what waits fills any PDU: over 63 packets, or more bytes than a PDU of 20,480 and the part of a packet that is sent.
 fn is_enough(w: Window) -> bool {
     if w.end < w.first {
         return true;
@@ -100,7 +100,7 @@ fn is_enough(w: Window) -> bool {
     if w.to < w.from {
         return true;
     }
-    (54 < w.end - w.first) | (24576 < w.to - w.from)
+    (63 < w.end - w.first) | (24576 < w.to - w.from)
 }
 
 // The same packets, and no more to read.

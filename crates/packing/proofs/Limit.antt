@@ -1,11 +1,11 @@
 -- Document 02, Ask 9: what the count limit is. It is the largest k up to 63 for which La is at most 255, and the same as a test of one k.
 use mathlib.Core.Path.{_≡_, refl, sym, ap, _∙_}
-use mathlib.Core.Bool.{Bool, true, false, _&&_, cond, true≢false}
+use mathlib.Core.Bool.{Bool, true, false, cond, true≢false}
 use Prim.Native.Nat.{ℕ, zero, suc, _+_, _*_, _/_, _-_, _<_, _≤_}
 use native.Mathlib.Decide.{ℕ-discrete, decLe}
 use native.Mathlib.Omega.{arith}
 use lib.Dec.{eqb, leb}
-use borrow.Author.Tests.{leb-true, leb-false, le-leb, lt-leb}
+use borrow.Author.Tests.{leb-true, le-leb, lt-leb}
 use Rattle.layout.specs.Locators.{locatorSize}
 use Rattle.layout.proofs.LocatorLaw.{size-grows}
 use Rattle.packing.specs.Packing.{overhead, laWith, largestUpTo, mostPieces}
@@ -81,21 +81,19 @@ la-below width extra zero h l = let z = size-small width 0 in omega arith
 la-below width extra (suc k) h l = let z = la-within width extra (suc k) (omega arith) l in omega arith
 
 -- some pieces are within the limit just where they are at most 63 and La is at most 255
-pub within : (width extra k : ℕ) → 0 < k → (leb k 63 && leb (overhead width extra k) 256) ≡ leb k (mostPieces width extra)
-within width extra k some = go (decLe k 63) (decLe (overhead width extra k) 256)
-  where
-    go : Dec (k ≤ 63) → Dec (overhead width extra k ≤ 256) → (leb k 63 && leb (overhead width extra k) 256) ≡ leb k (mostPieces width extra)
-    go (yes a) (yes b) = rw (le-leb k 63 a, le-leb (overhead width extra k) 256 b, le-leb k (mostPieces width extra) (most-largest width extra k a (omega arith)))
-    go (yes a) (no b) =
-        let h : mostPieces width extra < k = over (decLe k (mostPieces width extra)) in
-        rw (le-leb k 63 a, lt-leb (overhead width extra k) 256 (omega arith), lt-leb k (mostPieces width extra) h)
-      where
-        over : Dec (k ≤ mostPieces width extra) → mostPieces width extra < k
-        over (yes l) = let z = la-within width extra k some l in absurd (omega arith)
-        over (no l) = omega arith
-    go (no a) d =
-        let m = most-small width extra in
-        rw (lt-leb k 63 (omega arith), lt-leb k (mostPieces width extra) (omega arith))
+module _ (width extra k : ℕ) where
+  pub past-63 : 63 < k → false ≡ leb k (mostPieces width extra)
+  past-63 h = let m = most-small width extra in sym (lt-leb k (mostPieces width extra) (omega arith))
+
+  pub past-la : 0 < k → 256 < overhead width extra k → false ≡ leb k (mostPieces width extra)
+  past-la some h = sym (lt-leb k (mostPieces width extra) (over (decLe k (mostPieces width extra))))
+    where
+      over : Dec (k ≤ mostPieces width extra) → mostPieces width extra < k
+      over (yes l) = let z = la-within width extra k some l in absurd (omega arith)
+      over (no l) = omega arith
+
+  pub within : k ≤ 63 → overhead width extra k ≤ 256 → true ≡ leb k (mostPieces width extra)
+  within h l = sym (le-leb k (mostPieces width extra) (most-largest width extra k h (omega arith)))
 
 -- ---- its figures
 

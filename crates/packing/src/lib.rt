@@ -20,7 +20,13 @@ fn within_limit(width: u8, extra: usize, k: u8) -> bool
     requires { ⌜ (extra ≤ 65536) × (0 < k) ⌝ }
     ensures { λ r. ⌜ r ≡ leb k (mostPieces width extra) ⌝ }
 {
-    (k <= 63) & (overhead(width, extra, k) <= 256)
+    if 63 < k {
+        return false;
+    }
+    if 256 < overhead(width, extra, k) {
+        return false;
+    }
+    true
 }
 
 // Whether k pieces that take `used` bytes with their CRCs fit a PDU of `size` bytes.

@@ -21,6 +21,7 @@ use Rattle.layout.specs.declared.ControlWord.{ControlWord}
 use Rattle.layout.specs.Locators.{locatorAt}
 use Rattle.pdu.specs.Reading.{startAt, lengthAt, readTests, correctedTests, modeIn, listingOf, entriesFrom as filledFrom, accepted, refused, judged, widthOf, wrongOf, readNumber, readingBy, readingOf, readPdu}
 use Rattle.pdu.specs.declared.Reading.{Reading}
+use Rattle.pdu.proofs.Assembling.{nop-small}
 use Rattle.pdu.proofs.Sizes.{Sized, sized}
 use Rattle.pdu.proofs.Lowest.{Lowest, without-eleven, lowest-by}
 use Rattle.panel.specs.Panel.{listTests, listNumber, listReading, listedPdu, entryAt, entriesFrom, listAfter}
@@ -152,8 +153,8 @@ module _ (y : List ℕ) where
     abbrev n : ℕ
     n = getD (r .lengths) k 0
 
-    pub few : k < 54
-    few = omega (arith, sized-judged z .most)
+    pub few : k < 63
+    few = let l = nop-small y in omega arith
 
     start-is : s ≡ startAt width c y k
     unfolding accepted
@@ -282,11 +283,11 @@ module _ (p : List ℕ) where
           go (yes z) = omega (arith, number-fits z, nop-with z, ap (λ (x : List ℕ). controlAt x .nop) (same-pdu z))
           go (no d) = omega (arith, nop-none d)
 
-      pub nop-few : nop ≤ 54
+      pub nop-few : nop ≤ 63
       nop-few = go (ℕ-discrete (listNumber p room) 0)
         where
-          go : Dec (listNumber p room ≡ 0) → nop ≤ 54
-          go (yes z) = omega (arith, sized-judged q (ap judged (same-pdu z) ∙ judged-zero (number-zero z)) .most, nop-with z)
+          go : Dec (listNumber p room ≡ 0) → nop ≤ 63
+          go (yes z) = omega (arith, nop-small q, nop-with z)
           go (no d) = omega (arith, nop-none d)
 
       -- what the list is to hold

@@ -19,7 +19,7 @@ use Rattle.layout.specs.declared.ControlWord.{ControlWord}
 use Rattle.layout.specs.Locators.{locatorSize}
 use Rattle.expansion.specs.Expansion.{nothing}
 use Rattle.expansion.specs.declared.Interpreted.{Interpreted}
-use Rattle.pdu.specs.Reading.{expansionBytes, fieldsOf, startAt, lengthAt, entries, answered, psdOf, accepted, noControl, refused, wrongLocator, anyBelow, wrongPieces, wrongLa, wrongDisplacement, readerTests, wrongWith, listedReading, modeIn, widthOf, judged, wrongOf, readingBy}
+use Rattle.pdu.specs.Reading.{expansionBytes, fieldsOf, startAt, lengthAt, entries, answered, psdOf, accepted, noControl, refused, wrongLocator, anyBelow, wrongFlags, wrongLa, wrongDisplacement, readerTests, wrongWith, listedReading, modeIn, widthOf, judged, wrongOf, readingBy}
 use Rattle.pdu.specs.declared.ExpansionFields.{ExpansionFields}
 use Rattle.pdu.specs.declared.Part.{Part}
 use Rattle.pdu.specs.declared.Reading.{Reading}
@@ -53,7 +53,7 @@ module _ (m : Mode) (c : ControlWord) (y : List ℕ) where
   -- where nothing applies, no locator is wrong
   pub none-wrong : firstOf (readerTests m c y) ≡ 0 → anyBelow (c .nop) (wrongLocator (m .width) c y) ≡ false
   none-wrong e =
-      go (leb (m .sequences) (c .sequence)) (wrongPieces (m .width) c) (wrongLa (m .width) c y) (not (fieldsOf (m .width) c y .right))
+      go (leb (m .sequences) (c .sequence)) (wrongFlags c) (wrongLa (m .width) c y) (not (fieldsOf (m .width) c y .right))
       (anyBelow (c .nop) (wrongLocator (m .width) c y)) (wrongDisplacement (m .width) c y (fieldsOf (m .width) c y)) e
     where
       go : (s p l x a d : Bool) → firstOf ((s, 7) ∷ (p, 8) ∷ (l, 9) ∷ (x, 10) ∷ (a, 11) ∷ (d, 12) ∷ []) ≡ 0 → a ≡ false

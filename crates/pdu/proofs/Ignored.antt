@@ -22,7 +22,7 @@ use Rattle.correction.specs.declared.Correction.the-variants.{Corrected}
 use Rattle.expansion.specs.Expansion.{nothing, chainLength, interpretation, expansionLength, septetsAt, expansionAt}
 use Rattle.expansion.specs.declared.Interpreted.{Interpreted}
 use Rattle.expansion.proofs.Chains.{outside, expansion-there}
-use Rattle.pdu.specs.Reading.{afterLocators, expansionBytes, fieldsOf, markAt, startAt, lengthAt, wrongLocator, anyBelow, wrongPieces, wrongLa, wrongDisplacement, readerTests, modeIn, listingOf, correctedTests, entries, answered, accepted, refused, judged, widthOf, readNumber, lowestWrong, wrongOf, readingBy, readingOf}
+use Rattle.pdu.specs.Reading.{afterLocators, expansionBytes, fieldsOf, markAt, startAt, lengthAt, wrongLocator, anyBelow, wrongFlags, wrongLa, wrongDisplacement, readerTests, modeIn, listingOf, correctedTests, entries, answered, accepted, refused, judged, widthOf, readNumber, lowestWrong, wrongOf, readingBy, readingOf}
 use Rattle.pdu.proofs.Any.{any-same}
 use Rattle.pdu.proofs.Lowest.{lowest-same}
 use Rattle.pdu.proofs.Filling.{entries-same, or-left}
@@ -115,7 +115,7 @@ module _ (m : Mode) (c : ControlWord) (y z : List ℕ) (long : length y ≡ leng
       any-same (wrongLocator (m .width) c y) (wrongLocator (m .width) c z) (c .nop) wrong-same in
       λ i.
       (leb (m .sequences) (c .sequence), 7)
-      ∷ (wrongPieces (m .width) c, 8)
+      ∷ (wrongFlags c, 8)
       ∷ (anyOf (ltb (c .la + 1) (afterLocators (m .width) c) ∷ leb (long i) (c .la) ∷ []), 9)
       ∷ (not (fields-same i .right), 10)
       ∷ (a i, 11)

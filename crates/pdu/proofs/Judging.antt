@@ -7,11 +7,11 @@ use native.Mathlib.Omega.{arith}
 use lib.Dec.{eqb, ltb, leb}
 use lib.ListN.{length}
 use borrow.Author.Tests.{lt-ltb, le-ltb, le-leb, lt-leb, eq-eqb, ne-eqb}
-use Rattle.layout.specs.Locators.{locatorSize, mostPieces, locatorAt}
+use Rattle.layout.specs.Locators.{locatorSize, locatorAt}
 use Rattle.layout.specs.declared.ControlWord.{ControlWord}
 use Rattle.expansion.specs.Expansion.{nothing, expansionLength, expansionAt}
 use Rattle.expansion.specs.declared.Interpreted.{Interpreted}
-use Rattle.pdu.specs.Reading.{afterLocators, expansionBytes, fieldsOf, markAt, startAt, wrongLocator, wrongPieces, wrongLa, wrongDisplacement}
+use Rattle.pdu.specs.Reading.{afterLocators, expansionBytes, fieldsOf, markAt, startAt, wrongLocator, wrongFlags, wrongLa, wrongDisplacement}
 
 size-small : (width n : ℕ) → n < 256 → locatorSize width n ≤ 518
 size-small width n h = go (eqb width 16)
@@ -79,23 +79,9 @@ module _ (width : ℕ) (c : ControlWord) (y : List ℕ) where
         let t : ltb (c .la + 1) (afterLocators width c) ≡ false = le-ltb (c .la + 1) (afterLocators width c) (omega (arith, sym e)) in
         rw t
 
-module _ (width : ℕ) (c : ControlWord) (m : ℕ) (em : m ≡ mostPieces width) where
-  pub pieces-many : m < c .nop → true ≡ wrongPieces width c
-  pieces-many h = let t : ltb (mostPieces width) (c .nop) ≡ true = lt-ltb (mostPieces width) (c .nop) (omega (arith, sym em)) in rw t
+module _ (c : ControlWord) where
+  pub flags-some : 0 < c .nop → false ≡ wrongFlags c
+  flags-some h = let t : eqb (c .nop) 0 ≡ false = ne-eqb (c .nop) 0 (λ q. absurd (omega arith)) in rw t
 
-  module _ (h : c .nop ≤ m) where
-    few : ltb (mostPieces width) (c .nop) ≡ false
-    few = le-ltb (mostPieces width) (c .nop) (omega (arith, sym em))
-
-    pub pieces-some : ¬ (c .nop ≡ 0) → false ≡ wrongPieces width c
-    pieces-some n = let t : eqb (c .nop) 0 ≡ false = ne-eqb _ _ n in rw (few, t)
-
-    module _ (z : c .nop ≡ 0) where
-      none : eqb (c .nop) 0 ≡ true
-      none = eq-eqb (c .nop) 0 z
-
-      pub none-first : c .pfirst ≡ true → true ≡ wrongPieces width c
-      none-first f = rw (few, none, f)
-
-      pub none-last : c .pfirst ≡ false → c .plast ≡ wrongPieces width c
-      none-last f = rw (few, none, f)
+  pub flags-none : c .nop ≤ 0 → (c .pfirst || c .plast) ≡ wrongFlags c
+  flags-none h = let t : eqb (c .nop) 0 ≡ true = eq-eqb (c .nop) 0 (omega arith) in rw t

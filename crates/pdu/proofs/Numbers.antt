@@ -9,7 +9,7 @@ use borrow.Author.Tests.{ne-eqb}
 use Rattle.refusal.specs.Refusal.{firstOf}
 use Rattle.modes.specs.declared.Mode.{Mode}
 use Rattle.layout.specs.declared.ControlWord.{ControlWord}
-use Rattle.pdu.specs.Reading.{fieldsOf, wrongLocator, anyBelow, wrongPieces, wrongLa, wrongDisplacement, readerTests, lowestWrong, wrongWith}
+use Rattle.pdu.specs.Reading.{fieldsOf, wrongLocator, anyBelow, wrongFlags, wrongLa, wrongDisplacement, readerTests, lowestWrong, wrongWith}
 
 module _ (m : Mode) (c : ControlWord) (y : List ℕ) where
   -- the number n and the k beside it are the right ones
@@ -23,10 +23,10 @@ module _ (m : Mode) (c : ControlWord) (y : List ℕ) where
   number-7 t n k en ek = (en ∙ sym (rw t), without-k n k (λ q. omega arith) ek)
 
   module _ (s : leb (m .sequences) (c .sequence) ≡ false) where
-    pub number-8 : wrongPieces (m .width) c ≡ true → (n k : ℕ) → n ≡ 8 → k ≡ 0 → Judged n k
+    pub number-8 : wrongFlags c ≡ true → (n k : ℕ) → n ≡ 8 → k ≡ 0 → Judged n k
     number-8 t n k en ek = (en ∙ sym (rw (s, t)), without-k n k (λ q. omega arith) ek)
 
-    module _ (p : wrongPieces (m .width) c ≡ false) where
+    module _ (p : wrongFlags c ≡ false) where
       pub number-9 : wrongLa (m .width) c y ≡ true → (n k : ℕ) → n ≡ 9 → k ≡ 0 → Judged n k
       number-9 t n k en ek = (en ∙ sym (rw (s, p, t)), without-k n k (λ q. omega arith) ek)
 

@@ -15,7 +15,7 @@ use Rattle.modes.specs.declared.Listing.{Listing}
 use Rattle.modes.specs.declared.Listing.the-variants.{Listed, Refused}
 use Rattle.layout.specs.Control.{controlAt, controlBytes, InWidth}
 use Rattle.layout.specs.declared.ControlWord.{ControlWord}
-use Rattle.layout.specs.Locators.{locatorSize, mostPieces, locatorAt}
+use Rattle.layout.specs.Locators.{locatorSize, locatorAt}
 use Rattle.layout.proofs.ControlLaw.{control-law}
 use Rattle.layout.proofs.LocatorLaw.{roof}
 use Rattle.expansion.specs.Expansion.{nothing, expansionLength, expansionAt}
@@ -26,7 +26,7 @@ use Rattle.expansion.proofs.ExpansionLaw.{expansion-law, none-sent}
 use Rattle.correction.specs.Correction.{correctedPdu}
 use Rattle.crc.specs.Crc.{crcFrom}
 use Rattle.contents.specs.Contents.{firstPiece, locatorsOf, contents}
-use Rattle.pdu.specs.Reading.{afterLocators, expansionBytes as expansionCount, fieldsOf, markAt, startAt, lengthAt, wrongLocator, anyBelow, wrongPieces, wrongLa, wrongDisplacement, readerTests, listingOf, modeIn, correctedTests, judged, widthOf, psdOf, answered, accepted, refused, readNumber, wrongOf, readingBy, readingOf, readPdu}
+use Rattle.pdu.specs.Reading.{afterLocators, expansionBytes as expansionCount, fieldsOf, markAt, startAt, lengthAt, wrongLocator, anyBelow, wrongFlags, wrongLa, wrongDisplacement, readerTests, listingOf, modeIn, correctedTests, judged, widthOf, psdOf, answered, accepted, refused, readNumber, wrongOf, readingBy, readingOf, readPdu}
 use Rattle.pdu.specs.PieceRead.{PieceRead}
 use Rattle.pdu.specs.declared.Part.{Part}
 use Rattle.pdu.proofs.ContentsLaw.{locators-back, locators-below, written-length, expansion-back, psd-back, pieces-back}
@@ -37,7 +37,6 @@ pub record Sendable (m : Mode) (c : ControlWord) (x : Fields) (psd : List ℕ) (
   pub widths : InWidth c
   pub sequence : c .sequence < m .sequences
   pub count : c .nop ≡ length ps
-  pub few : length ps ≤ mostPieces (m .width)
   pub none : length ps ≡ 0 → (c .pfirst ≡ false) × (c .plast ≡ false)
   pub la : c .la + 1 ≡ firstPiece (m .width) (expansionBytes x) psd ps
   pub flag : c .flag ≡ ltb 0 (length (expansionBytes x))
@@ -169,15 +168,12 @@ module _ (register : ℕ) (m : Mode) (c : ControlWord) (x : Fields) (psd : List 
             let v : leb (length y) (interpretedOf x .displacement) ≡ false = lt-leb (length y) (interpretedOf x .displacement) (omega (arith, d, n)) in
             rw (u, v)
 
-    pieces-right : wrongPieces (m .width) c ≡ false
-    pieces-right = go (eqb (c .nop) 0) refl
+    flags-right : wrongFlags c ≡ false
+    flags-right = go (eqb (c .nop) 0) refl
       where
-        few : ltb (mostPieces (m .width)) (c .nop) ≡ false
-        few = let f = s .few in le-ltb (mostPieces (m .width)) (c .nop) (omega (arith, f, s .count))
-
-        go : (b : Bool) → eqb (c .nop) 0 ≡ b → (ltb (mostPieces (m .width)) (c .nop) || ((b && c .pfirst) || (b && c .plast))) ≡ false
-        go false e = rw few
-        go true e = let n = s .none (sym (s .count) ∙ eqb-true (c .nop) 0 e) in rw (few, n .0, n .1)
+        go : (b : Bool) → eqb (c .nop) 0 ≡ b → ((b && c .pfirst) || (b && c .plast)) ≡ false
+        go false e = refl
+        go true e = let n = s .none (sym (s .count) ∙ eqb-true (c .nop) 0 e) in rw (n .0, n .1)
 
     -- no row of the table applies
     none-applies : firstOf (readerTests m c y) ≡ 0
@@ -185,7 +181,7 @@ module _ (register : ℕ) (m : Mode) (c : ControlWord) (x : Fields) (psd : List 
         let q : leb (m .sequences) (c .sequence) ≡ false = lt-leb (m .sequences) (c .sequence) (s .sequence) in
         let r : not (fieldsOf (m .width) c y .right) ≡ false = ap (λ (i : Interpreted). not (i .right)) read-fields in
         let a : anyBelow (c .nop) (wrongLocator (m .width) c y) ≡ false = none-below (c .nop) (omega (arith, s .count)) in
-        rw (q, pieces-right, la-right, r, a, displacement-right)
+        rw (q, flags-right, la-right, r, a, displacement-right)
 
     -- the PDU is accepted, and this is its answer
     pub accepted-back : judged sent ≡ 0

@@ -2,24 +2,24 @@
 use mathlib.Core.Path.{_≡_, refl, sym, ap, _∙_, subst}
 use mathlib.Core.Bool.{Bool, true, false, _&&_, cond, true≢false}
 use mathlib.Core.List.{List, [], _∷_}
-use Prim.Native.Nat.{ℕ, zero, suc, _+_, _-_, _%_, _<_, _≤_, min}
-use native.Mathlib.Decide.{decLt}
+use Prim.Native.Nat.{ℕ, zero, suc, _+_, _-_, _*_, _/_, _%_, _<_, _≤_, min}
+use native.Mathlib.Decide.{decLt, decLe}
 use native.Mathlib.Omega.{arith}
 use lib.Dec.{eqb, ltb, leb}
 use lib.ListN.{length, take, drop, length-map, length-take, length-drop}
 use lib.Seq.{take-take}
 use borrow.Author.Tests.{lt-ltb, le-leb, ltb-false, leb-false}
-use Rattle.refusal.specs.Refusal.{firstOf, anyOf}
+use Rattle.refusal.specs.Refusal.{firstOf}
 use Rattle.modes.specs.declared.Mode.{Mode}
 use Rattle.layout.specs.declared.ControlWord.{ControlWord}
-use Rattle.layout.specs.Locators.{mostPieces, locatorAt}
+use Rattle.layout.specs.Locators.{locatorSize, locatorAt}
 use Rattle.expansion.specs.Expansion.{chainLength, expansionLength, septetsAt}
 use Rattle.expansion.proofs.Chains.{outside, expansion-there}
-use Rattle.pdu.specs.Reading.{afterLocators, expansionBytes, startAt, lengthAt, wrongLocator, anyBelow, wrongPieces, wrongLa, readerTests}
+use Rattle.pdu.specs.Reading.{afterLocators, expansionBytes, startAt, lengthAt, wrongLocator, anyBelow, wrongFlags, wrongLa, readerTests}
 use Rattle.pdu.proofs.Any.{any-found}
 use Rattle.pdu.proofs.Assembling.{none-wrong}
 use Rattle.pdu.proofs.Filling.{or-left, past-start}
-use Rattle.pdu.proofs.Judging.{la-high, locator-high}
+use Rattle.pdu.proofs.Judging.{la-low, la-high, locator-high}
 
 -- the bytes of n pieces from piece k on
 unfoldable pub lengthsFrom : ℕ → ControlWord → List ℕ → ℕ → ℕ → ℕ
@@ -28,8 +28,6 @@ lengthsFrom width c y k (suc n) = lengthAt width c y k + lengthsFrom width c y (
 
 -- locators, expansion bytes, PSD and pieces follow one another; each piece has at least one byte
 pub record Sized (width : ℕ) (c : ControlWord) (y : List ℕ) : Type 0 where
-  pub few : c .nop ≤ mostPieces width
-  pub most : c .nop ≤ 54
   pub la : c .la < length y
   pub after : afterLocators width c ≤ c .la + 1
   pub psd : afterLocators width c + expansionBytes width c y ≤ c .la + 1  -- where PSD starts
@@ -65,13 +63,6 @@ psd-start width c y h =
 
 -- ---- locators and pieces
 
-most-pieces : (width : ℕ) → mostPieces width ≤ 54
-most-pieces width = go (eqb width 16)
-  where
-    go : (b : Bool) → cond b 41 54 ≤ 54
-    go true = omega arith
-    go false = omega arith
-
 module _ (width : ℕ) (c : ControlWord) (y : List ℕ) (none : anyBelow (c .nop) (wrongLocator width c y) ≡ false) where
   below-end : (k : ℕ) → k < c .nop → locatorAt width y k < length y
   below-end k h = go (decLt (locatorAt width y k) (length y))
@@ -98,30 +89,26 @@ module _ (width : ℕ) (c : ControlWord) (y : List ℕ) (none : anyBelow (c .nop
       let p = past-start width c y k none (omega arith) in
       omega arith
 
--- ---- rows 8, 9 and 11 turn nothing down
+-- ---- rows 9 and 11 turn nothing down
 
 module _ (m : Mode) (c : ControlWord) (y : List ℕ) where
-  rows : firstOf (readerTests m c y) ≡ 0 → (wrongPieces (m .width) c ≡ false) × (wrongLa (m .width) c y ≡ false)
-  rows e = go (leb (m .sequences) (c .sequence)) (wrongPieces (m .width) c) (wrongLa (m .width) c y) (drop 3 (readerTests m c y)) e
+  row-9 : firstOf (readerTests m c y) ≡ 0 → wrongLa (m .width) c y ≡ false
+  row-9 e = go (leb (m .sequences) (c .sequence)) (wrongFlags c) (wrongLa (m .width) c y) (drop 3 (readerTests m c y)) e
     where
-      go : (s p l : Bool) (ts : List (Bool × ℕ)) → firstOf ((s, 7) ∷ (p, 8) ∷ (l, 9) ∷ ts) ≡ 0 → (p ≡ false) × (l ≡ false)
+      go : (s p l : Bool) (ts : List (Bool × ℕ)) → firstOf ((s, 7) ∷ (p, 8) ∷ (l, 9) ∷ ts) ≡ 0 → l ≡ false
       go true p l ts e = absurd (omega arith)
       go false true l ts e = absurd (omega arith)
       go false false true ts e = absurd (omega arith)
-      go false false false ts e = (refl, refl)
+      go false false false ts e = refl
 
   -- where no row applies
   pub sized : firstOf (readerTests m c y) ≡ 0 → Sized (m .width) c y
   sized e =
-      let r = rows e in
-      let few : c .nop ≤ mostPieces (m .width) = ltb-false (mostPieces (m .width)) (c .nop) (or-left (ltb (mostPieces (m .width)) (c .nop)) (anyOf ((eqb (c .nop) 0 && c .pfirst) ∷ (eqb (c .nop) 0 && c .plast) ∷ [])) (r .0)) in
-      let after : afterLocators (m .width) c ≤ c .la + 1 = ltb-false (c .la + 1) (afterLocators (m .width) c) (or-left (ltb (c .la + 1) (afterLocators (m .width) c)) (leb (length y) (c .la)) (r .1)) in
-      let la : c .la < length y = leb-false (length y) (c .la) (la-high (m .width) c y (afterLocators (m .width) c) refl after ∙ r .1) in
+      let r = row-9 e in
+      let after : afterLocators (m .width) c ≤ c .la + 1 = ltb-false (c .la + 1) (afterLocators (m .width) c) (or-left (ltb (c .la + 1) (afterLocators (m .width) c)) (leb (length y) (c .la)) r) in
+      let la : c .la < length y = leb-false (length y) (c .la) (la-high (m .width) c y (afterLocators (m .width) c) refl after ∙ r) in
       let none : anyBelow (c .nop) (wrongLocator (m .width) c y) ≡ false = none-wrong m c y e in
-      let most : c .nop ≤ 54 = let p = most-pieces (m .width) in omega arith in
       record {
-        few = few;
-        most = most;
         la = la;
         after = after;
         psd = psd-start (m .width) c y after;
@@ -129,3 +116,20 @@ module _ (m : Mode) (c : ControlWord) (y : List ℕ) where
         within = below-end (m .width) c y none;
         lengths = lengths-within (m .width) c y none la;
       }
+
+-- ---- row 9 turns it down before a locator is looked at
+
+-- 63 locators do not end in 96 bytes, of either width
+pub never-in-96 : (width : ℕ) (c : ControlWord) (y : List ℕ) → c .nop ≡ 63 → length y ≡ 96 → wrongLa width c y ≡ true
+never-in-96 width c y n l = go (decLe (afterLocators width c) (c .la + 1))
+  where
+    long : 95 ≤ locatorSize width (c .nop)
+    long = by (eqb width 16)
+      where
+        by : (b : Bool) → 95 ≤ cond b ((16 * c .nop + 7) / 8) ((12 * c .nop + 7) / 8)
+        by true = omega arith
+        by false = omega arith
+
+    go : Dec (afterLocators width c ≤ c .la + 1) → wrongLa width c y ≡ true
+    go (yes h) = sym (la-high width c y (afterLocators width c) refl h) ∙ le-leb (length y) (c .la) (omega (arith, long))
+    go (no h) = sym (la-low width c y (afterLocators width c) refl (omega arith))

@@ -13,7 +13,7 @@ use Rattle.modes.specs.declared.Listing.{Listing}
 use Rattle.modes.specs.declared.Listing.the-variants.{Listed, Refused}
 use Rattle.layout.specs.Control.{controlAt}
 use Rattle.layout.specs.declared.ControlWord.{ControlWord}
-use Rattle.layout.specs.Locators.{locatorSize, mostPieces, locatorAt}
+use Rattle.layout.specs.Locators.{locatorSize, locatorAt}
 use Rattle.expansion.specs.Expansion.{nothing, expansionLength, expansionAt}
 use Rattle.expansion.specs.declared.Interpreted.{Interpreted}
 use Rattle.correction.specs.Correction.{corrected, correctedPdu}
@@ -65,9 +65,9 @@ lowestWrong width c y = lowestBelow (c .nop) (wrongLocator width c y)
 
 -- ---- what is turned down, 7 to 12
 
--- NOP over its limit, or Pfirst or Plast with NOP 0
-abbrev pub wrongPieces : ℕ → ControlWord → Bool
-wrongPieces width c = anyOf (ltb (mostPieces width) (c .nop) ∷ (eqb (c .nop) 0 && c .pfirst) ∷ (eqb (c .nop) 0 && c .plast) ∷ [])
+-- Pfirst or Plast with NOP 0; any count of pieces is taken (document 02, Ask 9)
+abbrev pub wrongFlags : ControlWord → Bool
+wrongFlags c = anyOf ((eqb (c .nop) 0 && c .pfirst) ∷ (eqb (c .nop) 0 && c .plast) ∷ [])
 
 -- La before the last locator byte, or not below the length
 abbrev pub wrongLa : ℕ → ControlWord → List ℕ → Bool
@@ -80,7 +80,7 @@ wrongDisplacement width c y x = x .displaced && (ltb (x .displacement) (markAt w
 abbrev pub readerTests : Mode → ControlWord → List ℕ → List (Bool × ℕ)
 readerTests m c y =
     (leb (m .sequences) (c .sequence), 7)
-    ∷ (wrongPieces (m .width) c, 8)
+    ∷ (wrongFlags c, 8)
     ∷ (wrongLa (m .width) c y, 9)
     ∷ (not (fieldsOf (m .width) c y .right), 10)
     ∷ (anyBelow (c .nop) (wrongLocator (m .width) c y), 11)

@@ -13,7 +13,7 @@ ghost use Rattle.header.specs.Header.{frontReplaced};
 ghost use Rattle.refusal.specs.Refusal.{firstOf};
 ghost use lib.ListN.{length};
 ghost use Rattle.layout.specs.Locators.{locatorSize};
-ghost use Rattle.pdu.specs.Reading.{afterLocators, expansionBytes, fieldsOf, markAt, wrongLocator, wrongPieces, wrongLa, wrongDisplacement, anyBelow, lowestWrong, readerTests, wrongWith, entries, startAt, lengthAt, answered, accepted, noControl, refused, listedReading, judged, readingBy, readingOf, readPdu};
+ghost use Rattle.pdu.specs.Reading.{afterLocators, expansionBytes, fieldsOf, markAt, wrongLocator, wrongFlags, wrongLa, wrongDisplacement, anyBelow, lowestWrong, readerTests, wrongWith, entries, startAt, lengthAt, answered, accepted, noControl, refused, listedReading, judged, readingBy, readingOf, readPdu};
 
 // Expansion fields: 0 where not sent or not interpreted.
 #[repr(C)]
@@ -99,20 +99,15 @@ fn wrong_locator(y: &[u8], width: u8, c: ControlWord, k: u8) -> bool
     y.len() <= l
 }
 
-// NOP over its limit, or Pfirst or Plast with NOP 0.
-fn wrong_pieces(width: u8, c: ControlWord) -> bool
-    ensures { λ r. ⌜ r ≡ wrongPieces width c ⌝ }
+// Pfirst or Plast with NOP 0.
+fn wrong_flags(c: ControlWord) -> bool
+    ensures { λ r. ⌜ r ≡ wrongFlags c ⌝ }
 {
-    if layout::most_pieces(width) < c.nop {
-        return true;
+    let nop = c.nop;
+    if 0 < nop {
+        return false;
     }
-    if c.nop == 0 {
-        if c.pfirst {
-            return true;
-        }
-        return c.plast;
-    }
-    false
+    c.pfirst | c.plast
 }
 
 // La before the last locator byte, or not below the length.
@@ -177,7 +172,7 @@ pub fn judge(y: &[u8], c: ControlWord, m: Mode) -> Verdict
     if m.sequences <= c.sequence {
         return plain(7);
     }
-    if wrong_pieces(m.width, c) {
+    if wrong_flags(c) {
         return plain(8);
     }
     if wrong_la(y, m.width, c) {

@@ -21,6 +21,7 @@ use Rattle.correction.specs.Marks.{marksRefusal, correctedWith, correctedPduWit
 use Rattle.correction.proofs.MarkLists.{allowed-marks}
 use Rattle.correction.proofs.Answers.{header-with-length, corrected-pdu}
 use Rattle.pdu.specs.Reading.{startAt, lengthAt, psdOf, readerTests, listingOf, modeIn, uncorrectable}
+use Rattle.pdu.proofs.Assembling.{nop-small}
 use Rattle.pdu.proofs.Sizes.{lengthsFrom, sized}
 use Rattle.reassembly.specs.Reassembly.{received}
 use Rattle.reassembly.specs.Run.{bytesOf, partialOf}
@@ -47,15 +48,15 @@ held-few zero number c h = omega arith
 held-few (suc x) number c h = let e = length-take (suc x) c in omega (arith, e, h)
 
 -- the words that a PDU of at most 20,480 bytes takes, where none of the rows 7 to 12 applies
-pub words-most : (range : ℕ) (m : Mode) (r : Receiver) (carry : List ℕ) (c : ControlWord) (y : List ℕ) → r .held ≤ 4096 → length y ≤ 20480 → firstOf (readerTests m c y) ≡ 0
+pub words-most : (range : ℕ) (m : Mode) (r : Receiver) (carry : List ℕ) (c : ControlWord) (y : List ℕ) → r .held ≤ 4096 → length y ≤ 20480 → c .nop < 64 → firstOf (readerTests m c y) ≡ 0
     → length (logWords (received range (memoryOf r carry) (saidBy (r .register) (m .width) c y) .entries)) ≤ 8400
 unfolding saidBy memoryOf
-words-most range m r carry c y held size e =
+words-most range m r carry c y held size few e =
     let z = sized m c y e in
     let p = pieces-few (r .register) (m .width) c y 0 (c .nop) in
     let q = taken-few (psdOf (m .width) c y .length) (psdOf (m .width) c y .start) y in
     let l = z .lengths 0 (c .nop) (omega arith) in
-    bound range _ _ (held-few (r .held) (r .number) carry held) (omega (arith, p .0, z .most)) (omega (arith, q, p .1, l, size))
+    bound range _ _ (held-few (r .held) (r .number) carry held) (omega (arith, p .0)) (omega (arith, q, p .1, l, size))
 
 -- ---- the rows before 13
 
@@ -97,7 +98,7 @@ module _ (marks carry pdu log : List ℕ) (r : Receiver) where
       let ok : marksRefusal marks ≡ 0 = eqb-true (marksRefusal marks) 0 (not-false (eqb (marksRefusal marks) 0) (off 3)) in
       let m : modeIn (listingOf c) ≡ modeOf r = ap modeIn (same-listing r c (off 6)) in
       let held = ltb-false 4096 (r .held) (none-at (wrongState r) 3 (off 0)) in
-      words-most (modeOf r .sequences) (modeOf r) r carry c y held (omega (arith, corrected-length marks pdu lo hi b ok, hi)) (ap (λ (k : Mode). firstOf (readerTests k c y)) (sym m) ∙ rest-off firstTwelve 7 refl e)
+      words-most (modeOf r .sequences) (modeOf r) r carry c y held (omega (arith, corrected-length marks pdu lo hi b ok, hi)) (nop-small y) (ap (λ (k : Mode). firstOf (readerTests k c y)) (sym m) ∙ rest-off firstTwelve 7 refl e)
 
   -- a carry of 4,096 bytes and a log of 8,400 words: never refused with 2 or 13
   pub enough-carry : 4096 ≤ length carry → ¬ (receiveNumber marks carry pdu log r ≡ 2)

@@ -13,17 +13,14 @@ use Rattle.reassembly.specs.Run.{Marked, Parsed}
 use Rattle.receiver.specs.Steps.{MarksOf, headOf}
 use Rattle.receiver.proofs.Marks.{next-mark}
 
-module _ (m : Mode) (c : ControlWord) (y : List ℕ) (e : firstOf (readerTests m c y) ≡ 0) where
+module _ (m : Mode) (c : ControlWord) (y : List ℕ) (small : c .nop < 64) (e : firstOf (readerTests m c y) ≡ 0) where
   parts : Sized (m .width) c y
   parts = sized m c y e
-
-  pub few-pieces : c .nop < 64
-  few-pieces = omega (arith, parts .most)
 
   module _ (marks : List ℕ) (em : MarksOf (m .width) c y marks) where
     pub all-marked : Marked y marks (c .nop)
     all-marked = record {
-      few = omega (arith, parts .most);
+      few = omega arith;
       first = subst (λ (n : ℕ). n < length y) (sym (em 0 (omega arith))) (parts .la);
       rising = λ k h. omega (arith, em k (omega arith), next-mark (m .width) c y marks em k h, parts .past k h);
       within = λ k h. subst (λ (n : ℕ). n < length y) (sym (next-mark (m .width) c y marks em k h)) (parts .within k h);

@@ -33,6 +33,7 @@ use Rattle.receiver.proofs.Saying.{same-memory, same-said}
 pub record Ready (m : Mode) (c : ControlWord) (y marks causes : List ℕ) (r : Receiver) (carry log : List ℕ) (head : Head) (state : State) : Type 0 where
   pub fine : Usable r carry
   pub size : length y ≤ 20480
+  pub few : c .nop < 64
   pub right : firstOf (readerTests m c y) ≡ 0
   pub marked : MarksOf (m .width) c y marks
   pub caused : CausesOf (r .register) y marks (c .nop) causes
@@ -44,7 +45,7 @@ module _ {m : Mode} {c : ControlWord} {y marks causes : List ℕ} {r : Receiver}
   fine = ready .fine
 
   whole : Parsed head y marks
-  whole = rw (ready .headed) (parsed m c y (ready .right) marks (ready .marked) (ready .size))
+  whole = rw (ready .headed) (parsed m c y (ready .few) (ready .right) marks (ready .marked) (ready .size))
 
   abbrev pub Accepts : Outcome
   Accepts = received (m .sequences) (memoryBy state carry) (saidOf head marks causes y)
@@ -99,7 +100,7 @@ module _ {m : Mode} {c : ControlWord} {y marks causes : List ℕ} {r : Receiver}
         pub run-fits : (run .held ≤ 65535) × (run .at ≤ 4294967295)
         run-fits = (
           omega (arith, run-held, held-bounded state (m .sequences) head marks causes y carry small (fine .room) whole),
-          omega (arith, run-at, counted-here, words-most (m .sequences) m r carry c y (fine .held) (ready .size) (ready .right)),
+          omega (arith, run-at, counted-here, words-most (m .sequences) m r carry c y (fine .held) (ready .size) (ready .few) (ready .right)),
         )
 
         run-answer : acceptedAfter r (c .sequence) run ≡ acceptedAnswer (m .sequences) (saidBy (r .register) (m .width) c y) r carry log

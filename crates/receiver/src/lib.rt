@@ -219,7 +219,7 @@ fn receive_read(
     log: &mut [u32],
 ) -> Received
     requires { ⌜ Usable r (now carry) ⌝ }
-    requires { ⌜ length (now y) ≤ 20480 ⌝ }
+    requires { ⌜ (length (now y) ≤ 20480) × (c .nop < 64) ⌝ }
     requires { ⌜ firstOf (readerTests m c (now y)) ≡ 0 ⌝ }
     ensures { λ a. ⌜ Answered (m .sequences) (saidBy (r .register) (m .width) c (now (y .entry))) r (now (carry .entry)) (now (log .entry)) (cond (noRoom (m .sequences) (saidBy (r .register) (m .width) c (now (y .entry))) r (now (carry .entry)) (now (log .entry))) 13 0) 0 a (now (carry .exit)) (now (log .exit)) ⌝ }
 {

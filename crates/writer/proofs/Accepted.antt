@@ -12,13 +12,13 @@ use Rattle.modes.specs.Modes.{listing}
 use Rattle.modes.specs.declared.Mode.{Mode}
 use Rattle.modes.specs.declared.Listing.{Listing}
 use Rattle.modes.specs.declared.Listing.the-variants.{Listed, Refused}
-use Rattle.layout.specs.Locators.{locatorSize, mostPieces}
-use Rattle.layout.proofs.LocatorLaw.{locators-end}
+use Rattle.layout.specs.Locators.{locatorSize}
+use Rattle.layout.proofs.LocatorLaw.{size-grows}
 use Rattle.settings.specs.Settings.{brokenRules, wrongValues}
 use Rattle.settings.specs.declared.Settings.{Settings}
 use Rattle.pieces.specs.Pieces.{total}
-use Rattle.packing.specs.Packing.{overhead, wholes, part, ifAny, pieceLengths}
-use Rattle.packing.proofs.Fitting.{most-small}
+use Rattle.packing.specs.Packing.{overhead, mostPieces, wholes, part, ifAny, pieceLengths}
+use Rattle.packing.proofs.Limit.{most-small, la-below}
 use Rattle.packing.proofs.Bounds.{left, Kept, kept}
 use Rattle.writer.specs.Writing.{wrongLengths, wrongUnfinished, wrongState, wrongSize, wrongPackets, wrongExtra, noRoom, expansionOf, extraOf, writerTests, placed, endedOf, partOf}
 use Rattle.writer.specs.declared.Writer.{Writer}
@@ -115,16 +115,9 @@ module _ (settings : Settings) (psd lengths bytes : List ℕ) (size : ℕ) (m : 
   pub overhead-fits : Fine → overhead (m .width) (extraOf settings psd lengths bytes size) 0 ≤ size
   overhead-fits f = go lengths (f .room)
     where
-      less : (k : ℕ) → locatorSize (m .width) 0 ≤ locatorSize (m .width) 1
-      less k = go2 (eqb (m .width) 16)
-        where
-          go2 : (b : Bool) → cond b ((16 * 0 + 7) / 8) ((12 * 0 + 7) / 8) ≤ cond b ((16 * 1 + 7) / 8) ((12 * 1 + 7) / 8)
-          go2 true = omega arith
-          go2 false = omega arith
-
       go : (ns : List ℕ) → noRoom m (extraOf settings psd lengths bytes size) size ns ≡ false → overhead (m .width) (extraOf settings psd lengths bytes size) 0 ≤ size
       go [] e = ltb-false size (overhead (m .width) (extraOf settings psd lengths bytes size) 0) e
-      go (n ∷ ns) e = let h = ltb-false size (overhead (m .width) (extraOf settings psd lengths bytes size) 1 + 2) e in omega (arith, h, less 0)
+      go (n ∷ ns) e = let h = ltb-false size (overhead (m .width) (extraOf settings psd lengths bytes size) 1 + 2) e in omega (arith, h, size-grows (m .width) 0 1 (omega arith))
 
   -- the pieces are placed among the bytes offered
   pub all-left : Fine → left (w .sent) lengths ≡ length (drop (w .sent) bytes)
@@ -148,7 +141,7 @@ module _ (settings : Settings) (psd lengths bytes : List ℕ) (size : ℕ) (m : 
     pub enough : total ps ≤ length (drop (w .sent) bytes)
     enough = let h = keeps .offered in omega (arith, h, all-left f)
 
-    pub few : length ps ≤ mostPieces (m .width)
+    pub few : length ps ≤ mostPieces (m .width) extra
     few = let h = keeps .few in omega (arith, h)
 
     -- all of it fits the PDU
@@ -159,8 +152,8 @@ module _ (settings : Settings) (psd lengths bytes : List ℕ) (size : ℕ) (m : 
         omega (arith, h)
 
     -- La fits its byte
-    pub la-fits : m .limit ≤ 128 → overhead (m .width) extra (length ps) ≤ 224
-    la-fits l = let h = locators-end (m .width) (length ps) few in omega (arith, h, l, f .extra)
+    pub la-fits : m .limit ≤ 128 → overhead (m .width) extra (length ps) ≤ 256
+    la-fits l = la-below (m .width) extra (length ps) (omega (arith, f .extra)) few
 
     -- what is sent already is among the bytes offered
     pub sent-within : w .sent ≤ length bytes
@@ -177,10 +170,10 @@ module _ (settings : Settings) (psd lengths bytes : List ℕ) (size : ℕ) (m : 
     abbrev rest : ℕ
     rest = part (m .width) extra size (w .sent) lengths
 
-    pub ended-few : endedOf settings psd lengths bytes size m w ≤ 54
+    pub ended-few : endedOf settings psd lengths bytes size m w ≤ 63
     ended-few =
         let n : length ps ≡ length ended + length (ifAny rest) = length-append ended (ifAny rest) in
-        omega (arith, n, few, most-small (m .width))
+        omega (arith, n, few, most-small (m .width) extra)
 
     pub part-small : partOf settings psd lengths bytes size m w ≤ 20480
     part-small =

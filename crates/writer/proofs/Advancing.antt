@@ -18,13 +18,14 @@ use Rattle.modes.proofs.Listable.{listable}
 use Rattle.settings.specs.declared.Settings.{Settings}
 use Rattle.pieces.specs.Pieces.{total}
 use Rattle.packing.specs.Packing.{overhead, pieceLengths}
+use Rattle.packing.proofs.Limit.{one-piece}
 use Rattle.packing.proofs.Bounds.{AtMost, Positive, sent-after, some-placed}
 use Rattle.writer.specs.Writing.{wrongLengths, wrongState, noRoom, extraOf, placed, nextOf, controlFor, writerTests, acceptedAnswer, refusedAnswer, answerIn, writeAnswer}
 use Rattle.writer.specs.declared.Writer.{Writer}
 use Rattle.writer.specs.declared.Written.{Written}
 use Rattle.writer.proofs.Judging.{first-fails, second-fails}
 use Rattle.writer.proofs.Accepted.{Fine, fine}
-use Rattle.writer.proofs.Sending.{one-piece, positive}
+use Rattle.writer.proofs.Sending.{extra-small, positive}
 
 at-most : (ns : List ℕ) → wrongLengths ns ≡ false → AtMost 4096 ns
 at-most [] e = tt
@@ -55,7 +56,7 @@ module _ (settings : Settings) (psd lengths bytes : List ℕ) (size : ℕ) (m : 
       offered (n ∷ ns) e h =
           let r : noRoom m (extraOf settings psd lengths bytes size) size (n ∷ ns) ≡ false = subst (λ (k : List ℕ). noRoom m (extraOf settings psd lengths bytes size) size k ≡ false) e (f .room) in
           subst (λ (k : List ℕ). 0 < length (pieceLengths (m .width) (extraOf settings psd lengths bytes size) size (w .sent) k)) (sym e)
-          (some-placed (m .width) (extraOf settings psd lengths bytes size) size (w .sent) n ns (ltb-false size (overhead (m .width) (extraOf settings psd lengths bytes size) 1 + 2) r) (one-piece (m .width)))
+          (some-placed (m .width) (extraOf settings psd lengths bytes size) size (w .sent) n ns (ltb-false size (overhead (m .width) (extraOf settings psd lengths bytes size) 1 + 2) r) (one-piece (m .width) (extraOf settings psd lengths bytes size) (extra-small settings psd lengths bytes size m w f l)))
 
       go : (ps : List ℕ) → 0 < length ps → Positive ps → 0 < total ps
       go [] n p = absurd (omega arith)

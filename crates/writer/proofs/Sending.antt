@@ -15,7 +15,6 @@ use Rattle.modes.specs.declared.Listing.the-variants.{Listed}
 use Rattle.modes.proofs.Listable.{Listable, listable}
 use Rattle.layout.specs.Control.{InWidth}
 use Rattle.layout.specs.declared.ControlWord.{ControlWord}
-use Rattle.layout.specs.Locators.{mostPieces}
 use Rattle.layout.proofs.LocatorLaw.{roof}
 use Rattle.expansion.specs.Writing.{InRange, interpretedOf, expansionBytes}
 use Rattle.settings.specs.Settings.{brokenRules, wrongValues, fieldsFor, programOf, classOne, accessOne}
@@ -23,7 +22,7 @@ use Rattle.settings.specs.declared.Settings.{Settings}
 use Rattle.expansion.specs.declared.Fields.{Fields}
 use Rattle.pieces.specs.Pieces.{cutBy, total}
 use Rattle.packing.specs.Packing.{overhead, wholes, part, ifAny, pieceLengths, partFrom}
-use Rattle.packing.proofs.Fitting.{most-small}
+use Rattle.packing.proofs.Limit.{most-small, one-piece}
 use Rattle.packing.proofs.Bounds.{Bytes, Positive, Kept, kept, some-placed}
 use Rattle.contents.specs.Contents.{firstPiece}
 use Rattle.contents.proofs.Putting.{cut-count, cut-lengths}
@@ -93,20 +92,13 @@ module _ (stream : ℕ) (s : Settings) (size : ℕ) (rules : anyOf (brokenRules 
 
 -- ---- packets
 
-pub one-piece : (width : ℕ) → 1 ≤ mostPieces width
-one-piece width = go (eqb width 16)
-  where
-    go : (b : Bool) → 1 ≤ cond b 41 54
-    go true = omega arith
-    go false = omega arith
-
-none-placed : (m : Mode) (extra size s : ℕ) (ls : List ℕ) → wrongUnfinished s ls ≡ false → noRoom m extra size ls ≡ false → length (pieceLengths (m .width) extra size s ls) ≡ 0
+none-placed : (m : Mode) (extra size s : ℕ) (ls : List ℕ) → extra ≤ 128 → wrongUnfinished s ls ≡ false → noRoom m extra size ls ≡ false → length (pieceLengths (m .width) extra size s ls) ≡ 0
     → (ltb 0 s ≡ false) × (ltb 0 (part (m .width) extra size s ls) ≡ false)
 unfolding partFrom
-none-placed m extra size s [] u r e = (u, refl)
-none-placed m extra size s (n ∷ ls) u r e =
-    let h = ltb-false size (overhead (m .width) extra 1 + 2) r in
-    let p = some-placed (m .width) extra size s n ls h (one-piece (m .width)) in
+none-placed m extra size s [] h u r e = (u, refl)
+none-placed m extra size s (n ∷ ls) h u r e =
+    let q = ltb-false size (overhead (m .width) extra 1 + 2) r in
+    let p = some-placed (m .width) extra size s n ls q (one-piece (m .width) extra h) in
     absurd (omega (arith, p, e))
 
 -- every packet offered has bytes left
@@ -155,12 +147,16 @@ module _ (settings : Settings) (psd lengths bytes : List ℕ) (size : ℕ) (m : 
   same-count : length ps ≡ length ns
   same-count = cut-count ns (drop (w .sent) bytes)
 
+  -- PSD and expansion are within every mode's limit
+  pub extra-small : extraOf settings psd lengths bytes size ≤ 128
+  extra-small = let b = listable (w .mode) (w .stream) m l .limit in omega (arith, f .extra, b)
+
   widths : InWidth c
   widths =
       let b = listable (w .mode) (w .stream) m l in
       let v = levels (w .stream) settings size (f .rules) (f .values) in
       let n = few settings psd lengths bytes size m w f in
-      let k = most-small (m .width) in
+      let k = most-small (m .width) (extraOf settings psd lengths bytes size) in
       record {
         mode = omega (arith, b .last);
         stream = omega (arith, b .core);
@@ -175,32 +171,29 @@ module _ (settings : Settings) (psd lengths bytes : List ℕ) (size : ℕ) (m : 
 
   -- with no piece, no packet is offered, and none is unfinished
   no-flags : length ps ≡ 0 → (c .pfirst ≡ false) × (c .plast ≡ false)
-  no-flags e = none-placed m (extraOf settings psd lengths bytes size) size (w .sent) lengths (f .unfinished) (f .room) (sym same-count ∙ e)
+  no-flags e = none-placed m (extraOf settings psd lengths bytes size) size (w .sent) lengths extra-small (f .unfinished) (f .room) (sym same-count ∙ e)
 
   pub positive : Positive ns
   positive = kept (m .width) (extraOf settings psd lengths bytes size) size (w .sent) lengths (overhead-fits settings psd lengths bytes size m w f) .bytes (bytes-left (w .sent) lengths (f .right) (f .unfinished))
 
   pub sendable : Sendable m c x psd ps size
   unfolding fieldsFor
-  sendable =
-      let n = few settings psd lengths bytes size m w f in
-      record {
-        listed = l;
-        widths = widths;
-        sequence = f .sequence;
-        count = sym same-count;
-        few = omega (arith, n, same-count);
-        none = no-flags;
-        la = omega arith;
-        flag = refl;
-        fields = in-range (w .stream) settings size (f .rules) (f .values) (omega (arith, f .long));
-        bytes = λ k h.
-            let e : length (getD ps k []) ≡ getD ns k 0 = sym (List·getD-map length ps k []) ∙ ap (λ (r : List ℕ). getD r k 0) (cut-lengths ns (drop (w .sent) bytes) (enough settings psd lengths bytes size m w f)) in
-            let p = positive-at ns k positive (omega (arith, h, same-count)) in
-            omega (arith, e, p);
-        displaced = λ d. last-byte (x .programmed && x .displaced) d;
-        short = roofed (listable (w .mode) (w .stream) m l .width);
-      }
+  sendable = record {
+    listed = l;
+    widths = widths;
+    sequence = f .sequence;
+    count = sym same-count;
+    none = no-flags;
+    la = omega arith;
+    flag = refl;
+    fields = in-range (w .stream) settings size (f .rules) (f .values) (omega (arith, f .long));
+    bytes = λ k h.
+        let e : length (getD ps k []) ≡ getD ns k 0 = sym (List·getD-map length ps k []) ∙ ap (λ (r : List ℕ). getD r k 0) (cut-lengths ns (drop (w .sent) bytes) (enough settings psd lengths bytes size m w f)) in
+        let p = positive-at ns k positive (omega (arith, h, same-count)) in
+        omega (arith, e, p);
+    displaced = λ d. last-byte (x .programmed && x .displaced) d;
+    short = roofed (listable (w .mode) (w .stream) m l .width);
+  }
     where
       last-byte : (b : Bool) → b ≡ true → cond b (x .displacement) 0 + 1 ≡ size
       last-byte true e = omega (arith, f .long)

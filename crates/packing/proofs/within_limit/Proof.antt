@@ -1,6 +1,4 @@
-use lib.Dec.{leb}
-use mathlib.Core.Bool.{_&&_}
-use Rattle.packing.proofs.Limit.{within}
+use Rattle.packing.proofs.Limit.{past-63, past-la, within}
 use native.Mathlib.Omega.{arith}
 use mathlib.Core.Path.{_≡_, refl, ap, sym, _∙_}
 use Prim.Native.Nat.{ℕ, _+_, _-_, _*_, _≤_, _<_}
@@ -11,13 +9,19 @@ use Rattle.packing.proofs.within_limit.Reads as reads
 use Rattle.packing.proofs.within_limit.Lts as lts
 use Rattle.packing.proofs.overhead.Reads as overhead-reads
 
+returns : tie.Need-returns
+returns c = let a = c .before .args in past-63 (a .width) (a .extra) (a .k) (omega (arith, c .if1 .taken))
+
 overhead-requires : tie.Need-overhead-requires
 overhead-requires c κs = search needs
 
-returns : tie.Need-returns
-returns c =
-    let a = c .before .args in
-    ap (λ (n : ℕ). leb (a .k) 63 && leb n 256) (c .overhead .ensures .0) ∙ within (a .width) (a .extra) (a .k) (c .before .pre .1)
+returns-2 : tie.Need-returns-2
+returns-2 c = let a = c .before .before .before .args in past-la (a .width) (a .extra) (a .k) (omega arith) (omega (arith, c .if2 .taken, c .before .overhead .ensures .0))
+
+returns-3 : tie.Need-returns-3
+returns-3 c =
+    let a = c .before .before .before .args in
+    within (a .width) (a .extra) (a .k) (omega (arith, c .before .before .if1 .left)) (omega (arith, c .if2 .left, c .before .overhead .ensures .0))
 
 pub within-limit-spec : {M : Type 1} → statement M
-within-limit-spec = tie.close (tie.spec overhead-requires returns)
+within-limit-spec = tie.close (tie.spec returns overhead-requires returns-2 returns-3)

@@ -46,7 +46,7 @@ loop-again : tie.Need-loop-again Inv-loop μ-loop
 loop-again c =
     let p = c .before .before in
     let q = p .before .before .pre (omega arith) in
-    let f : p .loop .k < 54 = few _ (q .0) _ (q .1) (p .loop .k) (omega (arith, q .2)) in
+    let f : p .loop .k < 63 = few _ (q .0) _ (q .1) (p .loop .k) (omega (arith, q .2)) in
     (omega arith, length-set (p .loop .pieces) (p .loop .k) (c .piece-at .result) ∙ p .loop .inv .1, filled-next _ _ _ _ _ (omega (arith, p .loop .inv .1)) (c .piece-at .ensures) (p .loop .inv .2))
 
 returns : tie.Need-returns Inv-loop μ-loop

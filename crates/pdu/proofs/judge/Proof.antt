@@ -9,7 +9,7 @@ use mathlib.Core.Bool.{Bool, true, false}
 use lib.Dec.{leb, ltb}
 use borrow.Author.Tests.{lt-ltb, le-ltb, le-leb, lt-leb, not-true, not-false}
 use Rattle.expansion.specs.declared.Interpreted.{Interpreted}
-use Rattle.pdu.specs.Reading.{fieldsOf, wrongLocator, anyBelow, wrongPieces, wrongLa, wrongDisplacement}
+use Rattle.pdu.specs.Reading.{fieldsOf, wrongLocator, anyBelow, wrongFlags, wrongLa, wrongDisplacement}
 use Rattle.pdu.proofs.Lowest.{any-lowest}
 use Rattle.pdu.proofs.Numbers.{number-7, number-8, number-9, number-10, number-11, number-12, number-0}
 use Rattle.pdu.proofs.judge.Statement.{statement}
@@ -21,13 +21,13 @@ use Rattle.pdu.proofs.first_wrong.Reads as first-wrong-reads
 use Rattle.pdu.proofs.plain.Reads as plain-reads
 use Rattle.pdu.proofs.wrong_displacement.Reads as wrong-displacement-reads
 use Rattle.pdu.proofs.wrong_la.Reads as wrong-la-reads
-use Rattle.pdu.proofs.wrong_pieces.Reads as wrong-pieces-reads
+use Rattle.pdu.proofs.wrong_flags.Reads as wrong-flags-reads
 
 sequence-right : (e : tie.Else1) → leb (e .before .before .before .before .args .m .sequences) (e .before .before .before .before .args .c .sequence) ≡ false
 sequence-right e = lt-leb (e .before .before .before .before .args .m .sequences) (e .before .before .before .before .args .c .sequence) (omega (arith, e .if1 .left))
 
-pieces-right : (e : tie.Else2) → wrongPieces (e .before .before .before .before .before .before .args .m .width) (e .before .before .before .before .before .before .args .c) ≡ false
-pieces-right e = sym (e .before .wrong-pieces .ensures) ∙ e .if2 .left
+flags-right : (e : tie.Else2) → wrongFlags (e .before .before .before .before .before .before .args .c) ≡ false
+flags-right e = sym (e .before .wrong-flags .ensures) ∙ e .if2 .left
 
 la-right : (e : tie.Else3) → wrongLa (e .before .before .before .before .before .before .before .before .args .m .width) (e .before .before .before .before .before .before .before .before .args .c) (now (e .before .before .before .before .before .before .before .before .args .y)) ≡ false
 la-right e = sym (e .before .wrong-la .ensures) ∙ e .if3 .left
@@ -51,8 +51,8 @@ plain-requires c κs = search needs
 returns : tie.Need-returns
 returns c = let a = c .before .before .before .before .before .args in number-7 (a .m) (a .c) (now (a .y)) (le-leb (a .m .sequences) (a .c .sequence) (omega (arith, c .before .if1 .taken))) _ _ (c .plain .ensures .0) (c .plain .ensures .1)
 
-wrong-pieces-requires : tie.Need-wrong-pieces-requires
-wrong-pieces-requires c κs = search needs
+wrong-flags-requires : tie.Need-wrong-flags-requires
+wrong-flags-requires c κs = search needs
 
 plain-requires-2 : tie.Need-plain-requires-2
 plain-requires-2 c κs = search needs
@@ -60,7 +60,7 @@ plain-requires-2 c κs = search needs
 returns-2 : tie.Need-returns-2
 returns-2 c = let a = c .before .before .before .before .before .before .before .args in
     let e1 = c .before .before .before in
-    number-8 (a .m) (a .c) (now (a .y)) (sequence-right e1) (sym (c .before .before .wrong-pieces .ensures) ∙ c .before .if2 .taken) _ _ (c .plain2 .ensures .0) (c .plain2 .ensures .1)
+    number-8 (a .m) (a .c) (now (a .y)) (sequence-right e1) (sym (c .before .before .wrong-flags .ensures) ∙ c .before .if2 .taken) _ _ (c .plain2 .ensures .0) (c .plain2 .ensures .1)
 
 wrong-la-requires : tie.Need-wrong-la-requires
 wrong-la-requires c κs = search needs
@@ -71,7 +71,7 @@ plain-requires-3 c κs = search needs
 returns-3 : tie.Need-returns-3
 returns-3 c = let a = c .before .before .before .before .before .before .before .before .before .args in
     let e2 = c .before .before .before in
-    number-9 (a .m) (a .c) (now (a .y)) (sequence-right (e2 .before .before)) (pieces-right e2) (sym (c .before .before .wrong-la .ensures) ∙ c .before .if3 .taken) _ _ (c .plain3 .ensures .0) (c .plain3 .ensures .1)
+    number-9 (a .m) (a .c) (now (a .y)) (sequence-right (e2 .before .before)) (flags-right e2) (sym (c .before .before .wrong-la .ensures) ∙ c .before .if3 .taken) _ _ (c .plain3 .ensures .0) (c .plain3 .ensures .1)
 
 expansion-of-requires : tie.Need-expansion-of-requires
 expansion-of-requires c κs = search needs
@@ -83,7 +83,7 @@ returns-4 : tie.Need-returns-4
 returns-4 c = let a = c .before .before .before .before .before .before .before .before .before .before .before .before .before .args in
     let e3 = c .before .before .before .before .before in
     let e2 = e3 .before .before in
-    number-10 (a .m) (a .c) (now (a .y)) (sequence-right (e2 .before .before)) (pieces-right e2) (la-right e3)
+    number-10 (a .m) (a .c) (now (a .y)) (sequence-right (e2 .before .before)) (flags-right e2) (la-right e3)
     (ap (λ (x : Interpreted). x .right) (sym (fields-same (c .before .before))) ∙ not-true _ (c .before .if4 .taken)) _ _ (c .plain4 .ensures .0) (c .plain4 .ensures .1)
 
 first-wrong-requires : tie.Need-first-wrong-requires
@@ -95,7 +95,7 @@ returns-5 c = let a = c .before .before .before .before .before .before .before 
     let e3 = e4 .before .before .before .before in
     let e2 = e3 .before .before in
     let w = c .before .before .first-wrong in
-    number-11 (a .m) (a .c) (now (a .y)) (sequence-right (e2 .before .before)) (pieces-right e2) (la-right e3) (fields-right e4)
+    number-11 (a .m) (a .c) (now (a .y)) (sequence-right (e2 .before .before)) (flags-right e2) (la-right e3) (fields-right e4)
     (any-lowest (wrongLocator (a .m .width) (a .c) (now (a .y))) (a .c .nop) ∙ ap (λ (k : ℕ). ltb k (a .c .nop)) (sym (w .ensures)) ∙ lt-ltb (w .result) (a .c .nop) (c .if5 .taken)) (w .result) (w .ensures)
 
 wrong-displacement-requires : tie.Need-wrong-displacement-requires
@@ -110,7 +110,7 @@ returns-6 c = let a = c .before .before .before .before .before .before .before 
     let e4 = e5 .before .before .before in
     let e3 = e4 .before .before .before .before in
     let e2 = e3 .before .before in
-    number-12 (a .m) (a .c) (now (a .y)) (sequence-right (e2 .before .before)) (pieces-right e2) (la-right e3) (fields-right e4) (none-wrong e5)
+    number-12 (a .m) (a .c) (now (a .y)) (sequence-right (e2 .before .before)) (flags-right e2) (la-right e3) (fields-right e4) (none-wrong e5)
     (ap (wrongDisplacement (a .m .width) (a .c) (now (a .y))) (sym (fields-same (e4 .before))) ∙ sym (c .before .before .wrong-displacement .ensures) ∙ c .before .if6 .taken) _ _ (c .plain5 .ensures .0) (c .plain5 .ensures .1)
 
 plain-requires-6 : tie.Need-plain-requires-6
@@ -122,7 +122,7 @@ returns-7 c = let a = c .before .before .before .before .before .before .before 
     let e4 = e5 .before .before .before in
     let e3 = e4 .before .before .before .before in
     let e2 = e3 .before .before in
-    number-0 (a .m) (a .c) (now (a .y)) (sequence-right (e2 .before .before)) (pieces-right e2) (la-right e3) (fields-right e4) (none-wrong e5)
+    number-0 (a .m) (a .c) (now (a .y)) (sequence-right (e2 .before .before)) (flags-right e2) (la-right e3) (fields-right e4) (none-wrong e5)
     (ap (wrongDisplacement (a .m .width) (a .c) (now (a .y))) (sym (fields-same (e4 .before))) ∙ sym (c .before .before .wrong-displacement .ensures) ∙ c .before .if6 .left) _ _ (c .plain6 .ensures .0) (c .plain6 .ensures .1)
 
 pub judge-spec : {M : Type 1} → statement M
@@ -131,7 +131,7 @@ judge-spec =
     (tie.spec
     plain-requires
     returns
-    wrong-pieces-requires
+    wrong-flags-requires
     plain-requires-2
     returns-2
     wrong-la-requires

@@ -1,6 +1,9 @@
 use Rattle.receiver.proofs.Calling.{stream-call, reader-call, log-call}
 use denote.Ref.{now}
-use mathlib.Core.Path.{sym, _∙_}
+use mathlib.Core.Path.{sym, subst, _∙_}
+use Prim.Native.Nat.{_<_}
+use Rattle.layout.specs.declared.ControlWord.{ControlWord}
+use Rattle.pdu.proofs.Assembling.{nop-small}
 use borrow.Author.Needs.{needs}
 use Rattle.receiver.proofs.receive_corrected.Statement.{statement}
 use Rattle.receiver.proofs.receive_corrected.Tie as tie
@@ -50,7 +53,8 @@ receive-read-requires c κs =
     let j = c .before .before .before .before in
     let w = j .before .before in
     let s = w .before .before .before .before .before in
-    (s .pre .1 .0, (s .pre .1 .1, sym (j .judge .ensures .0) ∙ c .before .before .if2 .left))
+    let few = subst (λ (d : ControlWord). d .nop < 64) (sym (w .before .control-word .ensures)) (nop-small (now (s .args .y))) in
+    (s .pre .1 .0, ((s .pre .1 .1, few), sym (j .judge .ensures .0) ∙ c .before .before .if2 .left))
 
 same-length : tie.Need-same-length
 same-length c = search needs

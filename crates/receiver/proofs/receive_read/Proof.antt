@@ -1,6 +1,6 @@
 use native.Mathlib.Omega.{arith}
 use denote.Ref.{now}
-use Rattle.receiver.proofs.Parsing.{few-pieces, all-marked}
+use Rattle.receiver.proofs.Parsing.{all-marked}
 use Rattle.receiver.proofs.Taking.{Ready, needed, too-short, accepts, run-fits, taken}
 use borrow.Author.Needs.{needs}
 use Rattle.receiver.proofs.receive_read.Statement.{statement}
@@ -24,7 +24,8 @@ ready w =
     let p = w .before .before .before .before .before .before .before .before .pre in
     record {
       fine = p .0;
-      size = p .1 .0;
+      size = p .1 .0 .0;
+      few = p .1 .0 .1;
       right = p .1 .1;
       marked = w .before .before .before .before .marks-of .ensures;
       caused = w .before .before .causes-of .ensures;
@@ -33,9 +34,7 @@ ready w =
     }
 
 marks-of-requires : tie.Need-marks-of-requires
-marks-of-requires c κs =
-    let s = c .before .before .before in
-    few-pieces (s .args .m) (s .args .c) (now (s .args .y)) (s .pre .1 .1)
+marks-of-requires c κs = c .before .before .before .pre .1 .0 .1
 
 cast-causes-of : tie.Need-cast-causes-of
 cast-causes-of c = search needs
@@ -43,7 +42,7 @@ cast-causes-of c = search needs
 causes-of-requires : tie.Need-causes-of-requires
 causes-of-requires c κs =
     let s = c .before .before .before .before .before in
-    all-marked (s .args .m) (s .args .c) (now (s .args .y)) (s .pre .1 .1) (c .before .marks-of .result) (c .before .marks-of .ensures)
+    all-marked (s .args .m) (s .args .c) (now (s .args .y)) (s .pre .1 .0 .1) (s .pre .1 .1) (c .before .marks-of .result) (c .before .marks-of .ensures)
 
 head-of-requires : tie.Need-head-of-requires
 head-of-requires c κs = search needs

@@ -1,7 +1,7 @@
 use Rattle.writer.proofs.Composed.{composed, prefix-long}
 use Rattle.writer.proofs.Accepted.{Fine, fine, enough, few, fits, la-fits, sent-within, part-small, ended-few}
 use Rattle.writer.specs.Writing.{expansionOf, extraOf, endedOf, partOf, placed, advanced}
-use Rattle.packing.proofs.Fitting.{most-small}
+use Rattle.packing.proofs.Limit.{most-small}
 use Rattle.packing.specs.Packing.{overhead, wholes, part, pieceLengths}
 use Rattle.pieces.specs.Pieces.{total}
 use Rattle.layout.specs.Locators.{locatorSize}
@@ -131,7 +131,7 @@ put-contents-requires c κs =
     let pl : take (p .nop) (p .lengths) ≡ placed (a .s) (now (a .psd)) (now (a .lengths)) (now (a .bytes)) (length (now (a .pdu))) (a .m) (a .w) = p-lengths (c .before .before .before .before .before .before .before .before .before .before .before .before) in
     let xb : take (x .length) (x .bytes) ≡ expansionOf (a .s) (now (a .psd)) (now (a .lengths)) (now (a .bytes)) (length (now (a .pdu))) = x-bytes (c .before .before .before .before .before .before .before .before .before .before .before .before .before .before) in
     let r : 14 + locatorSize (a .m .width) (length (take (p .nop) (p .lengths))) + length (take (x .length) (x .bytes)) + length (now (a .psd)) + total (take (p .nop) (p .lengths)) + length (take (p .nop) (p .lengths)) ≤ length (now (a .pdu)) = rw (pl, xb) (fits (a .s) (now (a .psd)) (now (a .lengths)) (now (a .bytes)) (length (now (a .pdu))) (a .m) (a .w) f) in
-    let n : length (take (p .nop) (p .lengths)) ≤ 64 = rw pl (omega (arith, few (a .s) (now (a .psd)) (now (a .lengths)) (now (a .bytes)) (length (now (a .pdu))) (a .m) (a .w) f, most-small (a .m .width))) in
+    let n : length (take (p .nop) (p .lengths)) ≤ 64 = rw pl (omega (arith, few (a .s) (now (a .psd)) (now (a .lengths)) (now (a .bytes)) (length (now (a .pdu))) (a .m) (a .w) f, most-small (a .m .width) (extraOf (a .s) (now (a .psd)) (now (a .lengths)) (now (a .bytes)) (length (now (a .pdu)))))) in
     let t : a .w .sent + total (take (p .nop) (p .lengths)) ≤ length (now (a .bytes)) = rw pl (omega (arith, enough (a .s) (now (a .psd)) (now (a .lengths)) (now (a .bytes)) (length (now (a .pdu))) (a .m) (a .w) f, length-drop (a .w .sent) (now (a .bytes)), sent-within (a .s) (now (a .psd)) (now (a .lengths)) (now (a .bytes)) (length (now (a .pdu))) (a .m) (a .w) f)) in
     (r, (n, omega (arith, f .short), t))
 
