@@ -7,6 +7,7 @@ pub mod Course
 pub mod Examples
 pub mod Lies
 pub mod Made
+pub mod ManyPieces
 pub mod Packed
 pub mod Pairs
 pub mod Possible
