@@ -3,8 +3,8 @@
 ghost use Rattle.io.specs.Counts.{Counts};
 
 // The causes of the receiver's refusals by their numbers, from 0 on, which none has, to 13; and then that of 19 (document 02, Ask 3).
-const REFUSALS: [u8; 355] =
-    *b"unknown\0wrong receiver state\0carry buffer too short\0length not 96 to 20480\0header beyond correction\0mode and stream not in the table\0mode and stream not those asked for\0sequence outside its range\0wrong count of pieces\0La out of place\0wrong expansion\0locator out of place\0displacement out of place\0log too short\0over eight marks or one over 95 or repeated\0";
+const REFUSALS: [u8; 363] =
+    *b"unknown\0wrong receiver state\0carry buffer too short\0length not 96 to 20480\0header beyond correction\0mode and stream not in the table\0mode and stream not those asked for\0sequence outside its range\0Pfirst or Plast with no piece\0La out of place\0wrong expansion\0locator out of place\0displacement out of place\0log too short\0over eight marks or one over 95 or repeated\0";
 
 // The causes of notes by their numbers, from 0 on, which none has.
 const NOTES: [u8; 68] =

@@ -1,4 +1,4 @@
--- What the placing rule keeps: the pieces fit, they are as many as NOP may count, they are parts of what is offered, and none is empty.
+-- What the placing rule keeps: the pieces fit, they are within the count limit, they are parts of what is offered, and none is empty.
 use mathlib.Core.Path.{_≡_, refl, sym, ap, ap₂, subst, _∙_}
 use mathlib.Core.Bool.{Bool, true, false, cond}
 use mathlib.Core.List.{List, [], _∷_, _++_}
