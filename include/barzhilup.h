@@ -75,13 +75,13 @@ extern "C" {
  * "Receiver".) */
 #define BARZHILUP_LOG_WORDS 8400
 
-/* A PDU has at most so many pieces, so a list of so many entries is long enough
- * for every PDU: 54 with locators of 12 bits, 41 with 16. (Document 01, "Control
- * word".) */
-#define BARZHILUP_PIECES_MAX 54
+/* The most pieces of a PDU: as many as NOP's six bits can say. A list of so many
+ * entries is long enough for every PDU. barzhilup_write says how many a writer
+ * places. (Document 02, Ask 9.) */
+#define BARZHILUP_PIECES_MAX 63
 
-/* Entries of the arrays in a barzhilup_reading: one for each value of NOP's six
- * bits. */
+/* Entries of the arrays in a barzhilup_reading: one for each piece, and one more,
+ * which is always 0. */
 #define BARZHILUP_READING_PIECES 64
 
 /* ---- Refusal numbers (document 01, "What is turned down"; document 02) --- */
@@ -114,10 +114,13 @@ extern "C" {
 /* The PDU sequence is outside its mode's range. */
 #define BARZHILUP_REFUSED_SEQUENCE 7
 
-/* NOP is over its limit, or Pfirst or Plast is set with NOP 0. */
+/* Pfirst or Plast is set with NOP 0. Any count of pieces is read: one for which
+ * the PDU is too short is refused with BARZHILUP_REFUSED_LA. (Document 02, Ask
+ * 9.) */
 #define BARZHILUP_REFUSED_PIECES 8
 
-/* La is before the last locator byte, or not below the length. */
+/* La is before the last locator byte, or not below the length. Judged before any
+ * locator is looked at. */
 #define BARZHILUP_REFUSED_LA 9
 
 /* The expansion: over 16 bytes, past La, IDs out of order, class 0, a field
@@ -295,7 +298,7 @@ typedef struct {
     uint8_t plast;
     /* The starting number, 0 to 63: that of the first packet not continued. */
     uint8_t start;
-    /* The count of pieces, at most BARZHILUP_PIECES_MAX. */
+    /* The count of pieces, 0 to BARZHILUP_PIECES_MAX. */
     uint8_t nop;
     /* 1 where expansion bytes follow the locators, else 0. */
     uint8_t expansion;
@@ -334,8 +337,8 @@ typedef struct {
      * La + 1 and 0. */
     uint32_t psd_start;
     uint32_t psd_length;
-    /* Piece k's start in the PDU and its length, without its CRC byte; 0 from
-     * NOP on. */
+    /* Piece k's start in the PDU and its length, without its CRC byte, for k below
+     * NOP; 0 from NOP on. */
     uint16_t starts[BARZHILUP_READING_PIECES];
     uint16_t lengths[BARZHILUP_READING_PIECES];
 } barzhilup_reading;
@@ -344,6 +347,10 @@ typedef struct {
  * Reads a PDU without a receiver: corrects its header in place and says what it
  * holds. `pdu` is the whole PDU, `length` its length in bytes. If it is refused,
  * no byte has changed.
+ *
+ * Locators past byte 95, those of a PDU with more than 41 pieces (locators of 16
+ * bits) or 54 (12 bits), are outside the header code: they are taken as they
+ * came. (Document 02, Ask 9.)
  */
 barzhilup_reading barzhilup_read(uint8_t *pdu, size_t length);
 
@@ -445,6 +452,11 @@ barzhilup_writer_opened barzhilup_open_writer_with(uint8_t mode, uint8_t stream,
  * no pieces. As many are placed as fit, and then a part of the
  * next: offer again from the first that did not end. `pdu` must not overlap
  * what is read.
+ *
+ * A PDU gets no more pieces than the largest count up to 63 for which La is at
+ * most 255 (document 02, Ask 9). That is 63 with locators of 12 bits, and with 16
+ * bits where PSD and expansion together have up to 116 bytes; from there on it is
+ * one fewer for every two bytes more: 62 with 117 and 118, 57 with 127 and 128.
  *
  * If it is refused, no byte of `pdu` has changed.
  */
