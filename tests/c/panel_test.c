@@ -77,15 +77,20 @@ static const struct line lines[10] = {{0, 0, 16, 2, 128}, {1, 0, 12, 8, 21}, {2,
                                       {3, 1, 16, 2, 0},   {10, 0, 12, 2, 128}, {10, 1, 12, 8, 0},
                                       {13, 0, 12, 8, 21}};
 
-static unsigned limit_of(const struct line *l)
-{
-    return l->bits == 16 ? 41 : 54;
-}
-
 /* The first place after n locators. */
 static size_t after_locators(const struct line *l, unsigned n)
 {
     return 14 + (n * l->bits + 7) / 8;
+}
+
+/* The most pieces that a writer places with so many bytes of PSD and expansion:
+ * the largest k up to 63 for which La is at most 255 (document 02, Ask 9). */
+static unsigned limit_of(const struct line *l, size_t both)
+{
+    unsigned k = BARZHILUP_PIECES_MAX;
+    while (after_locators(l, k) - 1 + both > 255)
+        k--;
+    return k;
 }
 
 /* ---- PDUs ---------------------------------------------------------------- */
@@ -94,9 +99,11 @@ static const barzhilup_settings none; /* all 0 */
 
 static uint8_t made[BARZHILUP_PDU_MAX + 1]; /* a PDU with a right header */
 static size_t made_length;
-static uint8_t packets[60 * 4096]; /* the packets of the PDU, joined */
-static uint16_t sizes[60];
+#define OFFERED 70                      /* packets at most */
+static uint8_t packets[OFFERED * 4096]; /* the packets of the PDU, joined */
+static uint16_t sizes[OFFERED];
 static size_t sent_before, sent_now; /* how many of their bytes were sent before, and in it */
+static unsigned limit;               /* how many pieces it can have at most */
 
 /* The starting value of CRCs, for writers, receivers and lists. */
 static uint8_t crc_start = BARZHILUP_CRC_START;
@@ -146,6 +153,7 @@ static void write_packets(const struct line *l, unsigned count, uint32_t longest
     made_length = after_locators(l, count) + 5 + psd + sum + count + spare;
     made_length = made_length < 96 ? 96 : made_length > most ? most : made_length;
     s.displaced = made_length <= 16384 && random_below(3) == 0;
+    limit = limit_of(l, psd + (s.displaced ? 3 : s.programmed || s.typed) + 2 * s.typed);
     w = barzhilup_write(writer, s, packets + 1, psd, sizes, count, packets, sum, made, made_length);
     check(w.refusal == 0, "written", count);
     for (n = 0, sent_now = w.writer.sent; n < w.ended; n++)
@@ -394,8 +402,7 @@ static void test_written(void)
     unsigned i, n;
 
     for (i = 0; i < 10; i++) {
-        unsigned limit = limit_of(&lines[i]);
-        for (n = 0; n <= limit + 5; n++) {
+        for (n = 0; n <= BARZHILUP_PIECES_MAX + 5; n++) {
             unsigned long which = i * 100 + n;
             any_start();
             write_packets(&lines[i], n, 60, random_below(3) * random_below(40));
@@ -436,15 +443,16 @@ static void test_wrong(void)
     unsigned i, n, k;
 
     for (i = 0; i < 10; i++) {
-        unsigned limit = limit_of(&lines[i]);
-        for (n = 1; n <= limit; n += n < 5 ? 1 : random_below(7) + 1) {
+        for (n = 1; n <= BARZHILUP_PIECES_MAX; n += n < 5 ? 1 : random_below(7) + 1) {
             barzhilup_reading r;
+            unsigned nop;
             any_start();
             write_packets(&lines[i], n, n < 5 ? 900 : 50, 20);
             memcpy(right, made, made_length);
             r = barzhilup_read(made, made_length);
-            check(r.refusal == 0 && r.control.nop == n, "written, with pieces", n);
-            for (k = 0; k < n; k++) {
+            nop = r.control.nop;
+            check(r.refusal == 0 && nop == (n < limit ? n : limit), "written, with pieces", n);
+            for (k = 0; k < nop; k++) {
                 uint8_t *piece = made + r.starts[k];
                 piece[r.lengths[k]] ^= (uint8_t)(1 + random_below(255));
                 check_wrong(k, "one CRC byte wrong");
@@ -453,9 +461,9 @@ static void test_wrong(void)
                 check_wrong(k, "one piece's byte wrong");
                 memcpy(made, right, made_length);
             }
-            for (k = 0; k < n; k++)
+            for (k = 0; k < nop; k++)
                 made[r.starts[k] + r.lengths[k]] ^= 0x10;
-            check_wrong(n, "all CRC bytes wrong");
+            check_wrong(nop, "all CRC bytes wrong");
         }
     }
     report("wrong CRCs as verdicts");
@@ -469,7 +477,7 @@ static unsigned long list_refusals[18]; /* how often each number came */
  * header is altered where it can be corrected. */
 static void refused(uint32_t number, const char *what, unsigned long which)
 {
-    static const size_t counts[6] = {0, 1, 2, 41, 64, MOST};
+    static const size_t counts[6] = {0, 1, 2, BARZHILUP_PIECES_MAX, 64, MOST};
     int whole = made_length >= 96 && number != BARZHILUP_REFUSED_UNCORRECTABLE;
     unsigned n;
 
@@ -515,11 +523,19 @@ static void test_refused_headers(void)
             parity();
             refused(7, "sequence", i * 8 + n);
         }
-        for (n = limit_of(l) + 1; n < 64; n++) {
+        /* A count is never wrong by itself: the locators have no room. */
+        for (n = 4; n <= BARZHILUP_PIECES_MAX; n++) {
             simple(l, 3, false);
             made[12] = (uint8_t)((made[12] & 0x81) | n << 1);
             parity();
-            refused(8, "too many pieces", n);
+            refused(9, "La before the last of more locators", n);
+        }
+        for (n = 0; n < 256; n++) {
+            simple(l, 3, false);
+            made[12] |= 0x7e;
+            made[13] = (uint8_t)n;
+            parity();
+            refused(9, "63 pieces in 96 bytes, whatever La is", n);
         }
         for (n = 1; n < 4; n++) {
             simple(l, 0, false);
@@ -728,8 +744,8 @@ static void write_some(const struct line *l)
     barzhilup_reading r;
     unsigned k;
 
-    write_packets(l, random_below(random_below(3) == 0 ? 60 : 5), random_below(4) == 0 ? 4096 : 50,
-                  random_below(2) * random_below(100));
+    write_packets(l, random_below(random_below(3) == 0 ? OFFERED : 5),
+                  random_below(4) == 0 ? 4096 : 50, random_below(2) * random_below(100));
     if (random_below(4) > 0)
         return;
     r = barzhilup_read(made, made_length);
@@ -815,8 +831,9 @@ static void spoil(const struct line *l, uint32_t number)
     case 7: /* the sequence is one bit wide */
         made[9] |= 1;
         break;
-    case 8:
-        made[12] |= 0x7e;
+    case 8: /* Plast with no piece */
+        made[11] |= 4;
+        made[12] &= 0x81;
         break;
     case 9:
         made[13] = 12;

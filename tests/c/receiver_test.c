@@ -951,26 +951,50 @@ static void set_la(unsigned la)
     parity();
 }
 
+/* Every count of pieces is received (document 02, Ask 9); one for which the PDU
+ * is too short is refused with 9, whatever La is. */
+static void test_counts(void)
+{
+    struct parts p;
+    unsigned n, k, la;
+
+    for (n = 0; n < 10; n++)
+        for (k = 0; k <= BARZHILUP_PIECES_MAX; k++) {
+            p = simple(k);
+            p.mode = lines[n].mode;
+            p.stream = lines[n].stream;
+            p.length = 400;
+            fresh(p.mode, p.stream);
+            receive(&p, "a count of pieces", k);
+            check(wanted_count == 2 * k, "a count of pieces", k);
+            p.length = end_of(&p) < 96 ? 96 : end_of(&p);
+            fresh(p.mode, p.stream);
+            receive(&p, "a count of pieces that just fit", k);
+        }
+    for (n = 0; n < 10; n++) {
+        p = simple(3);
+        p.mode = lines[n].mode;
+        p.stream = lines[n].stream;
+        fresh(p.mode, p.stream);
+        for (k = 4; k <= BARZHILUP_PIECES_MAX; k++) {
+            make(&p);
+            set_nop(k);
+            refused(BARZHILUP_REFUSED_LA, "La before the last of more locators", k);
+        }
+        for (la = 0; la < 256; la++) {
+            set_la(la);
+            refused(BARZHILUP_REFUSED_LA, "63 pieces in 96 bytes, whatever La is", la);
+        }
+    }
+    report("counts of pieces");
+}
+
 static void test_pieces_and_la(void)
 {
     struct parts p;
-    unsigned n, k, limit;
+    unsigned n, k;
 
-    /* 8: NOP. */
-    for (n = 0; n < 2; n++) {
-        limit = n == 0 ? 41 : 54;
-        p = simple(limit);
-        p.mode = (uint8_t)n;
-        p.length = 400;
-        fresh(n, 0);
-        receive(&p, "as many pieces as may be", limit);
-        check(wanted_count == 2 * limit, "as many pieces as may be", limit);
-        for (k = limit + 1; k < 64; k++) {
-            make(&p);
-            set_nop(k);
-            refused(BARZHILUP_REFUSED_PIECES, "too many pieces", k);
-        }
-    }
+    /* 8: Pfirst or Plast with NOP 0. */
     p = simple(0);
     fresh(0, 0);
     for (n = 1; n < 4; n++) {
@@ -1187,6 +1211,27 @@ static void test_log(void)
     p.lengths[40] += p.length - end_of(&p);
     make(&p);
     accepted(&p, 4, "a PDU of 20,480 bytes", 0);
+
+    /* As many words as a call can write: 4,095 bytes held and 63 pieces. */
+    fresh(0, 0);
+    put_state(1, 1, 4095, 63);
+    p = simple(BARZHILUP_PIECES_MAX);
+    p.start = 0;
+    p.pfirst = 1;
+    p.psd = some;
+    p.psd_length = 1;
+    p.lengths[0] = 1;
+    for (n = 1; n < 62; n++)
+        p.lengths[n] = 325;
+    p.lengths[62] = 450;
+    p.length = 20480;
+    check(end_of(&p) == p.length, "the most words: the PDU is full", end_of(&p));
+    make(&p);
+    log_length = 8229;
+    refused(BARZHILUP_REFUSED_LOG_LENGTH, "the most words, a word too few", 8229);
+    log_length = 8230;
+    accepted(&p, 4, "the most words", 8230);
+    check(wanted_count == 8230, "the most words", wanted_count);
     report("refusal 13");
 }
 
@@ -1263,10 +1308,10 @@ static void test_lowest(void)
 /* Pieces of any length, as many as fit. */
 static void random_pieces(struct parts *p, unsigned bits)
 {
-    unsigned limit = bits == 16 ? 41 : 54, n;
+    unsigned n;
     size_t room = bits == 16 ? 20000 : 3800; /* locators of 12 bits are below 4,096 */
     p->nop = 0;
-    for (n = random_below(random_below(3) == 0 ? limit + 1 : 5); n > 0; n--) {
+    for (n = random_below(random_below(3) == 0 ? BARZHILUP_PIECES_MAX + 1 : 5); n > 0; n--) {
         size_t length = 1 + random_below(random_below(4) == 0 ? 4200 : 60);
         p->lengths[p->nop++] = length;
         if (end_of(p) > room)
@@ -1485,6 +1530,7 @@ int main(void)
     test_joining();
     test_state();
     test_lengths_and_header();
+    test_counts();
     test_pieces_and_la();
     test_expansion();
     test_locators();

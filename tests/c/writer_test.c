@@ -1,8 +1,9 @@
 /*
  * Tests of the C library's writer against document 01: its examples (j) to (m),
- * refusals that change nothing, and whole lists of packets that are written,
- * with CRCs from any starting value (document 02, Ask 2), damaged in up to four
- * header bytes of each PDU, read back and joined.
+ * refusals that change nothing, as many pieces as a PDU gets at most (document
+ * 02, Ask 9), and whole lists of packets that are written, with CRCs from any
+ * starting value (document 02, Ask 2), damaged in up to four header bytes of each
+ * PDU, read back and joined.
  */
 #include "barzhilup.h"
 
@@ -126,6 +127,94 @@ static void test_refusals(void)
     refused(BARZHILUP_REFUSED_PSD, enhanced, none, 1, 1, 1, 96);
 }
 
+/* ---- As many pieces as there can be (document 02, Ask 9) ----------------- */
+
+struct line {
+    uint8_t mode, stream;
+    unsigned bits;
+    size_t psd; /* the most bytes of PSD */
+};
+
+static const struct line lines[10] = {{0, 0, 16, 128}, {1, 0, 12, 21}, {2, 0, 12, 21},
+                                      {3, 0, 12, 21},  {1, 1, 16, 0},  {2, 1, 16, 0},
+                                      {3, 1, 16, 0},   {10, 0, 12, 128}, {10, 1, 12, 0},
+                                      {13, 0, 12, 21}};
+
+/* La with so many pieces and bytes of PSD. */
+static size_t la_of(const struct line *l, unsigned pieces, size_t psd)
+{
+    return 13 + (pieces * l->bits + 7) / 8 + psd;
+}
+
+/* The largest k up to 63 for which La is at most 255. */
+static unsigned limit_of(const struct line *l, size_t psd)
+{
+    unsigned k = BARZHILUP_PIECES_MAX;
+    while (la_of(l, k, psd) > 255)
+        k--;
+    return k;
+}
+
+/* Offers so many packets of a byte for a PDU of a length, which gets so many
+ * pieces; the PDU is damaged in up to four header bytes and read. */
+static void bytes_of_one(const struct line *l, size_t psd, unsigned offered, size_t length,
+                         unsigned pieces, unsigned long which)
+{
+    static uint8_t pdu[BARZHILUP_PDU_MAX];
+    uint16_t lengths[70] = {0};
+    uint8_t bytes[70] = {0};
+    barzhilup_writer writer = barzhilup_open_writer(l->mode, l->stream).writer;
+    barzhilup_written w;
+    barzhilup_reading r;
+    unsigned k, n;
+
+    for (k = 0; k < offered; k++) {
+        lengths[k] = 1;
+        bytes[k] = (uint8_t)random_below(256);
+    }
+    w = barzhilup_write(writer, none, zeros, psd, lengths, offered, bytes, offered, pdu, length);
+    check(w.refusal == 0 && w.ended == pieces, "as many as the limit end", which);
+    check(w.writer.sent == 0 && w.writer.number == pieces % 64, "the next packet waits", which);
+    for (n = random_below(5); n > 0; n--)
+        pdu[random_below(96)] = (uint8_t)random_below(256);
+    r = barzhilup_read(pdu, length);
+    check(r.refusal == 0 && r.control.nop == pieces, "count of pieces", which);
+    check(r.control.la == la_of(l, pieces, psd), "La", which);
+    for (k = 0; k < BARZHILUP_READING_PIECES; k++) {
+        size_t start = k < pieces ? r.control.la + 1u + 2 * k : 0;
+        check(r.starts[k] == start && r.lengths[k] == (k < pieces), "a piece's place", k);
+        check(k >= pieces || pdu[start] == bytes[k], "a piece's byte", k);
+    }
+}
+
+/* Each mode and stream with each length of PSD: at the limit, one past it, and
+ * without room for the last one. */
+static void test_limits(void)
+{
+    static const size_t psd_of[6] = {0, 116, 117, 118, 127, 128};
+    static const unsigned limits[6] = {63, 63, 62, 62, 57, 57};
+    unsigned i;
+    size_t psd;
+
+    for (i = 0; i < 6; i++) {
+        check(limit_of(&lines[0], psd_of[i]) == limits[i], "the limit, 16 bits", psd_of[i]);
+        check(limit_of(&lines[7], psd_of[i]) == 63, "the limit, 12 bits", psd_of[i]);
+    }
+    for (i = 0; i < 10; i++) {
+        const struct line *l = &lines[i];
+        for (psd = 0; psd <= l->psd; psd++) {
+            unsigned limit = limit_of(l, psd);
+            size_t near = la_of(l, limit, psd) + 1 + 2 * limit;
+            bytes_of_one(l, psd, limit, near, limit, psd);
+            bytes_of_one(l, psd, limit + 1, near, limit, psd);
+            bytes_of_one(l, psd, limit + 1, near + 60, limit, psd);
+            bytes_of_one(l, psd, 70, 4096, limit, psd);
+            bytes_of_one(l, psd, limit, near - 1, limit - 1, psd);
+            bytes_of_one(l, psd, limit - 1, near, limit - 1, psd);
+        }
+    }
+}
+
 #define PACKETS 40
 
 /* Writes a list of packets in one mode, with CRCs from one starting value,
@@ -185,6 +274,7 @@ int main(void)
 
     test_examples();
     test_refusals();
+    test_limits();
     for (n = 0; n < 200; n++) {
         uint8_t start_value = (uint8_t)(n < 100 ? BARZHILUP_CRC_START : random_below(256));
         run(table[n % 10][0], table[n % 10][1], start_value, n);
