@@ -118,6 +118,10 @@ pub const PDU_MAX_12_BITS: usize = 4_096;
 /// The longest packet, in bytes. (Document 01, "Writer".)
 pub const PACKET_MAX: usize = 4_096;
 
+/// The most pieces of a PDU: as many as its six-bit count can say. A list of so
+/// many entries is long enough for every PDU. (Document 02, Ask 9.)
+pub const PIECES_MAX: usize = 63;
+
 /// Bytes of a carry buffer, in which a receiver keeps the beginning of a packet
 /// between calls. (Document 01, "Receiver".)
 pub const CARRY_BYTES: usize = 4_096;

@@ -1,5 +1,5 @@
 //! Reading a PDU without a receiver, and the list of its pieces (document 01,
-//! "Receiver", and for the panel; document 02, Ask 2).
+//! "Receiver", and for the panel; document 02, Asks 2 and 9).
 
 use crate::{ffi, Mode, Refusal, Stream};
 use std::ops::Range;
@@ -28,7 +28,7 @@ pub struct ControlWord {
     pub plast: bool,
     /// The starting number: that of the first packet not continued, 0 to 63.
     pub start: u8,
-    /// NOP, the count of pieces.
+    /// NOP, the count of pieces, 0 to [`PIECES_MAX`](crate::PIECES_MAX).
     pub nop: u8,
     /// Whether expansion bytes follow the locators.
     pub expansion: bool,
@@ -127,6 +127,10 @@ fn expansion(fields: &ffi::Expansion) -> Expansion {
 /// Reads a PDU without a receiver: corrects its header in place and says what it
 /// holds. (Document 01, "Receiver".)
 ///
+/// Locators past byte 95, those of a PDU with more than 41 pieces (locators of 16
+/// bits) or 54 (12 bits), are outside the header code: they are taken as they
+/// came. (Document 02, Ask 9.)
+///
 /// # Errors
 ///
 /// Refused with 3 to 5 or 7 to 12, and then the PDU is as it was.
@@ -180,8 +184,8 @@ impl Piece {
 /// # Errors
 ///
 /// Refused as [`read`] is, and with [`Refusal::LogLength`] for a list of fewer
-/// than NOP entries; then the PDU and the list are as they were. A list of 54
-/// entries is always long enough.
+/// than NOP entries; then the PDU and the list are as they were. A list of
+/// [`PIECES_MAX`](crate::PIECES_MAX) entries is always long enough.
 pub fn list_pieces(pdu: &mut [u8], crc_start: u8, list: &mut [Piece]) -> Result<Reading, Refusal> {
     Reading::accepted(ffi::list_pieces(pdu, crc_start, list))
 }

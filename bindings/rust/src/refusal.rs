@@ -28,7 +28,9 @@ pub enum Refusal {
     OtherMode,
     /// 7: the PDU sequence is outside its mode's range.
     Sequence,
-    /// 8: NOP is over its limit, or Pfirst or Plast is set with NOP 0.
+    /// 8: Pfirst or Plast is set with NOP 0. Any count of pieces is read: one for
+    /// which the PDU is too short is refused with [`Refusal::La`]. (Document 02,
+    /// Ask 9.)
     Pieces,
     /// 9: La is before the last locator byte, or not below the length.
     La,
@@ -127,7 +129,7 @@ impl Refusal {
             Refusal::Mode => "no such mode and stream",
             Refusal::OtherMode => "the PDU is of another mode or stream than the receiver",
             Refusal::Sequence => "the PDU sequence is outside its mode's range",
-            Refusal::Pieces => "too many pieces, or Pfirst or Plast without a piece",
+            Refusal::Pieces => "Pfirst or Plast without a piece",
             Refusal::La => "La is before the last locator byte or past the PDU's end",
             Refusal::Expansion => "the expansion breaks its rules",
             Refusal::Locator { .. } => "a locator is before its piece's end or past the PDU's end",

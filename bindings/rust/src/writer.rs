@@ -1,4 +1,4 @@
-//! The PDU writer (document 01, "Writer"; document 02, Ask 2).
+//! The PDU writer (document 01, "Writer"; document 02, Asks 2 and 9).
 
 use crate::{ffi, Mode, Refusal, Stream, CRC_START};
 
@@ -202,6 +202,12 @@ impl Writer {
     /// next: offer again from the first that did not end. The bytes of all that
     /// are offered are copied once, so offer no more than a PDU may take, if time
     /// counts.
+    ///
+    /// A PDU gets no more pieces than the largest count up to 63 for which La is at
+    /// most 255 (document 02, Ask 9). That is 63 with locators of 12 bits, and with
+    /// 16 bits where PSD and expansion together have up to 116 bytes; from there on
+    /// it is one fewer for every two bytes more: 62 with 117 and 118, 57 with 127
+    /// and 128.
     ///
     /// # Errors
     ///

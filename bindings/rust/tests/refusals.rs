@@ -342,8 +342,6 @@ fn n7_sequence() {
 
 #[test]
 fn n8_pieces() {
-    let many = changed(two_pieces(plain()), |pdu| pdu[12] = 42 << 1);
-    assert_eq!(refused(many.into()), Refusal::Pieces);
     let mut none = [0; 96];
     let ended = writer(Mode::M0, Stream::Core).write(&plain(), b"", &NO_PACKETS, &mut none);
     assert_eq!(ended, Ok(0));
@@ -358,6 +356,18 @@ fn n9_la() {
     for la in [16, 96] {
         let pdu = changed(two_pieces(plain()), |pdu| pdu[13] = la);
         assert_eq!(refused(pdu.into()), Refusal::La);
+    }
+    // More pieces than have room for their locators; 63 have none in 96 bytes,
+    // whatever La is.
+    for nop in 3..=63 {
+        let pdu = changed(two_pieces(plain()), |pdu| pdu[12] = nop << 1);
+        assert_eq!(refused(pdu.into()), Refusal::La, "{nop}");
+    }
+    for la in 0..=255 {
+        let pdu = changed(two_pieces(plain()), |pdu| {
+            (pdu[12], pdu[13]) = (63 << 1, la)
+        });
+        assert_eq!(refused(pdu.into()), Refusal::La, "{la}");
     }
 }
 

@@ -224,6 +224,7 @@ fn sizes_are_as_in_c() {
         ("PDU_MAX", crate::PDU_MAX),
         ("PDU_MAX_12_BITS", crate::PDU_MAX_12_BITS),
         ("PACKET_MAX", crate::PACKET_MAX),
+        ("PIECES_MAX", crate::PIECES_MAX),
         ("CARRY_BYTES", crate::CARRY_BYTES),
         ("LOG_WORDS", crate::LOG_WORDS),
         ("CRC_START", crate::CRC_START.into()),
