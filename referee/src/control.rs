@@ -9,6 +9,10 @@ pub const FIRST: usize = 8;
 /// How many bytes it has.
 pub const BYTES: usize = 6;
 
+/// The most pieces that NOP's six bits can say. A reader takes any count
+/// (document 02, Ask 9).
+pub const MOST_PIECES: usize = 63;
+
 /// The fields of the control word.
 #[derive(Clone, Copy, Debug, Default, PartialEq, Eq)]
 pub struct ControlWord {

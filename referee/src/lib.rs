@@ -2,8 +2,8 @@
 //! their plainest form, for the tests to compare the product with. It covers
 //! the header code, the CRC-8, reading without a receiver, the writer, the
 //! receiver, the packet log and the refusals 1 to 17; and of document 02, the
-//! CRC's starting register (Ask 2), and header bytes marked doubtful with
-//! refusal 19 (Ask 3):
+//! CRC's starting register (Ask 2), header bytes marked doubtful with refusal 19
+//! (Ask 3), and up to 63 pieces (Ask 9):
 //!
 //! - `field`: the bytes as elements of GF(256);
 //! - `linear`: systems of linear equations over them;

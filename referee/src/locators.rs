@@ -78,6 +78,7 @@ pub fn causes(la: usize, locators: &[usize], length: usize) -> Vec<Cause> {
 #[cfg(test)]
 mod tests {
     use super::*;
+    use crate::control::MOST_PIECES;
     use crate::rng::Rng;
 
     /// The locators byte by byte, as the paper lists them.
@@ -113,10 +114,10 @@ mod tests {
     #[test]
     fn both_ways_of_reading_agree() {
         let mut rng = Rng::new(0x10C);
-        for (bits, limit) in [(16, 41), (12, 54)] {
-            for nop in 0..=limit {
+        for bits in [16, 12] {
+            for nop in 0..=MOST_PIECES {
                 for _ in 0..20 {
-                    let mut pdu = [0; 96];
+                    let mut pdu = [0; 140];
                     rng.fill(&mut pdu);
                     let size = bytes(bits, nop);
                     let sent = &pdu[FIRST..FIRST + size];
@@ -142,8 +143,11 @@ mod tests {
         assert_eq!(last_byte(16, 1), 15);
         assert_eq!(last_byte(12, 1), 15);
         assert_eq!(last_byte(12, 2), 16);
-        assert_eq!(last_byte(16, 41), 95);
-        assert_eq!(last_byte(12, 54), 94);
+        // The last that lie in the header, and those of 63 pieces.
+        assert_eq!((last_byte(16, 41), last_byte(16, 42)), (95, 97));
+        assert_eq!((last_byte(12, 54), last_byte(12, 55)), (94, 96));
+        assert_eq!(last_byte(16, MOST_PIECES), 139);
+        assert_eq!(last_byte(12, MOST_PIECES), 108);
     }
 
     #[test]

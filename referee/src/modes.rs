@@ -61,20 +61,9 @@ pub fn line_for(mode: u8, stream: u8) -> Option<Line> {
         .find(|line| line.mode == mode && line.stream == stream)
 }
 
-/// The most pieces: 41 with locators of 16 bits, 54 with 12 (document 01,
-/// "Control word").
-pub fn nop_limit(locator_bits: usize) -> usize {
-    match locator_bits {
-        16 => 41,
-        12 => 54,
-        _ => panic!("no locator has {locator_bits} bits"),
-    }
-}
-
 #[cfg(test)]
 mod tests {
     use super::*;
-    use crate::locators;
 
     #[test]
     fn ten_of_sixty_four() {
@@ -100,15 +89,5 @@ mod tests {
             (13, 0, 12, 8),
         ];
         assert_eq!(found, wanted);
-    }
-
-    /// The limits are the most for which the locators end by byte 95.
-    #[test]
-    fn locators_end_by_byte_95() {
-        for bits in [12, 16] {
-            let limit = nop_limit(bits);
-            assert!(locators::last_byte(bits, limit) <= 95);
-            assert!(locators::last_byte(bits, limit + 1) > 95);
-        }
     }
 }

@@ -1,7 +1,11 @@
-//! Which pieces of the offered packets a PDU takes (document 01, "Writer").
+//! Which pieces of the offered packets a PDU takes (document 01, "Writer"; the
+//! count limit, document 02, Ask 9).
 
+use crate::control::MOST_PIECES;
 use crate::locators;
-use crate::modes;
+
+/// The largest La that its byte can say.
+const LARGEST_LA: usize = 255;
 
 /// A piece of an offered packet.
 #[derive(Clone, Copy, Debug, PartialEq, Eq)]
@@ -33,9 +37,21 @@ impl Room {
         14 + locators::bytes(self.locator_bits, k) + self.expansion_and_psd
     }
 
+    /// La with k pieces: the place of the last byte of the overhead.
+    pub fn la(&self, k: usize) -> usize {
+        self.overhead(k) - 1
+    }
+
+    /// The count limit: the largest k up to 63 for which La is at most 255
+    /// (document 02, Ask 9). There is none where expansion and PSD alone go past
+    /// that, which no mode's column allows.
+    pub fn count_limit(&self) -> Option<usize> {
+        (0..=MOST_PIECES).rev().find(|&k| self.la(k) <= LARGEST_LA)
+    }
+
     /// Whether k may be so large.
     fn allows(&self, k: usize) -> bool {
-        k <= modes::nop_limit(self.locator_bits)
+        self.count_limit().is_some_and(|limit| k <= limit)
     }
 
     /// How many bytes the pieces take, each with its CRC, with the overhead
@@ -156,15 +172,56 @@ mod tests {
         );
     }
 
+    /// The limit for each size of expansion and PSD, by another way: in 16 bits
+    /// each piece takes two of the 242 bytes that La can tell from 14 on, in 12
+    /// bits a pair of them takes three, and an odd last one two.
+    #[test]
+    fn count_limits() {
+        for bits in [16, 12] {
+            for expansion_and_psd in 0..=242 {
+                let room = Room {
+                    length: 4_096,
+                    locator_bits: bits,
+                    expansion_and_psd,
+                };
+                let left = 242 - expansion_and_psd;
+                let fit = match bits {
+                    16 => left / 2,
+                    _ => left / 3 * 2 + usize::from(left % 3 == 2),
+                };
+                assert_eq!(room.count_limit(), Some(fit.min(63)));
+            }
+        }
+        let limit = |bits, expansion_and_psd| {
+            let room = Room {
+                length: 4_096,
+                locator_bits: bits,
+                expansion_and_psd,
+            };
+            room.count_limit()
+        };
+        let wide = [0, 116, 117, 118, 119, 127, 128, 242, 243].map(|both| limit(16, both));
+        let wanted = [63, 63, 62, 62, 61, 57, 57, 0].map(Some);
+        assert_eq!(wide[..8], wanted);
+        assert_eq!((wide[8], limit(12, 128)), (None, Some(63)));
+    }
+
     /// At the limit of pieces no part is placed either.
     #[test]
     fn limits_of_pieces() {
-        for (bits, limit) in [(16, 41), (12, 54)] {
+        for (bits, expansion_and_psd, limit) in [
+            (16, 0, 63),
+            (16, 116, 63),
+            (16, 117, 62),
+            (16, 128, 57),
+            (12, 0, 63),
+            (12, 128, 63),
+        ] {
             for packet in [1, 5] {
                 let room = Room {
                     length: 4_096,
                     locator_bits: bits,
-                    expansion_and_psd: 0,
+                    expansion_and_psd,
                 };
                 let pieces = place(&room, 0, &vec![packet; limit + 1]);
                 assert_eq!(pieces.len(), limit);
@@ -196,9 +253,9 @@ mod tests {
                 16 => 2 * pieces,
                 _ => 3 * (pieces / 2) + 2 * (pieces % 2),
             };
-            let limit = if room.locator_bits == 16 { 41 } else { 54 };
-            let taken = 14 + locator_bytes + room.expansion_and_psd + bytes + pieces;
-            pieces <= limit && taken <= room.length
+            let before = 14 + locator_bytes + room.expansion_and_psd;
+            let taken = before + bytes + pieces;
+            pieces <= 63 && before <= 256 && taken <= room.length
         };
         (0..=total)
             .rev()
@@ -212,13 +269,15 @@ mod tests {
         println!("seed {seed:#x}");
         let mut rng = Rng::new(seed);
         for case in 0..20_000 {
+            let (shortest, expansion_and_psd) =
+                [(96, rng.below(79)), (150, rng.within(100, 128))][rng.below(2)];
             let room = Room {
-                length: 96 + rng.below([2, 40, 300, 900][case % 4]),
+                length: shortest + rng.below([2, 40, 300, 900][case % 4]),
                 locator_bits: [12, 16][rng.below(2)],
-                expansion_and_psd: rng.below(79),
+                expansion_and_psd,
             };
             let longest = [1, 3, 20, 60, 300][rng.below(5)];
-            let lengths: Vec<usize> = (0..rng.within(1, 60))
+            let lengths: Vec<usize> = (0..rng.within(1, 80))
                 .map(|_| rng.within(1, longest))
                 .collect();
             let sent = rng.below(lengths[0]);

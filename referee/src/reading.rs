@@ -1,6 +1,6 @@
-//! Reading a PDU without a receiver (document 01, "Receiver"), with the
-//! refusals 3 to 5 and 7 to 12. All causes for a refusal are gathered first;
-//! the lowest of their numbers is the answer.
+//! Reading a PDU without a receiver (document 01, "Receiver"; any count of
+//! pieces, document 02, Ask 9), with the refusals 3 to 5 and 7 to 12. All causes
+//! for a refusal are gathered first; the lowest of their numbers is the answer.
 
 use crate::control::{self, ControlWord};
 use crate::erasures;
@@ -85,7 +85,7 @@ fn causes(pdu: &[u8], view: Option<&View>) -> Vec<Cause> {
         Some(view) => {
             causes.extend(view.mode_causes());
             causes.extend(view.sequence_causes());
-            causes.extend(view.nop_causes());
+            causes.extend(view.flag_causes());
             causes.extend(view.la_causes());
             causes.extend(view.expansion_causes());
             causes.extend(view.locator_causes());
@@ -130,7 +130,8 @@ struct Body {
     /// The place of the last locator byte.
     last_locator_byte: usize,
     expansion: expansion::Sent,
-    /// The locators as sent; none if their bytes aren't all in the PDU.
+    /// The locators as sent; none if their bytes aren't all in the PDU. No La
+    /// is right then.
     locators: Option<Vec<usize>>,
 }
 
@@ -166,12 +167,11 @@ impl View {
         )
     }
 
-    /// Refusal 8: NOP over its limit, or Pfirst or Plast with NOP 0.
-    fn nop_causes(&self) -> Vec<Cause> {
-        let over = |body: &Body| self.nop > modes::nop_limit(body.line.locator_bits);
+    /// Refusal 8, which concerns the two flags only (document 02, Ask 9): Pfirst
+    /// or Plast with NOP 0.
+    fn flag_causes(&self) -> Vec<Cause> {
         let none = self.nop == 0;
         [
-            only_if(self.body.as_ref().is_some_and(over), Cause::NopOverLimit),
             only_if(none && self.control.pfirst, Cause::PfirstWithoutPieces),
             only_if(none && self.control.plast, Cause::PlastWithoutPieces),
         ]
@@ -467,6 +467,84 @@ mod tests {
         assert_eq!(causes_of(&mode_0(with_la(14), &[], &fields)), []);
         let reading = outcome(&mode_0(with_la(17), &[], &fields)).unwrap();
         assert_eq!((reading.psd_start, reading.psd_length), (15, 3));
+    }
+
+    /// A count of pieces whose locators don't end in the PDU: whatever La is, it
+    /// is before the last locator byte or not below the length. What stands past
+    /// the PDU tells nothing.
+    #[test]
+    fn no_la_is_right_for_63_pieces_in_96_bytes() {
+        for (mode, length) in [(0, 96), (0, 139), (1, 96), (1, 108)] {
+            for la in 0..=255 {
+                let parts = Parts {
+                    control: ControlWord {
+                        mode,
+                        nop: 63,
+                        la,
+                        ..ControlWord::default()
+                    },
+                    ..Parts::default()
+                };
+                let mut pdu = vec![0; length];
+                parts.encode(&mut pdu);
+                assert_eq!(read(&mut pdu).unwrap_err().number, 9, "{mode}, {la}");
+            }
+        }
+        // With a byte more they end in the PDU; La there leaves no room for a
+        // piece.
+        for (mode, length) in [(0, 140), (1, 109)] {
+            let parts = Parts {
+                control: ControlWord {
+                    mode,
+                    nop: 63,
+                    la: length as u8 - 1,
+                    ..ControlWord::default()
+                },
+                ..Parts::default()
+            };
+            let mut pdu = vec![0; length];
+            parts.encode(&mut pdu);
+            assert_eq!(read(&mut pdu).unwrap_err().number, 11, "{mode}");
+        }
+    }
+
+    /// Sixty-three pieces of a byte, just in the PDU. A locator behind the header
+    /// is taken as it comes; one in it is mended.
+    #[test]
+    fn locators_behind_the_header() {
+        let locators: Vec<usize> = (0..63).map(|k| 141 + 2 * k).collect();
+        let parts = Parts {
+            control: ControlWord {
+                nop: 63,
+                la: 139,
+                ..ControlWord::default()
+            },
+            locator_bits: 16,
+            locators,
+            ..Parts::default()
+        };
+        let mut pdu = vec![0; 266];
+        parts.encode(&mut pdu);
+        let reading = outcome(&pdu).unwrap();
+        assert_eq!(reading.pieces.len(), 63);
+        assert!(reading.pieces.iter().all(|piece| piece.length == 1));
+        assert_eq!((reading.psd_start, reading.psd_length), (140, 0));
+        // Locator 40 ends at byte 95, locator 41 begins at byte 96.
+        for (place, refused) in [(94, None), (96, Some(Cause::LocatorUnderStart(41)))] {
+            let mut altered = pdu.clone();
+            altered[place] -= 1;
+            let before = altered.clone();
+            match refused {
+                None => {
+                    assert_eq!(read(&mut altered), Ok(reading.clone()));
+                    assert_eq!(altered, pdu);
+                }
+                Some(cause) => {
+                    assert_eq!(causes_of(&altered), [cause]);
+                    assert_eq!(altered, before);
+                }
+            }
+        }
     }
 
     #[test]

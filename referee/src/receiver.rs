@@ -847,19 +847,19 @@ mod tests {
         }
     }
 
-    /// The most words that a call can write, 8,216.
+    /// The most words that a call can write, 8,230.
     #[test]
     fn worst_case() {
-        let long = bytes(529);
-        let others = bytes(508);
+        let long = bytes(450);
+        let others = bytes(325);
         let mut pieces: Vec<(&[u8], u8)> = vec![(&[0xAB], 0)];
-        pieces.extend([(&others[..], 0); 39]);
+        pieces.extend([(&others[..], 0); 61]);
         pieces.push((&long, 0));
         let pdu = pdu(word(1, true, false, 10), &[0x50], &pieces);
-        assert_eq!((pdu.len(), pdu[13]), (20_480, 96));
+        assert_eq!((pdu.len(), pdu[13]), (20_480, 140));
         let got = receive_from(with(0, 4_095, 9), &carry_with(&bytes(4_095)), &pdu);
-        assert_eq!(got.words.len(), 8_216);
-        assert_eq!(got.entries().len(), 42);
+        assert_eq!(got.words.len(), 8_230);
+        assert_eq!(got.entries().len(), 64);
     }
 
     /// No PDU makes more: n bytes need (n + 2) / 3 data words at most, a
@@ -870,7 +870,7 @@ mod tests {
         for bits in [12, 16] {
             // The place behind the last CRC that locators can tell.
             let end = (1usize << bits).min(header::LONGEST);
-            for nop in 0..=modes::nop_limit(bits) {
+            for nop in 0..=control::MOST_PIECES {
                 let before_psd = locators::last_byte(bits, nop) + 1;
                 let psd_most = 256 - before_psd;
                 for psd in 0..=psd_most {
@@ -887,7 +887,7 @@ mod tests {
                 }
             }
         }
-        assert_eq!(most, 8_216);
+        assert_eq!(most, 8_230);
         assert!(most <= LOG_WORDS);
     }
 

@@ -25,7 +25,7 @@ pub const NOT_THOSE_OPENED: u32 = 6;
 /// The PDU sequence is outside the mode's range.
 pub const SEQUENCE: u32 = 7;
 
-/// NOP is over its limit, or 0 with Pfirst or Plast.
+/// Pfirst or Plast with NOP 0: the two flags only (document 02, Ask 9).
 pub const PIECES: u32 = 8;
 
 /// La is before the last locator byte, or not below the length.
@@ -93,7 +93,6 @@ pub enum Cause {
     BeyondMending,
     ModeAndStream,
     Sequence,
-    NopOverLimit,
     PfirstWithoutPieces,
     PlastWithoutPieces,
     LaBeforeLastLocatorByte,
@@ -118,7 +117,7 @@ impl Cause {
             Cause::BeyondMending => BEYOND_MENDING,
             Cause::ModeAndStream => MODE_AND_STREAM,
             Cause::Sequence => SEQUENCE,
-            Cause::NopOverLimit | Cause::PfirstWithoutPieces | Cause::PlastWithoutPieces => PIECES,
+            Cause::PfirstWithoutPieces | Cause::PlastWithoutPieces => PIECES,
             Cause::LaBeforeLastLocatorByte | Cause::LaNotBelowLength => LA,
             Cause::ExpansionOver16Bytes
             | Cause::ExpansionPastLa

@@ -1,6 +1,6 @@
-//! The writer (document 01, "Writer"; document 02, Ask 2), with the refusals 1,
-//! 3, 5, 10 and 14 to 17. All causes for a refusal are gathered first; the
-//! lowest of their numbers is the answer.
+//! The writer (document 01, "Writer"; document 02, Asks 2 and 9), with the
+//! refusals 1, 3, 5, 10 and 14 to 17. All causes for a refusal are gathered
+//! first; the lowest of their numbers is the answer.
 
 use crate::control::ControlWord;
 use crate::encode::{self, Parts};
@@ -222,7 +222,7 @@ fn room(line: &Line, offer: &Offer, length: usize) -> Room {
 /// The PDU in its parts, one behind the other: control word, locators,
 /// expansion, PSD up to La, then the pieces, each with its CRC.
 fn parts(writer: &Writer, offer: &Offer, room: &Room, pieces: &[Piece]) -> Parts {
-    let la = room.overhead(pieces.len()) - 1;
+    let la = room.la(pieces.len());
     let mut placed = Vec::new();
     let mut locators = Vec::new();
     let mut start = la + 1;
@@ -451,22 +451,26 @@ mod tests {
         }
     }
 
+    /// Sixty-four packets of a byte: the last one waits, however long the PDU is.
+    /// With PSD of 117 bytes 62 are placed, with 128 it is 57.
     #[test]
-    fn forty_two_packets_of_a_byte() {
-        let (answer, pdu) = written(fresh(), Settings::default(), &[], &[1; 42], 20_480);
-        assert_eq!((answer.refusal, answer.ended), (0, 41));
-        let after = Writer {
-            sequence: 1,
-            number: 41,
-            ..fresh()
-        };
-        assert_eq!(answer.writer, after);
-        let mut lent = pdu.clone();
-        let reading = reading::read(&mut lent).unwrap();
-        assert_eq!(reading.control.nop, 41);
-        assert!(!reading.control.pfirst && !reading.control.plast);
-        assert_eq!(pdu[13], 95);
-        assert!(pdu[96 + 82..].iter().all(|&byte| byte == 0));
+    fn sixty_four_packets_of_a_byte() {
+        for (psd, placed, la) in [(0, 63, 139), (116, 63, 255), (117, 62, 254), (128, 57, 255)] {
+            let psd = vec![0x50; psd];
+            let (answer, pdu) = written(fresh(), Settings::default(), &psd, &[1; 64], 20_480);
+            assert_eq!((answer.refusal, answer.ended), (0, placed));
+            let after = Writer {
+                sequence: 1,
+                number: placed as u8,
+                ..fresh()
+            };
+            assert_eq!(answer.writer, after);
+            let reading = reading::read(&mut pdu.clone()).unwrap();
+            assert_eq!(usize::from(reading.control.nop), placed);
+            assert!(!reading.control.pfirst && !reading.control.plast);
+            assert_eq!(usize::from(pdu[13]), la);
+            assert!(pdu[la + 1 + 2 * placed..].iter().all(|&byte| byte == 0));
+        }
     }
 
     #[test]

@@ -13,8 +13,9 @@ mod samples;
 
 use comparison::{Class, Outcomes};
 use lent::Lent;
+use referee::control::MOST_PIECES;
 use referee::header::PLACES;
-use referee::modes::{self, TABLE};
+use referee::modes::TABLE;
 use referee::refusal;
 use referee::rng::Rng;
 use samples::{Sample, Wish};
@@ -31,11 +32,6 @@ fn right(rng: &mut Rng, case: usize, nop: usize) -> Sample {
         piece.crc_error = 0;
     }
     sample
-}
-
-/// The most pieces that the case's mode and stream allow.
-fn limit(case: usize) -> usize {
-    modes::nop_limit(TABLE[case % TABLE.len()].locator_bits)
 }
 
 /// The sample's PDU.
@@ -66,7 +62,7 @@ fn check_sample(class: &mut Class, sample: &Sample) {
 fn all_or_none(total: &mut Outcomes) {
     let mut class = Class::new("all CRCs right, all wrong", 0x1157_0001);
     for case in 0..TABLE.len() {
-        for nop in 0..=limit(case) {
+        for nop in 0..=MOST_PIECES {
             let mut sample = right(&mut class.rng, case, nop);
             check_sample(&mut class, &sample);
             for piece in &mut sample.parts.pieces {
@@ -82,7 +78,7 @@ fn all_or_none(total: &mut Outcomes) {
 fn one_of_all(total: &mut Outcomes) {
     let mut class = Class::new("one CRC wrong", 0x1157_0002);
     for case in 0..TABLE.len() {
-        for nop in 1..=limit(case) {
+        for nop in 1..=MOST_PIECES {
             let sample = right(&mut class.rng, case, nop);
             for k in 0..nop {
                 let mut sample = sample.clone();
@@ -100,7 +96,7 @@ fn one_of_all(total: &mut Outcomes) {
 fn some(total: &mut Outcomes) {
     let mut class = Class::new("some CRCs wrong", 0x1157_0003);
     for case in 0..3_000 {
-        let nop = class.rng.within(0, limit(case));
+        let nop = class.rng.within(0, MOST_PIECES);
         let mut sample = right(&mut class.rng, case, nop);
         for piece in &mut sample.parts.pieces {
             if class.rng.below(2) == 0 {
@@ -112,18 +108,19 @@ fn some(total: &mut Outcomes) {
     class.report(total);
 }
 
-/// One bit turned behind the header: in a piece or its CRC, that one is wrong,
-/// and otherwise none.
+/// One bit turned behind the header, locators and expansion: in a piece or its
+/// CRC, that one is wrong, and otherwise none.
 fn turned_bits(total: &mut Outcomes) {
     let mut class = Class::new("one bit turned behind the header", 0x1157_0004);
     for case in 0..3_000 {
-        let nop = class.rng.within(0, limit(case));
+        let nop = class.rng.within(0, MOST_PIECES);
         let sample = right(&mut class.rng, case, nop);
-        if sample.length == PLACES {
+        let first = PLACES.max(sample.reading().psd_start);
+        if first >= sample.length {
             continue;
         }
         let mut lent = lend(&mut class, &sample);
-        let place = class.rng.within(PLACES, sample.length - 1);
+        let place = class.rng.within(first, sample.length - 1);
         lent.bytes_mut()[place] ^= 1 << class.rng.below(8);
         let known: Vec<bool> = sample
             .parts

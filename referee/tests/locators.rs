@@ -11,11 +11,11 @@ mod product;
 use lent::{Lent, LentLog};
 use lists::LentList;
 use product::receiver::{self as receiving, Place};
-use referee::control::ControlWord;
+use referee::control::{ControlWord, MOST_PIECES};
 use referee::encode::Parts;
 use referee::header::PLACES;
 use referee::locators;
-use referee::modes::{self, Line, TABLE};
+use referee::modes::{Line, TABLE};
 use referee::reading;
 use referee::receiver::CARRY_BYTES;
 use referee::refusal;
@@ -184,11 +184,10 @@ fn the_smallest_k() {
     let beside = Beside::new(&mut rng);
     let mut pdus = 0;
     for line in TABLE {
-        let limit = modes::nop_limit(line.locator_bits);
         let mut seen = Seen::default();
-        for nop in 1..=limit {
+        for nop in 1..=MOST_PIECES {
             for count in 1..=nop {
-                for _ in 0..26 {
+                for _ in 0..16 {
                     let wish = Wish::new(&mut rng, line, nop, count);
                     seen.compare(&mut rng, &wish, &beside);
                 }
@@ -199,8 +198,9 @@ fn the_smallest_k() {
              by how many are wrong {:?}",
             line.mode, line.stream, seen.pdus, seen.all_wrong, seen.by_k, seen.by_count
         );
-        assert!(seen.by_k.keys().copied().eq(0..limit), "each k");
-        assert!(seen.by_count.keys().copied().eq(1..=limit), "each count");
+        assert!(seen.by_k.keys().copied().eq(0..MOST_PIECES), "each k");
+        let counts = seen.by_count.keys().copied();
+        assert!(counts.eq(1..=MOST_PIECES), "each count");
         pdus += seen.pdus;
     }
     println!("{pdus} PDUs, each read, listed, and received by value and in place");

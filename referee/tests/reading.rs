@@ -11,7 +11,7 @@ mod samples;
 
 use comparison::{Class, Known, Outcomes};
 use lent::Lent;
-use referee::control;
+use referee::control::{self, MOST_PIECES};
 use referee::encode::{Field, Parts};
 use referee::expansion::MOST;
 use referee::header::{self, Header, LONGEST, PLACES};
@@ -161,24 +161,20 @@ fn sequences(total: &mut Outcomes) {
     class.report(total);
 }
 
-/// Refusal 8: NOP around its limit and above.
-fn nop_limits(total: &mut Outcomes) {
-    let mut class = Class::new("NOP and its limit", 0x6EAD_0008);
+/// Every count of pieces in every mode and stream: none is refused for itself
+/// (document 02, Ask 9).
+fn counts_of_pieces(total: &mut Outcomes) {
+    let mut class = Class::new("every NOP", 0x6EAD_0008);
     for line in TABLE {
-        let limit = modes::nop_limit(line.locator_bits);
-        for nop in limit - 2..64 {
-            for _ in 0..25 {
+        for nop in 0..=MOST_PIECES {
+            for _ in 0..8 {
                 let wish = Wish {
                     line: Some(line),
                     nop: Some(nop),
                     ..Wish::default()
                 };
                 let sample = class.sample(&wish);
-                if nop <= limit {
-                    class.check_taken(&sample);
-                } else {
-                    class.check(&sample, Known::Only(Cause::NopOverLimit));
-                }
+                class.check_taken(&sample);
             }
         }
     }
@@ -216,7 +212,7 @@ fn flags_without_pieces(total: &mut Outcomes) {
 fn la_and_locators(total: &mut Outcomes) {
     let mut class = Class::new("La and the last locator byte", 0x6EAD_0009);
     for line in TABLE {
-        for nop in 0..=modes::nop_limit(line.locator_bits) {
+        for nop in 0..=MOST_PIECES {
             for _ in 0..3 {
                 let wish = Wish {
                     nop: Some(nop),
@@ -371,8 +367,11 @@ fn expansion_and_end(total: &mut Outcomes) {
     let mut class = Class::new("expansion to the PDU's end", 0x6EAD_020A);
     for line in TABLE {
         let bits = line.locator_bits;
-        for nop in 0..=modes::nop_limit(bits) {
+        for nop in 0..=MOST_PIECES {
             let last = locators::last_byte(bits, nop);
+            if last >= PLACES {
+                break;
+            }
             for la in [PLACES - 1, last] {
                 let wish = Wish {
                     nop: Some(nop),
@@ -545,11 +544,10 @@ fn after_a_stop(total: &mut Outcomes) {
 fn low_locators(total: &mut Outcomes) {
     let mut class = Class::new("locators too low", 0x6EAD_000B);
     for line in TABLE {
-        let limit = modes::nop_limit(line.locator_bits);
-        for k in 0..limit {
+        for k in 0..MOST_PIECES {
             for _ in 0..6 {
                 let wish = Wish {
-                    nop: Some(class.rng.within(k + 1, limit)),
+                    nop: Some(class.rng.within(k + 1, MOST_PIECES)),
                     ..plain(line)
                 };
                 let mut sample = class.sample(&wish);
@@ -577,15 +575,14 @@ fn low_locators(total: &mut Outcomes) {
 fn high_locators(total: &mut Outcomes) {
     let mut class = Class::new("locators too high", 0x6EAD_010B);
     for line in TABLE {
-        let limit = modes::nop_limit(line.locator_bits);
         let highest = (1 << line.locator_bits) - 1;
-        for k in 0..limit {
+        for k in 0..MOST_PIECES {
             for _ in 0..4 {
                 let last = class.rng.below(2) == 0;
                 let nop = if last {
                     k + 1
                 } else {
-                    class.rng.within(k + 1, limit)
+                    class.rng.within(k + 1, MOST_PIECES)
                 };
                 let wish = Wish {
                     nop: Some(nop),
@@ -625,7 +622,7 @@ fn locators_after_wrong_ones(total: &mut Outcomes) {
     for case in 0..6_000 {
         let line = TABLE[case % TABLE.len()];
         let wish = Wish {
-            nop: Some(class.rng.within(2, modes::nop_limit(line.locator_bits))),
+            nop: Some(class.rng.within(2, MOST_PIECES)),
             ..plain(line)
         };
         let mut sample = class.sample(&wish);
@@ -663,7 +660,7 @@ fn displacements(total: &mut Outcomes) {
         if class.rng.below(4) == 0 {
             fields.insert(0, field(&mut class.rng, 0, false));
         }
-        let some_pieces = class.rng.within(0, modes::nop_limit(line.locator_bits));
+        let some_pieces = class.rng.within(0, MOST_PIECES);
         let unused = class.rng.below(4);
         let wish = Wish {
             line: Some(line),
@@ -760,11 +757,10 @@ fn spoiled(class: &mut Class, numbers: &[u32]) -> Sample {
             break line;
         }
     };
-    let limit = modes::nop_limit(line.locator_bits);
     let displaced = field(&mut class.rng, 1, true);
     let wish = Wish {
         line: Some(line),
-        nop: Some(class.rng.within(1, limit)),
+        nop: Some(class.rng.within(1, MOST_PIECES)),
         fields: Some(vec![displaced]),
         length: Some(class.rng.within(96, 1_500)),
         ..Wish::default()
@@ -781,7 +777,6 @@ fn spoiled(class: &mut Class, numbers: &[u32]) -> Sample {
 
 /// Makes the refusal apply, from 5 on, and no lower one.
 fn spoil(rng: &mut Rng, sample: &mut Sample, number: u32) {
-    let limit = modes::nop_limit(sample.line.locator_bits);
     let length = sample.length;
     let word = &mut sample.parts.control;
     match number {
@@ -792,7 +787,6 @@ fn spoil(rng: &mut Rng, sample: &mut Sample, number: u32) {
             }
         }
         refusal::SEQUENCE => word.sequence = rng.within(2, 7) as u8,
-        refusal::PIECES if rng.below(2) == 0 => word.nop = rng.within(limit + 1, 63) as u8,
         refusal::PIECES => {
             word.nop = 0;
             word.pfirst = rng.below(2) == 0;
@@ -887,7 +881,7 @@ const CLASSES: [fn(&mut Outcomes); 25] = [
     lengths,
     modes_and_streams,
     sequences,
-    nop_limits,
+    counts_of_pieces,
     flags_without_pieces,
     la_and_locators,
     la_and_length,
@@ -923,7 +917,7 @@ fn reading() {
         assert!(cases >= 1_000, "{number}");
     }
     println!("refused for one cause alone: {:?}", total.alone);
-    assert_eq!(total.alone.len(), 18, "all causes");
+    assert_eq!(total.alone.len(), 17, "all causes");
     assert!(total.alone.values().all(|&cases| cases >= 500));
     assert!(total.taken >= 100_000);
     assert!(total.cases >= 300_000);

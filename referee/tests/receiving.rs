@@ -23,7 +23,7 @@ use drives::{Seen, STYLES};
 use lent::{Lent, LentLog};
 use product::receiver::calls_in_place;
 use receptions::{right_crcs, some_line, spoil, spoilable, with_lengths, Held, Reception, NUMBERS};
-use referee::control;
+use referee::control::{self, MOST_PIECES};
 use referee::header::{self, LONGEST};
 use referee::modes::{self, Line, TABLE};
 use referee::receiver::{self, Receiver};
@@ -429,11 +429,11 @@ fn modes_and_streams(total: &mut Outcomes) {
     class.report(total);
 }
 
-/// Refusals 7 and 8, at their edges.
+/// Refusals 7 and 8, at their edges; the most pieces are taken (document 02, Ask
+/// 9).
 fn sequences_and_pieces(total: &mut Outcomes) {
     let mut class = Class::new("sequences and pieces of a PDU", 0x4EC0_000C);
     for line in TABLE {
-        let limit = modes::nop_limit(line.locator_bits);
         for _ in 0..40 {
             for sequence in line.sequences..8 {
                 let mut reception = small(&mut class.rng, line);
@@ -441,30 +441,15 @@ fn sequences_and_pieces(total: &mut Outcomes) {
                 let known = Known::Only(ReceiverCause::Pdu(Cause::Sequence));
                 refuse(&mut class, &reception, &known);
             }
-            for nop in [limit - 1, limit] {
+            for nop in [41, 42, 54, 55, MOST_PIECES - 1, MOST_PIECES] {
                 let wish = Wish {
                     line: Some(line),
                     nop: Some(nop),
                     ..Wish::default()
                 };
-                let mut reception = Reception::new(&mut class.rng, &wish);
+                let reception = Reception::new(&mut class.rng, &wish);
                 take(&mut class, &reception);
-                for nop in [limit + 1, limit + 2, 63] {
-                    reception.sample.parts.control.nop = nop as u8;
-                    refuse(&mut class, &reception, &Known::Number(refusal::PIECES));
-                }
             }
-            // Locators and pieces that would be right if there could be so
-            // many.
-            let wish = Wish {
-                line: Some(line),
-                nop: Some([limit + 1, class.rng.within(limit + 1, 63)][class.rng.below(2)]),
-                fields: Some(Vec::new()),
-                ..Wish::default()
-            };
-            let reception = Reception::new(&mut class.rng, &wish);
-            let known = Known::Only(ReceiverCause::Pdu(Cause::NopOverLimit));
-            refuse(&mut class, &reception, &known);
             for (pfirst, plast) in [(false, false), (true, false), (false, true), (true, true)] {
                 check_flags(&mut class, line, pfirst, plast);
             }
@@ -787,7 +772,7 @@ fn receiving() {
     assert!(total.orders.values().all(|&notes| notes >= 1_000));
     println!("refused for one cause alone: {:?}", total.alone);
     // A mode and stream that aren't in the table are never those opened.
-    assert_eq!(total.alone.len(), 26, "all causes that can be alone");
+    assert_eq!(total.alone.len(), 25, "all causes that can be alone");
     assert!(total.alone.values().all(|&calls| calls >= 100));
     println!("accepted by mode and stream: {:?}", total.lines);
     assert_eq!(total.lines.len(), TABLE.len());
@@ -907,21 +892,21 @@ fn examples() {
     let words = reception.wanted().words;
     assert_eq!(words, [0x0005_0004, 0x4311_2233, 0x4144_0000]);
     take(&mut class, &reception);
-    let lengths = [vec![1], vec![508; 39], vec![529]].concat();
+    let lengths = [vec![1], vec![325; 61], vec![450]].concat();
     let mut sample = with_lengths(&mut class.rng, mode_0, 1, &lengths);
     sample.length = LONGEST;
     let word = &mut sample.parts.control;
     (word.pfirst, word.plast) = (true, false);
-    assert_eq!(word.la, 96);
+    assert_eq!(word.la, 140);
     let mut reception = Reception::of(&mut class.rng, sample);
     reception.know_the_one_before();
     reception.hold(&mut class.rng, Held::Fitting(4_095));
-    assert_eq!(reception.wanted().words.len(), 8_216);
-    for log in [8_216, 8_400] {
+    assert_eq!(reception.wanted().words.len(), 8_230);
+    for log in [8_230, 8_400] {
         reception.log = Some(log);
         take(&mut class, &reception);
     }
-    reception.log = Some(8_215);
+    reception.log = Some(8_229);
     let known = Known::Only(ReceiverCause::LogTooShort);
     refuse(&mut class, &reception, &known);
     class.report(&mut Outcomes::default());

@@ -275,7 +275,9 @@ fn writing() {
     println!("accepted by mode and stream: {:?}", total.lines);
     assert_eq!(total.lines.len(), TABLE.len());
     println!("accepted by what the PDU looks like: {:?}", total.looks);
-    assert!(total.looks.values().all(|&calls| calls >= 10));
+    // How the limit of pieces is reached is for the tests of many pieces.
+    let often = |(look, calls): (&&str, &u64)| *calls >= 10 || look.starts_with("limit");
+    assert!(total.looks.iter().all(often));
     assert!(total.calls >= 100_000);
 }
 

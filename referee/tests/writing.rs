@@ -706,41 +706,53 @@ fn overheads(total: &mut Outcomes) {
 fn piece_limits(total: &mut Outcomes) {
     let mut class = Class::new("limits of pieces", 0x3217_000F);
     for line in TABLE {
-        let limit = modes::nop_limit(line.locator_bits);
-        for count in [limit - 1, limit, limit + 1, limit + 2, 100] {
-            for case in 0..60 {
-                let longest = [1, 2, 5, 40][case % 4];
-                let mut lengths: Vec<u16> = (0..count)
-                    .map(|_| some_packet(&mut class.rng, longest))
-                    .collect();
-                if case % 5 == 0 {
-                    // The last one that may be placed is long.
-                    lengths[limit.min(count) - 1] = class.rng.within(100, 4_096) as u16;
-                }
-                let mut call = class.call(&Wish {
-                    line: Some(line),
-                    lengths: Some(lengths),
-                    length: Some(300),
-                    ..Wish::default()
-                });
-                let near = length_for(&call, line, limit.min(count));
-                let longest = calls::longest(&line);
-                let more = class.rng.within(near, near + 400);
-                for length in [near - 2, near - 1, near, near + 1, near + 3, more, longest] {
-                    call.length = length.min(longest);
-                    call.settings.displaced &= call.length <= 16_384;
-                    class.check(&call, Known::Taken);
-                }
-            }
+        for case in 0..300 {
+            let settings = some_settings(&mut class.rng, &line, 300);
+            let most = calls::most_psd(&line, &settings, 300);
+            // Much PSD lets fewer pieces be.
+            let least = [most, most / 8 * 7, 0][class.rng.below(3)];
+            let psd = class.rng.within(least, most);
+            let mut call = class.call(&Wish {
+                line: Some(line),
+                length: Some(300),
+                settings: Some(settings),
+                psd: Some(psd),
+                lengths: Some(Vec::new()),
+                ..Wish::default()
+            });
+            check_limit(&mut class, &mut call, line, case);
         }
     }
     class.report(total);
 }
 
+/// The limit of this call, with packets of up to so many bytes by the case.
+fn check_limit(class: &mut Class, call: &mut Call, line: Line, case: usize) {
+    let limit = calls::count_limit(&line, call.psd_and_expansion());
+    let count = [limit - 1, limit, limit + 1, limit + 2, 100][case % 5];
+    let longest = [1, 2, 5, 40][class.rng.below(4)];
+    let mut lengths: Vec<u16> = (0..count)
+        .map(|_| some_packet(&mut class.rng, longest))
+        .collect();
+    if class.rng.below(5) == 0 {
+        // The last one that may be placed is long.
+        lengths[limit.min(count) - 1] = class.rng.within(100, 4_096) as u16;
+    }
+    call.writer.sent = calls::some_sent(&mut class.rng, &lengths);
+    call.offer(&mut class.rng, lengths);
+    let near = length_for(call, line, limit.min(count));
+    let longest = calls::longest(&line);
+    let more = class.rng.within(near, near + 400);
+    for length in [near - 2, near - 1, near, near + 1, near + 3, more, longest] {
+        call.length = length.min(longest);
+        call.settings.displaced &= call.length <= 16_384;
+        class.check(call, Known::Taken);
+    }
+}
+
 /// The length at which the first so many packets just fit, whole.
 fn length_for(call: &Call, line: Line, whole: usize) -> usize {
-    let locator_bytes = (whole * line.locator_bits).div_ceil(8);
-    let before = 14 + locator_bytes + calls::expansion_size(&call.settings) + call.psd.len();
+    let before = 14 + calls::locator_bytes(&line, whole) + call.psd_and_expansion();
     before + sum(&call.lengths[..whole]) - usize::from(call.writer.sent) + whole
 }
 
@@ -750,7 +762,8 @@ fn placing_edges(total: &mut Outcomes) {
     let mut class = Class::new("packets that just fit", 0x3217_0010);
     for case in 0..4_000 {
         let line = TABLE[case % TABLE.len()];
-        let limit = modes::nop_limit(line.locator_bits);
+        // In 96 bytes there is room for so much PSD and expansion.
+        let limit = calls::count_limit(&line, PLACES - 18);
         let whole = match class.rng.below(4) {
             0 => 1,
             1 => class.rng.within(limit - 2, limit),
@@ -985,10 +998,12 @@ fn examples() {
     class.check(&in_mode_0(fresh, &[100], 78, 96), Known::Taken);
     let no_room = Known::Only(WriterCause::NoRoomForAPiece);
     class.check(&in_mode_0(fresh, &[100], 79, 96), no_room);
-    let many = class.check(&in_mode_0(fresh, &[1; 42], 0, 20_480), Known::Taken);
-    let control = many.reading.as_ref().unwrap().control;
-    assert_eq!((control.nop, control.plast), (41, false));
-    assert_eq!(many.answer.ended, 41);
+    for (psd, placed) in [(0, 63), (116, 63), (117, 62), (128, 57)] {
+        let many = class.check(&in_mode_0(fresh, &[1; 64], psd, 20_480), Known::Taken);
+        let control = many.reading.as_ref().unwrap().control;
+        assert_eq!((control.nop, control.plast), (placed, false));
+        assert_eq!(many.answer.ended, usize::from(placed));
+    }
     let mut only_type_5 = in_mode_0(fresh, &[], 0, 96);
     only_type_5.settings.program_type = Some(ProgramType { access: 0, code: 5 });
     let written = class.check(&only_type_5, Known::Taken);

@@ -365,7 +365,7 @@ fn check_accepted(before: &Loan, tried: &Tried) {
         before.marks()
     ));
     assert_eq!(pdu[PLACES..], before.pdu.bytes()[PLACES..]);
-    assert!(answer.words <= 8_216, "more than the worst case");
+    assert!(answer.words <= 8_230, "more than the worst case");
     let words = loan.log.words();
     assert_eq!(words[answer.words..], before.log.words()[answer.words..]);
     let entries = log::entries(&words[..answer.words]).expect("entries");

@@ -65,6 +65,11 @@ impl Call {
         }
     }
 
+    /// How many bytes PSD and expansion have together.
+    pub fn psd_and_expansion(&self) -> usize {
+        self.psd.len() + expansion_size(&self.settings)
+    }
+
     /// Offers packets of other lengths.
     pub fn offer(&mut self, rng: &mut Rng, lengths: Vec<u16>) {
         self.bytes = some_bytes(rng, sum(&lengths));
@@ -168,6 +173,27 @@ pub fn expansion_size(settings: &Settings) -> usize {
     others + program
 }
 
+/// How many bytes so many locators take.
+pub fn locator_bytes(line: &Line, pieces: usize) -> usize {
+    match line.locator_bits {
+        16 => 2 * pieces,
+        _ => 3 * (pieces / 2) + 2 * (pieces % 2),
+    }
+}
+
+/// The most pieces that a writer places with so many bytes of PSD and expansion:
+/// the largest k up to 63 for which La is at most 255 (document 02, Ask 9). Of
+/// the 242 bytes that La can tell from byte 14 on, locators of 16 bits take two
+/// each, those of 12 bits three a pair and two if one is left.
+pub fn count_limit(line: &Line, both: usize) -> usize {
+    let left = 242 - both;
+    let fit = match line.locator_bits {
+        16 => left / 2,
+        _ => left / 3 * 2 + usize::from(left % 3 == 2),
+    };
+    fit.min(63)
+}
+
 /// How many bytes of PSD are right with these settings, also if packets are
 /// offered.
 pub fn most_psd(line: &Line, settings: &Settings, length: usize) -> usize {
@@ -197,7 +223,7 @@ fn some_lengths(rng: &mut Rng, length: usize) -> Vec<u16> {
         1 => 1,
         2 => 2,
         3 | 4 => rng.within(1, 8),
-        _ => rng.within(1, 70),
+        _ => rng.within(1, 80),
     };
     let mut lengths = Vec::new();
     while lengths.len() < count && sum(&lengths) < length + 2_000 {

@@ -61,6 +61,10 @@ pub const STYLES: [Style; 10] = [
     style((40, 1_500), (96, 4_096)),
 ];
 
+/// Short packets in PDUs with about as many pieces as there can be.
+#[allow(dead_code)]
+pub const MANY: [Style; 2] = [style((900, 3), (200, 380)), style((700, 9), (300, 620))];
+
 /// A PDU, and the bytes of the joined list that it holds.
 pub struct Sent {
     pdu: Vec<u8>,
@@ -70,10 +74,15 @@ pub struct Sent {
 }
 
 impl Sent {
-    /// How many pieces it has: NOP, bits 6-1 of byte 12.
+    /// How many pieces it has.
     fn pieces(&self) -> usize {
-        usize::from(self.pdu[12] >> 1 & 63)
+        nop(&self.pdu)
     }
+}
+
+/// How many pieces a PDU has: NOP, bits 6-1 of byte 12.
+fn nop(pdu: &[u8]) -> usize {
+    usize::from(pdu[12] >> 1 & 63)
 }
 
 /// A list of packets, sent by one writer.
@@ -213,20 +222,17 @@ impl List {
     /// fit, then a part of the next, if one byte of it does.
     fn bytes_sent(&self, call: &Call) -> usize {
         let (index, begun) = self.unfinished();
-        let limit = if self.line.locator_bits == 16 { 41 } else { 54 };
-        let expansion = calls::expansion_size(&call.settings);
         let mut bytes = 0;
         for place in 0..call.lengths.len() {
             let pieces = place + 1;
-            if pieces > limit {
+            let before = 14 + calls::locator_bytes(&self.line, pieces) + call.psd_and_expansion();
+            // No more than NOP can say, and La within its byte (document 02, Ask
+            // 9).
+            if pieces > 63 || before > 256 {
                 break;
             }
-            let locator_bytes = match self.line.locator_bits {
-                16 => 2 * pieces,
-                _ => 3 * (pieces / 2) + 2 * (pieces % 2),
-            };
             // With the CRCs, this piece's among them.
-            let overhead = 14 + locator_bytes + expansion + call.psd.len() + pieces;
+            let overhead = before + pieces;
             let remainder = match place {
                 0 => self.packets[index].len() - begun,
                 _ => self.packets[index + place].len(),
@@ -343,6 +349,11 @@ pub struct Seen {
     pub lost: u64,
     /// Received, by how many bytes of the header were altered.
     pub altered: BTreeMap<usize, u64>,
+    /// Those with 42 pieces or more.
+    pub altered_many: BTreeMap<usize, u64>,
+    /// Received and lost, by how many pieces they have.
+    pub pieces: BTreeMap<usize, u64>,
+    pub lost_pieces: BTreeMap<usize, u64>,
     /// Received with marks, by how many, and how many other bytes were altered.
     pub marked: BTreeMap<(usize, usize), u64>,
     /// Lost PDUs in a row, by how many, those over 12 as 13.
@@ -609,6 +620,10 @@ impl Drive<'_> {
         self.log = tried.loan.log;
         self.joined.extend(&self.log.words()[..tried.answer.words]);
         *self.seen.altered.entry(noise.in_all()).or_default() += 1;
+        if nop(pdu) >= 42 {
+            let altered = self.seen.altered_many.entry(noise.in_all());
+            *altered.or_default() += 1;
+        }
         if noise.marks.is_some() {
             let counts = (noise.list().len(), noise.altered);
             *self.seen.marked.entry(counts).or_default() += 1;
@@ -815,6 +830,13 @@ fn count(seen: &mut Seen, list: &List, run: &Range<usize>, lost: &[bool], equal:
     seen.lost += gone as u64;
     seen.received += (lost.len() - gone) as u64;
     seen.packets += list.packets.len() as u64;
+    for (sent, &lost) in list.pdus[run.clone()].iter().zip(lost) {
+        let pieces = match lost {
+            true => &mut seen.lost_pieces,
+            false => &mut seen.pieces,
+        };
+        *pieces.entry(sent.pieces()).or_default() += 1;
+    }
     if equal {
         seen.logged += list.wanted(run, lost).0 as u64;
     }

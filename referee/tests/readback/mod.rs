@@ -55,18 +55,13 @@ impl Unsent<'_> {
 
     /// How many bytes stand before the first of so many pieces.
     fn overhead(&self, pieces: usize) -> usize {
-        let locator_bytes = match self.line.locator_bits {
-            16 => 2 * pieces,
-            _ => 3 * (pieces / 2) + 2 * (pieces % 2),
-        };
-        let expansion = calls::expansion_size(&self.call.settings);
-        14 + locator_bytes + expansion + self.call.psd.len()
+        14 + calls::locator_bytes(&self.line, pieces) + self.call.psd_and_expansion()
     }
 
     /// Whether the first so many bytes fit.
     fn fit(&self, bytes: usize) -> bool {
         let pieces = self.pieces(bytes);
-        let limit = modes::nop_limit(self.line.locator_bits);
+        let limit = calls::count_limit(&self.line, self.call.psd_and_expansion());
         pieces <= limit && self.overhead(pieces) + bytes + pieces <= self.call.length
     }
 

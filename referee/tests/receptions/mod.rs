@@ -6,6 +6,7 @@ use crate::lent::{Lent, LentLog};
 use crate::noise::{self, Noise};
 use crate::samples::{Sample, Wish};
 use crate::told;
+use referee::control::MOST_PIECES;
 use referee::encode::{Field, Piece};
 use referee::header::{LONGEST, PLACES};
 use referee::locators;
@@ -303,10 +304,9 @@ pub fn some_line(rng: &mut Rng, numbers: &[u32]) -> Line {
 /// A right call that can be spoiled for each number, with pieces, PSD and a
 /// displacement.
 pub fn spoilable(rng: &mut Rng, line: Line) -> Reception {
-    let limit = modes::nop_limit(line.locator_bits);
     let wish = Wish {
         line: Some(line),
-        nop: Some([1, rng.within(1, 6), rng.within(1, limit)][rng.below(3)]),
+        nop: Some([1, rng.within(1, 6), rng.within(1, MOST_PIECES)][rng.below(3)]),
         fields: Some(vec![Field::ProgramAndDisplacement(rng.below(8) as u8, 0)]),
         psd: Some([1, rng.within(1, 30)][rng.below(2)]),
         length: Some(rng.within(96, 700)),
@@ -388,7 +388,6 @@ fn open_another(rng: &mut Rng, reception: &mut Reception) {
 
 /// Spoils the PDU, with 5 or 7 to 12.
 fn spoil_sample(rng: &mut Rng, sample: &mut Sample, number: u32) {
-    let limit = modes::nop_limit(sample.line.locator_bits);
     let length = sample.length;
     let last_locator_byte = sample.last_locator_byte();
     let end = sample.end();
@@ -401,9 +400,6 @@ fn spoil_sample(rng: &mut Rng, sample: &mut Sample, number: u32) {
             }
         }
         refusal::SEQUENCE => word.sequence = rng.within(2, 7) as u8,
-        refusal::PIECES if rng.below(2) == 0 => {
-            word.nop = [limit + 1, rng.within(limit + 1, 63)][rng.below(2)] as u8;
-        }
         refusal::PIECES => {
             word.nop = 0;
             word.pfirst = rng.below(2) == 0;

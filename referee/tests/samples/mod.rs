@@ -1,12 +1,12 @@
 //! Random PDUs that are right in every part, as parts that can be spoiled
 //! before they are put together, with what reading them has to answer.
 
-use referee::control::ControlWord;
+use referee::control::{ControlWord, MOST_PIECES};
 use referee::encode::{self, Field, Parts, Piece};
 use referee::expansion::{Fields, MOST};
 use referee::header::{LONGEST, PLACES};
 use referee::locators;
-use referee::modes::{self, Line, TABLE};
+use referee::modes::{Line, TABLE};
 use referee::reading::{self, Reading};
 use referee::rng::Rng;
 
@@ -38,12 +38,12 @@ pub struct Sample {
 }
 
 impl Sample {
-    /// A random one that has what is wished for and is right, except that
-    /// more pieces than the limit can be wished for, and any fields.
+    /// A random one that has what is wished for and is right, except that any
+    /// fields can be wished for.
     pub fn new(rng: &mut Rng, wish: &Wish) -> Sample {
         let line = wish.line.unwrap_or_else(|| TABLE[rng.below(TABLE.len())]);
         let bits = line.locator_bits;
-        let nop = wish.nop.unwrap_or_else(|| some_nop(rng, bits));
+        let nop = wish.nop.unwrap_or_else(|| some_nop(rng));
         let fields = wish.fields.clone().unwrap_or_else(|| some_fields(rng));
         let expansion = encode::expansion(&fields);
         let before_psd = locators::last_byte(bits, nop) + expansion.len();
@@ -187,14 +187,16 @@ fn said(fields: &[Field]) -> Fields {
     said
 }
 
-fn some_nop(rng: &mut Rng, bits: usize) -> usize {
-    let limit = modes::nop_limit(bits);
-    match rng.below(8) {
-        0 => 0,
-        1 => 1,
-        2 => limit - rng.below(2),
-        3 | 4 => rng.within(0, 6),
-        _ => rng.within(0, limit),
+/// Often none, one, or the most; and those at which the locators end inside the
+/// header, and one more.
+fn some_nop(rng: &mut Rng) -> usize {
+    match rng.below(16) {
+        0 | 1 => 0,
+        2 | 3 => 1,
+        4 | 5 => MOST_PIECES - rng.below(2),
+        6 => [41, 42, 54, 55][rng.below(4)],
+        7..=10 => rng.within(0, 6),
+        _ => rng.within(0, MOST_PIECES),
     }
 }
 

@@ -2,7 +2,7 @@
 //! about the call and what reading the PDU says, and the product's against
 //! the reference's, with every lent byte after the call and the guards.
 
-use crate::calls::{Call, Wish};
+use crate::calls::{self, Call, Wish};
 use crate::lent::{Lent, LentLengths};
 use crate::readback;
 use referee::modes;
@@ -63,7 +63,8 @@ impl Outcomes {
         let nop = usize::from(word.nop);
         let line = modes::line_for(word.mode, word.stream).expect("a line");
         let more = nop < call.lengths.len();
-        let limit = modes::nop_limit(line.locator_bits);
+        let limit = calls::count_limit(&line, call.psd_and_expansion());
+        let wide = line.locator_bits == 16;
         for (look, is_so) in [
             ("no piece", nop == 0),
             ("one piece", nop == 1),
@@ -75,14 +76,14 @@ impl Outcomes {
             ("Plast", word.plast),
             ("Plast with more offered", word.plast && more),
             ("no Plast with more offered", !word.plast && more),
-            ("41 pieces of 16 bits", nop == limit && limit == 41),
-            ("54 pieces of 12 bits", nop == limit && limit == 54),
+            ("42 pieces of 16 bits or more", wide && nop > 41),
+            ("55 pieces of 12 bits or more", !wide && nop > 54),
+            ("63 pieces of 16 bits", wide && nop == 63),
+            ("63 pieces of 12 bits", !wide && nop == 63),
+            ("limit under 63", nop == limit && limit < 63),
             ("limit, more offered", nop == limit && more),
             ("limit, Plast", nop == limit && word.plast),
-            (
-                "odd locators of 12 bits",
-                nop % 2 == 1 && line.locator_bits == 12,
-            ),
+            ("odd locators of 12 bits", !wide && nop % 2 == 1),
             ("expansion", word.expansion),
             ("displacement", call.settings.displaced),
             ("class", call.settings.class_code.is_some()),
