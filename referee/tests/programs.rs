@@ -3,6 +3,8 @@
 //! generated PDUs with the writer's, the channel's damage with its options, the
 //! log's words, lines and counts with the receiver's log, and the coverage
 //! picture with what the log says. The exit status has to go with what is said.
+//! Generator and log are asked for equal registers of the CRCs, or for unequal
+//! ones (document 02, Ask 2).
 //! The program is `barzhilup` in `../target/bin` seen from this package, or in
 //! the directory that `BARZHILUP_BIN` names; it has to be built before.
 
@@ -352,11 +354,48 @@ fn to_frames(rng: &mut Rng, packets: &[Vec<u8>], headers: Headers) -> Vec<Vec<u8
     packets.iter().map(frame).collect()
 }
 
+/// What an end is asked for: mode and stream, and what the register of the CRCs
+/// starts at.
+#[derive(Clone, Copy)]
+struct End {
+    line: Line,
+    register: u8,
+}
+
+impl End {
+    /// One with any register.
+    fn new(rng: &mut Rng, line: Line) -> End {
+        let register = [0, 255, rng.byte()][rng.below(3)];
+        End { line, register }
+    }
+
+    /// The other end, once in a while with another register.
+    fn other(&self, rng: &mut Rng) -> End {
+        let differ = match rng.below(4) {
+            0 => [0x80, 255, rng.nonzero_byte()][rng.below(3)],
+            _ => 0,
+        };
+        End {
+            register: self.register ^ differ,
+            ..*self
+        }
+    }
+
+    /// The options that ask for it.
+    fn options(&self, rng: &mut Rng) -> Vec<String> {
+        let mut options = Vec::new();
+        option_but(rng, &mut options, "mode", self.line.mode, 0);
+        option_but(rng, &mut options, "stream", self.line.stream, 0);
+        option_but(rng, &mut options, "crc-start", self.register, 0);
+        options
+    }
+}
+
 // Packets to PDUs.
 
 /// What is sent: packets, and how.
 struct Sending {
-    line: Line,
+    end: End,
     settings: Settings,
     psd: Vec<u8>,
     length: usize,
@@ -375,7 +414,7 @@ impl Sending {
         let most = most_psd(&line, &settings, length);
         let psd = [0, most, rng.within(0, most)][rng.below(3)];
         Sending {
-            line,
+            end: End::new(rng, line),
             settings,
             psd: some_bytes(rng, psd),
             length,
@@ -387,7 +426,7 @@ impl Sending {
     /// at times.
     fn options(&self, bench: &mut Bench) -> Vec<String> {
         let rng = &mut bench.rng;
-        let mut options = mode_options(rng, &self.line);
+        let mut options = self.end.options(rng);
         let s = &self.settings;
         for (name, value) in [
             ("blend", s.blend),
@@ -409,7 +448,8 @@ impl Sending {
     /// the unfinished one on; and the number of the refusal that ends them, 0
     /// if all are sent.
     fn pdus(&self) -> (Vec<Vec<u8>>, u32) {
-        let opened = writer::open(self.line.mode, self.line.stream);
+        let End { line, register } = self.end;
+        let opened = writer::open_with(line.mode, line.stream, register);
         let Ok(mut writer) = opened else {
             return (Vec::new(), opened.unwrap_err());
         };
@@ -443,14 +483,6 @@ impl Sending {
             pdus * self.length
         )
     }
-}
-
-/// The options for a mode and stream.
-fn mode_options(rng: &mut Rng, line: &Line) -> Vec<String> {
-    let mut options = Vec::new();
-    option_but(rng, &mut options, "mode", line.mode, 0);
-    option_but(rng, &mut options, "stream", line.stream, 0);
-    options
 }
 
 /// The options for expansion fields. Of a field with two, one may be left out
@@ -527,12 +559,22 @@ struct Sent {
     octets: u64,
     with_psd: u64,
     with_expansion: u64,
+    /// With another register than 0.
+    with_register: u64,
+    /// PDUs with more pieces than have their locators in the header.
+    many_pieces: u64,
 }
 
 impl Sent {
-    fn count(&mut self, sending: &Sending, pdus: usize) {
+    fn count(&mut self, sending: &Sending, pdus: &[Vec<u8>]) {
+        let line = sending.end.line;
         self.drives += 1;
-        count(&mut self.lines, (sending.line.mode, sending.line.stream), 1);
+        count(&mut self.lines, (line.mode, line.stream), 1);
+        self.with_register += u64::from(sending.end.register != 0);
+        let many = if line.locator_bits == 16 { 42 } else { 55 };
+        let pieces = pdus.iter().map(|pdu| nop(pdu));
+        self.many_pieces += pieces.filter(|&pieces| pieces >= many).count() as u64;
+        let pdus = pdus.len();
         self.packets += sending.packets.len() as u64;
         self.pdus += pdus as u64;
         self.octets += (pdus * sending.length) as u64;
@@ -545,6 +587,7 @@ impl Sent {
         assert_eq!(self.lines.len(), TABLE.len());
         assert_eq!(self.dumps.len(), 3);
         assert!(self.with_psd > 20 && self.with_expansion > 20);
+        assert!(self.with_register > 100 && self.many_pieces > 100);
     }
 }
 
@@ -579,7 +622,7 @@ fn generated(bench: &mut Bench, sending: &Sending, sent: &mut Sent) -> Vec<Vec<u
         assert_eq!(said, wanted);
     }
     count(&mut sent.dumps, headers, 1);
-    sent.count(sending, pdus.len());
+    sent.count(sending, &pdus);
     pdus
 }
 
@@ -748,13 +791,19 @@ fn with_word(pdu: &mut [u8], change: impl FnOnce(&mut ControlWord)) {
     with_parity(pdu);
 }
 
+/// How many pieces a PDU has: NOP, bits 6-1 of byte 12.
+fn nop(pdu: &[u8]) -> usize {
+    usize::from(pdu[12] >> 1 & 63)
+}
+
 fn with_parity(pdu: &mut [u8]) {
     let parity = header::parity(&header::header_of(pdu));
     pdu[..parity.len()].copy_from_slice(&parity);
 }
 
 /// A PDU with one piece from after its locator on.
-fn piece_alone(line: &Line, word: ControlWord, bytes: Vec<u8>) -> Vec<u8> {
+fn piece_alone(end: &End, word: ControlWord, bytes: Vec<u8>) -> Vec<u8> {
+    let line = end.line;
     let la = locators::last_byte(line.locator_bits, 1);
     let locator = la + 1 + bytes.len();
     let mut pdu = vec![0; PLACES.max(locator + 1)];
@@ -768,6 +817,7 @@ fn piece_alone(line: &Line, word: ControlWord, bytes: Vec<u8>) -> Vec<u8> {
         },
         locator_bits: line.locator_bits,
         locators: vec![locator],
+        register: end.register,
         pieces: vec![Piece {
             start: la + 1,
             bytes,
@@ -780,8 +830,9 @@ fn piece_alone(line: &Line, word: ControlWord, bytes: Vec<u8>) -> Vec<u8> {
 }
 
 /// Two PDUs with the parts of a packet that has about 4,096 bytes, or more.
-fn long_packet(rng: &mut Rng, line: &Line) -> Vec<Vec<u8>> {
-    let sequence = rng.below(usize::from(line.sequences)) as u8;
+fn long_packet(rng: &mut Rng, sent: &End) -> Vec<Vec<u8>> {
+    let sequences = sent.line.sequences;
+    let sequence = rng.below(usize::from(sequences)) as u8;
     let number = rng.below(64) as u8;
     let first = rng.within(2_000, 4_000);
     let second = [4_096 - first, 4_097 - first, rng.within(1, 3_000)][rng.below(3)];
@@ -792,25 +843,26 @@ fn long_packet(rng: &mut Rng, line: &Line) -> Vec<Vec<u8>> {
         ..ControlWord::default()
     };
     let end = ControlWord {
-        sequence: (sequence + 1) % line.sequences,
+        sequence: (sequence + 1) % sequences,
         pfirst: true,
         start: (number + 1) % 64,
         ..ControlWord::default()
     };
     vec![
-        piece_alone(line, beginning, some_bytes(rng, first)),
-        piece_alone(line, end, some_bytes(rng, second)),
+        piece_alone(sent, beginning, some_bytes(rng, first)),
+        piece_alone(sent, end, some_bytes(rng, second)),
     ]
 }
 
 /// A right PDU with anything in it.
-fn any_pdu(rng: &mut Rng, line: Line) -> Vec<u8> {
+fn any_pdu(rng: &mut Rng, end: &End) -> Vec<u8> {
     let wish = Wish {
-        line: Some(line),
+        line: Some(end.line),
         length: Some(rng.within(PLACES, 900)),
         ..Wish::default()
     };
-    let sample = Sample::new(rng, &wish);
+    let mut sample = Sample::new(rng, &wish);
+    sample.parts.register = end.register;
     sample.encode(&vec![rng.byte(); sample.length])
 }
 
@@ -836,9 +888,9 @@ fn wrong_length(rng: &mut Rng) -> usize {
 
 /// Makes something else of a PDU of at least 96 bytes, often one that is
 /// refused.
-fn spoil(rng: &mut Rng, pdu: &mut Vec<u8>, line: &Line) {
+fn spoil(rng: &mut Rng, pdu: &mut Vec<u8>, end: &End) {
     let any = |rng: &mut Rng, end: usize| rng.below(end) as u8;
-    match rng.below(11) {
+    match rng.below(12) {
         0 => pdu.resize(wrong_length(rng), 0x5A),
         1 => rng.fill(&mut pdu[..PLACES]),
         2 => with_word(pdu, |word| {
@@ -857,26 +909,30 @@ fn spoil(rng: &mut Rng, pdu: &mut Vec<u8>, line: &Line) {
             let place = rng.below(pdu.len());
             pdu[place] ^= rng.nonzero_byte();
         }
-        9 => *pdu = wrongly_displaced(rng, *line),
-        _ => *pdu = any_pdu(rng, *line),
+        9 => *pdu = wrongly_displaced(rng, end.line),
+        10 => with_word(pdu, |word| {
+            (word.nop, word.pfirst, word.plast) = (0, rng.below(2) == 0, true);
+        }),
+        _ => *pdu = any_pdu(rng, end),
     }
 }
 
 /// A drive's PDUs with others among them: spoiled ones, ones of other modes,
 /// ones that come twice or not at all, and long packets.
-fn mixed(rng: &mut Rng, pdus: Vec<Vec<u8>>, line: &Line) -> Vec<Vec<u8>> {
+fn mixed(rng: &mut Rng, pdus: Vec<Vec<u8>>, end: &End) -> Vec<Vec<u8>> {
     let mut records = Vec::new();
     let few = [8, 30, 1_000][rng.below(3)];
     for mut pdu in pdus {
         match rng.below(few) {
             0 => {
-                let other = TABLE[rng.below(TABLE.len())];
-                records.push(any_pdu(rng, other));
+                let line = TABLE[rng.below(TABLE.len())];
+                let other = End { line, ..*end };
+                records.push(any_pdu(rng, &other));
             }
             1 => records.push(pdu.clone()),
-            2 => records.extend(long_packet(rng, line)),
+            2 => records.extend(long_packet(rng, end)),
             3 => continue,
-            4..=6 if pdu.len() >= PLACES => spoil(rng, &mut pdu, line),
+            4..=6 if pdu.len() >= PLACES => spoil(rng, &mut pdu, end),
             _ => {}
         }
         records.push(pdu);
@@ -924,12 +980,16 @@ impl Came {
 struct Logged {
     came: Came,
     length: usize,
+    /// How many pieces it has, if it is received.
+    pieces: usize,
     entries: Vec<Entry>,
 }
 
 /// A whole file by the reference. A refused PDU is marked lost.
-fn heard(line: &Line, records: &[Vec<u8>]) -> Vec<Logged> {
-    let mut receiver = receiver::open(line.mode, line.stream).expect("a line of the table");
+fn heard(end: &End, records: &[Vec<u8>]) -> Vec<Logged> {
+    let End { line, register } = *end;
+    let opened = receiver::open_with(line.mode, line.stream, register);
+    let mut receiver = opened.expect("a line of the table");
     let mut carry = vec![0; CARRY_BYTES];
     let mut log = vec![0; LOG_WORDS];
     let mut all = Vec::new();
@@ -945,9 +1005,14 @@ fn heard(line: &Line, records: &[Vec<u8>]) -> Vec<Logged> {
             answer = receiver::mark_lost(receiver, &mut log);
         }
         receiver = answer.receiver;
+        let pieces = match came {
+            Came::Received(_) => nop(&pdu),
+            _ => 0,
+        };
         all.push(Logged {
             came,
             length: record.len(),
+            pieces,
             entries: log::entries(&log[..answer.words]).expect("words of a log"),
         });
     }
@@ -1095,6 +1160,8 @@ struct Tally {
     lost: usize,
     headers: usize,
     mended: usize,
+    /// Of those received.
+    pieces: usize,
     packets: usize,
     psd: usize,
     refused: Counts<u32>,
@@ -1111,6 +1178,7 @@ impl Tally {
     fn take(&mut self, logged: &[Logged]) {
         self.pdus += logged.len();
         for one in logged {
+            self.pieces += one.pieces;
             match &one.came {
                 Came::Received(mended) => {
                     self.received += 1;
@@ -1133,6 +1201,12 @@ impl Tally {
     /// Whether PDUs were refused, and none was received.
     fn is_none_received(&self) -> bool {
         self.received == 0 && !self.refused.is_empty()
+    }
+
+    /// Whether pieces were received, and each of them has a wrong CRC, note 2.
+    fn is_all_wrong(&self) -> bool {
+        let wrong = self.notes.get(&2).copied().unwrap_or(0);
+        self.pieces > 0 && wrong == self.pieces as u64
     }
 
     /// The lines of the log's summary.
@@ -1173,12 +1247,15 @@ struct Reading {
     drives: u64,
     words: u64,
     lines: u64,
+    /// Drives of which it is said that all CRCs were wrong.
+    all_wrong: u64,
     total: Tally,
 }
 
 impl Reading {
     fn report(&self) {
         println!("log, in three formats, equal to the receiver's: {self:?}");
+        assert!(self.all_wrong > 20 && self.all_wrong < self.drives / 2);
         assert!(self.total.refused.keys().copied().eq(3..=12));
         assert!(self.total.notes.keys().copied().eq(1..=6));
     }
@@ -1221,8 +1298,9 @@ fn refusals_said(logged: &[Logged]) -> Vec<String> {
 
 /// What is said on standard error: the refused PDUs, the counts, and, where PDUs
 /// were refused and none was received, whether the file is of this mode and
-/// stream.
-fn log_said(line: &Line, logged: &[Logged]) -> Vec<String> {
+/// stream; where all CRCs were wrong, whether they start at this register.
+fn log_said(end: &End, logged: &[Logged]) -> Vec<String> {
+    let line = end.line;
     let tally = Tally::of(logged);
     let mut said = refusals_said(logged);
     said.extend(tally.said());
@@ -1230,6 +1308,12 @@ fn log_said(line: &Line, logged: &[Logged]) -> Vec<String> {
         said.push(format!(
             "barzhilup log: no PDU was received: is this a file of PDUs of mode {}, stream {}?",
             line.mode, line.stream
+        ));
+    }
+    if tally.is_all_wrong() {
+        said.push(format!(
+            "barzhilup log: all CRCs were wrong: is {} the start of this file's CRCs (--crc-start)?",
+            end.register
         ));
     }
     said
@@ -1244,16 +1328,16 @@ fn check_lines(lines: &[String], wanted: &[String], options: &[String]) {
 }
 
 /// Logs a file in each format, and compares. Answers the CSV.
-fn logged(bench: &mut Bench, line: &Line, records: &[Vec<u8>], seen: &mut Reading) -> Vec<u8> {
-    let wanted = heard(line, records);
+fn logged(bench: &mut Bench, end: &End, records: &[Vec<u8>], seen: &mut Reading) -> Vec<u8> {
+    let wanted = heard(end, records);
     let file = to_records(records);
     let mut csv = Vec::new();
     for format in ["words", "text", "csv"] {
-        let mut options = mode_options(&mut bench.rng, line);
+        let mut options = end.options(&mut bench.rng);
         option_but(&mut bench.rng, &mut options, "format", format, "text");
         let way = bench.way();
         let ran = bench.run("log", &options, &file, way);
-        check_lines(&ran.said, &log_said(line, &wanted), &options);
+        check_lines(&ran.said, &log_said(end, &wanted), &options);
         if format == "words" {
             let words: Vec<u32> = wanted
                 .iter()
@@ -1270,6 +1354,7 @@ fn logged(bench: &mut Bench, line: &Line, records: &[Vec<u8>], seen: &mut Readin
         csv = ran.written;
     }
     seen.drives += 1;
+    seen.all_wrong += u64::from(Tally::of(&wanted).is_all_wrong());
     seen.total.take(&wanted);
     csv
 }
@@ -1695,9 +1780,10 @@ fn drives() {
         let sending = Sending::new(&mut bench.rng, line);
         let pdus = generated(&mut bench, &sending, &mut sent);
         let came = travelled(&mut bench, &pdus, &mut travels);
-        let records = mixed(&mut bench.rng, came, &line);
-        let csv = logged(&mut bench, &line, &records, &mut readings);
-        covered(&mut bench, &csv, &heard(&line, &records), &mut drawn);
+        let records = mixed(&mut bench.rng, came, &sending.end);
+        let end = sending.end.other(&mut bench.rng);
+        let csv = logged(&mut bench, &end, &records, &mut readings);
+        covered(&mut bench, &csv, &heard(&end, &records), &mut drawn);
     }
     sent.report();
     travels.report();
@@ -1720,6 +1806,7 @@ fn other_drives() {
     for case in 0..90 {
         let line = TABLE[case % TABLE.len()];
         let asked = TABLE[(case + 1 + case % 9) % TABLE.len()];
+        let asked = End::new(&mut bench.rng, asked);
         let (pdus, _) = Sending::new(&mut bench.rng, line).pdus();
         let short = case % 9;
         let mut records = some_records(&mut bench.rng, short, PLACES - 1);
@@ -1742,8 +1829,8 @@ fn wrong_sending(rng: &mut Rng) -> Sending {
     let any = |rng: &mut Rng| [rng.below(4), rng.below(32), rng.below(256)][rng.below(3)] as u8;
     let s = &mut sending.settings;
     match rng.below(11) {
-        0 => sending.line.mode = any(rng),
-        1 => sending.line.stream = any(rng),
+        0 => sending.end.line.mode = any(rng),
+        1 => sending.end.line.stream = any(rng),
         2 => s.blend = any(rng),
         3 => s.gain = any(rng),
         4 => (s.common_delay, s.latency) = (any(rng), any(rng)),
@@ -1763,7 +1850,7 @@ fn wrong_sending(rng: &mut Rng) -> Sending {
             sending.psd = some_bytes(rng, psd);
         }
         _ => {
-            (sending.line, sending.length) = (TABLE[0], PLACES);
+            (sending.end.line, sending.length) = (TABLE[0], PLACES);
             let psd = rng.within(68, 82);
             sending.psd = some_bytes(rng, psd);
         }
@@ -1849,9 +1936,10 @@ fn cut_files() {
         let line = TABLE[case % TABLE.len()];
         let sending = Sending::new(&mut bench.rng, line);
         let (pdus, _) = sending.pdus();
+        let end = sending.end.other(&mut bench.rng);
         let inside = [
             cut_sending(&mut bench, sending),
-            cut_drive(&mut bench, &line, &pdus),
+            cut_drive(&mut bench, &end, &pdus),
         ];
         for inside in inside {
             count(&mut ends, inside, 1);
@@ -1882,7 +1970,7 @@ fn cut_sending(bench: &mut Bench, mut sending: Sending) -> bool {
 }
 
 /// Channel and log with a file of PDUs that is cut.
-fn cut_drive(bench: &mut Bench, line: &Line, pdus: &[Vec<u8>]) -> bool {
+fn cut_drive(bench: &mut Bench, end: &End, pdus: &[Vec<u8>]) -> bool {
     let parts = each_record(pdus);
     let file = parts.concat();
     let cut = bench.rng.below(file.len() + 1);
@@ -1896,13 +1984,13 @@ fn cut_drive(bench: &mut Bench, line: &Line, pdus: &[Vec<u8>]) -> bool {
     let counts = vec![Damage::between(&pdus[..many], &all[..many], &road).said()];
     let wanted = cut_lines(bench, ("channel", way), inside.clone(), counts);
     assert_eq!(some.said, wanted, "{road:?}");
-    let logged = heard(line, &pdus[..many]);
-    let mut options = mode_options(&mut bench.rng, line);
+    let logged = heard(end, &pdus[..many]);
+    let mut options = end.options(&mut bench.rng);
     option(&mut options, "format", "csv");
     let ran = bench.run("log", &options, &file[..cut], way);
     let csv = lines(&logged, true, is_end);
     check_lines(&text_lines(ran.written), &csv, &options);
-    let counts = Tally::of(&logged).said();
+    let counts = log_said(end, &logged);
     let wanted = cut_lines(bench, ("log", way), inside, counts);
     assert_eq!(ran.said, wanted, "{options:?}");
     !is_end
