@@ -90,6 +90,35 @@ barzhilup log: headers corrected 0, bytes corrected 0
 barzhilup log: packets 1, PSD entries 0, notes 0"
 }
 
+# The counts of pieces of the PDUs of the last file, of 400 bytes each: bits 6-1 of byte 12, after the record's two bytes.
+counts_of_pieces() {
+    od -An -v -tu1 -w402 out | awk '{ print int($15 / 2) % 64 }' | tr '\n' ' ' | sed 's/ $//'
+}
+
+# As many pieces as there can be (document 02, Ask 9): 63, or the most for which La is at most 255. Locators have 16 bits in mode 0, 12 in mode 10. All
+# packets are logged.
+check_many_pieces() {
+    local mode psd counts
+    records 64 1 >ones
+    for psd in 0 116 117 128; do
+        head -c "$psd" /dev/zero >many.psd
+        for mode in 0 10; do
+            case $mode,$psd in
+                0,117) counts="62 2" ;;
+                0,128) counts="57 7" ;;
+                *) counts="63 1" ;;
+            esac
+            run generate --in ones --length 400 --mode "$mode" --psd many.psd
+            said "64 packets of a byte, mode $mode, PSD of $psd" 0 generate "barzhilup generate: packets 64 (bytes 64), PDUs 2 (bytes 800)"
+            same "64 packets of a byte, mode $mode, PSD of $psd, pieces" "$counts" "$(counts_of_pieces)"
+            cp out many
+            run log --in many --mode "$mode" --format csv
+            ended "64 packets of a byte, mode $mode, PSD of $psd, logged" 0 log
+            same "64 packets of a byte, mode $mode, PSD of $psd, logged" 64 "$(grep -c '^[01],packet,[0-9]*,1,$' out)"
+        done
+    done
+}
+
 # Nothing to do, and no PSD.
 check_empty() {
     local sub

@@ -53,6 +53,7 @@ check_empty
 check_settings
 check_packets
 check_example
+check_many_pieces
 check_unlisted
 check_drive
 check_many_refused
