@@ -8,7 +8,8 @@
 #define CARRY BARZHILUP_CARRY_BYTES
 #define LOG BARZHILUP_LOG_WORDS
 #define SHORT 600 /* the longest PDU of the random calls */
-#define OFFERED 70
+#define OFFERED 80
+#define PSD 128 /* the most bytes of it */
 
 static void disagree(const char *name, const char *what)
 {
@@ -205,7 +206,7 @@ static barzhilup_writer random_writer(void)
 /* Lengths of packets, seldom a wrong one; their sum. */
 static size_t random_lengths(uint16_t *lengths, size_t count)
 {
-    uint32_t most = 1 + random_below(300);
+    uint32_t most = 1 + random_below(random_below(3) == 0 ? 4 : 300);
     size_t i, sum = 0;
     for (i = 0; i < count; i++)
         sum += lengths[i] = (uint16_t)(1 + random_below(most));
@@ -249,7 +250,7 @@ static unsigned random_reception(const struct implementation *peer, barzhilup_wr
 /* A random call's arguments. */
 static struct lent random_call(barzhilup_writer writer)
 {
-    static uint8_t bytes[OFFERED * 300], psd[40];
+    static uint8_t bytes[OFFERED * 300], psd[PSD];
     static uint16_t lengths[OFFERED];
     struct lent l;
     size_t i;
@@ -259,6 +260,8 @@ static struct lent random_call(barzhilup_writer writer)
         l.settings = random_settings();
     l.psd = psd;
     l.psd_length = random_below(3) == 0 ? random_below(30) : 0;
+    if (random_below(16) == 0) /* so much that fewer pieces are placed */
+        l.psd_length = 100 + random_below(PSD - 99);
     l.lengths = lengths;
     l.count = random_below(OFFERED);
     l.bytes = bytes;

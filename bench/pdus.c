@@ -133,7 +133,7 @@ static void packs(const void *drive, size_t passes)
 #define LENGTHS 4
 #define MAIN_ROWS (3 * LENGTHS)
 #define LENGTH_POINTS 10
-#define PIECE_POINTS 8
+#define PIECE_POINTS 9
 #define PIECES 8          /* in each PDU, where the length grows */
 #define FIXED_LENGTH 4096 /* of each PDU, where the pieces grow */
 #define FIRST_LENGTH MAIN_ROWS
@@ -142,7 +142,7 @@ static void packs(const void *drive, size_t passes)
 
 static const size_t length_points[LENGTH_POINTS] = {96,   256,  512,   1024,  2048,
                                                     4096, 8192, 12288, 16384, 20480};
-static const size_t piece_points[PIECE_POINTS] = {1, 2, 4, 8, 16, 24, 32, 41};
+static const size_t piece_points[PIECE_POINTS] = {1, 2, 4, 8, 16, 24, 32, 41, 63};
 
 static struct drive clean[LENGTHS], damaged[LENGTHS], longer[LENGTH_POINTS], more[PIECE_POINTS];
 static struct row rows[ROWS];

@@ -7,14 +7,15 @@
 #define HEADER BARZHILUP_HEADER_BYTES
 #define PARITY BARZHILUP_PARITY_BYTES
 #define LOCATORS 14    /* the place of the first locator */
-#define PIECES 54      /* the most pieces of any mode */
+#define PIECES BARZHILUP_PIECES_MAX
+#define LAST_LA 255    /* the largest La */
 #define EXPANSION 16   /* the most expansion bytes */
 #define LAST_SENT 4095 /* the most bytes sent of an unfinished packet */
 
 /* ---- Modes --------------------------------------------------------------- */
 
 struct mode {
-    unsigned bits, most; /* of a locator; pieces */
+    unsigned bits; /* of a locator */
     unsigned sequences;
     size_t limit; /* of PSD plus expansion, for the writer */
     int psd;
@@ -23,9 +24,9 @@ struct mode {
 /* The table's line for a mode and stream, or NULL. */
 static const struct mode *mode_of(unsigned mode, unsigned stream)
 {
-    static const struct mode core_0 = {16, 41, 2, 128, 1}, core = {12, 54, 8, 21, 1},
-                             core_10 = {12, 54, 2, 128, 1}, enhanced = {16, 41, 2, 16, 0},
-                             enhanced_10 = {12, 54, 8, 16, 0};
+    static const struct mode core_0 = {16, 2, 128, 1}, core = {12, 8, 21, 1},
+                             core_10 = {12, 2, 128, 1}, enhanced = {16, 2, 16, 0},
+                             enhanced_10 = {12, 8, 16, 0};
     if (stream > 1)
         return NULL;
     switch (mode) {
@@ -132,12 +133,21 @@ struct placed {
     size_t lengths[PIECES];
 };
 
+/* The largest count of pieces for which La is at most 255. */
+static size_t most_pieces(const struct mode *m, size_t extra)
+{
+    size_t k = PIECES;
+    while (LOCATORS + locator_size(m, k) + extra - 1 > LAST_LA)
+        k--;
+    return k;
+}
+
 static void place(const struct mode *m, size_t extra, size_t size, size_t sent,
                   const uint16_t *lengths, size_t count, struct placed *p)
 {
-    size_t k, used = LOCATORS + extra;
+    size_t k, used = LOCATORS + extra, most = most_pieces(m, extra);
     p->part = 0;
-    for (k = 0; k < count && k < m->most; k++) {
+    for (k = 0; k < count && k < most; k++) {
         size_t n = lengths[k] - (k == 0 ? sent : 0), before = used + locator_size(m, k + 1);
         if (before + n + 1 > size) {
             if (before + 2 <= size)
@@ -368,7 +378,7 @@ static uint32_t read_control(struct reading *r, const uint8_t *pdu, size_t lengt
     r->la = pdu[13];
     if (r->sequence >= r->m->sequences)
         return BARZHILUP_REFUSED_SEQUENCE;
-    if (r->pieces > r->m->most || (r->pieces == 0 && (r->pfirst || r->plast)))
+    if (r->pieces == 0 && (r->pfirst || r->plast))
         return BARZHILUP_REFUSED_PIECES;
     r->psd = LOCATORS + locator_size(r->m, r->pieces);
     return r->la + 1 < r->psd || r->la >= length ? BARZHILUP_REFUSED_LA : BARZHILUP_ACCEPTED;
