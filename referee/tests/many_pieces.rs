@@ -213,10 +213,10 @@ fn each_limit(total: &mut trial::Outcomes) {
     assert!(limits[&12].keys().copied().eq([63]));
 }
 
-/// Sixty to eighty packets of any length in PDUs around where some of them just
+/// 64 to 80 packets of any length in PDUs around where some of them just
 /// fit.
 fn many_packets(total: &mut trial::Outcomes) {
-    let mut class = trial::Class::new("60 to 80 packets", 0x63_0002);
+    let mut class = trial::Class::new("64 to 80 packets", 0x63_0002);
     for case in 0..2_500 {
         let line = TABLE[case % TABLE.len()];
         let mut call = some_many(&mut class.rng, line);
@@ -235,7 +235,7 @@ fn many_packets(total: &mut trial::Outcomes) {
     class.report(total);
 }
 
-/// A call that offers sixty to eighty packets, with any settings and PSD.
+/// A call that offers 64 to 80 packets, with any settings and PSD.
 fn some_many(rng: &mut Rng, line: Line) -> Call {
     let longest = [1, 2, 5, 40][rng.below(4)];
     let count = rng.within(64, 80);
