@@ -3,7 +3,7 @@
 //! which La is at most 255": writing with each length of PSD and expansion, at
 //! the limit and one past it. "The reader takes any count. Number 8 now concerns
 //! the two flags only": reading, listing and receiving every count in every mode
-//! and stream, and counts that the PDU is too short for, which are 9. "Locators
+//! and stream, and counts whose locators the PDU is too short for, which are 9. "Locators
 //! past byte 95 are outside the header code": they are taken as they come.
 //! "Bytes from 96 on arrive as sent": whole drives with PDUs lost and headers
 //! altered. What a call has to answer is told from how it was made, what a drive

@@ -1043,7 +1043,7 @@ fn refusal_words(number: u32) -> &'static str {
         5 => "mode and stream not in the table",
         6 => "mode and stream not those asked for",
         7 => "sequence outside its range",
-        8 => "wrong count of pieces",
+        8 => "Pfirst or Plast with no piece",
         9 => "La out of place",
         10 => "wrong expansion",
         11 => "locator out of place",
