@@ -7,7 +7,7 @@ use lib.Dec.{eqb, ltb}
 use lib.ListN.{length, getD}
 use Rattle.buffer.specs.Buffer.{putAt}
 use Rattle.crc.specs.Crc.{crcFrom}
-use Rattle.refusal.specs.Refusal.{firstOf}
+use Rattle.refusal.specs.Refusal.{firstOf, anyOf}
 use Rattle.modes.specs.Modes.{numberOf}
 use Rattle.modes.specs.declared.Mode.{Mode}
 use Rattle.layout.specs.Control.{controlAt}
@@ -19,7 +19,7 @@ use Rattle.reassembly.specs.Run.{bytesOf, pieceAt}
 use Rattle.reassembly.specs.declared.Head.{Head}
 use Rattle.reassembly.specs.declared.Run.{Run}
 use Rattle.reassembly.specs.declared.State.{State}
-use Rattle.receiver.specs.Receiving.{saidBy, memoryOf, remembering, refusedAnswer}
+use Rattle.receiver.specs.Receiving.{saidBy, memoryOf, remembering, wrongState, refusedAnswer}
 use Rattle.receiver.specs.declared.Receiver.{Receiver}
 use Rattle.receiver.specs.declared.Received.{Received}
 
@@ -41,6 +41,10 @@ headOf width c y = record { sequence = c .sequence; pfirst = c .pfirst; plast = 
 
 abbrev pub stateOf : Receiver → State
 stateOf r = record { known = r .known; last = r .sequence; held = r .held; number = r .number }
+
+-- rows 1 and 2, which are judged before a PDU is looked at, for a carry of so many bytes
+abbrev pub stateTests : Receiver → ℕ → List (Bool × ℕ)
+stateTests r room = (anyOf (wrongState r), 1) ∷ (ltb room 4096, 2) ∷ []
 
 -- a receiver's fields in their ranges, and a carry buffer that is long enough
 pub record Usable (r : Receiver) (carry : List ℕ) : Type 0 where

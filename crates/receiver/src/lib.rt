@@ -20,7 +20,7 @@ ghost use Rattle.layout.specs.Control.{controlAt};
 ghost use Rattle.pdu.specs.Reading.{readerTests, wrongOf};
 ghost use Rattle.reassembly.specs.Run.{placeAt, Marked};
 ghost use Rattle.receiver.specs.Receiving.{saidBy, opened, wrongFields, refusedAnswer, receiveAnswer, carryAfter, pduAfter, logAfter, lostAnswer, logAfterLost};
-ghost use Rattle.receiver.specs.Steps.{MarksOf, causeAt, CausesOf, headOf, stateOf, Usable, acceptedAfter, noRoom, Answered, streamTests, correctedNumber, forgetful};
+ghost use Rattle.receiver.specs.Steps.{MarksOf, causeAt, CausesOf, headOf, stateOf, stateTests, Usable, acceptedAfter, noRoom, Answered, streamTests, correctedNumber, forgetful};
 
 // What a receiver was opened with, and what it remembers. A field not known or not held is 0; held length 0 means nothing held.
 #[repr(C)]
@@ -96,6 +96,20 @@ fn wrong_state(r: Receiver, m: Mode) -> bool
     (m.sequences <= r.sequence)
         | ((!r.known & (r.sequence != 0))
             | ((4096 < r.held) | ((63 < r.number) | ((r.held == 0) & (r.number != 0)))))
+}
+
+// Refusal 1 or 2, for a mode and stream that the table has and a carry of so many bytes, or 0.
+fn listed_refusal(r: Receiver, m: Mode, carry: usize) -> u32
+    requires { ⌜ listing (r .mode) (r .stream) ≡ Listed m ⌝ }
+    ensures { λ n. ⌜ n ≡ firstOf (stateTests r carry) ⌝ }
+{
+    if wrong_state(r, m) {
+        return 1;
+    }
+    if carry < 4096 {
+        return 2;
+    }
+    0
 }
 
 fn place(x: u16) -> usize
@@ -373,6 +387,16 @@ fn lose_listed(r: Receiver, m: Mode, log: &mut [u32]) -> Received
 }
 
 impl Receiver {
+    // Refusal 1 or 2, for a carry of so many bytes, or 0: what a call judges before it looks at a PDU.
+    pub fn state_refusal(self, carry: usize) -> u32
+        ensures { λ n. ⌜ n ≡ firstOf (stateTests self carry) ⌝ }
+    {
+        match modes::look_up(self.mode, self.stream) {
+            Listing::Listed(m) => listed_refusal(self, m, carry),
+            Listing::Refused(_) => 1,
+        }
+    }
+
     // Receives a PDU with a list of marked header places (document 02, Ask 3): twice the differing unmarked bytes plus the marks may be
     // eight. It is refused with 19, directly after 3, for more than eight marks, one over 95, or one repeated.
     pub fn receive_marked(

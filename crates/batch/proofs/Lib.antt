@@ -1,0 +1,5 @@
+pub mod Along
+pub mod Calling
+pub mod Counting
+pub mod Single
+pub mod Sums

@@ -1,0 +1,71 @@
+-- What a single receive call answers, and what it leaves, accepted or refused.
+use mathlib.Core.Path.{_≡_, refl, sym, ap, _∙_}
+use mathlib.Core.Bool.{Bool, true, false, cond}
+use mathlib.Core.List.{List, [], _∷_, _++_}
+use Prim.Native.Nat.{ℕ, _+_, _<_, _≤_}
+use native.Mathlib.Omega.{arith}
+use lib.Dec.{eqb, ltb}
+use lib.ListN.{length}
+use borrow.Author.Tests.{eqb-true, eqb-false, ltb-false}
+use Rattle.refusal.specs.Refusal.{firstOf}
+use Rattle.refusal.proofs.Rows.{passed, row-off}
+use Rattle.receiver.specs.Receiving.{receivedWords, receiveNumber, receiveAnswer, carryAfter, pduAfter, logAfter}
+use Rattle.receiver.specs.declared.Receiver.{Receiver}
+use Rattle.receiver.specs.declared.Received.{Received}
+use Rattle.receiver.proofs.Enough.{firstTwelve}
+
+module _ (marks carry pdu log : List ℕ) (r : Receiver) where
+  abbrev number : ℕ
+  number = receiveNumber marks carry pdu log r
+
+  abbrev answer : Received
+  answer = receiveAnswer marks carry pdu log r
+
+  -- the refusal is the number of the first row that applies
+  pub refusal-is : answer .refusal ≡ number
+  unfolding receiveAnswer
+  refusal-is = go (eqb number 0) refl
+    where
+      go : (b : Bool) → eqb number 0 ≡ b → answer .refusal ≡ number
+      go true e = rw e (sym (eqb-true number 0 e))
+      go false e = rw e refl
+
+  -- a refused call leaves all as it was, and writes no word
+  pub record Kept : Type 0 where
+    pub receiver : answer .receiver ≡ r
+    pub words : answer .words ≡ 0
+    pub carry′ : carryAfter marks carry pdu log r ≡ carry
+    pub pdu′ : pduAfter marks carry pdu log r ≡ pdu
+    pub log′ : logAfter marks carry pdu log r ≡ log
+
+  pub kept : ¬ (answer .refusal ≡ 0) → Kept
+  unfolding receiveAnswer carryAfter pduAfter logAfter
+  kept h = go (eqb number 0) refl
+    where
+      go : (b : Bool) → eqb number 0 ≡ b → Kept
+      go true e = absurd (h (refusal-is ∙ eqb-true number 0 e))
+      go false e = record { receiver = rw e; words = rw e; carry′ = rw e; pdu′ = rw e; log′ = rw e }
+
+  -- an accepted one has no k
+  pub no-k : answer .refusal ≡ 0 → answer .wrong ≡ 0
+  unfolding receiveAnswer
+  no-k h = go (eqb number 0) refl
+    where
+      go : (b : Bool) → eqb number 0 ≡ b → answer .wrong ≡ 0
+      go true e = rw e refl
+      go false e = absurd (eqb-false number 0 e (sym refusal-is ∙ h))
+
+  -- no more words are counted than the log has
+  room : number ≡ 0 → length (receivedWords marks carry pdu log r) ≤ length log
+  unfolding receiveNumber
+  room e =
+      let t = passed 0 (firstTwelve marks carry pdu log r) ((ltb (length log) (length (receivedWords marks carry pdu log r)), 13) ∷ []) refl e in
+      ltb-false (length log) (length (receivedWords marks carry pdu log r)) (row-off ((ltb (length log) (length (receivedWords marks carry pdu log r)), 13) ∷ []) 0 refl (t .1))
+
+  pub words-fit : answer .words ≤ length log
+  unfolding receiveAnswer
+  words-fit = go (eqb number 0) refl
+    where
+      go : (b : Bool) → eqb number 0 ≡ b → answer .words ≤ length log
+      go true e = rw e (room (eqb-true number 0 e))
+      go false e = rw e (omega arith)

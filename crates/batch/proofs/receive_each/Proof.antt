@@ -1,0 +1,156 @@
+use Rattle.batch.proofs.Along.{Along, at-start, at-end, stops, turns}
+use Rattle.pieces.proofs.Cutting.{total-drop}
+use Rattle.pieces.specs.Pieces.{total}
+use Rattle.batch.specs.Batches.{oneByOne}
+use Rattle.batch.specs.declared.Batch.{Batch}
+use denote.Ref.{now}
+use mathlib.Core.Path.{_≡_, refl, sym, ap, _∙_}
+use Prim.Native.Nat.{ℕ, _+_, _-_, _≤_, _<_}
+use native.Mathlib.Omega.{arith}
+use lib.ListN.{length, take, drop, length-take, length-drop}
+use borrow.Author.Needs.{needs}
+use Rattle.batch.proofs.receive_each.Statement.{statement}
+use Rattle.batch.proofs.receive_each.Tie as tie
+use Rattle.batch.proofs.receive_each.Reads as reads
+use Rattle.batch.proofs.receive_each.Lts as lts
+use Rattle.batch.proofs.begun.Reads as begun-reads
+use Rattle.batch.proofs.receive_next.Reads as receive-next-reads
+
+abbrev Inv-loop : tie.InvT-loop
+Inv-loop carry₀ pdus₀ lengths log₀ b₀ from₀ i₀ carry pdus log b from i =
+    Along lengths (oneByOne lengths (b₀ .receiver) carry₀ pdus₀ log₀) carry pdus log b from i × (length carry ≡ length carry₀) × (length pdus ≡ length pdus₀) × (length log ≡ length log₀)
+
+abbrev μ-loop : tie.MeasureT-loop
+μ-loop carry₀ pdus₀ lengths log₀ b₀ from₀ i₀ carry pdus log b from i = length lengths - i
+
+begun-requires : tie.Need-begun-requires Inv-loop μ-loop
+begun-requires c κs = search needs
+
+loop-holds : tie.Need-loop-holds Inv-loop μ-loop
+loop-holds c =
+    let s = c .before .before .before .before .before in
+    let a = s .args in
+    (at-start (now (a .lengths)) (now (a .carry)) (now (a .pdus)) (now (a .log)) (c .begun .result) (a .receiver) (c .begun .ensures) (s .pre), refl, refl, refl)
+
+mul-to : tie.Need-mul-to Inv-loop μ-loop
+mul-to c = search needs
+
+shared-slice-read-to : tie.Need-shared-slice-read-to Inv-loop μ-loop
+shared-slice-read-to c = search needs
+
+add-to : tie.Need-add-to Inv-loop μ-loop
+add-to c =
+    let p = c .before .before in
+    let d = total-drop (now (p .before .before .before .before .before .before .args .lengths)) (p .loop .i) (c .before .loop-test .taken) in
+    record { fits = omega (arith, d, p .loop .inv .0 .left) }
+
+sub-receive-next : tie.Need-sub-receive-next Inv-loop μ-loop
+sub-receive-next c = search needs
+
+part-receive-next-start : tie.Need-part-receive-next-start Inv-loop μ-loop
+part-receive-next-start c = search needs
+
+part-receive-next-end : tie.Need-part-receive-next-end Inv-loop μ-loop
+part-receive-next-end c =
+    let p = c .before .before .before in
+    let d = total-drop (now (p .before .before .before .before .before .before .args .lengths)) (p .loop .i) (c .before .before .loop-test .taken) in
+    omega (arith, d, p .loop .inv .0 .left)
+
+mul-receive-next : tie.Need-mul-receive-next Inv-loop μ-loop
+mul-receive-next c = search needs
+
+sub-receive-next-2 : tie.Need-sub-receive-next-2 Inv-loop μ-loop
+sub-receive-next-2 c = omega (arith, c .before .before .before .before .loop .inv .0 .room)
+
+part-receive-next-start-2 : tie.Need-part-receive-next-start-2 Inv-loop μ-loop
+part-receive-next-start-2 c = omega (arith, c .before .before .before .before .loop .inv .0 .room)
+
+part-receive-next-end-2 : tie.Need-part-receive-next-end-2 Inv-loop μ-loop
+part-receive-next-end-2 c = search needs
+
+receive-next-requires : tie.Need-receive-next-requires Inv-loop μ-loop
+receive-next-requires c κs =
+    let p = c .before .before .before .before .before in
+    let s = p .before .before .before .before .before .before in
+    let w = p .loop .b .words in
+    let l = p .loop .log in
+    let v = p .loop .inv in
+    (omega (arith, v .0 .count, c .before .before .before .before .loop-test .taken, s .good .1 .1 .1 .0), omega (arith, length-take (length l - w) (drop w l), length-drop w l, v .0 .room, v .3, s .good .1 .1 .1 .1 .0))
+
+same-length : tie.Need-same-length Inv-loop μ-loop
+same-length c = search needs
+
+same-length-2 : tie.Need-same-length-2 Inv-loop μ-loop
+same-length-2 c = search needs
+
+same-length-3 : tie.Need-same-length-3 Inv-loop μ-loop
+same-length-3 c = search needs
+
+returns : tie.Need-returns Inv-loop μ-loop
+returns c =
+    let k = c .before .before .before .before .before .before .before .before in
+    let p = k .before .before .before .before .before .before in
+    let a = p .before .before .before .before .before .before .args in
+    let o = p .loop in
+    stops (now (a .lengths)) _ (o .carry) (o .pdus) (o .log) (o .b) (o .from) (o .i) (o .inv .0) (k .before .before .before .before .before .loop-test .taken) (k .receive-next .result) (k .receive-next .last .1 .0) (k .receive-next .last .1 .1 .0) (k .receive-next .last .1 .1 .1 .0) (k .receive-next .ensures .0) (k .receive-next .ensures .1 .0) (k .receive-next .ensures .1 .1 .0) (k .receive-next .ensures .1 .1 .1) (c .if1 .taken) ∙ ap (λ (x : Batch). oneByOne (now (a .lengths)) (x .receiver) (now (a .carry)) (now (a .pdus)) (now (a .log))) (p .before .begun .ensures)
+
+add-i : tie.Need-add-i Inv-loop μ-loop
+add-i c = record { fits = omega (arith, c .before .before .before .before .before .before .before .before .before .before .before .before .before .loop-test .taken, c .before .before .before .before .before .before .before .before .before .before .before .before .before .before .before .before .before .before .before .before .good .1 .1 .1 .0) }
+
+loop-less : tie.Need-loop-less Inv-loop μ-loop
+loop-less c = search needs
+
+loop-again : tie.Need-loop-again Inv-loop μ-loop
+loop-again c =
+    let k = c .before .before .before .before .before .before .before .before in
+    let p = k .before .before .before .before .before .before in
+    let a = p .before .before .before .before .before .before .args in
+    let o = p .loop in
+    (turns (now (a .lengths)) _ (o .carry) (o .pdus) (o .log) (o .b) (o .from) (o .i) (o .inv .0) (k .before .before .before .before .before .loop-test .taken) (k .receive-next .result) (k .receive-next .last .1 .0) (k .receive-next .last .1 .1 .0) (k .receive-next .last .1 .1 .1 .0) (k .receive-next .ensures .0) (k .receive-next .ensures .1 .0) (k .receive-next .ensures .1 .1 .0) (k .receive-next .ensures .1 .1 .1) (k .receive-next .kept .1 .1 .0) (k .receive-next .kept .1 .1 .1 .0) (c .if1 .left), omega (arith, k .receive-next .kept .1 .0, o .inv .1), omega (arith, c .before .before .before .before .before .pdus .given, o .inv .2), omega (arith, c .before .before .before .log .given, o .inv .3))
+
+same-length-4 : tie.Need-same-length-4 Inv-loop μ-loop
+same-length-4 c = search needs
+
+same-length-5 : tie.Need-same-length-5 Inv-loop μ-loop
+same-length-5 c = search needs
+
+same-length-6 : tie.Need-same-length-6 Inv-loop μ-loop
+same-length-6 c = search needs
+
+returns-2 : tie.Need-returns-2 Inv-loop μ-loop
+returns-2 c =
+    let p = c .before in
+    let a = p .before .before .before .before .before .before .args in
+    let o = p .loop in
+    at-end (now (a .lengths)) _ (o .carry) (o .pdus) (o .log) (o .b) (o .from) (o .i) (o .inv .0) (omega (arith, c .loop-test .left)) ∙ ap (λ (x : Batch). oneByOne (now (a .lengths)) (x .receiver) (now (a .carry)) (now (a .pdus)) (now (a .log))) (p .before .begun .ensures)
+
+pub receive-each-spec : {M : Type 1} → statement M
+receive-each-spec =
+    tie.close
+    (tie.spec
+    Inv-loop
+    μ-loop
+    begun-requires
+    loop-holds
+    mul-to
+    shared-slice-read-to
+    add-to
+    sub-receive-next
+    part-receive-next-start
+    part-receive-next-end
+    mul-receive-next
+    sub-receive-next-2
+    part-receive-next-start-2
+    part-receive-next-end-2
+    receive-next-requires
+    same-length
+    same-length-2
+    same-length-3
+    returns
+    add-i
+    loop-less
+    loop-again
+    same-length-4
+    same-length-5
+    same-length-6
+    returns-2)

@@ -1,0 +1,34 @@
+use Rattle.receiver.proofs.Rows.{state-unlisted}
+use mathlib.Core.Path.{sym, _∙_}
+use borrow.Author.Needs.{needs}
+use Rattle.receiver.proofs.Receiver.state_refusal.Statement.{statement}
+use Rattle.receiver.proofs.Receiver.state_refusal.Tie as tie
+use Rattle.receiver.proofs.Receiver.state_refusal.Reads as reads
+use Rattle.receiver.proofs.Receiver.state_refusal.Lts as lts
+use Rattle.modes.proofs.look_up.Reads as look-up-reads
+use Rattle.receiver.proofs.listed_refusal.Reads as listed-refusal-reads
+
+look-up-requires : tie.Need-look-up-requires
+look-up-requires c κs = search needs
+
+enum-known-m : tie.Need-enum-known-m
+enum-known-m c = search needs
+
+listed-refusal-requires : tie.Need-listed-refusal-requires
+listed-refusal-requires c κs = sym (c .before .before .before .look-up .ensures) ∙ c .before .m .given .1
+
+enum-told : tie.Need-enum-told
+enum-told c = search needs
+
+returns : tie.Need-returns
+returns c = search needs
+
+returns-2 : tie.Need-returns-2
+returns-2 c =
+    let l = c .before .before in
+    rw (state-unlisted (l .before .args .self) _ (sym (l .look-up .ensures) ∙ c .enum-told .given .1))
+
+pub state-refusal-spec : {M : Type 1} → statement M
+state-refusal-spec =
+    tie.close
+    (tie.spec look-up-requires enum-known-m listed-refusal-requires enum-told returns returns-2)

@@ -1,0 +1,38 @@
+use Rattle.receiver.proofs.Rows.{state-listed}
+use mathlib.Core.Path.{_≡_, sym, _∙_}
+use mathlib.Core.Bool.{true, false}
+use native.Mathlib.Omega.{arith}
+use lib.Dec.{ltb}
+use borrow.Author.Tests.{lt-ltb, le-ltb}
+use borrow.Author.Needs.{needs}
+use Rattle.refusal.specs.Refusal.{anyOf}
+use Rattle.receiver.specs.Receiving.{wrongState}
+use Rattle.receiver.proofs.listed_refusal.Statement.{statement}
+use Rattle.receiver.proofs.listed_refusal.Tie as tie
+use Rattle.receiver.proofs.listed_refusal.Reads as reads
+use Rattle.receiver.proofs.listed_refusal.Lts as lts
+use Rattle.receiver.proofs.wrong_state.Reads as wrong-state-reads
+
+wrong-state-requires : tie.Need-wrong-state-requires
+wrong-state-requires c κs = search needs
+
+returns : tie.Need-returns
+returns c =
+    let w = c .before in
+    let s = w .before in
+    rw (state-listed (s .args .r) (s .args .m) (s .pre) ∙ sym (w .wrong-state .ensures) ∙ c .if1 .taken)
+
+returns-2 : tie.Need-returns-2
+returns-2 c =
+    let w = c .before .before in
+    let s = w .before in
+    rw (state-listed (s .args .r) (s .args .m) (s .pre) ∙ sym (w .wrong-state .ensures) ∙ c .before .if1 .left, lt-ltb (s .args .carry) 4096 (omega (arith, c .if2 .taken)))
+
+returns-3 : tie.Need-returns-3
+returns-3 c =
+    let w = c .before .before in
+    let s = w .before in
+    rw (state-listed (s .args .r) (s .args .m) (s .pre) ∙ sym (w .wrong-state .ensures) ∙ c .before .if1 .left, le-ltb (s .args .carry) 4096 (omega (arith, c .if2 .left)))
+
+pub listed-refusal-spec : {M : Type 1} → statement M
+listed-refusal-spec = tie.close (tie.spec wrong-state-requires returns returns-2 returns-3)
