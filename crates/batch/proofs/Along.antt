@@ -4,7 +4,7 @@ use mathlib.Core.Bool.{Bool, true, false, cond}
 use mathlib.Core.List.{List, [], _∷_, _++_, append-assoc, append-nil}
 use Prim.Native.Nat.{ℕ, zero, suc, _+_, _-_, _<_, _≤_}
 use native.Mathlib.Omega.{arith}
-use native.Mathlib.Nat.{add-assoc, zero-add, add-zero}
+use native.Mathlib.Nat.{add-zero}
 use native.Mathlib.Numerals.{add-one}
 use lib.Dec.{eqb}
 use borrow.Author.Tests.{eq-eqb, ne-eqb}
@@ -18,34 +18,8 @@ use Rattle.receiver.specs.declared.Received.{Received}
 use Rattle.batch.specs.declared.Batch.{Batch}
 use Rattle.batch.specs.Batches.{Result, unchanged, followed, oneByOne}
 use Rattle.batch.specs.Steps.{leaving, begunWith, counted}
-use Rattle.batch.proofs.Single.{Kept, kept, no-k, words-fit}
-
--- ---- results one after another
-
-pub followed-none : (x : Result) → followed 0 0 [] [] x ≡ x
-followed-none x = rw (zero-add (x .answer .taken), zero-add (x .answer .words))
-
-pub followed-twice : (t u v w : ℕ) (p q k l : List ℕ) (x : Result) → followed t v p k (followed u w q l x) ≡ followed (t + u) (v + w) (p ++ q) (k ++ l) x
-followed-twice t u v w p q k l x = rw (add-assoc t u (x .answer .taken), add-assoc v w (x .answer .words), append-assoc p q (x .pdus), append-assoc k l (x .log))
-
--- ---- the first PDU of some, taken or refused
-
-module _ (n : ℕ) (ns : List ℕ) (r : Receiver) (carry pdus log : List ℕ) where
-  abbrev first : Received
-  first = receiveAnswer [] carry (take n pdus) log r
-
-  abbrev firstLog : List ℕ
-  firstLog = logAfter [] carry (take n pdus) log r
-
-  pub first-taken : first .refusal ≡ 0
-      → oneByOne (n ∷ ns) r carry pdus log
-      ≡ followed 1 (first .words) (pduAfter [] carry (take n pdus) log r) (take (first .words) firstLog) (oneByOne ns (first .receiver) (carryAfter [] carry (take n pdus) log r) (drop n pdus) (drop (first .words) firstLog))
-  unfolding oneByOne
-  first-taken h = let t : eqb (first .refusal) 0 ≡ true = eq-eqb (first .refusal) 0 h in rw t
-
-  pub first-refused : ¬ (first .refusal ≡ 0) → oneByOne (n ∷ ns) r carry pdus log ≡ unchanged (first .refusal) (first .wrong) r carry pdus log
-  unfolding oneByOne
-  first-refused h = let t : eqb (first .refusal) 0 ≡ false = ne-eqb (first .refusal) 0 h in rw t
+use Rattle.batch.proofs.OneByOne.{followed-none, followed-twice, first-taken, first-refused}
+use Rattle.batch.proofs.Single.{kept, no-k, words-fit}
 
 -- ---- after some PDUs
 
@@ -204,31 +178,29 @@ module _ (lengths : List ℕ) (whole : Result) (carry pdus log : List ℕ) (b : 
           (goes-on n (drop (i + 1) lengths) carry (take from pdus) (drop from pdus) (take (b .words) log) rest b z ∙ left-is);
     }
 
-  -- ---- the same, as the code has it: the parts lent are pdus[from..from + n] and log[words..]
+  -- ---- the same, as the code has it: the parts lent are pdus[from..from + n] and log[w..]
 
   abbrev size′ : ℕ
   size′ = from + n - from
 
-  abbrev words′ : ℕ
-  words′ = length log - b .words
-
   abbrev pdu′ : List ℕ
   pdu′ = take size′ (drop from pdus)
-
-  abbrev rest′ : List ℕ
-  rest′ = take words′ rest
 
   size-is : size′ ≡ n
   size-is = omega arith
 
-  rest-is : rest′ ≡ rest
-  rest-is = take-all words′ rest (let e = length-drop (b .words) log in omega (arith, e))
+  module _ (w : ℕ) (a : Batch) (c p l : List ℕ) (ea : a ≡ counted b (receiveAnswer [] carry pdu′ (take (length log - w) (drop w log)) (b .receiver)))
+      (ec : c ≡ carryAfter [] carry pdu′ (take (length log - w) (drop w log)) (b .receiver)) (ep : p ≡ pduAfter [] carry pdu′ (take (length log - w) (drop w log)) (b .receiver))
+      (el : l ≡ logAfter [] carry pdu′ (take (length log - w) (drop w log)) (b .receiver)) (ew : w ≡ b .words) where
+    abbrev rest′ : List ℕ
+    rest′ = take (length log - w) (drop w log)
 
-  none-after : drop words′ rest ≡ []
-  none-after = drop-of-length-le rest {i = words′} (let e = length-drop (b .words) log in omega (arith, e))
+    rest-is : rest′ ≡ rest
+    rest-is = take-all (length log - w) (drop w log) (let e = length-drop w log in omega (arith, e)) ∙ ap (λ (k : ℕ). drop k log) ew
 
-  module _ (a : Batch) (c p l : List ℕ) (ea : a ≡ counted b (receiveAnswer [] carry pdu′ rest′ (b .receiver))) (ec : c ≡ carryAfter [] carry pdu′ rest′ (b .receiver))
-      (ep : p ≡ pduAfter [] carry pdu′ rest′ (b .receiver)) (el : l ≡ logAfter [] carry pdu′ rest′ (b .receiver)) where
+    none-after : drop (length log - w) (drop w log) ≡ []
+    none-after = drop-of-length-le (drop w log) {i = length log - w} (let e = length-drop w log in omega (arith, e))
+
     answer-is : a ≡ counted b answer
     answer-is = ea ∙ ap₂ (λ (k : ℕ) (r : List ℕ). counted b (receiveAnswer [] carry (take k (drop from pdus)) r (b .receiver))) size-is rest-is
 
@@ -241,17 +213,22 @@ module _ (lengths : List ℕ) (whole : Result) (carry pdus log : List ℕ) (b : 
     log-is : l ≡ logEnd
     log-is = el ∙ ap₂ (λ (k : ℕ) (r : List ℕ). logAfter [] carry (take k (drop from pdus)) r (b .receiver)) size-is rest-is
 
-    pdus-are : take from pdus ++ (p ++ drop size′ (drop from pdus)) ≡ take from pdus ++ (pduEnd ++ drop n (drop from pdus))
+    abbrev pdusAfter : List ℕ
+    pdusAfter = take from pdus ++ (p ++ drop size′ (drop from pdus))
+
+    abbrev wordsAfter : List ℕ
+    wordsAfter = take w log ++ (l ++ drop (length log - w) (drop w log))
+
+    pdus-are : pdusAfter ≡ take from pdus ++ (pduEnd ++ drop n (drop from pdus))
     pdus-are = ap₂ (λ (x : List ℕ) (k : ℕ). take from pdus ++ (x ++ drop k (drop from pdus))) pdu-is size-is
 
-    words-are : take (b .words) log ++ (l ++ drop words′ rest) ≡ take (b .words) log ++ logEnd
-    words-are = ap₂ (λ (x y : List ℕ). take (b .words) log ++ (x ++ y)) log-is none-after ∙ ap (λ (x : List ℕ). take (b .words) log ++ x) (append-nil logEnd)
+    words-are : wordsAfter ≡ take (b .words) log ++ logEnd
+    words-are = ap₂ (λ (x y : List ℕ). take w log ++ (x ++ y)) log-is none-after ∙ ap (λ (x : List ℕ). take w log ++ x) (append-nil logEnd) ∙ ap (λ (k : ℕ). take k log ++ logEnd) ew
 
-    pub stops : ¬ (a .refusal ≡ 0) → leaving a c (take from pdus ++ (p ++ drop size′ (drop from pdus))) (take (b .words) log ++ (l ++ drop words′ rest)) ≡ whole
+    pub stops : ¬ (a .refusal ≡ 0) → leaving a c pdusAfter wordsAfter ≡ whole
     stops z = rw (pdus-are, words-are, answer-is, carry-is) (turn-stops (λ q. z (ap (λ (x : Batch). x .refusal) answer-is ∙ q)))
 
-    pub turns : length p ≡ length pdu′ → length l ≡ length rest′ → a .refusal ≡ 0
-        → Along lengths whole c (take from pdus ++ (p ++ drop size′ (drop from pdus))) (take (b .words) log ++ (l ++ drop words′ rest)) a (from + n) (i + 1)
+    pub turns : length p ≡ length pdu′ → length l ≡ length rest′ → a .refusal ≡ 0 → Along lengths whole c pdusAfter wordsAfter a (from + n) (i + 1)
     turns lp ll z =
         rw (pdus-are, words-are, answer-is, carry-is)
         (turn-goes-on

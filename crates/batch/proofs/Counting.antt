@@ -1,6 +1,6 @@
 -- The counts after a PDU of a batch.
-use mathlib.Core.Path.{_≡_, refl, sym, ap, ap₂, subst, _∙_}
-use mathlib.Core.Bool.{Bool, true, false, cond}
+use mathlib.Core.Path.{_≡_, sym, ap, ap₂, _∙_}
+use mathlib.Core.Bool.{true, false, cond}
 use mathlib.Core.List.{List, []}
 use Prim.Native.Nat.{ℕ, _+_}
 use native.Mathlib.Nat.{add-zero}
@@ -13,22 +13,27 @@ use Rattle.batch.specs.declared.Batch.{Batch}
 use Rattle.batch.specs.Steps.{counted}
 use Rattle.batch.proofs.Single.{no-k}
 
-module _ (b : Batch) (carry pdu log : List ℕ) (a : Received) (e : a ≡ receiveAnswer [] carry pdu log (b .receiver)) where
+-- an answer x for a PDU whose call answers a
+module _ (b : Batch) (carry pdu log : List ℕ) (a : Received) (e : a ≡ receiveAnswer [] carry pdu log (b .receiver)) (x : Batch) (words : x .words ≡ b .words + a .words) (receiver : x .receiver ≡ a .receiver) where
+  abbrev right : Batch
+  right = counted b (receiveAnswer [] carry pdu log (b .receiver))
+
+  fields : x .refusal ≡ a .refusal → x .wrong ≡ a .wrong → x .taken ≡ b .taken + cond (eqb (a .refusal) 0) 1 0 → x ≡ right
+  fields n k t =
+      ap₂ (λ (i j : ℕ). record { refusal = i; wrong = j; taken = x .taken; words = x .words; receiver = x .receiver }) n k
+      ∙ ap₂ (λ (i j : ℕ). record { refusal = a .refusal; wrong = a .wrong; taken = i; words = j; receiver = x .receiver }) t words
+      ∙ ap (λ (r : Receiver). record { refusal = a .refusal; wrong = a .wrong; taken = b .taken + cond (eqb (a .refusal) 0) 1 0; words = b .words + a .words; receiver = r }) receiver
+      ∙ ap (counted b) e
+
   -- a refused PDU is not counted
-  pub counted-refused : ¬ (a .refusal ≡ 0)
-      → record { refusal = a .refusal; wrong = a .wrong; taken = b .taken; words = b .words + a .words; receiver = a .receiver } ≡ counted b (receiveAnswer [] carry pdu log (b .receiver))
-  counted-refused h =
-      let t : eqb (a .refusal) 0 ≡ false = ne-eqb (a .refusal) 0 h in
-      let n : b .taken ≡ b .taken + cond (eqb (a .refusal) 0) 1 0 = rw t (sym (add-zero (b .taken))) in
-      ap (λ (k : ℕ). record { refusal = a .refusal; wrong = a .wrong; taken = k; words = b .words + a .words; receiver = a .receiver }) n ∙ ap (counted b) e
+  pub counted-refused : ¬ (a .refusal ≡ 0) → x .refusal ≡ a .refusal → x .wrong ≡ a .wrong → x .taken ≡ b .taken → x ≡ right
+  counted-refused h n k t =
+      let f : eqb (a .refusal) 0 ≡ false = ne-eqb (a .refusal) 0 h in
+      fields n k (t ∙ rw f (sym (add-zero (b .taken))))
 
   -- one that is taken is
-  pub counted-taken : a .refusal ≡ 0
-      → record { refusal = 0; wrong = 0; taken = b .taken + 1; words = b .words + a .words; receiver = a .receiver } ≡ counted b (receiveAnswer [] carry pdu log (b .receiver))
-  counted-taken h =
-      let t : eqb (a .refusal) 0 ≡ true = eq-eqb (a .refusal) 0 h in
-      let n : b .taken + 1 ≡ b .taken + cond (eqb (a .refusal) 0) 1 0 = rw t in
-      let k : 0 ≡ a .wrong = sym (ap (λ (x : Received). x .wrong) e ∙ no-k [] carry pdu log (b .receiver) (sym (ap (λ (x : Received). x .refusal) e) ∙ h)) in
-      ap (λ (i : ℕ). record { refusal = 0; wrong = 0; taken = i; words = b .words + a .words; receiver = a .receiver }) n
-      ∙ ap₂ (λ (i j : ℕ). record { refusal = i; wrong = j; taken = b .taken + cond (eqb (a .refusal) 0) 1 0; words = b .words + a .words; receiver = a .receiver }) (sym h) k
-      ∙ ap (counted b) e
+  pub counted-taken : a .refusal ≡ 0 → x .refusal ≡ 0 → x .wrong ≡ 0 → x .taken ≡ b .taken + 1 → x ≡ right
+  counted-taken h n k t =
+      let f : eqb (a .refusal) 0 ≡ true = eq-eqb (a .refusal) 0 h in
+      let z : a .wrong ≡ 0 = ap (λ (y : Received). y .wrong) e ∙ no-k [] carry pdu log (b .receiver) (sym (ap (λ (y : Received). y .refusal) e) ∙ h) in
+      fields (n ∙ sym h) (k ∙ sym z) (t ∙ rw f)

@@ -5,14 +5,17 @@ use mathlib.Core.List.{List, [], _∷_, _++_}
 use Prim.Native.Nat.{ℕ, _+_, _<_, _≤_}
 use native.Mathlib.Omega.{arith}
 use lib.Dec.{eqb, ltb}
-use lib.ListN.{length}
+use lib.ListN.{length, getD, drop, length-append, length-drop}
 use borrow.Author.Tests.{eqb-true, eqb-false, ltb-false}
 use Rattle.refusal.specs.Refusal.{firstOf}
 use Rattle.refusal.proofs.Rows.{passed, row-off}
-use Rattle.receiver.specs.Receiving.{receivedWords, receiveNumber, receiveAnswer, carryAfter, pduAfter, logAfter}
+use Rattle.buffer.specs.Buffer.{putAt}
+use Rattle.buffer.proofs.Laws.{put-length}
+use Rattle.reassembly.specs.Run.{bytesOf}
+use Rattle.receiver.specs.Receiving.{outcome, receivedWords, receiveNumber, receiveAnswer, carryAfter, pduAfter, logAfter}
 use Rattle.receiver.specs.declared.Receiver.{Receiver}
 use Rattle.receiver.specs.declared.Received.{Received}
-use Rattle.receiver.proofs.Enough.{firstTwelve}
+use Rattle.receiver.proofs.Enough.{firstTwelve, most}
 
 module _ (marks carry pdu log : List ℕ) (r : Receiver) where
   abbrev number : ℕ
@@ -55,17 +58,47 @@ module _ (marks carry pdu log : List ℕ) (r : Receiver) where
       go true e = rw e refl
       go false e = absurd (eqb-false number 0 e (sym refusal-is ∙ h))
 
-  -- no more words are counted than the log has
-  room : number ≡ 0 → length (receivedWords marks carry pdu log r) ≤ length log
+  -- none of the rows 1 to 12 applies, and the log has room
+  free : number ≡ 0 → (firstOf (firstTwelve marks carry pdu log r) ≡ 0) × (length (receivedWords marks carry pdu log r) ≤ length log)
   unfolding receiveNumber
-  room e =
+  free e =
       let t = passed 0 (firstTwelve marks carry pdu log r) ((ltb (length log) (length (receivedWords marks carry pdu log r)), 13) ∷ []) refl e in
-      ltb-false (length log) (length (receivedWords marks carry pdu log r)) (row-off ((ltb (length log) (length (receivedWords marks carry pdu log r)), 13) ∷ []) 0 refl (t .1))
+      (t .0, ltb-false (length log) (length (receivedWords marks carry pdu log r)) (row-off ((ltb (length log) (length (receivedWords marks carry pdu log r)), 13) ∷ []) 0 refl (t .1)))
 
+  -- no more words are counted than the log has
   pub words-fit : answer .words ≤ length log
   unfolding receiveAnswer
   words-fit = go (eqb number 0) refl
     where
       go : (b : Bool) → eqb number 0 ≡ b → answer .words ≤ length log
-      go true e = rw e (room (eqb-true number 0 e))
+      go true e = rw e (free (eqb-true number 0 e) .1)
+      go false e = rw e (omega arith)
+
+  -- nor more than 8,400
+  pub words-most : ((i : ℕ) → getD pdu i 0 < 256) → answer .words ≤ 8400
+  unfolding receiveAnswer
+  words-most bytes = go (eqb number 0) refl
+    where
+      go : (b : Bool) → eqb number 0 ≡ b → answer .words ≤ 8400
+      go true e = rw e (most marks carry pdu log r bytes (free (eqb-true number 0 e) .0))
+      go false e = rw e (omega arith)
+
+  -- the log stays as long as it was, and the carry no shorter
+  pub log-long : length (logAfter marks carry pdu log r) ≡ length log
+  unfolding logAfter
+  log-long = go (eqb number 0) refl
+    where
+      go : (b : Bool) → eqb number 0 ≡ b → length (logAfter marks carry pdu log r) ≡ length log
+      go true e = rw e (put-length log 0 (receivedWords marks carry pdu log r) (let f = free (eqb-true number 0 e) .1 in omega (arith, f)))
+      go false e = rw e
+
+  pub carry-long : length carry ≤ length (carryAfter marks carry pdu log r)
+  unfolding carryAfter putAt
+  carry-long = go (eqb number 0) refl
+    where
+      held : List ℕ
+      held = bytesOf (outcome marks carry pdu log r .partial)
+
+      go : (b : Bool) → eqb number 0 ≡ b → length carry ≤ length (carryAfter marks carry pdu log r)
+      go true e = rw e (let l = length-append held (drop (0 + length held) carry) in let d = length-drop (0 + length held) carry in omega (arith, l, d))
       go false e = rw e (omega arith)

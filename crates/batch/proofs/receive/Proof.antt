@@ -1,5 +1,6 @@
 use Rattle.batch.proofs.Calling.{state-call, sum-call, sum-right, each-call}
 use denote.Ref.{now}
+use native.Mathlib.Omega.{arith}
 use borrow.Author.Tests.{not-true, not-false}
 use borrow.Author.Needs.{needs}
 use Rattle.batch.proofs.receive.Statement.{statement}
@@ -21,7 +22,7 @@ returns : tie.Need-returns
 returns c =
     let k = c .before .before in
     let a = k .before .before .before .before .before .args in
-    state-call (now (a .lengths)) (now (a .carry)) (now (a .pdus)) (now (a .log)) (a .receiver) (k .state-refusal .result) (k .state-refusal .ensures) (c .begun .result) (c .before .if1 .taken) (c .begun .ensures)
+    state-call (now (a .lengths)) (now (a .carry)) (now (a .pdus)) (now (a .log)) (a .receiver) (k .state-refusal .result) (k .state-refusal .ensures) (c .begun .result) (λ q. omega (arith, q, c .before .if1 .taken)) (c .begun .ensures)
 
 sums-to-requires : tie.Need-sums-to-requires
 sums-to-requires c κs = search needs
@@ -34,14 +35,14 @@ returns-2 c =
     let t = c .before .before in
     let k = t .before .before in
     let a = k .before .before .before .before .before .args in
-    sum-call (now (a .lengths)) (now (a .carry)) (now (a .pdus)) (now (a .log)) (a .receiver) (k .state-refusal .result) (k .state-refusal .ensures) (t .before .if1 .left) (t .sums-to .result) (t .sums-to .ensures) (c .begun2 .result) (not-true (t .sums-to .result) (c .before .if2 .taken)) (c .begun2 .ensures)
+    sum-call (now (a .lengths)) (now (a .carry)) (now (a .pdus)) (now (a .log)) (a .receiver) (k .state-refusal .result) (k .state-refusal .ensures) (omega (arith, t .before .if1 .left)) (t .sums-to .result) (t .sums-to .ensures) (c .begun2 .result) (not-true (t .sums-to .result) (c .before .if2 .taken)) (c .begun2 .ensures)
 
 receive-each-requires : tie.Need-receive-each-requires
 receive-each-requires c κs =
     let t = c .before .before .before .before in
     let k = t .before .before in
     let a = k .before .before .before .before .before .args in
-    sum-right (now (a .lengths)) (now (a .carry)) (now (a .pdus)) (now (a .log)) (a .receiver) (k .state-refusal .result) (k .state-refusal .ensures) (t .before .if1 .left) (t .sums-to .result) (t .sums-to .ensures) (not-false (t .sums-to .result) (c .before .before .before .if2 .left))
+    sum-right (now (a .lengths)) (now (a .carry)) (now (a .pdus)) (now (a .log)) (a .receiver) (k .state-refusal .result) (k .state-refusal .ensures) (omega (arith, t .before .if1 .left)) (t .sums-to .result) (t .sums-to .ensures) (not-false (t .sums-to .result) (c .before .before .before .if2 .left))
 
 same-length : tie.Need-same-length
 same-length c = search needs
@@ -58,7 +59,7 @@ returns-3 c =
     let t = e .before .before .before .before .before in
     let k = t .before .before in
     let a = k .before .before .before .before .before .args in
-    each-call (now (a .lengths)) (now (a .carry)) (now (a .pdus)) (now (a .log)) (a .receiver) (k .state-refusal .result) (k .state-refusal .ensures) (t .before .if1 .left) (t .sums-to .result) (t .sums-to .ensures) (e .receive-each .result) (e .receive-each .last .1 .0) (e .receive-each .last .1 .1 .0) (e .receive-each .last .1 .1 .1 .1 .0) (not-false (t .sums-to .result) (e .before .before .before .before .if2 .left)) (e .receive-each .ensures)
+    each-call (now (a .lengths)) (now (a .carry)) (now (a .pdus)) (now (a .log)) (a .receiver) (k .state-refusal .result) (k .state-refusal .ensures) (omega (arith, t .before .if1 .left)) (t .sums-to .result) (t .sums-to .ensures) (e .receive-each .result) (e .receive-each .last .1 .0) (e .receive-each .last .1 .1 .0) (e .receive-each .last .1 .1 .1 .1 .0) (not-false (t .sums-to .result) (e .before .before .before .before .if2 .left)) (e .receive-each .ensures)
 
 pub receive-spec : {M : Type 1} → statement M
 receive-spec =

@@ -92,7 +92,7 @@ returns c =
     let p = k .before .before .before .before .before .before in
     let a = p .before .before .before .before .before .before .args in
     let o = p .loop in
-    stops (now (a .lengths)) _ (o .carry) (o .pdus) (o .log) (o .b) (o .from) (o .i) (o .inv .0) (k .before .before .before .before .before .loop-test .taken) (k .receive-next .result) (k .receive-next .last .1 .0) (k .receive-next .last .1 .1 .0) (k .receive-next .last .1 .1 .1 .0) (k .receive-next .ensures .0) (k .receive-next .ensures .1 .0) (k .receive-next .ensures .1 .1 .0) (k .receive-next .ensures .1 .1 .1) (c .if1 .taken) ∙ ap (λ (x : Batch). oneByOne (now (a .lengths)) (x .receiver) (now (a .carry)) (now (a .pdus)) (now (a .log))) (p .before .begun .ensures)
+    stops (now (a .lengths)) _ (o .carry) (o .pdus) (o .log) (o .b) (o .from) (o .i) (o .inv .0) (k .before .before .before .before .before .loop-test .taken) _ (k .receive-next .result) (k .receive-next .last .1 .0) (k .receive-next .last .1 .1 .0) (k .receive-next .last .1 .1 .1 .0) (k .receive-next .ensures .0) (k .receive-next .ensures .1 .0) (k .receive-next .ensures .1 .1 .0) (k .receive-next .ensures .1 .1 .1) refl (λ q. omega (arith, q, c .if1 .taken)) ∙ ap (λ (x : Batch). oneByOne (now (a .lengths)) (x .receiver) (now (a .carry)) (now (a .pdus)) (now (a .log))) (p .before .begun .ensures)
 
 add-i : tie.Need-add-i Inv-loop μ-loop
 add-i c = record { fits = omega (arith, c .before .before .before .before .before .before .before .before .before .before .before .before .before .loop-test .taken, c .before .before .before .before .before .before .before .before .before .before .before .before .before .before .before .before .before .before .before .before .good .1 .1 .1 .0) }
@@ -106,7 +106,7 @@ loop-again c =
     let p = k .before .before .before .before .before .before in
     let a = p .before .before .before .before .before .before .args in
     let o = p .loop in
-    (turns (now (a .lengths)) _ (o .carry) (o .pdus) (o .log) (o .b) (o .from) (o .i) (o .inv .0) (k .before .before .before .before .before .loop-test .taken) (k .receive-next .result) (k .receive-next .last .1 .0) (k .receive-next .last .1 .1 .0) (k .receive-next .last .1 .1 .1 .0) (k .receive-next .ensures .0) (k .receive-next .ensures .1 .0) (k .receive-next .ensures .1 .1 .0) (k .receive-next .ensures .1 .1 .1) (k .receive-next .kept .1 .1 .0) (k .receive-next .kept .1 .1 .1 .0) (c .if1 .left), omega (arith, k .receive-next .kept .1 .0, o .inv .1), omega (arith, c .before .before .before .before .before .pdus .given, o .inv .2), omega (arith, c .before .before .before .log .given, o .inv .3))
+    (turns (now (a .lengths)) _ (o .carry) (o .pdus) (o .log) (o .b) (o .from) (o .i) (o .inv .0) (k .before .before .before .before .before .loop-test .taken) _ (k .receive-next .result) (k .receive-next .last .1 .0) (k .receive-next .last .1 .1 .0) (k .receive-next .last .1 .1 .1 .0) (k .receive-next .ensures .0) (k .receive-next .ensures .1 .0) (k .receive-next .ensures .1 .1 .0) (k .receive-next .ensures .1 .1 .1) refl (k .receive-next .kept .1 .1 .0) (k .receive-next .kept .1 .1 .1 .0) (omega (arith, c .if1 .left)), omega (arith, k .receive-next .kept .1 .0, o .inv .1), omega (arith, c .before .before .before .before .before .pdus .given, o .inv .2), omega (arith, c .before .before .before .log .given, o .inv .3))
 
 same-length-4 : tie.Need-same-length-4 Inv-loop μ-loop
 same-length-4 c = search needs

@@ -1,7 +1,7 @@
 use Rattle.batch.proofs.Counting.{counted-refused, counted-taken}
 use Rattle.batch.proofs.Single.{words-fit}
 use denote.Ref.{now}
-use mathlib.Core.Path.{_≡_, ap}
+use mathlib.Core.Path.{_≡_, refl}
 use mathlib.Core.List.{[]}
 use Prim.Native.Nat.{ℕ, _≤_}
 use lib.ListN.{length}
@@ -43,7 +43,7 @@ returns : tie.Need-returns
 returns c =
     let k = c .before .before .before .before .before .before .before .before .before .before .before .before in
     let a = k .before .before .before .before .before .before .before .before .args in
-    (counted-refused (a .b) (now (a .carry)) (now (a .pdu)) (now (a .log)) (k .receive .result) (k .receive .ensures .0) (c .if1 .taken), k .receive .ensures .1)
+    (counted-refused (a .b) (now (a .carry)) (now (a .pdu)) (now (a .log)) (k .receive .result) (k .receive .ensures .0) _ refl refl (λ q. omega (arith, q, c .if1 .taken)) refl refl refl, k .receive .ensures .1)
 
 same-length-4 : tie.Need-same-length-4
 same-length-4 c = search needs
@@ -58,7 +58,7 @@ returns-2 : tie.Need-returns-2
 returns-2 c =
     let k = c .before .before .before .before .before .before .before .before .before .before .before .before in
     let a = k .before .before .before .before .before .before .before .before .args in
-    (counted-taken (a .b) (now (a .carry)) (now (a .pdu)) (now (a .log)) (k .receive .result) (k .receive .ensures .0) (c .if1 .left), k .receive .ensures .1)
+    (counted-taken (a .b) (now (a .carry)) (now (a .pdu)) (now (a .log)) (k .receive .result) (k .receive .ensures .0) _ refl refl (omega (arith, c .if1 .left)) refl refl refl, k .receive .ensures .1)
 
 pub receive-next-spec : {M : Type 1} → statement M
 receive-next-spec =
