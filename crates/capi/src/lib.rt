@@ -1,4 +1,5 @@
 // The C library: each public operation with C's types, and the core's contract. include/barzhilup.h declares them.
+use batch::Batch;
 use correction::Correction;
 use pdu::Reading;
 use receiver::Received;
@@ -16,6 +17,7 @@ ghost use Rattle.header.specs.Header.{syndromes, parityOf, lengthRefusal, withP
 ghost use Rattle.pdu.specs.Reading.{readingOf, readPdu};
 ghost use Rattle.writer.specs.Writing.{opened, writeAnswer, writtenPdu};
 ghost use Rattle.receiver.specs.Receiving.{opened as receiverOpened, receiveAnswer, carryAfter, pduAfter, logAfter, lostAnswer, logAfterLost};
+ghost use Rattle.batch.specs.Batches.{received};
 ghost use Rattle.correction.specs.Marks.{correctionWith, correctedPduWith};
 ghost use Rattle.correction.specs.Correction.{correctionOf, correctedPdu, numberOf, countOf};
 
@@ -222,6 +224,24 @@ pub extern "C" fn barzhilup_receive_marked(
     ensures { λ _. ⌜ now (log .exit) ≡ logAfter (now (marks .entry)) (now (carry .entry)) (now (pdu .entry)) (now (log .entry)) receiver ⌝ }
 {
     receiver.receive_marked(carry, pdu, marks, log)
+}
+
+// Receives PDUs that stand joined in a buffer, of these lengths, as one call after another would, each log following the last, and stops at the first that is
+// refused: it and those after it keep their bytes. Refused with 1, 2 or 18 (the lengths do not sum to the buffer), nothing is changed.
+#[no_mangle]
+pub extern "C" fn barzhilup_receive_batch(
+    receiver: Receiver,
+    carry: &mut [u8],
+    pdus: &mut [u8],
+    lengths: &[usize],
+    log: &mut [u32],
+) -> Batch
+    ensures { λ b. ⌜ b ≡ received (now (lengths .entry)) (now (carry .entry)) (now (pdus .entry)) (now (log .entry)) receiver .answer ⌝ }
+    ensures { λ _. ⌜ now (carry .exit) ≡ received (now (lengths .entry)) (now (carry .entry)) (now (pdus .entry)) (now (log .entry)) receiver .carry ⌝ }
+    ensures { λ _. ⌜ now (pdus .exit) ≡ received (now (lengths .entry)) (now (carry .entry)) (now (pdus .entry)) (now (log .entry)) receiver .pdus ⌝ }
+    ensures { λ _. ⌜ now (log .exit) ≡ received (now (lengths .entry)) (now (carry .entry)) (now (pdus .entry)) (now (log .entry)) receiver .log ⌝ }
+{
+    batch::receive(receiver, carry, pdus, lengths, log)
 }
 
 // Marks a PDU lost: note 6, and the receiver forgets; or it is refused with 1 or 13, and nothing is changed.

@@ -5,7 +5,7 @@ use mathlib.Core.List.{List, [], _∷_, _++_}
 use Prim.Native.Nat.{ℕ, zero, suc, _+_, _<_, _≤_}
 use native.Mathlib.Omega.{arith}
 use lib.Dec.{eqb}
-use borrow.Author.Tests.{eq-eqb, ne-eqb}
+use borrow.Author.Tests.{eq-eqb}
 use lib.ListN.{length, take, drop, take-append-drop}
 use Rattle.header.proofs.Unique.{all-bytes}
 use Rattle.modes.specs.Modes.{listing}
@@ -23,13 +23,15 @@ use Rattle.reassembly.specs.Rights.{Rights, under}
 use Rattle.reassembly.specs.Holder.{Come, Event, lost, came, Holder, after}
 use Rattle.reassembly.proofs.Fitting.{SaneSaid, fit-received}
 use Rattle.reassembly.proofs.Blind.{blankSaid, received-blind, remembered-blind}
-use Rattle.receiver.specs.Receiving.{saidBy, refusedAnswer, receiveNumber, receiveAnswer, carryAfter, lostNumber, lostAnswer}
+use Rattle.receiver.specs.Receiving.{saidBy, refusedAnswer, lostNumber, lostAnswer}
 use Rattle.receiver.specs.declared.Receiver.{Receiver}
 use Rattle.receiver.specs.declared.Received.{Received}
 use Rattle.runs.specs.Transmissions.{Way, gone, here}
 use Rattle.runs.specs.Calls.{Speech, heard, Matching, Machine, Serves, Bridge}
 use Rattle.runs.proofs.Bridges.{serves-one, serves-none}
-use Rattle.delivery.specs.Delivery.{Station, Call, receive, markLost, answerOf, carryOf, stationAfter, loggedBy, defined, HeaderAltered}
+use Rattle.batch.proofs.Single.{kept}
+use Rattle.batch.proofs.OneByOne.{none-taken}
+use Rattle.delivery.specs.Delivery.{Station, Call, receive, batch, markLost, answerOf, stationAfter, RefusedAfter, loggedBy, defined, HeaderAltered}
 use Rattle.delivery.specs.Copies.{frontLength, restored, bytesAt, crcAt, Copy, causesFor}
 use Rattle.delivery.specs.Pairs.{pairSaid}
 use Rattle.delivery.proofs.Pairs.{pair-heard, pair-sane}
@@ -37,28 +39,26 @@ use Rattle.delivery.proofs.Copies.{stricken, Plain, copy-size, copy-cor
 use Rattle.delivery.proofs.Made.{Heard, Says}
 use Rattle.delivery.proofs.Serving.{Shows, receive-accepted, receive-logged, receive-shows, lost-accepted, lost-logged, lost-shows}
 
--- ---- a refused call leaves receiver and carry
+-- ---- a call that is refused and takes no PDU leaves receiver and carry
 
 kept-by : (b : Bool) (n : ℕ) (a : Received) (r : Receiver) (k : ℕ) → eqb n 0 ≡ b → a .refusal ≡ 0 → ¬ (cond b a (refusedAnswer r n k) .refusal ≡ 0) → cond b a (refusedAnswer r n k) .receiver ≡ r
 kept-by true n a r k e z h = absurd (h z)
 kept-by false n a r k e z h = refl
 
-carry-by : (b : Bool) (n : ℕ) (a : Received) (r : Receiver) (k : ℕ) (c d : List ℕ) → eqb n 0 ≡ b → a .refusal ≡ 0 → ¬ (cond b a (refusedAnswer r n k) .refusal ≡ 0) → cond b c d ≡ d
-carry-by true n a r k c d e z h = absurd (h z)
-carry-by false n a r k c d e z h = refl
-
-station-kept : (x : Station) (c : Call) → ¬ (answerOf x c .refusal ≡ 0) → stationAfter defined x c ≡ x
-unfolding receiveAnswer carryAfter lostAnswer
+station-kept : (x : Station) (c : Call) → RefusedAfter defined 0 x c → stationAfter defined x c ≡ x
+unfolding lostAnswer
 station-kept x (receive n q log) h =
-    ap₂ (λ (r : Receiver) (c : List ℕ). record { receiver = r; carry = c })
-    (kept-by (eqb (receiveNumber n (x .carry) q log (x .receiver)) 0) (receiveNumber n (x .carry) q log (x .receiver)) _ (x .receiver) _ refl refl h)
-    (carry-by (eqb (receiveNumber n (x .carry) q log (x .receiver)) 0) (receiveNumber n (x .carry) q log (x .receiver)) _ (x .receiver) _ _ (x .carry) refl refl h)
+    let k = kept n (x .carry) q log (x .receiver) (h .0) in
+    ap₂ (λ (r : Receiver) (c : List ℕ). record { receiver = r; carry = c }) (k .receiver) (k .carry′)
+station-kept x (batch lengths pdus log) h =
+    let k = none-taken lengths (x .carry) pdus log (x .receiver) (h .0) (h .1) in
+    ap₂ (λ (r : Receiver) (c : List ℕ). record { receiver = r; carry = c }) (k .0) (k .1)
 station-kept x (markLost log) h =
     ap (λ (r : Receiver). record { receiver = r; carry = x .carry })
-    (kept-by (eqb (lostNumber log (x .receiver)) 0) (lostNumber log (x .receiver)) _ (x .receiver) 0 refl refl h)
+    (kept-by (eqb (lostNumber log (x .receiver)) 0) (lostNumber log (x .receiver)) _ (x .receiver) 0 refl refl (h .0))
 
-nothing-logged : (x : Station) (c : Call) → ¬ (answerOf x c .refusal ≡ 0) → loggedBy defined x c ≡ []
-nothing-logged x c h = let e : eqb (answerOf x c .refusal) 0 ≡ false = ne-eqb (answerOf x c .refusal) 0 h in rw e
+nothing-logged : (x : Station) (c : Call) → RefusedAfter defined 0 x c → loggedBy defined x c ≡ []
+nothing-logged x c h = let e : eqb (answerOf x c .taken) 0 ≡ true = eq-eqb (answerOf x c .taken) 0 (h .1) in rw e
 
 -- ---- the machine
 
@@ -72,11 +72,11 @@ everything = record { entitled = λ p. true; keeps = false }
 abbrev pub asSent : ℕ → ℕ
 asSent k = 0
 
--- How a call hands over PDUs of a run. A new kind of call is a new line here, and a case of `serves`.
+-- How a call hands over a PDU of a run, or none. A new kind of call is a new line here, and a case of `serves`.
 pub data Handing (register width : ℕ) (x : Station) : Call → List (List ℕ) → List Way → Type 0 where
   copied : {marks p q log : List ℕ} {sound : ℕ → Bool} → Copy register width p marks q sound → 8400 ≤ length log → Handing register width x (receive marks q log) (p ∷ []) (here (causesFor sound) ∷ [])
   losing : {p log : List ℕ} → 8400 ≤ length log → Handing register width x (markLost log) (p ∷ []) (gone ∷ [])
-  refusing : {c : Call} → ¬ (answerOf x c .refusal ≡ 0) → Handing register width x c [] []
+  refusing : {c : Call} → RefusedAfter defined 0 x c → Handing register width x c [] []
 
 abbrev pub Accepted : Station → Call → List (List ℕ) → Type 0
 Accepted x c [] = Unit {0}

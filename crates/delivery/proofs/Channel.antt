@@ -7,7 +7,7 @@ use Prim.Native.Nat.{ℕ, zero, suc, _+_, _-_, _%_, _<_, _≤_}
 use native.Mathlib.Omega.{arith}
 use lib.Dec.{eqb, ltb, leb}
 use borrow.Author.Tests.{lt-leb}
-use lib.ListN.{length, getD, take, drop, replicate, length-take}
+use lib.ListN.{length, getD, take, drop, replicate, length-take, take-append-drop}
 use lib.Seq.{drop-drop}
 use Rattle.algebra.specs.Places.{All}
 use Rattle.refusal.specs.Refusal.{anyOf}
@@ -30,17 +30,18 @@ use Rattle.receiver.specs.declared.Receiver.{Receiver}
 use Rattle.runs.specs.Model.{cut, sentAfter, Fate, lose, read, Mark, verdicts, Sized, fresh}
 use Rattle.runs.specs.Transmissions.{Way, gone, here, keptOf, plansFrom}
 use Rattle.runs.specs.Spans.{packetAt, Span, within, lies, bytesIn, fatesOf, wholePackets as wholeByMarks}
-use Rattle.runs.specs.Calls.{Load, transmissionsOf, LoadsFit, spansFrom as spansOfLoads, speechesFrom, fatesFrom, Matching, Step as Part, handed, waysOf, Through as Goes, logsFrom as logsOf, AllGood}
+use Rattle.runs.specs.Calls.{Load, transmissionsOf, LoadsFit, spansFrom as spansOfLoads, speechesFrom, fatesFrom, Matching, Bridge, Step as Part, handed, waysOf, Through as Goes, logsFrom as logsOf, AllGood}
 use Rattle.runs.proofs.General.{Delivered as RunDelivered, general}
 use Rattle.delivery.specs.Delivery.{Packets, Writing, pdusFrom, spansFrom, InOrder, Station, Call, receive, markLost, answerOf, defined, freshStation, stationAfter, loggedBy, runOf, made as madeBy, spans as spansOf}
 use Rattle.delivery.specs.Copies.{causesFor}
-use Rattle.delivery.specs.Channel.{Step, receives, loses, refuses, callOf, Through, fates, logsFrom, NoneRefused, Asked, Delivered, ChannelDelivery}
+use Rattle.delivery.specs.Channel.{Came, Step, receives, batches, stops, loses, refuses, callOf, AllCopies, Through, fatesIn, fates, logsFrom, NoneRefused, Asked, Delivered, ChannelDelivery}
 use Rattle.delivery.proofs.Counting.{stands-first}
 use Rattle.delivery.proofs.Calling.{stateAt, next-in-range}
 use Rattle.delivery.proofs.Made.{sized-of}
 use Rattle.delivery.proofs.Course.{Course, done, next, Runs, course}
 use Rattle.delivery.proofs.Serving.{Shows}
-use Rattle.delivery.proofs.Bridge.{stations, everything, copied, losing, refusing, Speaks, bridge}
+use Rattle.delivery.proofs.Bridge.{everything, Speaks}
+use Rattle.delivery.proofs.Batching.{EachCopy, waysIn, Handing, receiving, batching, stopping, missing, declining, steps as stepMachine, stepping}
 use Rattle.delivery.proofs.Copies.{struck-read}
 use Rattle.delivery.proofs.Lies.{Following}
 use Rattle.delivery.proofs.Examples.{second-missing}
@@ -108,12 +109,20 @@ plain-lies range (c ∷ cs) (here f ∷ ws) q g s kept ps rest j =
 abbrev waysBy : List Step → List Way
 waysBy [] = []
 waysBy (receives n q log v ∷ ss) = here (causesFor v) ∷ waysBy ss
+waysBy (batches cs log ∷ ss) = waysIn cs ++ waysBy ss
+waysBy (stops cs ls bytes log ∷ ss) = waysIn cs ++ waysBy ss
 waysBy (loses log ∷ ss) = gone ∷ waysBy ss
 waysBy (refuses c ∷ ss) = waysBy ss
+
+fates-in : (cs : List Came) (ws : List Way) → plainFates (waysIn cs ++ ws) ≡ fatesIn cs ++ plainFates ws
+fates-in [] ws = refl
+fates-in (c ∷ cs) ws = ap (λ (l : List Fate). read false (causesFor (c .sound)) ∷ l) (fates-in cs ws)
 
 fates-are : (ss : List Step) → plainFates (waysBy ss) ≡ fates ss
 fates-are [] = refl
 fates-are (receives n q log v ∷ ss) = ap (λ (l : List Fate). read false (causesFor v) ∷ l) (fates-are ss)
+fates-are (batches cs log ∷ ss) = fates-in cs (waysBy ss) ∙ ap (λ (l : List Fate). fatesIn cs ++ l) (fates-are ss)
+fates-are (stops cs ls bytes log ∷ ss) = fates-in cs (waysBy ss) ∙ ap (λ (l : List Fate). fatesIn cs ++ l) (fates-are ss)
 fates-are (loses log ∷ ss) = ap (λ (l : List Fate). lose ∷ l) (fates-are ss)
 fates-are (refuses c ∷ ss) = fates-are ss
 
@@ -123,55 +132,60 @@ fates-by (suc first) ss = ap (λ (l : List Fate). lose ∷ l) (fates-by first ss
 
 -- ---- the calls, with the PDUs that they are for
 
+-- the first PDUs, as many as came in a batch
+first-copies : (register width : ℕ) (cs : List Came) (ps : List (List ℕ)) → AllCopies register width ps cs → EachCopy register width (take (length cs) ps) cs
+first-copies register width [] ps h = tt
+first-copies register width (c ∷ cs) [] h = absurd h
+first-copies register width (c ∷ cs) (p ∷ ps) h = (h .0, first-copies register width cs ps (h .1))
+
 module _ (mode stream register : ℕ) (m : Mode) (l : listing mode stream ≡ Listed m) (range : 0 < m .sequences) where
-  abbrev Parts : Type 0
-  Parts = List (Part (bridge mode stream register m l range))
+  abbrev all : Bridge everything (m .sequences) (stepMachine mode stream register m l range)
+  all = stepping mode stream register m l range
 
-  parts : List Step → List (List ℕ) → Parts
+  parts : List Step → List (List ℕ) → List (Part all)
   parts [] pdus = []
-  parts (receives n q log v ∷ ss) [] = []
-  parts (receives n q log v ∷ ss) (p ∷ pdus) = record { call = receive n q log; pdus = p ∷ []; ways = here (causesFor v) ∷ [] } ∷ parts ss pdus
-  parts (loses log ∷ ss) [] = []
-  parts (loses log ∷ ss) (p ∷ pdus) = record { call = markLost log; pdus = p ∷ []; ways = gone ∷ [] } ∷ parts ss pdus
-  parts (refuses c ∷ ss) pdus = record { call = c; pdus = []; ways = [] } ∷ parts ss pdus
+  parts (receives n q log v ∷ ss) pdus = record { call = receives n q log v; pdus = take 1 pdus; ways = here (causesFor v) ∷ [] } ∷ parts ss (drop 1 pdus)
+  parts (batches cs log ∷ ss) pdus = record { call = batches cs log; pdus = take (length cs) pdus; ways = waysIn cs } ∷ parts ss (drop (length cs) pdus)
+  parts (stops cs ls bytes log ∷ ss) pdus = record { call = stops cs ls bytes log; pdus = take (length cs) pdus; ways = waysIn cs } ∷ parts ss (drop (length cs) pdus)
+  parts (loses log ∷ ss) pdus = record { call = loses log; pdus = take 1 pdus; ways = gone ∷ [] } ∷ parts ss (drop 1 pdus)
+  parts (refuses c ∷ ss) pdus = record { call = refuses c; pdus = []; ways = [] } ∷ parts ss pdus
 
-  record Parted (x : Station) (steps : List Step) (pdus : List (List ℕ)) (gs : Parts) : Type 0 where
-    through : Goes (bridge mode stream register m l range) x gs
-    pdus′ : handed (bridge mode stream register m l range) gs ≡ pdus
-    ways : waysOf (bridge mode stream register m l range) gs ≡ waysBy steps
-    logs : logsOf (bridge mode stream register m l range) x gs ≡ logsFrom x steps
-    good : AllGood (bridge mode stream register m l range) x gs → NoneRefused x steps
+  record Parted (x : Station) (ss : List Step) (pdus : List (List ℕ)) (gs : List (Part all)) : Type 0 where
+    through : Goes all x gs
+    pdus′ : handed all gs ≡ pdus
+    ways : waysOf all gs ≡ waysBy ss
+    logs : logsOf all x gs ≡ logsFrom x ss
+    good : AllGood all x gs → NoneRefused x ss
 
-  parted : (steps : List Step) (x : Station) (pdus : List (List ℕ)) → Through register (m .width) x pdus steps → Parted x steps pdus (parts steps pdus)
+  -- a call, and those after it
+  module _ (s : Step) (ss : List Step) (x : Station) (ps qs : List (List ℕ)) (ws : List Way) (hands : Handing mode stream register m l range x s ps ws) (gs : List (Part all)) (r : Parted (stationAfter defined x (callOf s)) ss qs gs) where
+    with-call : (pdus : List (List ℕ)) → ps ++ qs ≡ pdus → waysBy (s ∷ ss) ≡ ws ++ waysBy ss → Parted x (s ∷ ss) pdus (record { call = s; pdus = ps; ways = ws } ∷ gs)
+    with-call pdus e f = record {
+      through = (hands, r .through);
+      pdus′ = ap (λ (k : List (List ℕ)). ps ++ k) (r .pdus′) ∙ e;
+      ways = ap (λ (k : List Way). ws ++ k) (r .ways) ∙ sym f;
+      logs = ap (λ (w : List ℕ). loggedBy defined x (callOf s) ++ w) (r .logs);
+      good = λ g. (g .0, r .good (g .1));
+    }
+
+  parted : (ss : List Step) (x : Station) (pdus : List (List ℕ)) → Through register (m .width) x pdus ss → Parted x ss pdus (parts ss pdus)
   unfolding parts
   parted [] x [] t = record { through = tt; pdus′ = refl; ways = refl; logs = refl; good = λ g. tt }
   parted [] x (p ∷ pdus) t = absurd t
   parted (receives n q log v ∷ ss) x [] t = absurd t
   parted (receives n q log v ∷ ss) x (p ∷ pdus) t =
-      let r = parted ss (stationAfter defined x (receive n q log)) pdus (t .2) in
-      record {
-        through = (copied (t .0) (t .1), r .through);
-        pdus′ = ap (λ (l : List (List ℕ)). p ∷ l) (r .pdus′);
-        ways = ap (λ (l : List Way). here (causesFor v) ∷ l) (r .ways);
-        logs = ap (λ (w : List ℕ). loggedBy defined x (receive n q log) ++ w) (r .logs);
-        good = λ g. (g .0, r .good (g .1));
-      }
+      with-call (receives n q log v) ss x (p ∷ []) pdus (here (causesFor v) ∷ []) (receiving (t .0) (t .1)) (parts ss pdus) (parted ss (stationAfter defined x (receive n q log)) pdus (t .2)) (p ∷ pdus) refl refl
+  parted (batches cs log ∷ ss) x pdus t =
+      with-call (batches cs log) ss x (take (length cs) pdus) (drop (length cs) pdus) (waysIn cs) (batching (first-copies register (m .width) cs pdus (t .0)) (t .1)) (parts ss (drop (length cs) pdus))
+      (parted ss (stationAfter defined x (callOf (batches cs log))) (drop (length cs) pdus) (t .2)) pdus (take-append-drop (length cs) pdus) refl
+  parted (stops cs ls bytes log ∷ ss) x pdus t =
+      with-call (stops cs ls bytes log) ss x (take (length cs) pdus) (drop (length cs) pdus) (waysIn cs) (stopping (first-copies register (m .width) cs pdus (t .0)) (t .1) (t .2)) (parts ss (drop (length cs) pdus))
+      (parted ss (stationAfter defined x (callOf (stops cs ls bytes log))) (drop (length cs) pdus) (t .3)) pdus (take-append-drop (length cs) pdus) refl
   parted (loses log ∷ ss) x [] t = absurd t
   parted (loses log ∷ ss) x (p ∷ pdus) t =
-      let r = parted ss (stationAfter defined x (markLost log)) pdus (t .1) in
-      record {
-        through = (losing (t .0), r .through);
-        pdus′ = ap (λ (l : List (List ℕ)). p ∷ l) (r .pdus′);
-        ways = ap (λ (l : List Way). gone ∷ l) (r .ways);
-        logs = ap (λ (w : List ℕ). loggedBy defined x (markLost log) ++ w) (r .logs);
-        good = λ g. (g .0, r .good (g .1));
-      }
-  parted (refuses c ∷ ss) x [] t =
-      let r = parted ss (stationAfter defined x c) [] (t .1) in
-      record { through = (refusing (t .0), r .through); pdus′ = r .pdus′; ways = r .ways; logs = ap (λ (w : List ℕ). loggedBy defined x c ++ w) (r .logs); good = λ g. r .good (g .1) }
-  parted (refuses c ∷ ss) x (p ∷ pdus) t =
-      let r = parted ss (stationAfter defined x c) (p ∷ pdus) (t .1) in
-      record { through = (refusing (t .0), r .through); pdus′ = r .pdus′; ways = r .ways; logs = ap (λ (w : List ℕ). loggedBy defined x c ++ w) (r .logs); good = λ g. r .good (g .1) }
+      with-call (loses log) ss x (p ∷ []) pdus (gone ∷ []) (missing (t .0)) (parts ss pdus) (parted ss (stationAfter defined x (markLost log)) pdus (t .1)) (p ∷ pdus) refl refl
+  parted (refuses c ∷ ss) x pdus t =
+      with-call (refuses c) ss x [] pdus [] (declining (t .0)) (parts ss pdus) (parted ss (stationAfter defined x c) pdus (t .1)) pdus refl refl
 
 -- ---- a fresh writer and a fresh receiver
 
@@ -241,14 +255,14 @@ module _ (mode stream register : ℕ) (packets : List (List ℕ)) (writings : Li
       (subst (λ (s : Station). Through register (modeIn (listing mode stream) .width) s (runOf first count made) steps) station-is
       (subst (λ (ps : List (List ℕ)). Through register (modeIn (listing mode stream) .width) (freshStation defined mode stream register carry) (runOf first count ps) steps) (ap (λ (w : Writer). pdusFrom w writings) (x .writer)) (d .through)))
 
-  abbrev gs : Parts mode stream register m (x .listed) range
+  abbrev gs : List (Part (all mode stream register m (x .listed) range))
   gs = parts mode stream register m (x .listed) range steps (runOf first count made)
 
   split : Parted mode stream register m (x .listed) range station steps (runOf first count made) gs
   split = parted mode stream register m (x .listed) range steps station (runOf first count made) through
 
-  run : RunDelivered everything (m .sequences) stations (bridge mode stream register m (x .listed) range) packets cs made first count station gs
-  run = general everything (m .sequences) stations (bridge mode stream register m (x .listed) range) packets cs made first count station gs (record {
+  run : RunDelivered everything (m .sequences) (stepMachine mode stream register m (x .listed) range) (all mode stream register m (x .listed) range) packets cs made first count station gs
+  run = general everything (m .sequences) (stepMachine mode stream register m (x .listed) range) (all mode stream register m (x .listed) range) packets cs made first count station gs (record {
     sized = sized;
     fits = loads-fit mode stream register m packets (whole .1);
     says = speaking mode stream register m packets (x .listed) range range (whole .1);
@@ -258,7 +272,7 @@ module _ (mode stream register : ℕ) (packets : List (List ℕ)) (writings : Li
     countable = tt;
   })
 
-  marks-are : lies packets (spansOfLoads 0 0 packets cs) (fatesFrom everything (m .sequences) first (waysOf (bridge mode stream register m (x .listed) range) gs) cs) ≡ lies packets spans (replicate first lose ++ fates steps)
+  marks-are : lies packets (spansOfLoads 0 0 packets cs) (fatesFrom everything (m .sequences) first (waysOf (all mode stream register m (x .listed) range) gs) cs) ≡ lies packets spans (replicate first lose ++ fates steps)
   marks-are = fun-ext (λ j.
       ap (λ (ws : List Way). lies packets (spansOfLoads 0 0 packets cs) (fatesFrom everything (m .sequences) first ws cs) j) (split .ways)
       ∙ plain-lies (m .sequences) cs (replicate first gone ++ waysBy steps) 0 0 0 none packets packets j

@@ -1,3 +1,4 @@
+pub mod Batching
 pub mod Bridge
 pub mod Calling
 pub mod Channel

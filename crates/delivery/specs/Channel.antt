@@ -2,45 +2,75 @@
 -- comes as a copy (Copies.antt), some of whose pieces are sound; the list's other calls are refused ones.
 use mathlib.Core.Path.{_≡_}
 use mathlib.Core.Bool.{Bool, true, false}
-use mathlib.Core.List.{List, [], _∷_, _++_}
-use Prim.Native.Nat.{ℕ, zero, suc, _+_, _≤_}
-use lib.ListN.{length, replicate}
+use mathlib.Core.List.{List, [], _∷_, _++_, map}
+use Prim.Native.Nat.{ℕ, _*_, _≤_}
+use lib.ListN.{length, drop, replicate}
 use Rattle.modes.specs.Modes.{listing}
 use Rattle.pdu.specs.Reading.{modeIn}
 use Rattle.log.specs.Log.{Entry, logWords, packetWords}
 use Rattle.writer.specs.Writing.{opened as writerOpened}
 use Rattle.runs.specs.Model.{Fate, lose, read}
 use Rattle.runs.specs.Spans.{lies, wholePackets}
-use Rattle.delivery.specs.Delivery.{Packets, Writing, InOrder, Station, Call, receive, markLost, answerOf, defined, freshStation, stationAfter, loggedBy, runOf, made, spans}
+use Rattle.delivery.specs.Delivery.{Packets, joined, Writing, InOrder, Station, Call, receive, batch, markLost, answerOf, defined, freshStation, stationAfter, RefusedAfter, loggedBy, runOf, made, spans}
 use Rattle.delivery.specs.Copies.{Copy, causesFor}
 
--- a call of the list: for the next PDU of the run, received with these marks and these pieces sound, or marked lost; or another, a refused one
+-- a PDU as it came in a batch, and which of its pieces are sound
+pub record Came : Type 0 where
+  pub pdu : List ℕ
+  pub sound : ℕ → Bool
+
+abbrev pub pdusIn : List Came → List (List ℕ)
+pdusIn [] = []
+pdusIn (c ∷ cs) = c .pdu ∷ pdusIn cs
+
+-- A call of the list: for the next PDU of the run, received with these marks and these pieces sound, or marked lost; a batch of the next ones; a batch that has
+-- others after the next ones, and is refused at the first of those; or another call, a refused one
 pub data Step : Type 0 where
   receives : (marks pdu log : List ℕ) (sound : ℕ → Bool) → Step
+  batches : (came : List Came) (log : List ℕ) → Step
+  stops : (came : List Came) (lengths bytes log : List ℕ) → Step
   loses : (log : List ℕ) → Step
   refuses : Call → Step
 
 abbrev pub callOf : Step → Call
 callOf (receives marks pdu log sound) = receive marks pdu log
+callOf (batches came log) = batch (map length (pdusIn came)) (joined (pdusIn came)) log
+callOf (stops came lengths bytes log) = batch (map length (pdusIn came) ++ lengths) (joined (pdusIn came) ++ bytes) log
 callOf (loses log) = markLost log
 callOf (refuses c) = c
 
--- the calls go through these PDUs in order: each PDU has one call, with a log that suffices. Copies are by the register that CRCs start with, and the
--- locators' width
-abbrev pub Through : ℕ → ℕ → Station → List (List ℕ) → List Step → Type 0
-Through register width x [] [] = Unit {0}
-Through register width x (p ∷ ps) [] = ⊥
-Through register width x [] (receives marks q log s ∷ ss) = ⊥
-Through register width x (p ∷ ps) (receives marks q log s ∷ ss) = Copy register width p marks q s × (8400 ≤ length log) × Through register width (stationAfter defined x (receive marks q log)) ps ss
-Through register width x [] (loses log ∷ ss) = ⊥
-Through register width x (p ∷ ps) (loses log ∷ ss) = (8400 ≤ length log) × Through register width (stationAfter defined x (markLost log)) ps ss
-Through register width x [] (refuses c ∷ ss) = (¬ (answerOf x c .refusal ≡ 0)) × Through register width (stationAfter defined x c) [] ss
-Through register width x (p ∷ ps) (refuses c ∷ ss) = (¬ (answerOf x c .refusal ≡ 0)) × Through register width (stationAfter defined x c) (p ∷ ps) ss
+-- Copies are by the register that CRCs start with, and the locators' width
+module _ (register width : ℕ) where
+  -- the first ones of ps, as many as these are, come as these
+  abbrev pub AllCopies : List (List ℕ) → List Came → Type 0
+  AllCopies ps [] = Unit {0}
+  AllCopies [] (c ∷ cs) = ⊥
+  AllCopies (p ∷ ps) (c ∷ cs) = Copy register width p [] (c .pdu) (c .sound) × AllCopies ps cs
+
+  -- the calls go through these PDUs in order: each PDU has one call, with a log that suffices
+  abbrev pub Through : Station → List (List ℕ) → List Step → Type 0
+  Through x ps (refuses c ∷ ss) = RefusedAfter defined 0 x c × Through (stationAfter defined x c) ps ss
+  Through x ps (batches cs log ∷ ss) = AllCopies ps cs × (8400 * length cs ≤ length log) × Through (stationAfter defined x (callOf (batches cs log))) (drop (length cs) ps) ss
+  Through x ps (stops cs lengths bytes log ∷ ss) =
+      AllCopies ps cs × (8400 * length cs ≤ length log) × RefusedAfter defined (length cs) x (callOf (stops cs lengths bytes log))
+      × Through (stationAfter defined x (callOf (stops cs lengths bytes log))) (drop (length cs) ps) ss
+  Through x [] [] = Unit {0}
+  Through x (p ∷ ps) [] = ⊥
+  Through x [] (receives marks q log s ∷ ss) = ⊥
+  Through x (p ∷ ps) (receives marks q log s ∷ ss) = Copy register width p marks q s × (8400 ≤ length log) × Through (stationAfter defined x (receive marks q log)) ps ss
+  Through x [] (loses log ∷ ss) = ⊥
+  Through x (p ∷ ps) (loses log ∷ ss) = (8400 ≤ length log) × Through (stationAfter defined x (markLost log)) ps ss
 
 -- what came of each PDU of the run
+abbrev pub fatesIn : List Came → List Fate
+fatesIn [] = []
+fatesIn (c ∷ cs) = read false (causesFor (c .sound)) ∷ fatesIn cs
+
 abbrev pub fates : List Step → List Fate
 fates [] = []
 fates (receives marks pdu log sound ∷ ss) = read false (causesFor sound) ∷ fates ss
+fates (batches came log ∷ ss) = fatesIn came ++ fates ss
+fates (stops came lengths bytes log ∷ ss) = fatesIn came ++ fates ss
 fates (loses log ∷ ss) = lose ∷ fates ss
 fates (refuses c ∷ ss) = fates ss
 
@@ -48,12 +78,17 @@ abbrev pub logsFrom : Station → List Step → List ℕ
 logsFrom x [] = []
 logsFrom x (s ∷ ss) = loggedBy defined x (callOf s) ++ logsFrom (stationAfter defined x (callOf s)) ss
 
--- no call for a PDU of the run is refused
+-- a call for PDUs of the run alone is not refused
+abbrev pub NotRefused : Station → Step → Type 0
+NotRefused x (receives marks q log s) = answerOf x (receive marks q log) .refusal ≡ 0
+NotRefused x (batches cs log) = answerOf x (callOf (batches cs log)) .refusal ≡ 0
+NotRefused x (stops cs lengths bytes log) = Unit {0}
+NotRefused x (loses log) = answerOf x (markLost log) .refusal ≡ 0
+NotRefused x (refuses c) = Unit {0}
+
 abbrev pub NoneRefused : Station → List Step → Type 0
 NoneRefused x [] = Unit {0}
-NoneRefused x (receives marks q log s ∷ ss) = (answerOf x (receive marks q log) .refusal ≡ 0) × NoneRefused (stationAfter defined x (receive marks q log)) ss
-NoneRefused x (loses log ∷ ss) = (answerOf x (markLost log) .refusal ≡ 0) × NoneRefused (stationAfter defined x (markLost log)) ss
-NoneRefused x (refuses c ∷ ss) = NoneRefused (stationAfter defined x c) ss
+NoneRefused x (s ∷ ss) = NotRefused x s × NoneRefused (stationAfter defined x (callOf s)) ss
 
 module _ (mode stream register : ℕ) (packets : List (List ℕ)) (writings : List Writing) (first count : ℕ) (carry : List ℕ) (steps : List Step) where
   -- the packets with every byte in a sound piece of a PDU of the run that was received; PDUs before the run count as lost

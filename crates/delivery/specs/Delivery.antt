@@ -1,12 +1,13 @@
 -- Document 00, demand 3, by document 01, "Demand 3 is a single claim about whole lists of calls". The claim is of a receiver (`Demand3For`), with
 -- opening and writing as writer/specs/Writing.antt defines them. `Demand3` is its case at the receiver of receiver/specs/Receiving.antt: the
--- contracts say that the code does what these two define. Calls have marked places (document 02, Ask 3); with none it is document 00's claim.
+-- contracts say that the code does what these two define. Calls have marked places (document 02, Ask 3), and batches of PDUs stand among them (Ask 1); without
+-- both it is document 00's claim.
 use mathlib.Core.Path.{_≡_}
 use mathlib.Core.Bool.{Bool, true, false, not, _&&_, _||_, cond}
 use mathlib.Core.List.{List, [], _∷_, _++_, map}
 use Prim.Native.Nat.{ℕ, zero, suc, _+_, _-_, _*_, _%_, _<_, _≤_}
 use lib.Dec.{eqb, ltb, leb}
-use lib.ListN.{length, take, drop}
+use lib.ListN.{length, take, drop, replicate}
 use Rattle.correction.specs.Marks.{marksRefusal, unmarkedDistance}
 use Rattle.modes.specs.Modes.{listing}
 use Rattle.pdu.specs.Reading.{modeIn}
@@ -21,6 +22,8 @@ use Rattle.writer.specs.declared.Written.{Written}
 use Rattle.receiver.specs.Receiving.{opened as receiverOpened, receiveAnswer, carryAfter, logAfter, lostAnswer, logAfterLost}
 use Rattle.receiver.specs.declared.Receiver.{Receiver}
 use Rattle.receiver.specs.declared.Received.{Received}
+use Rattle.batch.specs.Batches.{received}
+use Rattle.batch.specs.declared.Batch.{Batch}
 
 -- ---- one list of packets
 
@@ -100,36 +103,54 @@ module _ (mode stream : ℕ) (packets : List (List ℕ)) where
   InOrder g [] = Unit {0}
   InOrder g (a ∷ al) = either (refusedAt g a) (InOrder g al) (Offers (drop (unfinished packets g) packets) a × InOrder (g + placedAt g a) al)
 
--- ---- receive calls and calls marking a PDU lost
+-- ---- receive calls, batches, and calls marking a PDU lost
 
 -- a receiver and its carry
 pub record Station : Type 0 where
   pub receiver : Receiver
   pub carry : List ℕ
 
--- a call's arguments besides: the marked places, and the lent PDU and log, as they were before the call
+-- a call's arguments besides, as they were before the call: the marked places and the lent PDU, or the lengths of a batch's PDUs and these, joined; and the log
 pub data Call : Type 0 where
   receive : (marks pdu log : List ℕ) → Call
+  batch : (lengths pdus log : List ℕ) → Call
   markLost : (log : List ℕ) → Call
+
+-- what a call answers: the refusal number, how many PDUs it took, the count of log words, and the receiver
+pub record Answer : Type 0 where
+  pub refusal : ℕ
+  pub taken : ℕ
+  pub words : ℕ
+  pub receiver : Receiver
+
+-- receiving a PDU or marking it lost takes it, if it is not refused; a batch counts those that it took
+abbrev pub ofOne : Received → Answer
+ofOne a = record { refusal = a .refusal; taken = cond (eqb (a .refusal) 0) 1 0; words = a .words; receiver = a .receiver }
+
+abbrev pub ofBatch : Batch → Answer
+ofBatch a = record { refusal = a .refusal; taken = a .taken; words = a .words; receiver = a .receiver }
 
 -- a receiver as its calls show it: what opening hands back, what a call answers, and the carry and the log after it
 pub record Behaviour : Type 0 where
   pub opening : (mode stream register : ℕ) → Receiver
-  pub answer : Station → Call → Received
+  pub answer : Station → Call → Answer
   pub carry : Station → Call → List ℕ
   pub log : Station → Call → List ℕ
 
--- the receiver of document 01, with the marks of document 02
-abbrev pub answerOf : Station → Call → Received
-answerOf x (receive marks pdu log) = receiveAnswer marks (x .carry) pdu log (x .receiver)
-answerOf x (markLost log) = lostAnswer log (x .receiver)
+-- the receiver of document 01, with the marks and the batches of document 02
+abbrev pub answerOf : Station → Call → Answer
+answerOf x (receive marks pdu log) = ofOne (receiveAnswer marks (x .carry) pdu log (x .receiver))
+answerOf x (batch lengths pdus log) = ofBatch (received lengths (x .carry) pdus log (x .receiver) .answer)
+answerOf x (markLost log) = ofOne (lostAnswer log (x .receiver))
 
 abbrev pub carryOf : Station → Call → List ℕ
 carryOf x (receive marks pdu log) = carryAfter marks (x .carry) pdu log (x .receiver)
+carryOf x (batch lengths pdus log) = received lengths (x .carry) pdus log (x .receiver) .carry
 carryOf x (markLost log) = x .carry
 
 abbrev pub logOf : Station → Call → List ℕ
 logOf x (receive marks pdu log) = logAfter marks (x .carry) pdu log (x .receiver)
+logOf x (batch lengths pdus log) = received lengths (x .carry) pdus log (x .receiver) .log
 logOf x (markLost log) = logAfterLost log (x .receiver)
 
 abbrev pub defined : Behaviour
@@ -150,14 +171,25 @@ pub record HeaderAltered (marks p q : List ℕ) : Type 0 where
   pub header : Correctable marks p q
   pub rest : drop 96 q ≡ drop 96 p
 
--- a call of the list: for the next PDU of the run, received or marked lost; or another, a refused one
+-- the first ones of ps, as many as these are, come as these, with no marks
+abbrev pub AllAltered : List (List ℕ) → List (List ℕ) → Type 0
+AllAltered ps [] = Unit {0}
+AllAltered [] (q ∷ qs) = ⊥
+AllAltered (p ∷ ps) (q ∷ qs) = HeaderAltered [] p q × AllAltered ps qs
+
+-- A call of the list: for the next PDU of the run, received or marked lost; a batch of the next ones; a batch that has others after the next ones, of these
+-- lengths and with these bytes, and is refused at the first of those; or another call, a refused one
 pub data Step : Type 0 where
   receives : (marks pdu log : List ℕ) → Step
+  batches : (pdus : List (List ℕ)) (log : List ℕ) → Step
+  stops : (pdus : List (List ℕ)) (lengths bytes log : List ℕ) → Step
   loses : (log : List ℕ) → Step
   refuses : Call → Step
 
 abbrev pub callOf : Step → Call
 callOf (receives marks pdu log) = receive marks pdu log
+callOf (batches pdus log) = batch (map length pdus) (joined pdus) log
+callOf (stops pdus lengths bytes log) = batch (map length pdus ++ lengths) (joined pdus ++ bytes) log
 callOf (loses log) = markLost log
 callOf (refuses c) = c
 
@@ -165,6 +197,8 @@ callOf (refuses c) = c
 abbrev pub receptions : List Step → List Bool
 receptions [] = []
 receptions (receives marks pdu log ∷ ss) = true ∷ receptions ss
+receptions (batches pdus log ∷ ss) = replicate (length pdus) true ++ receptions ss
+receptions (stops pdus lengths bytes log ∷ ss) = replicate (length pdus) true ++ receptions ss
 receptions (loses log ∷ ss) = false ∷ receptions ss
 receptions (refuses c ∷ ss) = receptions ss
 
@@ -176,29 +210,40 @@ module _ (b : Behaviour) where
   abbrev pub stationAfter : Station → Call → Station
   stationAfter x c = record { receiver = b .answer x c .receiver; carry = b .carry x c }
 
+  -- a call is refused after it took so many PDUs
+  abbrev pub RefusedAfter : ℕ → Station → Call → Type 0
+  RefusedAfter n x c = (¬ (b .answer x c .refusal ≡ 0)) × (b .answer x c .taken ≡ n)
+
   -- the calls go through these PDUs in order: each PDU has one call, with a log that suffices
   abbrev pub Through : Station → List (List ℕ) → List Step → Type 0
+  Through x ps (refuses c ∷ ss) = RefusedAfter 0 x c × Through (stationAfter x c) ps ss
+  Through x ps (batches qs log ∷ ss) = AllAltered ps qs × (8400 * length qs ≤ length log) × Through (stationAfter x (callOf (batches qs log))) (drop (length qs) ps) ss
+  Through x ps (stops qs lengths bytes log ∷ ss) =
+      AllAltered ps qs × (8400 * length qs ≤ length log) × RefusedAfter (length qs) x (callOf (stops qs lengths bytes log)) × Through (stationAfter x (callOf (stops qs lengths bytes log))) (drop (length qs) ps) ss
   Through x [] [] = Unit {0}
   Through x (p ∷ ps) [] = ⊥
   Through x [] (receives marks q log ∷ ss) = ⊥
   Through x (p ∷ ps) (receives marks q log ∷ ss) = HeaderAltered marks p q × (8400 ≤ length log) × Through (stationAfter x (receive marks q log)) ps ss
   Through x [] (loses log ∷ ss) = ⊥
   Through x (p ∷ ps) (loses log ∷ ss) = (8400 ≤ length log) × Through (stationAfter x (markLost log)) ps ss
-  Through x [] (refuses c ∷ ss) = (¬ (b .answer x c .refusal ≡ 0)) × Through (stationAfter x c) [] ss
-  Through x (p ∷ ps) (refuses c ∷ ss) = (¬ (b .answer x c .refusal ≡ 0)) × Through (stationAfter x c) (p ∷ ps) ss
 
-  -- no call for a PDU of the run is refused
+  -- a call for PDUs of the run alone is not refused
+  abbrev pub NotRefused : Station → Step → Type 0
+  NotRefused x (receives marks q log) = b .answer x (receive marks q log) .refusal ≡ 0
+  NotRefused x (batches qs log) = b .answer x (callOf (batches qs log)) .refusal ≡ 0
+  NotRefused x (stops qs lengths bytes log) = Unit {0}
+  NotRefused x (loses log) = b .answer x (markLost log) .refusal ≡ 0
+  NotRefused x (refuses c) = Unit {0}
+
   abbrev pub NoneRefused : Station → List Step → Type 0
   NoneRefused x [] = Unit {0}
-  NoneRefused x (receives marks q log ∷ ss) = (b .answer x (receive marks q log) .refusal ≡ 0) × NoneRefused (stationAfter x (receive marks q log)) ss
-  NoneRefused x (loses log ∷ ss) = (b .answer x (markLost log) .refusal ≡ 0) × NoneRefused (stationAfter x (markLost log)) ss
-  NoneRefused x (refuses c ∷ ss) = NoneRefused (stationAfter x c) ss
+  NoneRefused x (s ∷ ss) = NotRefused x s × NoneRefused (stationAfter x (callOf s)) ss
 
-  -- an accepted call's log, as far as its answer counts
+  -- the log of a call that took PDUs, as far as its answer counts
   abbrev pub loggedBy : Station → Call → List ℕ
-  loggedBy x c = cond (eqb (b .answer x c .refusal) 0) (take (b .answer x c .words) (b .log x c)) []
+  loggedBy x c = cond (eqb (b .answer x c .taken) 0) [] (take (b .answer x c .words) (b .log x c))
 
-  -- the accepted calls' logs, joined
+  -- the calls' logs, joined
   abbrev pub logsFrom : Station → List Step → List ℕ
   logsFrom x [] = []
   logsFrom x (s ∷ ss) = loggedBy x (callOf s) ++ logsFrom (stationAfter x (callOf s)) ss

@@ -8,19 +8,19 @@ use lib.ListN.{length}
 use Rattle.buffer.specs.Buffer.{putAt}
 use Rattle.log.specs.Log.{packet, logWords}
 use Rattle.receiver.specs.declared.Receiver.{Receiver}
-use Rattle.receiver.specs.declared.Received.{Received}
-use Rattle.delivery.specs.Delivery.{Behaviour, Station, Call, receive, markLost, answerOf, carryOf, logOf, defined}
+use Rattle.delivery.specs.Delivery.{Behaviour, Answer, Station, Call, receive, batch, markLost, answerOf, carryOf, logOf, defined}
 
 -- an answer with another count of words, or with another receiver
-abbrev pub withWords : ℕ → Received → Received
-withWords n a = record { refusal = a .refusal; wrong = a .wrong; words = n; receiver = a .receiver }
+abbrev pub withWords : ℕ → Answer → Answer
+withWords n a = record { refusal = a .refusal; taken = a .taken; words = n; receiver = a .receiver }
 
-abbrev pub withReceiver : Receiver → Received → Received
-withReceiver r a = record { refusal = a .refusal; wrong = a .wrong; words = a .words; receiver = r }
+abbrev pub withReceiver : Receiver → Answer → Answer
+withReceiver r a = record { refusal = a .refusal; taken = a .taken; words = a .words; receiver = r }
 
 -- the log as it was lent
 abbrev pub lentLog : Call → List ℕ
 lentLog (receive marks pdu log) = log
+lentLog (batch lengths pdus log) = log
 lentLog (markLost log) = log
 
 -- an empty log for everything
@@ -36,28 +36,32 @@ module _ (number : ℕ) (bytes : List ℕ) where
   abbrev pub fixedWords : List ℕ
   fixedWords = logWords (packet number bytes ∷ [])
 
-  abbrev pub fixedAnswer : Station → Call → Received
+  abbrev pub fixedAnswer : Station → Call → Answer
   fixedAnswer x (receive marks pdu log) = withWords (length fixedWords) (answerOf x (receive marks pdu log))
+  fixedAnswer x (batch lengths pdus log) = answerOf x (batch lengths pdus log)
   fixedAnswer x (markLost log) = answerOf x (markLost log)
 
   abbrev pub fixedLog : Station → Call → List ℕ
   fixedLog x (receive marks pdu log) = putAt log 0 fixedWords
+  fixedLog x (batch lengths pdus log) = logOf x (batch lengths pdus log)
   fixedLog x (markLost log) = logOf x (markLost log)
 
   abbrev pub fixed : Behaviour
   fixed = record { opening = defined .opening; answer = fixedAnswer; carry = carryOf; log = fixedLog }
 
 -- it joins in the first PDU, and then only advances
-abbrev pub advancingAnswer : Station → Call → Received
+abbrev pub advancingAnswer : Station → Call → Answer
 advancingAnswer x (receive marks pdu log) = cond (x .receiver .known) (withWords 0 (answerOf x (receive marks pdu log))) (answerOf x (receive marks pdu log))
+advancingAnswer x (batch lengths pdus log) = answerOf x (batch lengths pdus log)
 advancingAnswer x (markLost log) = answerOf x (markLost log)
 
 abbrev pub advancing : Behaviour
 advancing = record { opening = defined .opening; answer = advancingAnswer; carry = carryOf; log = logOf }
 
 -- marking lost leaves it as it was, so that the one-bit sequence may fit again
-abbrev pub joiningAnswer : Station → Call → Received
+abbrev pub joiningAnswer : Station → Call → Answer
 joiningAnswer x (receive marks pdu log) = answerOf x (receive marks pdu log)
+joiningAnswer x (batch lengths pdus log) = answerOf x (batch lengths pdus log)
 joiningAnswer x (markLost log) = withReceiver (x .receiver) (answerOf x (markLost log))
 
 abbrev pub joining : Behaviour
@@ -66,3 +70,12 @@ joining = record { opening = defined .opening; answer = joiningAnswer; carry = c
 -- it opens with a register of 0, whatever is asked for (document 02, Ask 2)
 abbrev pub zeroed : Behaviour
 zeroed = record { opening = λ mode stream register. defined .opening mode stream 0; answer = answerOf; carry = carryOf; log = logOf }
+
+-- a batch hands back the receiver that it got (document 02, Ask 1)
+abbrev pub forgettingAnswer : Station → Call → Answer
+forgettingAnswer x (receive marks pdu log) = answerOf x (receive marks pdu log)
+forgettingAnswer x (batch lengths pdus log) = withReceiver (x .receiver) (answerOf x (batch lengths pdus log))
+forgettingAnswer x (markLost log) = answerOf x (markLost log)
+
+abbrev pub forgetting : Behaviour
+forgetting = record { opening = defined .opening; answer = forgettingAnswer; carry = carryOf; log = logOf }
