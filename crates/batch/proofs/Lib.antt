@@ -2,6 +2,7 @@ pub mod Along
 pub mod Calling
 pub mod Counting
 pub mod Enough
+pub mod Laws
 pub mod OneByOne
 pub mod Order
 pub mod Single

@@ -23,10 +23,10 @@ followed-twice t u v w p q k l x = rw (add-assoc t u (x .answer .taken), add-ass
 -- ---- the first PDU of some, taken or refused
 
 module _ (n : ℕ) (ns : List ℕ) (r : Receiver) (carry pdus log : List ℕ) where
-  abbrev first : Received
+  abbrev pub first : Received
   first = receiveAnswer [] carry (take n pdus) log r
 
-  abbrev firstLog : List ℕ
+  abbrev pub firstLog : List ℕ
   firstLog = logAfter [] carry (take n pdus) log r
 
   pub first-taken : first .refusal ≡ 0
@@ -49,8 +49,8 @@ module _ (n : ℕ) (ns : List ℕ) (r : Receiver) (carry pdus log : List ℕ) wh
 
     pub next-taken : receiveAnswer [] carry q log r .refusal ≡ 0
         → oneByOne (n ∷ ns) r carry pdus log
-            ≡ followed 1 (receiveAnswer [] carry q log r .words) (pduAfter [] carry q log r) (take (receiveAnswer [] carry q log r .words) (logAfter [] carry q log r))
-              (oneByOne ns (receiveAnswer [] carry q log r .receiver) (carryAfter [] carry q log r) rest (drop (receiveAnswer [] carry q log r .words) (logAfter [] carry q log r)))
+        ≡ followed 1 (receiveAnswer [] carry q log r .words) (pduAfter [] carry q log r) (take (receiveAnswer [] carry q log r .words) (logAfter [] carry q log r))
+        (oneByOne ns (receiveAnswer [] carry q log r .receiver) (carryAfter [] carry q log r) rest (drop (receiveAnswer [] carry q log r .words) (logAfter [] carry q log r)))
     next-taken h =
         first-taken (rw part h)
         ∙ ap₂ (λ (p t : List ℕ). followed 1 (receiveAnswer [] carry p log r .words) (pduAfter [] carry p log r) (take (receiveAnswer [] carry p log r .words) (logAfter [] carry p log r)) (oneByOne ns (receiveAnswer [] carry p log r .receiver) (carryAfter [] carry p log r) t (drop (receiveAnswer [] carry p log r .words) (logAfter [] carry p log r)))) part left

@@ -1,7 +1,7 @@
--- Lengths that are counted down.
+-- Sums of lengths.
 use mathlib.Core.Path.{_≡_, refl, sym, _∙_}
 use mathlib.Core.Bool.{Bool, true, false}
-use mathlib.Core.List.{List, []}
+use mathlib.Core.List.{List, [], _∷_, _++_}
 use Prim.Native.Nat.{ℕ, _+_, _<_, _≤_}
 use native.Mathlib.Omega.{arith}
 use lib.Dec.{eqb}
@@ -21,3 +21,8 @@ same-test left sum bytes e = go (eqb left 0) refl
 pub none-left : (ls : List ℕ) (i : ℕ) → length ls ≤ i → total (drop i ls) ≡ 0
 unfolding total
 none-left ls i h = let e : drop i ls ≡ [] = drop-of-length-le ls {i = i} h in rw e
+
+pub total-append : (a b : List ℕ) → total (a ++ b) ≡ total a + total b
+unfolding total
+total-append [] b = omega arith
+total-append (n ∷ a) b = let h = total-append a b in omega (arith, h)

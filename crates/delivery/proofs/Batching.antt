@@ -23,6 +23,7 @@ use Rattle.receiver.specs.Receiving.{wrongState, pduAfter}
 use Rattle.receiver.specs.declared.Receiver.{Receiver}
 use Rattle.batch.specs.Batches.{Result, unchanged, followed, oneByOne, batchNumber, received}
 use Rattle.batch.proofs.Single.{words-fit, words-most, log-long}
+use Rattle.batch.proofs.Laws.{passes}
 use Rattle.batch.proofs.OneByOne.{followed-none, followed-twice, next-taken, first-stops}
 use Rattle.runs.specs.Transmissions.{Way, gone, here}
 use Rattle.runs.specs.Calls.{Speech, heard, Matching, Machine, Serves, Bridge, Step as Part, handed, waysOf, Through as Goes, logsFrom as logsOf, finally, AllGood}
@@ -137,7 +138,7 @@ module _ (mode stream register : ℕ) (m : Mode) (l : listing mode stream ≡ Li
     pdus : List ℕ
     is : oneByOne (map length (pdusIn cs) ++ ls) (x .receiver) (x .carry) (joined (pdusIn cs) ++ bytes) log
         ≡ followed (length cs) (length (logsOf one x (singles x log cs ps))) pdus (logsOf one x (singles x log cs ps))
-          (oneByOne ls (finally one x (singles x log cs ps) .receiver) (finally one x (singles x log cs ps) .carry) bytes (logLeft x log cs))
+        (oneByOne ls (finally one x (singles x log cs ps) .receiver) (finally one x (singles x log cs ps) .carry) bytes (logLeft x log cs))
 
   joins : (cs : List Came) (ps : List (List ℕ)) (x : Station) (log ls bytes : List ℕ) → EachCopy register (m .width) ps cs → AllGood one x (singles x log cs ps) → Joins cs ps x log ls bytes
   unfolding singles logLeft
@@ -185,12 +186,8 @@ module _ (mode stream register : ℕ) (m : Mode) (l : listing mode stream ≡ Li
       abbrev lengths : List ℕ
       lengths = map length (pdusIn cs)
 
-      passes : batchNumber lengths (x .carry) (joined (pdusIn cs)) log (x .receiver) ≡ 0
-      unfolding batchNumber
-      passes =
-          let e : ltb (length (x .carry)) 4096 ≡ false = le-ltb (length (x .carry)) 4096 room in
-          let f : eqb (total lengths) (length (joined (pdusIn cs))) ≡ true = eq-eqb (total lengths) (length (joined (pdusIn cs))) (lengths-sum (pdusIn cs)) in
-          rw (right, e, f)
+      right-number : batchNumber lengths (x .carry) (joined (pdusIn cs)) log (x .receiver) ≡ 0
+      right-number = passes lengths (x .carry) (joined (pdusIn cs)) log (x .receiver) right (le-ltb (length (x .carry)) 4096 room) (lengths-sum (pdusIn cs))
 
       all : Joins cs ps x log [] []
       all = joins cs ps x log [] [] each good
@@ -198,7 +195,7 @@ module _ (mode stream register : ℕ) (m : Mode) (l : listing mode stream ≡ Li
       ends : received lengths (x .carry) (joined (pdusIn cs)) log (x .receiver) ≡ followed (length cs) (length words) (all .pdus) words (unchanged 0 0 (end .receiver) (end .carry) [] (logLeft x log cs))
       unfolding received oneByOne
       ends =
-          let t : eqb (batchNumber lengths (x .carry) (joined (pdusIn cs)) log (x .receiver)) 0 ≡ true = eq-eqb (batchNumber lengths (x .carry) (joined (pdusIn cs)) log (x .receiver)) 0 passes in
+          let t : eqb (batchNumber lengths (x .carry) (joined (pdusIn cs)) log (x .receiver)) 0 ≡ true = eq-eqb (batchNumber lengths (x .carry) (joined (pdusIn cs)) log (x .receiver)) 0 right-number in
           rw t (ap₂ (λ (ns ps : List ℕ). oneByOne ns (x .receiver) (x .carry) ps log) (sym (append-nil lengths)) (sym (append-nil (joined (pdusIn cs)))) ∙ all .is)
 
       batch-taken : answerOf x (batch lengths (joined (pdusIn cs)) log) .refusal ≡ 0

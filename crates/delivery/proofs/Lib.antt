@@ -1,3 +1,4 @@
+pub mod BatchRuns
 pub mod Batching
 pub mod Bridge
 pub mod Calling

@@ -1,12 +1,12 @@
 -- For every receiver, every list of writing calls that offers packets in order, and whichever PDUs of a run are lost, there are calls that go through
 -- the run: so the claim's premises can be met.
-use mathlib.Core.Path.{_≡_, refl, sym, ap, _∙_}
+use mathlib.Core.Path.{_≡_, refl, sym, ap, subst, _∙_}
 use mathlib.Core.Bool.{Bool, true, false, true≢false}
-use mathlib.Core.List.{List, [], _∷_}
-use Prim.Native.Nat.{ℕ, zero, suc, _+_, _≤_}
+use mathlib.Core.List.{List, [], _∷_, _++_, append-nil}
+use Prim.Native.Nat.{ℕ, zero, suc, _+_, _*_, _≤_}
 use native.Mathlib.Omega.{arith}
 use lib.ListN.{length, take, drop, replicate, length-replicate}
-use lib.Seq.{length-take-le}
+use lib.Seq.{length-take-le, drop-append-seam, drop-length}
 use Rattle.algebra.specs.Places.{All}
 use Rattle.correction.specs.Marks.{marksRefusal}
 use Rattle.refusal.proofs.Rows.{row-off}
@@ -15,7 +15,7 @@ use Rattle.writer.specs.RoundTrip.{Bytes, Altered}
 use Rattle.correction.proofs.Marking.{unmarked-self, unmarked-adopted}
 use Rattle.receiver.specs.Receiving.{receiveTests, receiveNumber}
 use Rattle.receiver.specs.declared.Receiver.{Receiver}
-use Rattle.delivery.specs.Delivery.{Packets, Writing, InOrder, Behaviour, Station, receive, markLost, Step, receives, loses, receptions, stationAfter, HeaderAltered, Through, runOf, made, Asked}
+use Rattle.delivery.specs.Delivery.{Packets, Writing, InOrder, Behaviour, Station, receive, markLost, AllAltered, Step, receives, batches, loses, callOf, receptions, stationAfter, HeaderAltered, Through, runOf, made, Asked}
 use Rattle.delivery.proofs.Channel.{Usable, made-right}
 
 -- a log of 8,400 words
@@ -79,6 +79,25 @@ module _ (marks : List ℕ) (alter : List ℕ → List ℕ) where
     goes-through last (p ∷ ps) [] x t h = ((let r = log-room in omega (arith, r)), goes-through last ps [] (stationAfter b x (markLost words)) t (h .1))
     goes-through last (p ∷ ps) (true ∷ bs) x t h = (right p (h .0), (let r = log-room in omega (arith, r)), goes-through last ps bs (stationAfter b x (receive marks (alter p) words)) t (h .1))
     goes-through last (p ∷ ps) (false ∷ bs) x t h = ((let r = log-room in omega (arith, r)), goes-through last ps bs (stationAfter b x (markLost words)) t (h .1))
+
+-- ---- all in one batch (document 02, Ask 1)
+
+all-unaltered : (ps more : List (List ℕ)) → All Usable ps → AllAltered (ps ++ more) ps
+all-unaltered [] more h = tt
+all-unaltered (p ∷ ps) more h = (unaltered p (h .0 .0), all-unaltered ps more (h .1))
+
+-- a batch of PDUs as they were written, and those that are left
+pub first-batch : (ps more : List (List ℕ)) → All Usable ps → AllAltered (ps ++ more) ps × (drop (length ps) (ps ++ more) ≡ more)
+first-batch ps more h = (all-unaltered ps more h, drop-append-seam ps more)
+
+pub in-one : (b : Behaviour) (x : Station) (ps : List (List ℕ)) (log : List ℕ) → All Usable ps → 8400 * length ps ≤ length log → Through b x ps (batches ps log ∷ [])
+in-one b x ps log h big = (
+  subst (λ (l : List (List ℕ)). AllAltered l ps) (append-nil ps) (all-unaltered ps [] h),
+  big,
+  subst (λ (l : List (List ℕ)). Through b (stationAfter b x (callOf (batches ps log))) l []) (sym (drop-length ps)) tt,
+)
+
+-- ---- the PDUs of a run
 
 all-drop : (n : ℕ) (l : List (List ℕ)) → All Usable l → All Usable (drop n l)
 all-drop zero l h = h

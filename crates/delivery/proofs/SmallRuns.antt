@@ -29,7 +29,7 @@ use Rattle.receiver.specs.Receiving.{receiveNumber, receiveAnswer, lostNumber, 
 use Rattle.receiver.specs.declared.Receiver.{Receiver}
 use Rattle.receiver.specs.declared.Received.{Received}
 use Rattle.runs.specs.Spans.{Span}
-use Rattle.delivery.specs.Delivery.{Packets, joined, Writing, spansFrom, InOrder, Station, Call, receive, markLost, answerOf, defined, Step, refuses, receptions, freshStation, stationAfter, Through, inReceived, wholePackets, logsFrom, runOf, made, spans, arrived, Asked}
+use Rattle.delivery.specs.Delivery.{Packets, joined, Writing, spansFrom, InOrder, Station, Call, receive, markLost, answerOf, defined, Step, refuses, receptions, freshStation, stationAfter, RefusedAfter, inReceived, wholePackets, logsFrom, runOf, made, spans, arrived, Asked}
 use Rattle.delivery.proofs.Channel.{Usable, made-right}
 use Rattle.delivery.proofs.Possible.{four-altered, Alters, asSent, as-sent, stepsFor, told-receptions, goes-through, run-usable, stepsOf, possible}
 use Rattle.delivery.proofs.Theorem.{delivers}
@@ -236,9 +236,12 @@ noLog = markLost []
 refused-by : (n : ℕ) (a : Received) (r : Receiver) (k : ℕ) → ¬ (n ≡ 0) → ¬ (cond (eqb n 0) a (refusedAnswer r n k) .refusal ≡ 0)
 refused-by n a r k h e = let f : eqb n 0 ≡ false = ne-eqb n 0 h in h (rw f at e)
 
-empty-number : (x : Station) → ¬ (receiveNumber [] (x .carry) [] [] (x .receiver) ≡ 0)
+refused-none : (n : ℕ) → ¬ (n ≡ 0) → _≡_ {A = ℕ} (cond (eqb n 0) 1 0) 0
+refused-none n h = let f : eqb n 0 ≡ false = ne-eqb n 0 h in rw f
+
+pub empty-number : (x : Station) (log : List ℕ) → ¬ (receiveNumber [] (x .carry) [] log (x .receiver) ≡ 0)
 unfolding receiveNumber
-empty-number x = number (anyOf (wrongState (x .receiver))) (ltb (length (x .carry)) 4096)
+empty-number x log = number (anyOf (wrongState (x .receiver))) (ltb (length (x .carry)) 4096)
   where
     number : (a b : Bool) → ¬ (_≡_ {A = ℕ} (cond a 1 (cond b 2 3)) 0)
     number true b e = absurd (omega (arith, e))
@@ -247,7 +250,7 @@ empty-number x = number (anyOf (wrongState (x .receiver))) (ltb (length (x .carr
 
 pub empty-refused : (x : Station) → ¬ (answerOf x emptyPdu .refusal ≡ 0)
 unfolding receiveAnswer
-empty-refused x = refused-by (receiveNumber [] (x .carry) [] [] (x .receiver)) _ (x .receiver) _ (empty-number x)
+empty-refused x = refused-by (receiveNumber [] (x .carry) [] [] (x .receiver)) _ (x .receiver) _ (empty-number x [])
 
 pub no-log-refused : (x : Station) → ¬ (answerOf x noLog .refusal ≡ 0)
 unfolding lostAnswer
@@ -257,9 +260,12 @@ no-log-refused x = refused-by (lostNumber [] (x .receiver)) _ (x .receiver) 0 (u
     number true e = absurd (omega (arith, e))
     number false e = absurd (omega (arith, e))
 
-after-refused : (x : Station) (c : Call) (pdus : List (List ℕ)) (ss : List Step) → ¬ (answerOf x c .refusal ≡ 0) → Through defined (stationAfter defined x c) pdus ss → Through defined x pdus (refuses c ∷ ss)
-after-refused x c [] ss h t = (h, t)
-after-refused x c (p ∷ pdus) ss h t = (h, t)
+-- with no PDU taken
+no-pdu : (x : Station) → RefusedAfter defined 0 x emptyPdu
+no-pdu x = (empty-refused x, refused-none _ (empty-refused x))
+
+no-words : (x : Station) → RefusedAfter defined 0 x noLog
+no-words x = (no-log-refused x, refused-none _ (no-log-refused x))
 
 -- the five PDUs, the third of which is lost
 abbrev fourOfFive : List Bool
@@ -276,8 +282,10 @@ module _ (marks : List ℕ) (alter : List ℕ → List ℕ) (right : Alters mark
     sized = packets-right;
     offered = in-order;
     room = carry-room;
-    through = after-refused (freshStation defined 0 0 0 carry) emptyPdu (runOf 0 5 (made 0 0 0 six)) _ (empty-refused (freshStation defined 0 0 0 carry))
-        (goes-through marks alter defined right (refuses noLog ∷ []) (runOf 0 5 (made 0 0 0 six)) fourOfFive _ (λ y. (no-log-refused y, tt)) (run-usable 0 0 0 three six opens packets-right in-order 0 5));
+    through = (
+      no-pdu (freshStation defined 0 0 0 carry),
+      goes-through marks alter defined right (refuses noLog ∷ []) (runOf 0 5 (made 0 0 0 six)) fourOfFive _ (λ y. (no-words y, tt)) (run-usable 0 0 0 three six opens packets-right in-order 0 5),
+    );
   }
 
   pub altered-run : packetWords (logsFrom defined (freshStation defined 0 0 0 carry) alteredCalls) ≡ logWords (packet 0 (replicate 20 1) ∷ packet 2 (replicate 10 3) ∷ [])

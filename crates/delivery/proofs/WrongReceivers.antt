@@ -25,7 +25,6 @@ use Rattle.writer.specs.Writing.{opened as writerOpened, pduOf, writeAnswer, wr
 use Rattle.writer.specs.declared.Writer.{Writer}
 use Rattle.receiver.specs.Receiving.{opened as receiverOpened, remembering, refusedAnswer, receiveNumber, receiveAnswer, lostNumber, lostAnswer, logAfterLost}
 use Rattle.receiver.specs.declared.Receiver.{Receiver}
-use Rattle.receiver.specs.declared.Received.{Received}
 use Rattle.runs.specs.Spans.{Span}
 use Rattle.delivery.specs.Delivery.{Packets, Writing, bufferAfter, pdusFrom, spansFrom, InOrder, Behaviour, Station, Call, receive, markLost, answerOf, carryOf, logOf, defined, Step, callOf, receives, loses, receptions, freshStation, stationAfter, NoneRefused, loggedBy, logsFrom, inReceived, wholePackets, runOf, made, spans, arrived, Asked, Delivered, Demand3For}
 use Rattle.delivery.specs.WrongReceivers.{withWords, lentLog, silent, untouched, fixedWords, fixed, advancing, joining}
@@ -61,14 +60,14 @@ module _ (b : Behaviour) (claim : Demand3For b) where
 
 -- ---- an empty log for everything
 
-nothing-counted : (b : Bool) (l : List ℕ) → cond b (take 0 l) [] ≡ []
+nothing-counted : (b : Bool) (l : List ℕ) → cond b [] (take 0 l) ≡ []
 nothing-counted true l = refl
 nothing-counted false l = refl
 
 nothing-logged : (ss : List Step) (x : Station) → logsFrom silent x ss ≡ []
 nothing-logged [] x = refl
 nothing-logged (s ∷ ss) x =
-    ap₂ (λ (l m : List ℕ). l ++ m) (nothing-counted (eqb (answerOf x (callOf s) .refusal) 0) (lentLog (callOf s))) (nothing-logged ss (stationAfter silent x (callOf s)))
+    ap₂ (λ (l m : List ℕ). l ++ m) (nothing-counted (eqb (answerOf x (callOf s) .taken) 0) (lentLog (callOf s))) (nothing-logged ss (stationAfter silent x (callOf s)))
 
 pub silent-wrong : ¬ Demand3For silent
 unfolding packetWordsAfter
@@ -92,19 +91,19 @@ zeros-take zero m = tt
 zeros-take (suc n) zero = tt
 zeros-take (suc n) (suc m) = (refl, zeros-take n m)
 
-zeros-if : (b : Bool) (l : List ℕ) → Zeros l → Zeros (cond b l [])
-zeros-if true l h = h
-zeros-if false l h = tt
+zeros-if : (b : Bool) (l : List ℕ) → Zeros l → Zeros (cond b [] l)
+zeros-if true l h = tt
+zeros-if false l h = h
 
 zeros-logged : (pdus : List (List ℕ)) (bs : List Bool) (x : Station) → Zeros (logsFrom untouched x (stepsFor [] asSent [] pdus bs))
 unfolding stepsFor
 zeros-logged [] bs x = tt
 zeros-logged (p ∷ ps) [] x =
-    zeros-append (loggedBy untouched x (markLost words)) _ (zeros-if (eqb (answerOf x (markLost words) .refusal) 0) _ (zeros-take (answerOf x (markLost words) .words) 8400)) (zeros-logged ps [] (stationAfter untouched x (markLost words)))
+    zeros-append (loggedBy untouched x (markLost words)) _ (zeros-if (eqb (answerOf x (markLost words) .taken) 0) _ (zeros-take (answerOf x (markLost words) .words) 8400)) (zeros-logged ps [] (stationAfter untouched x (markLost words)))
 zeros-logged (p ∷ ps) (true ∷ bs) x =
-    zeros-append (loggedBy untouched x (receive [] p words)) _ (zeros-if (eqb (answerOf x (receive [] p words) .refusal) 0) _ (zeros-take (answerOf x (receive [] p words) .words) 8400)) (zeros-logged ps bs (stationAfter untouched x (receive [] p words)))
+    zeros-append (loggedBy untouched x (receive [] p words)) _ (zeros-if (eqb (answerOf x (receive [] p words) .taken) 0) _ (zeros-take (answerOf x (receive [] p words) .words) 8400)) (zeros-logged ps bs (stationAfter untouched x (receive [] p words)))
 zeros-logged (p ∷ ps) (false ∷ bs) x =
-    zeros-append (loggedBy untouched x (markLost words)) _ (zeros-if (eqb (answerOf x (markLost words) .refusal) 0) _ (zeros-take (answerOf x (markLost words) .words) 8400)) (zeros-logged ps bs (stationAfter untouched x (markLost words)))
+    zeros-append (loggedBy untouched x (markLost words)) _ (zeros-if (eqb (answerOf x (markLost words) .taken) 0) _ (zeros-take (answerOf x (markLost words) .words) 8400)) (zeros-logged ps bs (stationAfter untouched x (markLost words)))
 
 zeros-first : (l : List ℕ) → Zeros l → getD (packetWords l) 0 0 ≡ 0
 unfolding packetWordsAfter
@@ -132,7 +131,7 @@ fixed-wrong number bytes fits claim =
         let w : List ℕ = fixedWords number bytes in
         let t : eqb (answerOf (freshStation defined 0 0 0 carry) (receive [] p words) .refusal) 0 ≡ true = eq-eqb _ 0 (a .0) in
         let l : logsFrom (fixed number bytes) (freshStation defined 0 0 0 carry) (receives [] p words ∷ []) ≡ w ++ [] =
-        ap (λ (b : Bool). cond b (take (length w) (putAt words 0 w)) [] ++ []) t ∙ ap (λ (l : List ℕ). l ++ []) (take-put words w) in
+        ap (λ (b : Bool). cond (eqb (cond b 1 0) 0) [] (take (length w) (putAt words 0 w)) ++ []) t ∙ ap (λ (l : List ℕ). l ++ []) (take-put words w) in
         let h : w ≡ [] = sym (packet-words false (packet number bytes ∷ []) (fits, tt)) ∙ ap packetWords (sym (append-nil w)) ∙ ap packetWords (sym l) ∙ e in
         let z : _≡_ {A = ℕ} (length w) 0 = ap length h in
         absurd (omega (arith, z))
@@ -161,8 +160,8 @@ only-advances n [] x l h = refl
 only-advances zero (p ∷ ps) x l h = absurd (not-suc-le-zero l)
 only-advances (suc n) (p ∷ ps) x l h =
     ap₂ (λ (l m : List ℕ). l ++ m)
-    (ap (λ (b : Bool). cond (eqb (cond b (withWords 0 (answerOf x (receive [] p words))) (answerOf x (receive [] p words)) .refusal) 0) (take (cond b (withWords 0 (answerOf x (receive [] p words))) (answerOf x (receive [] p words)) .words) (logOf x (receive [] p words))) []) h
-    ∙ nothing-counted (eqb (answerOf x (receive [] p words) .refusal) 0) (logOf x (receive [] p words)))
+    (ap (λ (b : Bool). cond (eqb (cond b (withWords 0 (answerOf x (receive [] p words))) (answerOf x (receive [] p words)) .taken) 0) [] (take (cond b (withWords 0 (answerOf x (receive [] p words))) (answerOf x (receive [] p words)) .words) (logOf x (receive [] p words)))) h
+    ∙ nothing-counted (eqb (answerOf x (receive [] p words) .taken) 0) (logOf x (receive [] p words)))
     (only-advances n ps (stationAfter advancing x (receive [] p words)) (le-of-suc-le-suc l) (ap (λ (b : Bool). cond b (withWords 0 (answerOf x (receive [] p words))) (answerOf x (receive [] p words)) .receiver .known) h ∙ known-kept x [] p words h))
 
 first-asked : askedFor 0 1 (true ∷ []) ≡ logWords (packet 0 (replicate 20 1) ∷ [])
@@ -188,7 +187,7 @@ advancing-wrong claim =
     go (p ∷ ps) n a l e =
         let c : Call = receive [] p words in
         let first : loggedBy advancing fresh c ≡ loggedBy defined fresh c =
-        ap (λ (b : Bool). cond (eqb (cond b (withWords 0 (answerOf fresh c)) (answerOf fresh c) .refusal) 0) (take (cond b (withWords 0 (answerOf fresh c)) (answerOf fresh c) .words) (logOf fresh c)) []) fresh-unknown in
+        ap (λ (b : Bool). cond (eqb (cond b (withWords 0 (answerOf fresh c)) (answerOf fresh c) .taken) 0) [] (take (cond b (withWords 0 (answerOf fresh c)) (answerOf fresh c) .words) (logOf fresh c))) fresh-unknown in
         let known : stationAfter advancing fresh c .receiver .known ≡ true =
         ap (λ (b : Bool). cond b (withWords 0 (answerOf fresh c)) (answerOf fresh c) .receiver .known) fresh-unknown ∙ known-after fresh [] p words (a .0) in
         let few : length (take 4 ps) ≤ 4 = (let t = length-take 4 ps in omega (arith, t)) in
@@ -204,17 +203,17 @@ advancing-wrong claim =
 abbrev long : List (List ℕ)
 long = replicate 300 2 ∷ []
 
-abbrev short : List (List ℕ)
+abbrev pub short : List (List ℕ)
 short = replicate 142 2 ∷ []
 
 abbrev fourTimes : List Writing
 fourTimes = offering 96 long ∷ offering 96 long ∷ offering 96 long ∷ offering 96 long ∷ []
 
-abbrev twice : List Writing
+abbrev pub twice : List Writing
 twice = offering 96 short ∷ offering 96 short ∷ []
 
 -- the PDU that a writer writes with this sequence and so many bytes sent
-abbrev writtenAt : List (List ℕ) → ℕ → ℕ → List ℕ
+abbrev pub writtenAt : List (List ℕ) → ℕ → ℕ → List ℕ
 writtenAt ps q s = bufferAfter (record { mode = 0; stream = 0; register = 0; sequence = q; number = 0; sent = s }) (offering 96 ps)
 
 same-first : writtenAt short 0 0 ≡ writtenAt long 0 0
@@ -229,7 +228,7 @@ long-made : made 0 0 0 fourTimes ≡ writtenAt long 0 0 ∷ writtenAt long 1 79 
 unfolding pdusFrom writerOpened writeAnswer listing fieldsFor expansionBytes chained total largestUpTo mostPieces fit wholesFrom partAfter partFrom
 long-made = refl
 
-two-made : made 0 0 0 twice ≡ writtenAt short 0 0 ∷ writtenAt short 1 79 ∷ []
+pub two-made : made 0 0 0 twice ≡ writtenAt short 0 0 ∷ writtenAt short 1 79 ∷ []
 unfolding pdusFrom writerOpened writeAnswer listing fieldsFor expansionBytes chained total largestUpTo mostPieces fit wholesFrom partAfter partFrom
 two-made = refl
 
@@ -239,14 +238,14 @@ short-made = two-made ∙ ap₂ (λ (p q : List ℕ). p ∷ q ∷ []) same-first
 long-right : Packets long
 long-right = (omega arith, omega arith, bytes-same 300 2 (omega arith), tt)
 
-short-right : Packets short
+pub short-right : Packets short
 short-right = (omega arith, omega arith, bytes-same 142 2 (omega arith), tt)
 
 long-order : InOrder 0 0 long 0 fourTimes
 unfolding writeAnswer listing fieldsFor expansionBytes chained total largestUpTo mostPieces fit wholesFrom partAfter partFrom
 long-order = ((1, refl, refl), ((1, refl, refl), ((1, refl, refl), ((1, refl, refl), tt))))
 
-short-order : InOrder 0 0 short 0 twice
+pub short-order : InOrder 0 0 short 0 twice
 unfolding writeAnswer listing fieldsFor expansionBytes chained total largestUpTo mostPieces fit wholesFrom partAfter partFrom
 short-order = ((1, refl, refl), ((1, refl, refl), tt))
 
@@ -257,10 +256,10 @@ long-spans : spans 0 0 long fourTimes ≡ longSpans
 unfolding spansFrom writeAnswer listing fieldsFor expansionBytes chained total largestUpTo mostPieces fit wholesFrom partAfter partFrom
 long-spans = refl
 
-abbrev shortSpans : List Span
+abbrev pub shortSpans : List Span
 shortSpans = record { from = 0; count = 79 } ∷ record { from = 79; count = 63 } ∷ []
 
-short-spans : spans 0 0 short twice ≡ shortSpans
+pub short-spans : spans 0 0 short twice ≡ shortSpans
 unfolding spansFrom writeAnswer listing fieldsFor expansionBytes chained total largestUpTo mostPieces fit wholesFrom partAfter partFrom
 short-spans = refl
 
@@ -272,7 +271,7 @@ module _ (b : Behaviour) (claim : Demand3For b) (packets : List (List ℕ)) (wri
       (subst (λ (ps : List (List ℕ)). Asked b 0 0 0 packets writings 0 count carry (stepsFor [] asSent [] (runOf 0 count ps) bs)) e (possible 0 0 0 packets writings opens z o b 0 count carry bs carry-room))
 
 -- words with no packet among them change nothing
-no-packet : (l r : List ℕ) → packetWords l ≡ [] → packetWords (l ++ r) ≡ packetWords r
+pub no-packet : (l r : List ℕ) → packetWords l ≡ [] → packetWords (l ++ r) ≡ packetWords r
 unfolding packetWordsAfter
 no-packet [] r h = refl
 no-packet (w ∷ l) r h = go (ofPacket (kindOf w) false) (no-packet l r) h
