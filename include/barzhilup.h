@@ -16,7 +16,8 @@
  *  - A refused call returns a number of the table in document 01, "What is
  *    turned down", or of document 02, and leaves every byte lent to it as it
  *    was. If several causes apply, the lowest number is returned, except that 19
- *    comes directly after 3.
+ *    comes directly after 3, and 18 directly after 2. A batch of PDUs that stops at
+ *    a refused one has received those before it (barzhilup_receive_batch).
  *
  * Where document 01 has a word of its own, these are the usual ones:
  *    correct        for "mend",
@@ -153,6 +154,11 @@ extern "C" {
 /* There is no room for a piece of one byte; with no packet offered, none for
  * the overhead. */
 #define BARZHILUP_REFUSED_ROOM 17
+
+/* The lengths of a batch's PDUs do not sum to the buffer. Checked directly after
+ * BARZHILUP_REFUSED_CARRY_LENGTH, and before the first PDU. (Document 02, Ask
+ * 1.) */
+#define BARZHILUP_REFUSED_LENGTHS 18
 
 /* More than eight marks, one over 95, or one repeated. Checked directly after
  * BARZHILUP_REFUSED_PDU_LENGTH, and before BARZHILUP_REFUSED_UNCORRECTABLE.
@@ -569,6 +575,25 @@ typedef struct {
     barzhilup_receiver receiver;
 } barzhilup_received;
 
+/* What came of receiving a batch of PDUs. */
+typedef struct {
+    /* BARZHILUP_ACCEPTED, and all PDUs were received; or a BARZHILUP_REFUSED_
+     * number: 1, 2 or 18 of the whole call, or the one, 3 to 13, with which the
+     * PDU after the first `taken` was refused. */
+    uint32_t refusal;
+    /* With BARZHILUP_REFUSED_LOCATOR, the number k of that PDU's first wrong
+     * locator, from 0; otherwise 0. (Document 02, Ask 6.) */
+    uint32_t wrong_locator;
+    /* How many PDUs were received, from the first on: those before the refused
+     * one. */
+    size_t taken;
+    /* How many words of the log were written by these, from its first on. */
+    size_t words;
+    /* The receiver for the next call, as the last PDU received left it; as it came
+     * if there is none. */
+    barzhilup_receiver receiver;
+} barzhilup_batch;
+
 /* Opens a receiver for a mode and stream of document 01's table. The register of
  * its CRCs starts at BARZHILUP_CRC_START, 0, as in document 01's examples. */
 barzhilup_receiver_opened barzhilup_open_receiver(uint8_t mode, uint8_t stream);
@@ -622,6 +647,34 @@ barzhilup_received barzhilup_receive_marked(barzhilup_receiver receiver,
                                             uint8_t *pdu, size_t pdu_length,
                                             const uint8_t *marks, size_t count,
                                             uint32_t *log, size_t log_length);
+
+/*
+ * Receives PDUs that stand joined in one buffer, as barzhilup_receive would one
+ * after another, each log following the last (document 02, Ask 1). Receiver, carry,
+ * buffer and log are left as these calls leave them.
+ *
+ * `pdus` is the buffer, and `lengths` has the lengths of the `count` PDUs in it, in
+ * their order; it is only read. Any count will do. With `count` 0 and
+ * `pdus_length` 0 the call is accepted, and nothing changes. `carry` and `log` are
+ * as for barzhilup_receive; a log of BARZHILUP_LOG_WORDS words for each PDU is
+ * always long enough. The four buffers must not overlap.
+ *
+ * It stops at the first PDU that is refused, and `refusal` is that PDU's number; 13
+ * is judged on what is left of the log. The PDUs before it, of which `taken` is the
+ * count, are received. It and those after it keep their bytes: to go on, deal with
+ * it (barzhilup_mark_lost, where it stays refused) and hand over those after it.
+ *
+ * The whole call is judged before the first PDU, in this order: 1, 2, and 18 where
+ * the lengths do not sum to `pdus_length`. If it is refused with one of these, no
+ * byte and no word has changed, and the counts are 0. An empty list is judged too.
+ * A length that no PDU can have is no matter of 18: with the sum right, that PDU is
+ * refused with 3.
+ */
+barzhilup_batch barzhilup_receive_batch(barzhilup_receiver receiver,
+                                        uint8_t *carry, size_t carry_length,
+                                        uint8_t *pdus, size_t pdus_length,
+                                        const size_t *lengths, size_t count,
+                                        uint32_t *log, size_t log_length);
 
 /*
  * Marks a PDU lost, in its place in the row of PDUs: logs note 6, one word,
