@@ -10,6 +10,8 @@
 
 use crate::{Piece, HEADER_BYTES, PARITY_BYTES};
 
+pub(crate) mod batches;
+
 /// Eight bytes: syndromes or parity.
 #[repr(C)]
 struct Values {

@@ -48,7 +48,9 @@
 //! has the number of document 01's table "What is turned down" or of document
 //! 02. A refused call changes nothing: the PDU, the list of pieces, the
 //! [`Writer`] and the [`Receiver`] are as they were. If several causes apply, the
-//! refusal has the lowest number, except that 19 comes directly after 3.
+//! refusal has the lowest number, except that 19 comes directly after 3, and 18
+//! directly after 2. A batch of PDUs stops at a refused one; those before it are
+//! received, and its [`Batch`] says so.
 //!
 //! Every call ends, on every input, and none panics.
 //!
@@ -78,7 +80,7 @@ pub use header::{
 pub use log::{Bytes, Cause, Data, Entries, Entry, Log, MalformedLog};
 pub use mode::{Mode, Stream};
 pub use reading::{list_pieces, read, ControlWord, Expansion, Piece, Reading};
-pub use receiver::{Receiver, ReceiverState};
+pub use receiver::{Batch, Receiver, ReceiverState};
 pub use refusal::Refusal;
 pub use writer::{ProgramType, Services, Settings, Writer, WriterState};
 

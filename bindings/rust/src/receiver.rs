@@ -1,7 +1,11 @@
-//! The PDU receiver (document 01, "Receiver"; document 02, Asks 2 and 3).
+//! The PDU receiver (document 01, "Receiver"; document 02, Asks 1 to 3).
 
 use crate::{ffi, Log, Mode, Refusal, Stream, CARRY_BYTES, CRC_START, LOG_WORDS};
 use std::fmt;
+
+mod batch;
+
+pub use batch::Batch;
 
 /// What a receiver was opened with and what it remembers between calls, beside
 /// its carry buffer: to be kept and to go on from with [`Receiver::resume`].
@@ -63,7 +67,7 @@ impl ReceiverState {
 pub struct Receiver {
     state: ReceiverState,
     carry: Box<[u8]>,
-    log: Box<[u32]>,
+    log: Vec<u32>,
 }
 
 impl Receiver {
@@ -120,7 +124,7 @@ impl Receiver {
         Receiver {
             state,
             carry: carry.into(),
-            log: vec![0; LOG_WORDS].into(),
+            log: vec![0; LOG_WORDS],
         }
     }
 

@@ -7,7 +7,9 @@ use std::fmt;
 /// a number of document 02.
 ///
 /// A refused call has changed nothing. If several causes applied, this is the
-/// one with the lowest number, except that 19 comes directly after 3.
+/// one with the lowest number, except that 19 comes directly after 3, and 18
+/// directly after 2. A batch that stopped at a refused PDU has received those
+/// before it: see [`Batch`](crate::Batch).
 #[derive(Clone, Copy, Debug, PartialEq, Eq, Hash)]
 pub enum Refusal {
     /// 1: a field of a writer's or receiver's state is outside its range.
@@ -62,13 +64,16 @@ pub enum Refusal {
     /// 17: there is no room for a piece of one byte; with no packet offered, none
     /// for the overhead.
     Room,
+    /// 18: the lengths of a batch's PDUs do not sum to the buffer (document 02, Ask
+    /// 1).
+    Lengths,
     /// 19: more than eight marks, one over 95, or one repeated (document 02, Ask
     /// 3).
     Marks,
 }
 
 impl Refusal {
-    /// The number in document 01's table, 1 to 17, or in document 02, 19.
+    /// The number in document 01's table, 1 to 17, or in document 02, 18 or 19.
     pub const fn number(self) -> u32 {
         match self {
             Refusal::State => 1,
@@ -88,6 +93,7 @@ impl Refusal {
             Refusal::Packets => 15,
             Refusal::Psd => 16,
             Refusal::Room => 17,
+            Refusal::Lengths => 18,
             Refusal::Marks => 19,
         }
     }
@@ -114,6 +120,7 @@ impl Refusal {
             15 => Refusal::Packets,
             16 => Refusal::Psd,
             17 => Refusal::Room,
+            18 => Refusal::Lengths,
             19 => Refusal::Marks,
             _ => unreachable!("the library has no refusal {number}"),
         })
@@ -143,6 +150,7 @@ impl Refusal {
             }
             Refusal::Psd => "too much PSD and expansion for the mode and stream",
             Refusal::Room => "the PDU has no room for a byte of a packet, or for its overhead",
+            Refusal::Lengths => "the lengths of the PDUs do not sum to the buffer",
             Refusal::Marks => "more than eight marks, one over 95, or one repeated",
         }
     }

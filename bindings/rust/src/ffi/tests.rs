@@ -104,6 +104,15 @@ fn receivers() -> Vec<String> {
             words,
             receiver
         ),
+        layout!(
+            "barzhilup_batch",
+            batches::Batch,
+            refusal,
+            wrong_locator,
+            taken,
+            words,
+            receiver
+        ),
     ]
     .concat()
 }
@@ -253,7 +262,7 @@ fn c_name(refusal: Refusal) -> String {
 #[test]
 fn refusals_are_numbered_as_in_c() {
     let mut lines = Vec::new();
-    for number in (1..=17).chain([19]) {
+    for number in 1..=19 {
         let refusal = Refusal::check(number, 3).expect_err("a refusal");
         assert_eq!(refusal.number(), number);
         let name = c_name(refusal);
