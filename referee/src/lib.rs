@@ -1,9 +1,10 @@
 //! The reference for the audio transport layer: the rules of document 01 in
 //! their plainest form, for the tests to compare the product with. It covers
 //! the header code, the CRC-8, reading without a receiver, the writer, the
-//! receiver, the packet log and the refusals 1 to 17; and of document 02, the
-//! CRC's starting register (Ask 2), header bytes marked doubtful with refusal 19
-//! (Ask 3), and up to 63 pieces (Ask 9):
+//! receiver, the packet log and the refusals 1 to 17; and of document 02, PDUs
+//! received in one call with refusal 18 (Ask 1), the CRC's starting register
+//! (Ask 2), header bytes marked doubtful with refusal 19 (Ask 3), and up to 63
+//! pieces (Ask 9):
 //!
 //! - `field`: the bytes as elements of GF(256);
 //! - `linear`: systems of linear equations over them;
@@ -19,12 +20,14 @@
 //! - `writer`: the writer, opened and writing;
 //! - `log`: the words of the packet log;
 //! - `receiver`: the receiver, opened, receiving and marking lost;
+//! - `batches`: PDUs received in one call;
 //! - `refusal`: the numbers of the table of refusals, and their causes;
 //! - `encode`: PDUs made of any parts, for the writer and the tests;
 //! - `rng`: repeatable random numbers for the tests.
 
 #![forbid(unsafe_code)]
 
+pub mod batches;
 pub mod control;
 pub mod crc;
 pub mod encode;

@@ -183,7 +183,7 @@ fn refused(receiver: Receiver, causes: Vec<ReceiverCause>) -> Answer {
 
 /// Refusal 1: a state field outside its range, or not 0 where not known or not
 /// held.
-fn state_causes(receiver: &Receiver) -> Vec<ReceiverCause> {
+pub(crate) fn state_causes(receiver: &Receiver) -> Vec<ReceiverCause> {
     let mut causes = Vec::new();
     match modes::line_for(receiver.mode, receiver.stream) {
         None => causes.push(ReceiverCause::ModeAndStream),
@@ -206,7 +206,7 @@ fn state_causes(receiver: &Receiver) -> Vec<ReceiverCause> {
 }
 
 /// Refusal 2: a carry under 4,096 bytes.
-fn carry_causes(length: usize) -> Vec<ReceiverCause> {
+pub(crate) fn carry_causes(length: usize) -> Vec<ReceiverCause> {
     if length < CARRY_BYTES {
         vec![ReceiverCause::CarryUnder4096]
     } else {

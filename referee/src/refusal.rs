@@ -58,6 +58,9 @@ pub const PSD: u32 = 16;
 /// The overhead leaves no room.
 pub const OVERHEAD: u32 = 17;
 
+/// The lengths of a batch do not sum to its buffer (document 02, Ask 1).
+pub const LENGTHS: u32 = 18;
+
 /// More than eight marks, one over 95, or one repeated (document 02, Ask 3).
 pub const MARKS: u32 = 19;
 

@@ -67,7 +67,7 @@ pub const MANY: [Style; 2] = [style((900, 3), (200, 380)), style((700, 9), (300,
 
 /// A PDU, and the bytes of the joined list that it holds.
 pub struct Sent {
-    pdu: Vec<u8>,
+    pub pdu: Vec<u8>,
     first: usize,
     end: usize,
     psd: Vec<u8>,
@@ -87,7 +87,7 @@ fn nop(pdu: &[u8]) -> usize {
 
 /// A list of packets, sent by one writer.
 pub struct List {
-    line: Line,
+    pub line: Line,
     packets: Vec<Vec<u8>>,
     /// G, how many bytes of the packets joined are sent, counted from the
     /// calls' arguments without the writer.
@@ -548,7 +548,14 @@ fn through(
 
 /// The joined logs of a drive against what they have to hold, where the
 /// registers are equal and where they aren't.
-fn check(drive: u64, list: &List, run: &Range<usize>, lost: &[bool], equal: bool, joined: &[u32]) {
+pub fn check(
+    drive: u64,
+    list: &List,
+    run: &Range<usize>,
+    lost: &[bool],
+    equal: bool,
+    joined: &[u32],
+) {
     let told = || {
         format!(
             "drive {drive}: mode {}, stream {}, register {}, equal {equal}, run {run:?}, \
@@ -819,7 +826,7 @@ impl Drive<'_> {
 }
 
 /// Counts what a drive had.
-fn count(seen: &mut Seen, list: &List, run: &Range<usize>, lost: &[bool], equal: bool) {
+pub fn count(seen: &mut Seen, list: &List, run: &Range<usize>, lost: &[bool], equal: bool) {
     seen.drives += 1;
     *seen.registers.entry(list.register()).or_default() += 1;
     seen.empty_runs += u64::from(run.is_empty());

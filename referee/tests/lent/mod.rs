@@ -120,6 +120,15 @@ impl LentLog {
         }
     }
 
+    /// These words between random guards.
+    pub fn of(rng: &mut Rng, words: &[u32]) -> LentLog {
+        let mut log = LentLog::random(rng, 0);
+        log.words
+            .splice(log.start..log.start, words.iter().copied());
+        log.count = words.len();
+        log
+    }
+
     /// The lent words.
     pub fn words(&self) -> &[u32] {
         &self.words[self.start..self.start + self.count]
@@ -139,5 +148,33 @@ impl LentLog {
             .collect();
         let told = &places[..places.len().min(10)];
         format!("{} words differ, at {told:?}", places.len())
+    }
+}
+
+/// Lengths of PDUs to be lent to the product, between guards as well.
+#[derive(Clone, PartialEq, Eq)]
+pub struct LentSizes {
+    sizes: Vec<usize>,
+    start: usize,
+    count: usize,
+}
+
+impl LentSizes {
+    /// These lengths between random guards.
+    pub fn of(rng: &mut Rng, lengths: &[usize]) -> LentSizes {
+        let start = 4 + rng.below(4);
+        let mut sizes: Vec<usize> = (0..start).map(|_| rng.bits() as usize).collect();
+        sizes.extend(lengths);
+        sizes.extend((0..4).map(|_| rng.bits() as usize));
+        LentSizes {
+            sizes,
+            start,
+            count: lengths.len(),
+        }
+    }
+
+    /// The lent lengths.
+    pub fn sizes(&self) -> &[usize] {
+        &self.sizes[self.start..self.start + self.count]
     }
 }

@@ -5,6 +5,9 @@
 
 use referee::header::Header;
 
+/// PDUs received in one call.
+pub mod batches;
+
 /// The receiver's calls.
 pub mod receiver;
 

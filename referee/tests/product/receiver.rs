@@ -129,9 +129,21 @@ pub fn receive(
     pdu: &mut Lent,
     log: &mut LentLog,
 ) -> Received {
-    let carry = carry.bytes_mut();
-    let pdu = pdu.bytes_mut();
-    let log = log.words_mut();
+    receive_part(
+        receiver,
+        carry.bytes_mut(),
+        pdu.bytes_mut(),
+        log.words_mut(),
+    )
+}
+
+/// Receives a PDU that is a part of a lent buffer, with a part of a lent log.
+pub fn receive_part(
+    receiver: Receiver,
+    carry: &mut [u8],
+    pdu: &mut [u8],
+    log: &mut [u32],
+) -> Received {
     unsafe {
         barzhilup_receive(
             receiver,
