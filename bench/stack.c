@@ -196,6 +196,20 @@ static void receive_marked(void)
                            .receiver);
 }
 
+/* The PDU twice: the second has the sequence of the first. */
+static void receive_batch(void)
+{
+    static uint8_t twice[2 * BARZHILUP_PDU_MAX];
+    static uint32_t words[2 * BARZHILUP_LOG_WORDS];
+    const size_t lengths[2] = {drive->pdu_length, drive->pdu_length};
+    memcpy(twice, pdu, drive->pdu_length);
+    memcpy(twice + drive->pdu_length, pdu, drive->pdu_length);
+    MEASURE(receiver = barzhilup_receive_batch(receiver, carry, sizeof carry, twice,
+                                               2 * drive->pdu_length, lengths, 2, words,
+                                               2 * BARZHILUP_LOG_WORDS)
+                           .receiver);
+}
+
 static void mark_lost(void)
 {
     MEASURE(sink = barzhilup_mark_lost(receiver, log_words, BARZHILUP_LOG_WORDS).words);
@@ -257,6 +271,7 @@ static const struct {
     {"barzhilup_open_receiver_with", open_receiver_with},
     {"barzhilup_receive", receive},
     {"barzhilup_receive_marked", receive_marked},
+    {"barzhilup_receive_batch", receive_batch},
     {"barzhilup_mark_lost", mark_lost},
     {"barzhilup_list_pieces", list_pieces},
     {"barzhilup_receive_in_place", receive_in_place},
