@@ -3,7 +3,7 @@ use mathlib.Core.Path.{_≡_, refl, sym, ap, ap₂, subst, _∙_, fun-ext}
 use mathlib.Core.Bool.{Bool, true, false, _&&_, _||_, cond}
 use mathlib.Core.List.{List, [], _∷_, _++_, map}
 use mathlib.Core.Option.{Option, none, some}
-use Prim.Native.Nat.{ℕ, zero, suc, _+_, _-_, _%_, _<_, _≤_}
+use Prim.Native.Nat.{ℕ, zero, suc, _+_, _-_, _*_, _%_, _<_, _≤_}
 use native.Mathlib.Omega.{arith}
 use lib.Dec.{eqb, ltb, leb}
 use borrow.Author.Tests.{lt-leb}
@@ -138,6 +138,10 @@ first-copies register width [] ps h = tt
 first-copies register width (c ∷ cs) [] h = absurd h
 first-copies register width (c ∷ cs) (p ∷ ps) h = (h .0, first-copies register width cs ps (h .1))
 
+-- a batch has 8,400 words for each of its PDUs
+batch-room : (register width : ℕ) (x : Station) (ps : List (List ℕ)) (cs : List Came) (log : List ℕ) (ss : List Step) → Through register width x ps (batches cs log ∷ ss) → 8400 * length cs ≤ length log
+batch-room register width x ps cs log ss t = let r = t .1 in omega (arith, r)
+
 module _ (mode stream register : ℕ) (m : Mode) (l : listing mode stream ≡ Listed m) (range : 0 < m .sequences) where
   abbrev all : Bridge everything (m .sequences) (stepMachine mode stream register m l range)
   all = stepping mode stream register m l range
@@ -176,7 +180,7 @@ module _ (mode stream register : ℕ) (m : Mode) (l : listing mode stream ≡ Li
   parted (receives n q log v ∷ ss) x (p ∷ pdus) t =
       with-call (receives n q log v) ss x (p ∷ []) pdus (here (causesFor v) ∷ []) (receiving (t .0) (t .1)) (parts ss pdus) (parted ss (stationAfter defined x (receive n q log)) pdus (t .2)) (p ∷ pdus) refl refl
   parted (batches cs log ∷ ss) x pdus t =
-      with-call (batches cs log) ss x (take (length cs) pdus) (drop (length cs) pdus) (waysIn cs) (batching (first-copies register (m .width) cs pdus (t .0)) (t .1)) (parts ss (drop (length cs) pdus))
+      with-call (batches cs log) ss x (take (length cs) pdus) (drop (length cs) pdus) (waysIn cs) (batching (first-copies register (m .width) cs pdus (t .0)) (batch-room register (m .width) x pdus cs log ss t)) (parts ss (drop (length cs) pdus))
       (parted ss (stationAfter defined x (callOf (batches cs log))) (drop (length cs) pdus) (t .2)) pdus (take-append-drop (length cs) pdus) refl
   parted (stops cs ls bytes log ∷ ss) x pdus t =
       with-call (stops cs ls bytes log) ss x (take (length cs) pdus) (drop (length cs) pdus) (waysIn cs) (stopping (first-copies register (m .width) cs pdus (t .0)) (t .1) (t .2)) (parts ss (drop (length cs) pdus))
