@@ -1,0 +1,4 @@
+pub mod Places
+pub mod Linear
+pub mod Table
+pub mod AnyOrder

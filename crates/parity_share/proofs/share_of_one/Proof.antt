@@ -1,0 +1,24 @@
+-- `parity_share::share_of_one` meets its contract, by the table's rule.
+use native.Mathlib.Omega.{arith}
+use borrow.Author.Needs.{needs}
+use Rattle.parity_share.proofs.Table.{shareTable, table-share}
+use Rattle.parity_share.proofs.share_of_one.Statement.{statement}
+use Rattle.parity_share.proofs.share_of_one.Tie as tie
+use Rattle.parity_share.proofs.share_of_one.Reads as reads
+use Rattle.parity_share.proofs.share_of_one.Lts as lts
+
+sub-result : tie.Need-sub-result
+sub-result c = search needs
+
+mul-result : tie.Need-mul-result
+mul-result c = search needs
+
+array-copy-out-result : tie.Need-array-copy-out-result
+array-copy-out-result c = search needs
+
+returns : tie.Need-returns
+unfolding shareTable
+returns c = table-share (c .before .args .place) (omega arith) (omega arith)
+
+pub share-of-one-spec : {M : Type 1} → statement M
+share-of-one-spec = tie.close (tie.spec sub-result mul-result array-copy-out-result returns)
