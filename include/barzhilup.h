@@ -140,8 +140,10 @@ extern "C" {
 #define BARZHILUP_REFUSED_LIST_LENGTH 13
 
 /* A value that is not sent: blend 3, or nonzero with a nonzero program; core
- * gain 7 to 23; one past its width. */
+ * gain 7 to 23; one past its width. Or, the same number, a place outside 8 to 95,
+ * whose byte has no share in the parity (document 02, Ask 8). */
 #define BARZHILUP_REFUSED_VALUE 14
+#define BARZHILUP_REFUSED_PLACE 14
 
 /* A packet's length is 0 or over 4,096; the lengths don't sum to the bytes; or
  * bytes of a packet are sent that is absent or not longer. */
@@ -186,6 +188,14 @@ typedef struct {
     uint8_t values[BARZHILUP_PARITY_BYTES];
 } barzhilup_parity_answer;
 
+/* What came of adding a byte's share to a parity. */
+typedef struct {
+    /* BARZHILUP_ACCEPTED or BARZHILUP_REFUSED_PLACE. */
+    uint32_t refusal;
+    /* The parity with the share added; if refused, as it came. */
+    barzhilup_parity_answer parity;
+} barzhilup_share_answer;
+
 /* What came of correcting a header. */
 typedef struct {
     /* BARZHILUP_ACCEPTED, BARZHILUP_REFUSED_PDU_LENGTH or
@@ -217,6 +227,23 @@ barzhilup_parity(const uint8_t header[BARZHILUP_HEADER_BYTES]);
  * changed.
  */
 uint32_t barzhilup_write_parity(uint8_t *pdu, size_t length);
+
+/*
+ * Adds the share of a byte to the parity of a header that is filled piecemeal
+ * (document 02, Ask 8). Begin with eight zero bytes. When the shares of bytes 8
+ * to 95 are added, in any order, each once, `parity` is what barzhilup_parity
+ * gives for that header. The share of a byte 0 is zero: it can be left out.
+ * Where a byte changes once its share was added, add the share of the old byte
+ * exclusive or the new one.
+ *
+ * `place` is the byte's place in the header, 8 to 95, and `byte` the byte.
+ *
+ * `refusal` is BARZHILUP_ACCEPTED, and `parity` has the share added; or it is
+ * BARZHILUP_REFUSED_PLACE, and `parity` is as it came.
+ */
+barzhilup_share_answer
+barzhilup_add_parity_share(barzhilup_parity_answer parity, size_t place,
+                           uint8_t byte);
 
 /*
  * Corrects the header of a PDU in place (document 01: "mends" it): the first 96

@@ -3,13 +3,14 @@
 //! the header code, the CRC-8, reading without a receiver, the writer, the
 //! receiver, the packet log and the refusals 1 to 17; and of document 02, PDUs
 //! received in one call with refusal 18 (Ask 1), the CRC's starting register
-//! (Ask 2), header bytes marked doubtful with refusal 19 (Ask 3), and up to 63
-//! pieces (Ask 9):
+//! (Ask 2), header bytes marked doubtful with refusal 19 (Ask 3), parity as
+//! bytes arrive (Ask 8), and up to 63 pieces (Ask 9):
 //!
 //! - `field`: the bytes as elements of GF(256);
 //! - `linear`: systems of linear equations over them;
 //! - `header`: sums, parity and mending of the first 96 bytes of a PDU;
 //! - `erasures`: mending with places of the header marked;
+//! - `shares`: each byte's share in the parity;
 //! - `search`: mending again, by trying all sets of places;
 //! - `crc`: the CRC-8 of a piece;
 //! - `modes`: the modes and streams, and what they decide;
@@ -46,4 +47,5 @@ pub mod refusal;
 pub mod rng;
 pub mod search;
 pub mod settings;
+pub mod shares;
 pub mod writer;

@@ -47,6 +47,10 @@ pub const LOG: u32 = 13;
 /// The writer may not send a value, or it is past its width.
 pub const VALUE: u32 = 14;
 
+/// A place outside 8 to 95, whose byte has no share in the parity (document 02,
+/// Ask 8).
+pub const PLACE: u32 = 14;
+
 /// A packet's length is wrong, the lengths don't sum to the bytes, or the
 /// unfinished packet is absent or not longer than what was sent of it.
 pub const PACKETS: u32 = 15;

@@ -37,6 +37,7 @@ run() {
 for test in header_test marks_test writer_test receiver_test; do
     run "$test" "$library"
 done
+run shares_test "$library"
 run batch_test "$library"
 run panel_test "$panel" "$library"
 run registers_test "$panel" "$library"

@@ -72,6 +72,7 @@ mod mode;
 mod reading;
 mod receiver;
 mod refusal;
+mod shares;
 mod writer;
 
 pub use header::{
@@ -82,6 +83,7 @@ pub use mode::{Mode, Stream};
 pub use reading::{list_pieces, read, ControlWord, Expansion, Piece, Reading};
 pub use receiver::{Batch, Receiver, ReceiverState};
 pub use refusal::Refusal;
+pub use shares::add_parity_share;
 pub use writer::{ProgramType, Services, Settings, Writer, WriterState};
 
 /// Bytes of a header: the first 96 bytes of a PDU are one word of the header

@@ -53,7 +53,8 @@ pub enum Refusal {
     /// list of pieces has fewer than NOP entries.
     LogLength,
     /// 14: a setting that is not sent: blend 3, or nonzero with a nonzero
-    /// program; core gain 7 to 23; a value past its width.
+    /// program; core gain 7 to 23; a value past its width. Or a place outside 8
+    /// to 95, whose byte has no share in the parity (document 02, Ask 8).
     Value,
     /// 15: a packet's length is 0 or over 4,096, or the unfinished packet is not
     /// offered first and whole.
@@ -144,7 +145,7 @@ impl Refusal {
                 "the displacement is before the last piece's end or past the PDU's end"
             }
             Refusal::LogLength => "the log or the list of pieces is too short",
-            Refusal::Value => "a setting has a value that is not sent",
+            Refusal::Value => "a setting that is not sent, or a place outside 8 to 95",
             Refusal::Packets => {
                 "a packet is empty or over 4,096 bytes, or the unfinished one is not offered whole"
             }

@@ -14,6 +14,7 @@ ghost use lib.ListN.{length};
 ghost use Rattle.field.specs.Field.{mul};
 ghost use Rattle.crc.specs.Crc.{crcFrom};
 ghost use Rattle.header.specs.Header.{syndromes, parityOf, lengthRefusal, withParity};
+ghost use Rattle.parity_share.specs.Shares.{shareRefusal, withShare};
 ghost use Rattle.pdu.specs.Reading.{readingOf, readPdu};
 ghost use Rattle.writer.specs.Writing.{opened, writeAnswer, writtenPdu};
 ghost use Rattle.receiver.specs.Receiving.{opened as receiverOpened, receiveAnswer, carryAfter, pduAfter, logAfter, lostAnswer, logAfterLost};
@@ -31,6 +32,13 @@ pub struct SyndromesAnswer {
 #[repr(C)]
 pub struct ParityAnswer {
     pub values: [u8; 8],
+}
+
+// The refusal number, 0 where there is none, and a parity with a share added.
+#[repr(C)]
+pub struct ShareAnswer {
+    pub refusal: u32,
+    pub parity: ParityAnswer,
 }
 
 // The refusal number, 0 where there is none, and how many bytes were corrected.
@@ -73,6 +81,26 @@ pub extern "C" fn barzhilup_write_parity(pdu: &mut [u8]) -> u32
     ensures { λ _. ⌜ now (pdu .exit) ≡ withParity (now (pdu .entry)) ⌝ }
 {
     header::write_parity(pdu)
+}
+
+// Adds the share of the byte at a place to a parity; or refuses with 14 and hands the parity back as it came.
+#[no_mangle]
+pub extern "C" fn barzhilup_add_parity_share(
+    parity: ParityAnswer,
+    place: usize,
+    byte: u8,
+) -> ShareAnswer
+    ensures { λ r. ⌜ r .refusal ≡ shareRefusal place ⌝ }
+    ensures { λ r. ⌜ r .parity .values ≡ withShare (parity .values) place byte ⌝ }
+{
+    let values = parity.values;
+    let added = parity_share::add_share(values, place, byte);
+    let sum = added.parity;
+    let next = ParityAnswer { values: sum };
+    ShareAnswer {
+        refusal: added.refusal,
+        parity: next,
+    }
 }
 
 // What came of a correction, as two numbers.

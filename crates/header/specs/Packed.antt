@@ -1,5 +1,5 @@
 -- Eight bytes as one number: the register of the division.
--- What private steps of `parity` and `syndromes` promise each other; their own promises are in Header.antt alone.
+-- What the steps of `parity` and `syndromes` promise each other; their own promises are in Header.antt alone.
 use mathlib.Core.Path.{_≡_}
 use mathlib.Core.List.{List, [], _∷_, _++_, map}
 use Prim.Native.Nat.{ℕ, suc, _+_, _*_, _/_, _%_, _<_}

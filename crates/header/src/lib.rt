@@ -75,7 +75,8 @@ fn exponent(k: usize) -> usize
     EXPONENTS[k] as usize
 }
 
-fn wide(b: u8) -> u64
+// A byte as a number of 64 bits.
+pub fn wide(b: u8) -> u64
     ensures { λ r. ⌜ (r ≡ b) × (r < 256) ⌝ }
 {
     b as u64
@@ -149,7 +150,7 @@ fn by_half(w: u64, n: u64) -> u64
 }
 
 // Each of the eight bytes of a word times a byte.
-fn by_byte(w: u64, b: u64) -> u64
+pub fn by_byte(w: u64, b: u64) -> u64
     requires { ⌜ b < 256 ⌝ }
     ensures { λ r. ⌜ unpacked r ≡ timesAll b (unpacked w) ⌝ }
 {
@@ -165,7 +166,7 @@ fn next(r: u64) -> u64
 }
 
 // Eight bytes of a header from byte i on, packed.
-fn word(header: &[u8], i: usize) -> u64
+pub fn word(header: &[u8], i: usize) -> u64
     requires { ⌜ i + 8 ≤ length (now header) ⌝ }
     ensures { λ r. ⌜ unpacked r ≡ take 8 (drop i (now (header .entry))) ⌝ }
 {
@@ -226,7 +227,7 @@ fn byte_from(r: u64, unit: u64) -> u8
 }
 
 // The eight bytes of a packed register.
-fn unpack(r: u64) -> [u8; 8]
+pub fn unpack(r: u64) -> [u8; 8]
     ensures { λ l. ⌜ l ≡ unpacked r ⌝ }
 {
     [

@@ -5,16 +5,17 @@ use Prim.Native.Nat.{ℕ, zero, suc, _-_, _<_}
 use native.Mathlib.Omega.{arith}
 use lib.Bits.{bitXor, xor-lt, xor-zero-r, xor-zero-l}
 use lib.Dec.{lit<}
-use lib.ListN.{length, getD, set, drop, replicate, length-set, length-replicate, length-drop}
+use lib.ListN.{length, getD, set, take, drop, replicate, length-set, length-replicate, length-drop}
 use lib.Seq.{slice, take-all, getD-drop}
 use Rattle.field.specs.Field.{mul, pow}
 use Rattle.field.proofs.Linear.{mul-add-l, mul-add-r}
 use Rattle.field.proofs.Laws.{mul-assoc, mul-one-l, mul-zero-l, mul-zero-r, pow-lt}
 use Rattle.bits.proofs.Xor.{xor-swap}
 use Rattle.header.specs.Header.{exponents, tap, divideStep, remainder, parityOf}
-use Rattle.header.specs.Packed.{timesAll}
+use Rattle.header.specs.Packed.{unpacked, timesAll}
 use Rattle.header.proofs.CodeWords.{Bytes}
-use Rattle.header.proofs.Division.{addAll, remainder-bytes}
+use Rattle.header.proofs.Division.{addAll, eight, remainder-bytes, parity-length}
+use Rattle.header.proofs.Lanes.{unpacked-xor}
 use Rattle.parity_share.specs.Shares.{alone, share, added}
 
 -- ---- sums of words
@@ -40,6 +41,20 @@ addAll-drop (suc n) [] [] l = refl
 addAll-drop (suc n) [] (y ∷ v) l = absurd (omega arith)
 addAll-drop (suc n) (x ∷ u) [] l = absurd (omega arith)
 addAll-drop (suc n) (x ∷ u) (y ∷ v) l = addAll-drop n u v (omega arith)
+
+-- the sum of two words of eight bytes
+added-parts : (p₀ p₁ p₂ p₃ p₄ p₅ p₆ p₇ q₀ q₁ q₂ q₃ q₄ q₅ q₆ q₇ : ℕ)
+    → addAll (p₀ ∷ p₁ ∷ p₂ ∷ p₃ ∷ p₄ ∷ p₅ ∷ p₆ ∷ p₇ ∷ []) (q₀ ∷ q₁ ∷ q₂ ∷ q₃ ∷ q₄ ∷ q₅ ∷ q₆ ∷ q₇ ∷ [])
+    ≡ added (p₀ ∷ p₁ ∷ p₂ ∷ p₃ ∷ p₄ ∷ p₅ ∷ p₆ ∷ p₇ ∷ []) (q₀ ∷ q₁ ∷ q₂ ∷ q₃ ∷ q₄ ∷ q₅ ∷ q₆ ∷ q₇ ∷ [])
+unfolding addAll added
+added-parts p₀ p₁ p₂ p₃ p₄ p₅ p₆ p₇ q₀ q₁ q₂ q₃ q₄ q₅ q₆ q₇ = refl
+
+pub added-eight : (p q : List ℕ) → length p ≡ 8 → length q ≡ 8 → addAll p q ≡ added p q
+added-eight p q lp lq =
+    ap₂ addAll (eight p lp) (eight q lq)
+    ∙ added-parts (getD p 0 0) (getD p 1 0) (getD p 2 0) (getD p 3 0) (getD p 4 0) (getD p 5 0) (getD p 6 0) (getD p 7 0)
+    (getD q 0 0) (getD q 1 0) (getD q 2 0) (getD q 3 0) (getD q 4 0) (getD q 5 0) (getD q 6 0) (getD q 7 0)
+    ∙ ap₂ added (sym (eight p lp)) (sym (eight q lq))
 
 -- ---- the remainder of a sum
 
@@ -114,6 +129,10 @@ zero-parity = zero-remainder 88
 pub alone-length : (i b : ℕ) → length (alone i b) ≡ 96
 unfolding alone
 alone-length i b = length-set (replicate 96 0) i b ∙ length-replicate {A = ℕ} 96 0
+
+share-length : (i b : ℕ) → length (share i b) ≡ 8
+unfolding share
+share-length i b = parity-length (alone i b)
 
 zeros-bytes : (n : ℕ) → Bytes (replicate n 0)
 zeros-bytes zero k = lit< tt
@@ -202,3 +221,11 @@ module _ (b : ℕ) (hb : b < 256) where
       ap (λ (m : List ℕ). timesAll b (remainder m)) e
       ∙ sym (remainder-times (drop 8 (alone i 1)) (λ k. rw (getD-drop 8 (alone i 1) k 0) (hw _)))
       ∙ ap remainder (times-drop b 8 (alone i 1) ∙ ap (drop 8) (times-alone i) ∙ sym (message (alone i b) (alone-length i b)))
+
+  -- a packed parity plus the packed share of 1 times the byte: the parity with the byte's share added
+  pub packed-sum : (p : List ℕ) (i x s w : ℕ) → length p ≡ 8 → unpacked x ≡ take 8 (drop 0 p) → unpacked s ≡ share i 1 → unpacked w ≡ timesAll b (unpacked s)
+      → unpacked (bitXor x w) ≡ added p (share i b)
+  packed-sum p i x s w l ex es ew =
+      unpacked-xor x w
+      ∙ ap₂ addAll (ex ∙ take-all 8 p (omega arith)) (ew ∙ ap (timesAll b) es ∙ share-times i)
+      ∙ added-eight p (share i b) l (share-length i b)

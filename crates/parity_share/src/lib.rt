@@ -1,102 +1,99 @@
 // Parity as bytes arrive (document 02, Ask 8): a byte's share is added to the parity when the byte is known.
 ghost use mathlib.Core.Path.{_≡_};
 ghost use Prim.Native.Nat.{_<_, _≤_};
-ghost use lib.Bits.{bitXor};
-ghost use lib.ListN.{getD};
-ghost use Rattle.field.specs.Field.{mul, Powers, Logarithms};
-ghost use Rattle.header.specs.Packed.{timesAll};
-ghost use Rattle.parity_share.specs.Shares.{share, added, shareRefusal, withShare};
+ghost use Rattle.header.specs.Packed.{unpacked};
+ghost use Rattle.parity_share.specs.Shares.{share, shareRefusal, withShare};
 
-// The shares of a byte 1 at places 8 to 95: X^8 to X^95 modulo the generator, the constant first.
-const SHARES: [[u8; 8]; 88] = [
-    [37, 224, 8, 172, 71, 178, 44, 227],
-    [121, 178, 171, 29, 93, 255, 99, 131],
-    [24, 29, 222, 210, 244, 189, 8, 159],
-    [211, 46, 145, 54, 60, 240, 125, 130],
-    [61, 87, 74, 68, 152, 110, 43, 98],
-    [43, 19, 96, 99, 210, 185, 16, 163],
-    [204, 30, 98, 61, 130, 241, 167, 221],
-    [44, 133, 184, 135, 77, 100, 166, 148],
-    [137, 116, 81, 176, 162, 123, 173, 95],
-    [17, 68, 182, 97, 110, 22, 247, 129],
-    [82, 168, 56, 138, 6, 247, 185, 208],
-    [168, 15, 102, 242, 190, 89, 65, 137],
-    [103, 66, 51, 83, 151, 222, 139, 45],
-    [80, 34, 55, 56, 31, 237, 214, 185],
-    [217, 77, 131, 52, 81, 83, 44, 29],
-    [238, 107, 165, 190, 116, 7, 72, 185],
-    [217, 243, 202, 166, 215, 56, 198, 131],
-    [24, 189, 159, 179, 79, 55, 207, 58],
-    [193, 97, 112, 229, 51, 227, 1, 248],
-    [73, 158, 242, 151, 219, 86, 193, 75],
-    [239, 133, 252, 90, 76, 114, 144, 208],
-    [168, 178, 75, 54, 110, 19, 196, 160],
-    [163, 160, 219, 255, 30, 134, 121, 49],
-    [155, 180, 53, 65, 180, 128, 185, 61],
-    [58, 120, 65, 44, 9, 33, 114, 29],
-    [238, 136, 144, 124, 108, 95, 58, 231],
-    [237, 222, 227, 15, 140, 38, 62, 62],
-    [85, 51, 51, 19, 142, 210, 160, 162],
-    [233, 128, 74, 194, 181, 31, 224, 142],
-    [156, 153, 132, 28, 111, 236, 9, 31],
-    [164, 243, 97, 252, 210, 64, 175, 71],
-    [78, 156, 241, 74, 36, 112, 75, 94],
-    [52, 99, 86, 109, 211, 34, 208, 132],
-    [227, 202, 55, 76, 76, 10, 17, 191],
-    [7, 132, 91, 251, 170, 139, 35, 170],
-    [220, 129, 189, 163, 95, 194, 196, 70],
-    [107, 4, 139, 58, 60, 79, 229, 214],
-    [118, 76, 250, 142, 129, 232, 17, 165],
-    [18, 57, 13, 104, 224, 41, 30, 172],
-    [2, 238, 48, 58, 67, 3, 142, 11],
-    [90, 108, 182, 208, 241, 113, 10, 253],
-    [248, 66, 215, 119, 168, 212, 207, 8],
-    [53, 171, 2, 222, 117, 81, 169, 132],
-    [227, 203, 255, 24, 255, 172, 98, 198],
-    [28, 98, 181, 232, 167, 196, 8, 180],
-    [93, 21, 171, 153, 197, 82, 228, 192],
-    [194, 166, 91, 115, 169, 117, 30, 66],
-    [255, 189, 140, 86, 237, 75, 226, 167],
-    [88, 109, 236, 91, 182, 60, 229, 132],
-    [227, 166, 57, 246, 122, 111, 15, 138],
-    [8, 52, 130, 229, 90, 209, 201, 91],
-    [133, 98, 214, 56, 58, 28, 237, 78],
-    [94, 14, 40, 88, 165, 211, 70, 180],
-    [93, 87, 199, 4, 117, 80, 243, 142],
-    [156, 45, 83, 145, 169, 44, 70, 12],
-    [161, 104, 77, 208, 146, 162, 225, 166],
-    [125, 211, 49, 54, 119, 241, 32, 100],
-    [245, 41, 212, 215, 47, 221, 103, 216],
-    [157, 251, 167, 23, 225, 137, 22, 28],
-    [203, 207, 27, 54, 16, 5, 190, 96],
-    [97, 56, 232, 119, 46, 72, 35, 237],
-    [146, 223, 3, 59, 11, 228, 12, 183],
-    [50, 166, 14, 198, 223, 53, 176, 252],
-    [221, 202, 21, 99, 249, 72, 167, 81],
-    [250, 57, 120, 227, 48, 63, 81, 176],
-    [201, 84, 208, 222, 207, 55, 175, 50],
-    [244, 227, 217, 163, 92, 154, 124, 211],
-    [199, 148, 53, 250, 94, 200, 88, 116],
-    [159, 53, 19, 193, 231, 27, 164, 54],
-    [96, 18, 152, 234, 66, 64, 224, 115],
-    [100, 8, 173, 15, 63, 62, 232, 29],
-    [238, 214, 224, 144, 79, 105, 37, 125],
-    [143, 175, 25, 177, 200, 65, 84, 227],
-    [121, 24, 228, 12, 64, 112, 144, 251],
-    [38, 27, 147, 234, 251, 238, 38, 226],
-    [92, 81, 88, 42, 92, 241, 19, 106],
-    [30, 33, 38, 120, 190, 132, 242, 208],
-    [168, 67, 239, 236, 76, 225, 50, 194],
-    [136, 142, 29, 114, 82, 133, 245, 79],
-    [123, 227, 204, 63, 168, 9, 243, 79],
-    [123, 16, 161, 238, 229, 243, 127, 73],
-    [165, 106, 98, 76, 187, 53, 109, 181],
-    [120, 76, 171, 226, 38, 252, 57, 70],
-    [107, 160, 70, 44, 125, 54, 219, 43],
-    [142, 84, 229, 130, 239, 140, 214, 153],
-    [13, 194, 232, 194, 227, 96, 164, 44],
-    [117, 168, 191, 79, 201, 43, 68, 117],
-    [186, 103, 39, 231, 21, 62, 107, 201],
+// The shares of a byte 1 at places 8 to 95: X^8 to X^95 modulo the generator, each packed, the constant lowest.
+const SHARES: [u64; 88] = [
+    0xe32cb247ac08e025,
+    0x8363ff5d1dabb279,
+    0x9f08bdf4d2de1d18,
+    0x827df03c36912ed3,
+    0x622b6e98444a573d,
+    0xa310b9d26360132b,
+    0xdda7f1823d621ecc,
+    0x94a6644d87b8852c,
+    0x5fad7ba2b0517489,
+    0x81f7166e61b64411,
+    0xd0b9f7068a38a852,
+    0x894159bef2660fa8,
+    0x2d8bde9753334267,
+    0xb9d6ed1f38372250,
+    0x1d2c535134834dd9,
+    0xb9480774bea56bee,
+    0x83c638d7a6caf3d9,
+    0x3acf374fb39fbd18,
+    0xf801e333e57061c1,
+    0x4bc156db97f29e49,
+    0xd090724c5afc85ef,
+    0xa0c4136e364bb2a8,
+    0x3179861effdba0a3,
+    0x3db980b44135b49b,
+    0x1d7221092c41783a,
+    0xe73a5f6c7c9088ee,
+    0x3e3e268c0fe3deed,
+    0xa2a0d28e13333355,
+    0x8ee01fb5c24a80e9,
+    0x1f09ec6f1c84999c,
+    0x47af40d2fc61f3a4,
+    0x5e4b70244af19c4e,
+    0x84d022d36d566334,
+    0xbf110a4c4c37cae3,
+    0xaa238baafb5b8407,
+    0x46c4c25fa3bd81dc,
+    0xd6e54f3c3a8b046b,
+    0xa511e8818efa4c76,
+    0xac1e29e0680d3912,
+    0x0b8e03433a30ee02,
+    0xfd0a71f1d0b66c5a,
+    0x08cfd4a877d742f8,
+    0x84a95175de02ab35,
+    0xc662acff18ffcbe3,
+    0xb408c4a7e8b5621c,
+    0xc0e452c599ab155d,
+    0x421e75a9735ba6c2,
+    0xa7e24bed568cbdff,
+    0x84e53cb65bec6d58,
+    0x8a0f6f7af639a6e3,
+    0x5bc9d15ae5823408,
+    0x4eed1c3a38d66285,
+    0xb446d3a558280e5e,
+    0x8ef3507504c7575d,
+    0x0c462ca991532d9c,
+    0xa6e1a292d04d68a1,
+    0x6420f1773631d37d,
+    0xd867dd2fd7d429f5,
+    0x1c1689e117a7fb9d,
+    0x60be0510361bcfcb,
+    0xed23482e77e83861,
+    0xb70ce40b3b03df92,
+    0xfcb035dfc60ea632,
+    0x51a748f96315cadd,
+    0xb0513f30e37839fa,
+    0x32af37cfded054c9,
+    0xd37c9a5ca3d9e3f4,
+    0x7458c85efa3594c7,
+    0x36a41be7c113359f,
+    0x73e04042ea981260,
+    0x1de83e3f0fad0864,
+    0x7d25694f90e0d6ee,
+    0xe35441c8b119af8f,
+    0xfb9070400ce41879,
+    0xe226eefbea931b26,
+    0x6a13f15c2a58515c,
+    0xd0f284be7826211e,
+    0xc232e14cecef43a8,
+    0x4ff58552721d8e88,
+    0x4ff309a83fcce37b,
+    0x497ff3e5eea1107b,
+    0xb56d35bb4c626aa5,
+    0x4639fc26e2ab4c78,
+    0x2bdb367d2c46a06b,
+    0x99d68cef82e5548e,
+    0x2ca460e3c2e8c20d,
+    0x75442bc94fbfa875,
+    0xc96b3e15e72767ba,
 ];
 
 // The refusal number, 0 where there is none, and the parity with the share added.
@@ -118,56 +115,15 @@ fn place_refusal(place: usize) -> u32
     0
 }
 
-// The share of a byte 1 at a place.
-fn share_of_one(place: usize) -> [u8; 8]
+// The share of a byte 1 at a place, packed.
+fn share_of_one(place: usize) -> u64
     requires { ⌜ (8 ≤ place) × (place < 96) ⌝ }
-    ensures { λ r. ⌜ r ≡ share place 1 ⌝ }
+    ensures { λ r. ⌜ unpacked r ≡ share place 1 ⌝ }
 {
     SHARES[place - 8]
 }
 
-// Byte k of the parity, with byte k of a share added: the share of a byte 1, times the byte.
-fn sum_at(
-    powers: &[u8; 510],
-    logarithms: &[u8; 256],
-    parity: [u8; 8],
-    one: [u8; 8],
-    byte: u8,
-    k: usize,
-) -> u8
-    requires { ⌜ Powers (now powers) ⌝ }
-    requires { ⌜ Logarithms (now logarithms) ⌝ }
-    requires { ⌜ k < 8 ⌝ }
-    ensures { λ r. ⌜ r ≡ bitXor (getD parity k 0) (mul (getD one k 0) byte) ⌝ }
-{
-    parity[k] ^ field::product_by(powers, logarithms, one[k], byte)
-}
-
-// The parity with the share of a byte added: the share of a byte 1, times the byte.
-fn sum(
-    powers: &[u8; 510],
-    logarithms: &[u8; 256],
-    parity: [u8; 8],
-    one: [u8; 8],
-    byte: u8,
-) -> [u8; 8]
-    requires { ⌜ Powers (now powers) ⌝ }
-    requires { ⌜ Logarithms (now logarithms) ⌝ }
-    ensures { λ r. ⌜ r ≡ added parity (timesAll byte one) ⌝ }
-{
-    [
-        sum_at(powers, logarithms, parity, one, byte, 0),
-        sum_at(powers, logarithms, parity, one, byte, 1),
-        sum_at(powers, logarithms, parity, one, byte, 2),
-        sum_at(powers, logarithms, parity, one, byte, 3),
-        sum_at(powers, logarithms, parity, one, byte, 4),
-        sum_at(powers, logarithms, parity, one, byte, 5),
-        sum_at(powers, logarithms, parity, one, byte, 6),
-        sum_at(powers, logarithms, parity, one, byte, 7),
-    ]
-}
-
-// Adds the share of the byte at a place to the parity; or refuses with 14 and hands the parity back as it came.
+// Adds the share of the byte at a place to the parity: the share of a byte 1, times the byte. Or refuses with 14 and hands the parity back as it came.
 pub fn add_share(parity: [u8; 8], place: usize, byte: u8) -> Added
     ensures { λ r. ⌜ r .refusal ≡ shareRefusal place ⌝ }
     ensures { λ r. ⌜ r .parity ≡ withShare parity place byte ⌝ }
@@ -179,9 +135,8 @@ pub fn add_share(parity: [u8; 8], place: usize, byte: u8) -> Added
             parity: parity,
         };
     }
-    let powers = field::powers();
-    let logarithms = field::logarithms();
-    let next = sum(&powers, &logarithms, parity, share_of_one(place), byte);
+    let share = header::by_byte(share_of_one(place), header::wide(byte));
+    let next = header::unpack(header::word(&parity, 0) ^ share);
     Added {
         refusal: refusal,
         parity: next,

@@ -11,6 +11,9 @@ pub mod batches;
 /// The receiver's calls.
 pub mod receiver;
 
+/// Parity as bytes arrive.
+pub mod shares;
+
 /// The writer's calls.
 pub mod writer;
 

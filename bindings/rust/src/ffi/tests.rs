@@ -141,6 +141,7 @@ fn settings() -> Vec<String> {
         ),
         layout!("barzhilup_syndromes_answer", Values, values),
         layout!("barzhilup_parity_answer", Values, values),
+        layout!("barzhilup_share_answer", shares::Added, refusal, parity),
         layout!(
             "barzhilup_correction_answer",
             Correction,

@@ -1,21 +1,21 @@
 -- `parity_share::add_share` meets its contract: a byte's share is the byte times the share of 1.
-use mathlib.Core.Path.{_≡_, sym, ap, _∙_}
-use mathlib.Core.List.{List}
+use native.Mathlib.Omega.{arith}
+use mathlib.Core.Path.{sym, ap, _∙_}
 use Prim.Native.Nat.{ℕ}
-use Rattle.header.specs.Packed.{timesAll}
-use Rattle.parity_share.specs.Shares.{added}
+use Rattle.header.specs.Packed.{unpacked, timesAll}
 use borrow.Author.Needs.{needs}
 use Rattle.parity_share.proofs.Places.{in-message, share-added, share-refused}
-use Rattle.parity_share.proofs.Linear.{share-times}
+use Rattle.parity_share.proofs.Linear.{packed-sum}
 use Rattle.parity_share.proofs.add_share.Statement.{statement}
 use Rattle.parity_share.proofs.add_share.Tie as tie
 use Rattle.parity_share.proofs.add_share.Reads as reads
 use Rattle.parity_share.proofs.add_share.Lts as lts
-use Rattle.field.proofs.logarithms.Reads as logarithms-reads
-use Rattle.field.proofs.powers.Reads as powers-reads
+use Rattle.header.proofs.by_byte.Reads as by-byte-reads
+use Rattle.header.proofs.unpack.Reads as unpack-reads
+use Rattle.header.proofs.wide.Reads as wide-reads
+use Rattle.header.proofs.word.Reads as word-reads
 use Rattle.parity_share.proofs.place_refusal.Reads as place-refusal-reads
 use Rattle.parity_share.proofs.share_of_one.Reads as share-of-one-reads
-use Rattle.parity_share.proofs.sum.Reads as sum-reads
 
 place-refusal-requires : tie.Need-place-refusal-requires
 place-refusal-requires c κs = search needs
@@ -24,32 +24,40 @@ returns : tie.Need-returns
 returns c =
     let r = c .before .place-refusal in
     let a = c .before .before .args in
-    (r .ensures, share-refused (a .parity) (a .place) (a .byte) (λ z. c .if1 .taken (r .ensures ∙ z)))
-
-powers-requires : tie.Need-powers-requires
-powers-requires c κs = search needs
-
-logarithms-requires : tie.Need-logarithms-requires
-logarithms-requires c κs = search needs
+    (r .ensures, share-refused (a .t1) (a .place) (a .byte) (λ z. c .if1 .taken (r .ensures ∙ z)))
 
 share-of-one-requires : tie.Need-share-of-one-requires
-share-of-one-requires c κs =
-    let t = c .before .before .before .before in
-    in-message (t .before .before .args .place) (sym (t .before .place-refusal .ensures) ∙ t .if1 .left)
+share-of-one-requires c κs = in-message (c .before .before .args .place) (sym (c .before .place-refusal .ensures) ∙ c .if1 .left)
 
-sum-requires : tie.Need-sum-requires
-sum-requires c κs = search needs
+wide-requires : tie.Need-wide-requires
+wide-requires c κs = search needs
+
+by-byte-requires : tie.Need-by-byte-requires
+by-byte-requires c κs = search needs
+
+slice-aggregate-word : tie.Need-slice-aggregate-word
+slice-aggregate-word c = search needs
+
+word-requires : tie.Need-word-requires
+word-requires c κs = search needs
+
+unpack-requires : tie.Need-unpack-requires
+unpack-requires c κs = search needs
 
 returns-2 : tie.Need-returns-2
 returns-2 c =
+    let w = c .before .before .before .before .wide in
+    let o = c .before .before .before .before .before .share-of-one in
     let t = c .before .before .before .before .before .before in
     let r = t .before .place-refusal in
-    let s = t .before .before in
-    let a = s .args in (
+    let f = t .before .before in
+    let a = f .args in (
       r .ensures,
-      c .sum .ensures
-          ∙ ap (added (a .parity)) (ap (timesAll (a .byte)) (c .before .share-of-one .ensures) ∙ share-times (a .byte) (s .fits .byte .fits) (a .place))
-          ∙ share-added (a .parity) (a .place) (a .byte) (sym (r .ensures) ∙ t .if1 .left),
+      c .unpack .ensures
+          ∙ packed-sum (a .byte) (f .fits .byte .fits) (a .t1) (a .place) (c .before .word .result) (o .result) (c .before .before .before .by-byte .result)
+          (omega arith) (c .before .word .ensures) (o .ensures)
+          (c .before .before .before .by-byte .ensures ∙ ap (λ (n : ℕ). timesAll n (unpacked (o .result))) (w .ensures .0))
+          ∙ share-added (a .t1) (a .place) (a .byte) (sym (r .ensures) ∙ t .if1 .left),
     )
 
 pub add-share-spec : {M : Type 1} → statement M
@@ -58,8 +66,10 @@ add-share-spec =
     (tie.spec
     place-refusal-requires
     returns
-    powers-requires
-    logarithms-requires
     share-of-one-requires
-    sum-requires
+    wide-requires
+    by-byte-requires
+    slice-aggregate-word
+    word-requires
+    unpack-requires
     returns-2)

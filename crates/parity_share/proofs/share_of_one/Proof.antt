@@ -13,12 +13,12 @@ sub-result c = search needs
 mul-result : tie.Need-mul-result
 mul-result c = search needs
 
-array-copy-out-result : tie.Need-array-copy-out-result
-array-copy-out-result c = search needs
+array-read-result : tie.Need-array-read-result
+array-read-result c = search needs
 
 returns : tie.Need-returns
 unfolding shareTable
-returns c = table-share (c .before .args .place) (omega arith) (omega arith)
+returns c = table-share (c .args .place) (omega arith) (omega arith)
 
 pub share-of-one-spec : {M : Type 1} → statement M
-share-of-one-spec = tie.close (tie.spec sub-result mul-result array-copy-out-result returns)
+share-of-one-spec = tie.close (tie.spec sub-result mul-result array-read-result returns)
