@@ -1,7 +1,8 @@
 /*
  * How fast the header code, with marked places and without, and the CRC-8 are,
- * beside libfec and a table CRC; and the eight sums beside the same with a power
- * of a worked out for each byte.
+ * beside libfec and a table CRC; the eight sums beside the same with a power of
+ * a worked out for each byte; and the parity by the shares of its bytes beside
+ * the same by division.
  *
  * Before anything is timed, the library and its peers are compared on random
  * inputs; if they disagree, the program stops with a message and status 1.
@@ -212,6 +213,29 @@ static void compare_sums(void)
         }
 }
 
+/* The parity of a header, a share at a time. */
+static barzhilup_parity_answer parity_by_shares(const uint8_t *header)
+{
+    barzhilup_parity_answer parity = {{0}};
+    size_t place;
+    for (place = PARITY; place < HEADER; place++)
+        parity = barzhilup_add_parity_share(parity, place, header[place]).parity;
+    return parity;
+}
+
+static void compare_shares(void)
+{
+    uint8_t header[HEADER];
+    unsigned n;
+    for (n = 0; n < COMPARED; n++) {
+        barzhilup_parity_answer parity;
+        draw_header(header, 4);
+        parity = barzhilup_parity(header);
+        if (memcmp(parity.values, parity_by_shares(header).values, PARITY) != 0)
+            disagree("parity (by shares)");
+    }
+}
+
 static void compare_headers(void)
 {
     uint8_t header[HEADER];
@@ -267,6 +291,15 @@ static void our_parity(const void *inputs, size_t passes)
     while (passes-- > 0)
         for (i = 0; i < POOL; i++)
             sink = barzhilup_parity(h->ours[i]).values[0];
+}
+
+static void share_parity(const void *inputs, size_t passes)
+{
+    const struct headers *h = inputs;
+    size_t i;
+    while (passes-- > 0)
+        for (i = 0; i < POOL; i++)
+            sink = parity_by_shares(h->ours[i]).values[0];
 }
 
 static void peer_parity(const void *inputs, size_t passes)
@@ -355,10 +388,12 @@ static void peer_bit_crc(const void *inputs, size_t passes)
 /* ---- Rows and tables ----------------------------------------------------- */
 
 #define SUM_ROWS 2
+#define SHARE_ROWS 1
 #define HEADER_ROWS 6
 #define MARKED_ROWS 4
 #define CRC_ROWS 3
-#define FIRST_HEADER SUM_ROWS
+#define FIRST_SHARE SUM_ROWS
+#define FIRST_HEADER (FIRST_SHARE + SHARE_ROWS)
 #define FIRST_MARKED (FIRST_HEADER + HEADER_ROWS)
 #define FIRST_CRC (FIRST_MARKED + MARKED_ROWS)
 #define ROWS (FIRST_CRC + CRC_ROWS)
@@ -408,12 +443,13 @@ static void make_rows(const uint8_t *bytes)
     timed_work correction = with_fec ? peer_correction : NULL;
     header_row(0, "sums of a code word", 0, our_syndromes, power_syndromes);
     header_row(1, "sums, 4 wrong bytes", 4, our_syndromes, power_syndromes);
-    header_row(2, "parity", 0, our_parity, parity);
-    header_row(3, "correct, 0 wrong bytes", 0, our_correction, correction);
-    header_row(4, "correct, 1 wrong byte", 1, our_correction, correction);
-    header_row(5, "correct, 2 wrong bytes", 2, our_correction, correction);
-    header_row(6, "correct, 4 wrong bytes", 4, our_correction, correction);
-    header_row(7, "uncorrectable, 5 altered", 5, our_correction, correction);
+    header_row(2, "parity, 88 bytes", 0, share_parity, our_parity);
+    header_row(3, "parity", 0, our_parity, parity);
+    header_row(4, "correct, 0 wrong bytes", 0, our_correction, correction);
+    header_row(5, "correct, 1 wrong byte", 1, our_correction, correction);
+    header_row(6, "correct, 2 wrong bytes", 2, our_correction, correction);
+    header_row(7, "correct, 4 wrong bytes", 4, our_correction, correction);
+    header_row(8, "uncorrectable, 5 altered", 5, our_correction, correction);
     marked_row(0, "0 marks, 4 wrong bytes", 0);
     marked_row(1, "2 marks, 3 others wrong", 2);
     marked_row(2, "4 marks, 2 others wrong", 4);
@@ -443,7 +479,11 @@ static void print_tables(void)
     size_t i;
     printf("\n%-26s %10s %10s %8s   %15s\n", "the eight sums, ns", "ours", "by powers", "ratio",
            "middle half");
-    for (i = 0; i < FIRST_HEADER; i++)
+    for (i = 0; i < FIRST_SHARE; i++)
+        print_row(&rows[i]);
+    printf("\n%-26s %10s %10s %8s   %15s\n", "parity by shares, ns", "shares", "division", "ratio",
+           "middle half");
+    for (i = FIRST_SHARE; i < FIRST_HEADER; i++)
         print_row(&rows[i]);
     printf("\n%-26s %10s %10s %8s   %15s\n", "ns per header", "ours", "libfec", "ratio",
            "middle half");
@@ -484,6 +524,7 @@ int main(void)
     else
         printf("libfec is not installed: the header code's numbers stand alone.\n");
     compare_sums();
+    compare_shares();
     compare_crc(bytes, sizeof bytes);
     make_rows(bytes);
     time_rows(rows, ROWS);

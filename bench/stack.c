@@ -124,6 +124,12 @@ static void write_parity(void)
     MEASURE(sink = barzhilup_write_parity(pdu, drive->pdu_length));
 }
 
+static void add_parity_share(void)
+{
+    barzhilup_parity_answer parity = {{0}};
+    MEASURE(sink = barzhilup_add_parity_share(parity, 7 + at, pdu[7 + at]).parity.values[0]);
+}
+
 static void correct_header(void)
 {
     MEASURE(sink = barzhilup_correct_header(pdu, drive->pdu_length).corrected);
@@ -259,6 +265,7 @@ static const struct {
     {"barzhilup_syndromes", syndromes},
     {"barzhilup_parity", parity},
     {"barzhilup_write_parity", write_parity},
+    {"barzhilup_add_parity_share", add_parity_share},
     {"barzhilup_correct_header", correct_header},
     {"barzhilup_correct_header_marked", correct_header_marked},
     {"barzhilup_crc8", crc8},

@@ -37,7 +37,8 @@ function growth_row(job, number,    costs) {
     else printf "| %s | %s | %s |\n", number, written[number], costs
 }
 
-/^the eight sums, ns/ { head("ns by header|as it is|with powers|ratio|middle half of the ratios"); part = "header"; next }
+/^the eight sums/ { head("ns by header|as it is|with powers|ratio|middle half of the ratios"); part = "header"; next }
+/^parity by shares/ { head("ns by header|by shares|by division|ratio|middle half of the ratios"); part = "header"; next }
 /^ns per header/ { head("ns by header|library|libfec|ratio|middle half of the ratios"); part = "header"; next }
 /^ns per byte/ { head("ns by byte|library|C, table|ratio|middle half of the ratios|C, bit by bit"); part = "CRC"; next }
 /^PDUs of / {
@@ -68,6 +69,7 @@ part == "header" && / - +[0-9.]+$/ {
     sub(/  .*/, "", name)
     printf "| %s | %s | %s | %s | %s to %s |\n", name, grouped(sprintf("%.0f", $(NF - 5))), grouped(sprintf("%.0f", $(NF - 4))), $(NF - 3), $(NF - 2), $NF
 }
+part == "header" && /^syndromes/ { printf "| syndromes | %s | - | - | - |\n", grouped(sprintf("%.0f", $2)) }
 part == "CRC" && /^CRC/ {
     name = $0
     sub(/  .*/, "", name)

@@ -1,8 +1,8 @@
 -- The shares of bytes 8 to 95, added in any order, each once, give the parity that division gives.
-use mathlib.Core.Path.{_≡_, refl, sym, ap, ap₂, _∙_}
+use mathlib.Core.Path.{_≡_, refl, sym, ap, _∙_}
 use mathlib.Core.Bool.{Bool, true, false, _&&_, cond}
 use mathlib.Core.List.{List, [], _∷_}
-use Prim.Native.Nat.{ℕ, zero, suc, _+_, _-_, _≤_, _<_}
+use Prim.Native.Nat.{ℕ, zero, suc, _+_, _≤_, _<_}
 use native.Mathlib.Omega.{arith}
 use lib.Bits.{bitXor, xor-zero-r, xor-zero-l, xor-self}
 use lib.Dec.{eqb, leb}
@@ -13,7 +13,7 @@ use Rattle.bits.proofs.Xor.{xor-assoc}
 use Rattle.algebra.specs.Places.{All}
 use Rattle.header.specs.Header.{remainder, parityOf}
 use Rattle.header.proofs.Division.{addAll}
-use Rattle.parity_share.specs.Shares.{alone, share, added, inMessage, shareRefusal, withShare, withShares, occurrences, EachOnce, ByShares, AnyOrder, ByteChanged}
+use Rattle.parity_share.specs.Shares.{alone, share, inMessage, shareRefusal, withShare, withShares, occurrences, EachOnce, AnyOrder, ByteChanged}
 use Rattle.parity_share.proofs.Places.{inside, taken, share-added}
 use Rattle.parity_share.proofs.Linear.{addAll-at, addAll-length, parity-sum, zero-parity, alone-length}
 

@@ -43,18 +43,9 @@ addAll-drop (suc n) (x ∷ u) [] l = absurd (omega arith)
 addAll-drop (suc n) (x ∷ u) (y ∷ v) l = addAll-drop n u v (omega arith)
 
 -- the sum of two words of eight bytes
-added-parts : (p₀ p₁ p₂ p₃ p₄ p₅ p₆ p₇ q₀ q₁ q₂ q₃ q₄ q₅ q₆ q₇ : ℕ)
-    → addAll (p₀ ∷ p₁ ∷ p₂ ∷ p₃ ∷ p₄ ∷ p₅ ∷ p₆ ∷ p₇ ∷ []) (q₀ ∷ q₁ ∷ q₂ ∷ q₃ ∷ q₄ ∷ q₅ ∷ q₆ ∷ q₇ ∷ [])
-    ≡ added (p₀ ∷ p₁ ∷ p₂ ∷ p₃ ∷ p₄ ∷ p₅ ∷ p₆ ∷ p₇ ∷ []) (q₀ ∷ q₁ ∷ q₂ ∷ q₃ ∷ q₄ ∷ q₅ ∷ q₆ ∷ q₇ ∷ [])
-unfolding addAll added
-added-parts p₀ p₁ p₂ p₃ p₄ p₅ p₆ p₇ q₀ q₁ q₂ q₃ q₄ q₅ q₆ q₇ = refl
-
-pub added-eight : (p q : List ℕ) → length p ≡ 8 → length q ≡ 8 → addAll p q ≡ added p q
-added-eight p q lp lq =
-    ap₂ addAll (eight p lp) (eight q lq)
-    ∙ added-parts (getD p 0 0) (getD p 1 0) (getD p 2 0) (getD p 3 0) (getD p 4 0) (getD p 5 0) (getD p 6 0) (getD p 7 0)
-    (getD q 0 0) (getD q 1 0) (getD q 2 0) (getD q 3 0) (getD q 4 0) (getD q 5 0) (getD q 6 0) (getD q 7 0)
-    ∙ ap₂ added (sym (eight p lp)) (sym (eight q lq))
+added-eight : (p q : List ℕ) → length p ≡ 8 → length q ≡ 8 → addAll p q ≡ added p q
+unfolding added
+added-eight p q lp lq = eight (addAll p q) (addAll-length p q (lp ∙ sym lq) ∙ lp) ∙ simp (addAll-at p q)
 
 -- ---- the remainder of a sum
 
@@ -223,9 +214,18 @@ module _ (b : ℕ) (hb : b < 256) where
       ∙ ap remainder (times-drop b 8 (alone i 1) ∙ ap (drop 8) (times-alone i) ∙ sym (message (alone i b) (alone-length i b)))
 
   -- a packed parity plus the packed share of 1 times the byte: the parity with the byte's share added
-  pub packed-sum : (p : List ℕ) (i x s w : ℕ) → length p ≡ 8 → unpacked x ≡ take 8 (drop 0 p) → unpacked s ≡ share i 1 → unpacked w ≡ timesAll b (unpacked s)
-      → unpacked (bitXor x w) ≡ added p (share i b)
+  pub packed-sum : (p : List ℕ) (i x s w : ℕ) → length p ≡ 8 → unpacked x ≡ take 8 (drop 0 p) → unpacked s ≡ share i 1
+      → unpacked w ≡ timesAll b (unpacked s) → unpacked (bitXor x w) ≡ added p (share i b)
   packed-sum p i x s w l ex es ew =
       unpacked-xor x w
       ∙ ap₂ addAll (ex ∙ take-all 8 p (omega arith)) (ew ∙ ap (timesAll b) es ∙ share-times i)
       ∙ added-eight p (share i b) l (share-length i b)
+
+times-none : (w : List ℕ) → timesAll 0 w ≡ replicate (length w) 0
+unfolding timesAll
+times-none [] = refl
+times-none (x ∷ w) = ap₂ _∷_ (mul-zero-r x) (times-none w)
+
+-- the share of a byte 0 is zero
+pub zero-share : (i : ℕ) → share i 0 ≡ replicate 8 0
+zero-share i = sym (share-times 0 (lit< tt) i) ∙ times-none (share i 1) ∙ ap (λ (n : ℕ). replicate n 0) (share-length i 1)

@@ -1,11 +1,11 @@
 -- Which places are refused, and what adding a share does where it is taken and where it is not.
-use mathlib.Core.Path.{_≡_, refl, ap, _∙_}
+use mathlib.Core.Path.{_≡_, refl}
 use mathlib.Core.Bool.{Bool, true, false, _&&_, cond}
 use mathlib.Core.List.{List}
 use Prim.Native.Nat.{ℕ, _<_, _≤_}
 use native.Mathlib.Omega.{arith}
-use lib.Dec.{eqb, leb}
-use borrow.Author.Tests.{le-leb, lt-leb, leb-true, leb-false, eq-eqb, ne-eqb}
+use lib.Dec.{leb}
+use borrow.Author.Tests.{le-leb, lt-leb, leb-true, eq-eqb, ne-eqb}
 use Rattle.parity_share.specs.Shares.{inMessage, shareRefusal, share, added, withShare}
 
 pub inside : (i : ℕ) → 8 ≤ i → i ≤ 95 → inMessage i ≡ true

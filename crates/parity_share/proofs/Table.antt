@@ -5,10 +5,9 @@ use Prim.Native.Nat.{ℕ, zero, suc, _+_, _-_, _<_, _≤_}
 use native.Mathlib.Nat.{add-zero, zero-add, add-suc, suc-add, le-of-suc-le-suc, not-suc-le-zero}
 use native.Mathlib.Omega.{arith}
 use lib.Bits.{bitXor, xor-zero-l}
-use lib.ListN.{length, getD, set, drop, replicate}
-use lib.Seq.{slice}
+use lib.ListN.{length, getD, set, replicate}
 use Rattle.field.specs.Field.{timesA, mulBits, mul, shift, pow}
-use Rattle.header.specs.Header.{exponents, tap, divideStep, remainder, parityOf}
+use Rattle.header.specs.Header.{tap, divideStep, remainder, parityOf}
 use Rattle.header.specs.Packed.{unpacked, leftOf}
 use Rattle.parity_share.specs.Shares.{alone, share}
 use Rattle.parity_share.proofs.Linear.{message, zero-remainder, alone-length}
