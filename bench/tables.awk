@@ -69,7 +69,6 @@ part == "header" && / - +[0-9.]+$/ {
     sub(/  .*/, "", name)
     printf "| %s | %s | %s | %s | %s to %s |\n", name, grouped(sprintf("%.0f", $(NF - 5))), grouped(sprintf("%.0f", $(NF - 4))), $(NF - 3), $(NF - 2), $NF
 }
-part == "header" && /^syndromes/ { printf "| syndromes | %s | - | - | - |\n", grouped(sprintf("%.0f", $2)) }
 part == "CRC" && /^CRC/ {
     name = $0
     sub(/  .*/, "", name)
