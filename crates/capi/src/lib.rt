@@ -1,6 +1,9 @@
 // The C library: each public operation with C's types, and the core's contract. include/barzhilup.h declares them.
 use batch::Batch;
 use correction::Correction;
+use latency::Answer;
+use latency::Shown;
+use latency::Trial;
 use pdu::Reading;
 use receiver::Received;
 use receiver::Receiver;
@@ -21,6 +24,7 @@ ghost use Rattle.receiver.specs.Receiving.{opened as receiverOpened, receiveAns
 ghost use Rattle.batch.specs.Batches.{received};
 ghost use Rattle.correction.specs.Marks.{correctionWith, correctedPduWith};
 ghost use Rattle.correction.specs.Correction.{correctionOf, correctedPdu, numberOf, countOf};
+ghost use Rattle.latency.specs.Latency.{answer, numberOf as refusalOf, latencyOf, isFound, trial, shown, rowAfter};
 
 // S1 to S8.
 #[repr(C)]
@@ -279,4 +283,72 @@ pub extern "C" fn barzhilup_mark_lost(receiver: Receiver, log: &mut [u32]) -> Re
     ensures { λ _. ⌜ now (log .exit) ≡ logAfterLost (now (log .entry)) receiver ⌝ }
 {
     receiver.mark_lost(log)
+}
+
+// The refusal number, 0 where there is none; the smallest latency without a dry tick, 0 where none was found; and whether one was.
+#[repr(C)]
+pub struct LatencyAnswer {
+    pub refusal: u32,
+    pub latency: u32,
+    pub found: bool,
+}
+
+fn latency_answer(refusal: u32, latency: u32, found: bool) -> LatencyAnswer
+    ensures { λ r. ⌜ r ≡ record { refusal = refusal; latency = latency; found = found } ⌝ }
+{
+    LatencyAnswer {
+        refusal: refusal,
+        latency: latency,
+        found: found,
+    }
+}
+
+// What came of trying the latencies, as numbers.
+fn smallest_in_numbers(smallest: Answer) -> LatencyAnswer
+    ensures { λ r. ⌜ r .refusal ≡ refusalOf smallest ⌝ }
+    ensures { λ r. ⌜ r .latency ≡ latencyOf smallest ⌝ }
+    ensures { λ r. ⌜ r .found ≡ isFound smallest ⌝ }
+{
+    match smallest {
+        Answer::Refused(n) => latency_answer(n, 0, false),
+        Answer::Smallest(v) => latency_answer(0, v as u32, true),
+        Answer::AllDry => latency_answer(0, 0, false),
+    }
+}
+
+// Tries the latencies 0 to 7 of a mode and stream on the counts of packets ended in each PDU: the smallest without a dry tick; or refuses with 5
+// or 21.
+#[no_mangle]
+pub extern "C" fn barzhilup_smallest_latency(mode: u8, stream: u8, counts: &[u32]) -> LatencyAnswer
+    ensures { λ r. ⌜ r .refusal ≡ refusalOf (answer mode stream (now (counts .entry))) ⌝ }
+    ensures { λ r. ⌜ r .latency ≡ latencyOf (answer mode stream (now (counts .entry))) ⌝ }
+    ensures { λ r. ⌜ r .found ≡ isFound (answer mode stream (now (counts .entry))) ⌝ }
+{
+    let smallest = latency::smallest(mode, stream, counts);
+    smallest_in_numbers(smallest)
+}
+
+// Tries one latency: how many ticks are run and how many are dry, the first of these, and the most packets that wait; or refuses with 5 or 21.
+#[no_mangle]
+pub extern "C" fn barzhilup_try_latency(mode: u8, stream: u8, counts: &[u32], latency: u8) -> Trial
+    ensures { λ r. ⌜ r ≡ trial mode stream (now (counts .entry)) latency ⌝ }
+{
+    latency::try_latency(mode, stream, counts, latency)
+}
+
+// The packets that wait at each tick of a latency from one on, as many ticks as the run has and the buffer holds; or refuses with 5 or 21 and
+// leaves the buffer as it was.
+#[no_mangle]
+pub extern "C" fn barzhilup_waiting_packets(
+    mode: u8,
+    stream: u8,
+    counts: &[u32],
+    latency: u8,
+    first: usize,
+    waiting: &mut [u32],
+) -> Shown
+    ensures { λ r. ⌜ r ≡ shown mode stream (now (counts .entry)) first (length (now (waiting .entry))) ⌝ }
+    ensures { λ _. ⌜ now (waiting .exit) ≡ rowAfter mode stream (now (counts .entry)) latency first (now (waiting .entry)) ⌝ }
+{
+    latency::show_waiting(mode, stream, counts, latency, first, waiting)
 }

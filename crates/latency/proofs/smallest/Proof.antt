@@ -1,0 +1,48 @@
+use mathlib.Core.Path.{_∙_}
+use Rattle.latency.proofs.Counts.{every-tried}
+use Rattle.latency.proofs.Reports.{answer-by}
+use borrow.Author.Needs.{needs}
+use Rattle.latency.proofs.smallest.Statement.{statement}
+use Rattle.latency.proofs.smallest.Tie as tie
+use Rattle.latency.proofs.smallest.Reads as reads
+use Rattle.latency.proofs.smallest.Lts as lts
+use Rattle.latency.proofs.smallest_of.Reads as smallest-of-reads
+use Rattle.latency.proofs.spacing_for.Reads as spacing-for-reads
+
+spacing-for-requires : tie.Need-spacing-for-requires
+spacing-for-requires c κs = search needs
+
+enum-known-k : tie.Need-enum-known-k
+enum-known-k c = search needs
+
+enum-known-n : tie.Need-enum-known-n
+enum-known-n c = search needs
+
+smallest-of-requires : tie.Need-smallest-of-requires
+smallest-of-requires c κs =
+    let u = c .before in
+    let a = u .before .before .before .before .args in
+    every-tried (a .mode) (a .stream) (a .counts .now) _ _ (u .before .before .spacing-for .ensures) (u .n .given .1)
+
+returns : tie.Need-returns
+returns c =
+    let u = c .before in
+    let a = u .before .before .before .before .args in
+    answer-by (a .mode) (a .stream) (a .counts .now) _ _ (u .before .before .spacing-for .ensures) (u .k .given .1)
+
+returns-2 : tie.Need-returns-2
+returns-2 c =
+    let u = c .before .before in
+    let a = u .before .before .before .before .args in
+    c .smallest-of .ensures ∙ answer-by (a .mode) (a .stream) (a .counts .now) _ _ (u .before .before .spacing-for .ensures) (u .n .given .1)
+
+pub smallest-spec : {M : Type 1} → statement M
+smallest-spec =
+    tie.close
+    (tie.spec
+    spacing-for-requires
+    enum-known-k
+    enum-known-n
+    smallest-of-requires
+    returns
+    returns-2)

@@ -1,0 +1,59 @@
+use mathlib.Core.Path.{refl, sym, _∙_}
+use Rattle.latency.proofs.Counts.{spacing-by, listed-refused, listed-every}
+use borrow.Author.Needs.{needs}
+use Rattle.latency.proofs.spacing_for.Statement.{statement}
+use Rattle.latency.proofs.spacing_for.Tie as tie
+use Rattle.latency.proofs.spacing_for.Reads as reads
+use Rattle.latency.proofs.spacing_for.Lts as lts
+use Rattle.latency.proofs.counts_refused.Reads as counts-refused-reads
+use Rattle.latency.proofs.ticks_apart.Reads as ticks-apart-reads
+use Rattle.modes.proofs.look_up.Reads as look-up-reads
+
+look-up-requires : tie.Need-look-up-requires
+look-up-requires c κs = search needs
+
+enum-known-n : tie.Need-enum-known-n
+enum-known-n c = search needs
+
+enum-known-m : tie.Need-enum-known-m
+enum-known-m c = search needs
+
+counts-refused-requires : tie.Need-counts-refused-requires
+counts-refused-requires c κs = search needs
+
+returns : tie.Need-returns
+returns c =
+    let u = c .before .before .before in
+    let a = u .before .before .before .before .args in
+    spacing-by (a .mode) (a .stream) (a .counts .now) _ _ _ (u .before .before .look-up .ensures) (u .m .given .1)
+    (listed-refused (a .mode) (a .stream) (a .counts .now) (u .m .given .0 .0) (sym (c .before .counts-refused .ensures) ∙ c .if1 .taken))
+
+ticks-apart-requires : tie.Need-ticks-apart-requires
+ticks-apart-requires c κs = search needs
+
+returns-2 : tie.Need-returns-2
+returns-2 c =
+    let u = c .before in
+    let a = u .before .before .before .before .args in
+    spacing-by (a .mode) (a .stream) (a .counts .now) _ _ _ (u .before .before .look-up .ensures) (u .n .given .1) refl
+
+returns-3 : tie.Need-returns-3
+returns-3 c =
+    let r = c .before .before in
+    let u = r .before .before in
+    let a = u .before .before .before .before .args in
+    spacing-by (a .mode) (a .stream) (a .counts .now) _ _ _ (u .before .before .look-up .ensures) (u .m .given .1)
+    (listed-every (a .mode) (a .stream) (a .counts .now) (u .m .given .0 .0) _ (c .ticks-apart .ensures) (sym (r .counts-refused .ensures) ∙ c .before .if1 .left))
+
+pub spacing-for-spec : {M : Type 1} → statement M
+spacing-for-spec =
+    tie.close
+    (tie.spec
+    look-up-requires
+    enum-known-n
+    enum-known-m
+    counts-refused-requires
+    returns
+    ticks-apart-requires
+    returns-2
+    returns-3)

@@ -1,0 +1,42 @@
+use mathlib.Core.Path.{_∙_}
+use Rattle.latency.proofs.Counts.{every-tried}
+use Rattle.latency.proofs.Reports.{trial-by}
+use borrow.Author.Needs.{needs}
+use Rattle.latency.proofs.try_latency.Statement.{statement}
+use Rattle.latency.proofs.try_latency.Tie as tie
+use Rattle.latency.proofs.try_latency.Reads as reads
+use Rattle.latency.proofs.try_latency.Lts as lts
+use Rattle.latency.proofs.spacing_for.Reads as spacing-for-reads
+use Rattle.latency.proofs.trial_of.Reads as trial-of-reads
+
+spacing-for-requires : tie.Need-spacing-for-requires
+spacing-for-requires c κs = search needs
+
+enum-known-k : tie.Need-enum-known-k
+enum-known-k c = search needs
+
+enum-known-n : tie.Need-enum-known-n
+enum-known-n c = search needs
+
+trial-of-requires : tie.Need-trial-of-requires
+trial-of-requires c κs =
+    let u = c .before in
+    let a = u .before .before .before .before .args in
+    every-tried (a .mode) (a .stream) (a .counts .now) _ _ (u .before .before .spacing-for .ensures) (u .n .given .1)
+
+returns : tie.Need-returns
+returns c =
+    let u = c .before in
+    let a = u .before .before .before .before .args in
+    trial-by (a .mode) (a .stream) (a .counts .now) _ _ (u .before .before .spacing-for .ensures) (u .k .given .1) (a .v)
+
+returns-2 : tie.Need-returns-2
+returns-2 c =
+    let u = c .before .before in
+    let a = u .before .before .before .before .args in
+    c .trial-of .ensures ∙ trial-by (a .mode) (a .stream) (a .counts .now) _ _ (u .before .before .spacing-for .ensures) (u .n .given .1) (a .v)
+
+pub try-latency-spec : {M : Type 1} → statement M
+try-latency-spec =
+    tie.close
+    (tie.spec spacing-for-requires enum-known-k enum-known-n trial-of-requires returns returns-2)
