@@ -85,6 +85,12 @@ extern "C" {
  * which is always 0. */
 #define BARZHILUP_READING_PIECES 64
 
+/* The most counts that a bench for latency settings takes, the largest count,
+ * and the largest latency. (Document 02, Ask 7.) */
+#define BARZHILUP_COUNTS_MAX 4096
+#define BARZHILUP_COUNT_MAX 63
+#define BARZHILUP_LATENCY_MAX 7
+
 /* ---- Refusal numbers (document 01, "What is turned down"; document 02) --- */
 
 /* Not refused. */
@@ -166,6 +172,10 @@ extern "C" {
  * BARZHILUP_REFUSED_PDU_LENGTH, and before BARZHILUP_REFUSED_UNCORRECTABLE.
  * (Document 02, Ask 3.) */
 #define BARZHILUP_REFUSED_MARKS 19
+
+/* A bench for latency settings: no counts, more than 4,096, or one over 63.
+ * Checked after BARZHILUP_REFUSED_MODE. (Document 02, Ask 7.) */
+#define BARZHILUP_REFUSED_COUNTS 21
 
 /* ---- Header code (document 01, "Header code"; 001, 5.2.3.1) -------------- */
 
@@ -711,6 +721,78 @@ barzhilup_batch barzhilup_receive_batch(barzhilup_receiver receiver,
  */
 barzhilup_received barzhilup_mark_lost(barzhilup_receiver receiver,
                                        uint32_t *log, size_t log_length);
+
+/* ---- Bench for latency settings (document 02, Ask 7) --------------------- */
+
+/*
+ * Tries latencies before going on air, on the counts of packets that end in each
+ * PDU: `ended` of barzhilup_write. One PDU's count is added at tick 0 and every N
+ * ticks, where N is 4 for modes and streams of PDU sequence 0 to 7 and 32 for those
+ * of 0 to 1. A latency v takes nothing before tick 2 times v; from there each tick
+ * takes one packet, after any adding, or is dry if none waits. The bench runs N
+ * ticks for each count.
+ *
+ * `counts` has 1 to BARZHILUP_COUNTS_MAX counts, each 0 to BARZHILUP_COUNT_MAX; it
+ * is only read. The calls are refused with BARZHILUP_REFUSED_MODE, and then with
+ * BARZHILUP_REFUSED_COUNTS.
+ */
+
+/* What came of trying the latencies 0 to 7. */
+typedef struct {
+    /* BARZHILUP_ACCEPTED, BARZHILUP_REFUSED_MODE or BARZHILUP_REFUSED_COUNTS. */
+    uint32_t refusal;
+    /* The smallest latency without a dry tick; 0 if there is none. */
+    uint32_t latency;
+    /* Whether there is one: false if all eight have a dry tick, or if refused. */
+    bool found;
+} barzhilup_latency_answer;
+
+/* What came of trying one latency. If refused, every other field is 0. */
+typedef struct {
+    /* BARZHILUP_ACCEPTED, BARZHILUP_REFUSED_MODE or BARZHILUP_REFUSED_COUNTS. */
+    uint32_t refusal;
+    /* How many ticks the bench ran: N for each count. */
+    uint32_t ticks;
+    /* How many of them are dry. */
+    uint32_t dry;
+    /* The first dry tick, counted from 0; 0 too if none is dry. */
+    uint32_t first_dry;
+    /* The most packets that wait at a tick, after any adding and before one is
+     * taken: the packets that a buffer has to hold. */
+    uint32_t most_waiting;
+} barzhilup_latency_trial;
+
+/* What came of asking for the packets that wait. */
+typedef struct {
+    /* BARZHILUP_ACCEPTED, BARZHILUP_REFUSED_MODE or BARZHILUP_REFUSED_COUNTS. */
+    uint32_t refusal;
+    /* How many ticks were written, from the buffer's first entry on. */
+    uint32_t count;
+} barzhilup_waiting_answer;
+
+/* The smallest latency from 0 to 7 without a dry tick. A latency for which 2 times
+ * v is at or past the last tick's end takes nothing, and so has none. */
+barzhilup_latency_answer
+barzhilup_smallest_latency(uint8_t mode, uint8_t stream,
+                           const uint32_t *counts, size_t count);
+
+/* Tries one latency, 0 to BARZHILUP_LATENCY_MAX; a larger one, which no PDU can
+ * say, is tried all the same. */
+barzhilup_latency_trial
+barzhilup_try_latency(uint8_t mode, uint8_t stream,
+                      const uint32_t *counts, size_t count, uint8_t latency);
+
+/*
+ * Writes the packets that wait at each tick into `waiting`, from tick `first` on,
+ * after any adding and before one is taken: as many ticks as the run has from
+ * there, and as `waiting` has room for. Nothing is written if `first` is past the
+ * last tick. Later entries stay as they are, and all of them if refused. `waiting`
+ * may hold anything and must not overlap `counts`.
+ */
+barzhilup_waiting_answer
+barzhilup_waiting_packets(uint8_t mode, uint8_t stream,
+                          const uint32_t *counts, size_t count, uint8_t latency,
+                          size_t first, uint32_t *waiting, size_t length);
 
 /* ---- Panel (document 01, "After that, for the panel") -------------------- */
 

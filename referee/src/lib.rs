@@ -3,8 +3,9 @@
 //! the header code, the CRC-8, reading without a receiver, the writer, the
 //! receiver, the packet log and the refusals 1 to 17; and of document 02, PDUs
 //! received in one call with refusal 18 (Ask 1), the CRC's starting register
-//! (Ask 2), header bytes marked doubtful with refusal 19 (Ask 3), parity as
-//! bytes arrive (Ask 8), and up to 63 pieces (Ask 9):
+//! (Ask 2), header bytes marked doubtful with refusal 19 (Ask 3), a bench for
+//! latency settings with refusal 21 (Ask 7), parity as bytes arrive (Ask 8), and
+//! up to 63 pieces (Ask 9):
 //!
 //! - `field`: the bytes as elements of GF(256);
 //! - `linear`: systems of linear equations over them;
@@ -24,6 +25,7 @@
 //! - `batches`: PDUs received in one call;
 //! - `refusal`: the numbers of the table of refusals, and their causes;
 //! - `encode`: PDUs made of any parts, for the writer and the tests;
+//! - `latency`: the bench for latency settings;
 //! - `rng`: repeatable random numbers for the tests.
 
 #![forbid(unsafe_code)]
@@ -36,6 +38,7 @@ pub mod erasures;
 pub mod expansion;
 pub mod field;
 pub mod header;
+pub mod latency;
 pub mod linear;
 pub mod locators;
 pub mod log;

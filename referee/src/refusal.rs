@@ -68,6 +68,9 @@ pub const LENGTHS: u32 = 18;
 /// More than eight marks, one over 95, or one repeated (document 02, Ask 3).
 pub const MARKS: u32 = 19;
 
+/// A bench has no counts, more than 4,096, or one over 63 (document 02, Ask 7).
+pub const COUNTS: u32 = 21;
+
 /// Which of these numbers is answered: the lowest, but 19 directly after 3.
 pub fn first(numbers: impl Iterator<Item = u32>) -> Option<u32> {
     numbers.min_by_key(|&number| match number {

@@ -34,7 +34,7 @@ run() {
     "$build/sanitized"
 }
 
-for test in header_test marks_test writer_test receiver_test; do
+for test in header_test marks_test writer_test receiver_test latency_test; do
     run "$test" "$library"
 done
 run shares_test "$library"

@@ -30,12 +30,12 @@ wide-requires c κs = search needs
 returns : tie.Need-returns
 returns c =
     let a = c .before .before .before .before .args in
-    c .wide .ensures ∙ added-count (a .n) (a .t) (a .counts .now) (c .before .before .if1 .taken)
+    c .wide .ensures ∙ added-count (a .n) (a .t) (a .counts .now) (omega arith)
 
 returns-2 : tie.Need-returns-2
 returns-2 c =
     let a = c .before .before .args in
-    added-none (a .n) (a .t) (a .counts .now) (c .if1 .left)
+    added-none (a .n) (a .t) (a .counts .now) (λ e. omega arith)
 
 pub added-spec : {M : Type 1} → statement M
 added-spec =

@@ -1,0 +1,25 @@
+use mathlib.Core.Path.{ap, _∙_}
+use borrow.Author.Needs.{needs}
+use Rattle.latency.specs.Latency.{numberOf, latencyOf, isFound}
+use Rattle.capi.proofs.barzhilup_smallest_latency.Statement.{statement}
+use Rattle.capi.proofs.barzhilup_smallest_latency.Tie as tie
+use Rattle.capi.proofs.barzhilup_smallest_latency.Reads as reads
+use Rattle.capi.proofs.barzhilup_smallest_latency.Lts as lts
+use Rattle.capi.proofs.smallest_in_numbers.Reads as smallest-in-numbers-reads
+use Rattle.latency.proofs.smallest.Reads as smallest-reads
+
+smallest-requires : tie.Need-smallest-requires
+smallest-requires c κs = search needs
+
+smallest-in-numbers-requires : tie.Need-smallest-in-numbers-requires
+smallest-in-numbers-requires c κs = search needs
+
+returns : tie.Need-returns
+returns c =
+    let n = c .smallest-in-numbers .ensures in
+    let e = c .before .smallest .ensures in
+    (n .0 ∙ ap numberOf e, (n .1 .0 ∙ ap latencyOf e, n .1 .1 ∙ ap isFound e))
+
+pub barzhilup-smallest-latency-spec : {M : Type 1} → statement M
+barzhilup-smallest-latency-spec =
+    tie.close (tie.spec smallest-requires smallest-in-numbers-requires returns)
