@@ -11,6 +11,7 @@
 use crate::{Piece, HEADER_BYTES, PARITY_BYTES};
 
 pub(crate) mod batches;
+pub(crate) mod latency;
 pub(crate) mod shares;
 
 /// Eight bytes: syndromes or parity.

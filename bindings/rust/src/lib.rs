@@ -67,6 +67,7 @@
 #[allow(unsafe_code)]
 mod ffi;
 mod header;
+mod latency;
 mod log;
 mod mode;
 mod reading;
@@ -78,6 +79,7 @@ mod writer;
 pub use header::{
     correct_header, correct_header_marked, crc8, crc8_from, parity, syndromes, write_parity,
 };
+pub use latency::{smallest_latency, try_latency, waiting_packets, LatencyTrial};
 pub use log::{Bytes, Cause, Data, Entries, Entry, Log, MalformedLog};
 pub use mode::{Mode, Stream};
 pub use reading::{list_pieces, read, ControlWord, Expansion, Piece, Reading};
@@ -133,3 +135,13 @@ pub const CARRY_BYTES: usize = 4_096;
 /// A log of so many words is long enough for every call. (Document 01,
 /// "Receiver".)
 pub const LOG_WORDS: usize = 8_400;
+
+/// The most counts that a bench for latency settings takes. (Document 02, Ask 7.)
+pub const COUNTS_MAX: usize = 4_096;
+
+/// The largest count of packets ended in a PDU that a bench for latency settings
+/// takes. (Document 02, Ask 7.)
+pub const COUNT_MAX: u32 = 63;
+
+/// The largest latency. (Document 01, "Control word".)
+pub const LATENCY_MAX: u8 = 7;

@@ -30,9 +30,9 @@ pub enum Refusal {
     OtherMode,
     /// 7: the PDU sequence is outside its mode's range.
     Sequence,
-    /// 8: Pfirst or Plast is set with NOP 0. Any count of pieces is read: one for
-    /// which the PDU is too short is refused with [`Refusal::La`]. (Document 02,
-    /// Ask 9.)
+    /// 8: Pfirst or Plast is set with NOP 0. Any count of pieces is read: one
+    /// whose locators go past La, or past the PDU's end, is refused with
+    /// [`Refusal::La`]. (Document 02, Ask 9.)
     Pieces,
     /// 9: La is before the last locator byte, or not below the length.
     La,
@@ -71,10 +71,13 @@ pub enum Refusal {
     /// 19: more than eight marks, one over 95, or one repeated (document 02, Ask
     /// 3).
     Marks,
+    /// 21: a bench for latency settings has no counts, more than 4,096, or one
+    /// over 63 (document 02, Ask 7).
+    Counts,
 }
 
 impl Refusal {
-    /// The number in document 01's table, 1 to 17, or in document 02, 18 or 19.
+    /// The number in document 01's table, 1 to 17, or in document 02, 18, 19 and 21.
     pub const fn number(self) -> u32 {
         match self {
             Refusal::State => 1,
@@ -96,6 +99,7 @@ impl Refusal {
             Refusal::Room => 17,
             Refusal::Lengths => 18,
             Refusal::Marks => 19,
+            Refusal::Counts => 21,
         }
     }
 
@@ -123,6 +127,7 @@ impl Refusal {
             17 => Refusal::Room,
             18 => Refusal::Lengths,
             19 => Refusal::Marks,
+            21 => Refusal::Counts,
             _ => unreachable!("the library has no refusal {number}"),
         })
     }
@@ -153,6 +158,7 @@ impl Refusal {
             Refusal::Room => "the PDU has no room for a byte of a packet, or for its overhead",
             Refusal::Lengths => "the lengths of the PDUs do not sum to the buffer",
             Refusal::Marks => "more than eight marks, one over 95, or one repeated",
+            Refusal::Counts => "no counts, more than 4,096, or one over 63",
         }
     }
 }

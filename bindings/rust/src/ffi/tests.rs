@@ -204,6 +204,30 @@ fn readings() -> Vec<String> {
     .concat()
 }
 
+/// What the bench for latency settings answers.
+fn latencies() -> Vec<String> {
+    [
+        layout!(
+            "barzhilup_latency_answer",
+            latency::Answer,
+            refusal,
+            latency,
+            found
+        ),
+        layout!(
+            "barzhilup_latency_trial",
+            latency::Trial,
+            refusal,
+            ticks,
+            dry,
+            first_dry,
+            most_waiting
+        ),
+        layout!("barzhilup_waiting_answer", latency::Waiting, refusal, count),
+    ]
+    .concat()
+}
+
 #[test]
 fn structs_lie_as_in_c() {
     let parts = [
@@ -212,6 +236,7 @@ fn structs_lie_as_in_c() {
         settings(),
         control_words(),
         readings(),
+        latencies(),
     ];
     let (right, messages) = compile(&parts.concat());
     assert!(right, "{messages}");
@@ -239,6 +264,9 @@ fn sizes_are_as_in_c() {
         ("LOG_WORDS", crate::LOG_WORDS),
         ("CRC_START", crate::CRC_START.into()),
         ("CRC_START_OFF_AIR", crate::CRC_START_OFF_AIR.into()),
+        ("COUNTS_MAX", crate::COUNTS_MAX),
+        ("COUNT_MAX", crate::COUNT_MAX as usize),
+        ("LATENCY_MAX", usize::from(crate::LATENCY_MAX)),
     ];
     let lines = sizes.map(|(name, value)| holds(&format!("BARZHILUP_{name}"), value));
     let (right, messages) = compile(&lines);
@@ -263,7 +291,7 @@ fn c_name(refusal: Refusal) -> String {
 #[test]
 fn refusals_are_numbered_as_in_c() {
     let mut lines = Vec::new();
-    for number in 1..=19 {
+    for number in (1..=19).chain([21]) {
         let refusal = Refusal::check(number, 3).expect_err("a refusal");
         assert_eq!(refusal.number(), number);
         let name = c_name(refusal);
