@@ -23,6 +23,9 @@ fn run(word: &[u8]) -> i32 {
     if check::same(word, b"coverage") {
         return files::with_hint(b"barzhilup coverage", coverage::program());
     }
+    if check::same(word, b"latency") {
+        return files::with_hint(b"barzhilup latency", trials::program());
+    }
     about(word)
 }
 
@@ -57,6 +60,7 @@ of reception.
   channel    loses and damages PDUs, by a seed
   log        receives PDUs and writes the packet log
   coverage   draws a packet log
+  latency    tries latencies before going on air
 
   --help     prints this (also -h); barzhilup SUBCOMMAND --help says more
   --version  prints the version
@@ -80,6 +84,6 @@ fn unknown(word: &[u8]) {
     }
     io::write_all(
         STDERR_FILENO,
-        b"usage: barzhilup generate|channel|log|coverage [OPTION]...\n",
+        b"usage: barzhilup generate|channel|log|coverage|latency [OPTION]...\n",
     );
 }

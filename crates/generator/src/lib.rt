@@ -10,13 +10,13 @@ use writer::Writer;
 
 // The program: answers its exit status.
 pub fn program() -> i32 {
-    if transmission::given(b"help") {
+    if options::given(&transmission::KNOWN, b"help") {
         return files::status(b"barzhilup generate", report::usage());
     }
-    if !transmission::check() {
+    if !transmission::check(b"barzhilup generate", &transmission::KNOWN) {
         return files::WRONG;
     }
-    let asked = transmission::asked();
+    let asked = transmission::asked(b"barzhilup generate", &transmission::KNOWN);
     if !asked.ok {
         return files::WRONG;
     }
@@ -27,7 +27,7 @@ pub fn program() -> i32 {
 fn run(asked: Transmission) -> bool {
     let opened = writer::open(asked.mode, asked.stream, asked.register);
     if opened.refusal != 0 {
-        trial::say_refusal(opened.refusal);
+        trial::say_refusal(b"barzhilup generate", opened.refusal);
         return false;
     }
     let writer = opened.writer;
@@ -37,12 +37,18 @@ fn run(asked: Transmission) -> bool {
 // Reads the PSD, tries the settings, and opens the file of packets.
 fn with_writer(asked: Transmission, writer: Writer) -> bool {
     let mut psd = [0u8; 256];
-    let read = transmission::psd::read(&mut psd);
+    let read = transmission::psd::read(b"barzhilup generate", &transmission::KNOWN, &mut psd);
     if read.status == records::FAILED {
         return false;
     }
     let settings = asked.settings;
-    if !trial::is_taken(settings, &psd[..read.length], asked.length, writer) {
+    if !trial::is_taken(
+        b"barzhilup generate",
+        settings,
+        &psd[..read.length],
+        asked.length,
+        writer,
+    ) {
         return false;
     }
     let mut from = files::label_buffer();
@@ -54,6 +60,14 @@ fn with_writer(asked: Transmission, writer: Writer) -> bool {
     with_input(asked, writer, &psd[..read.length], &from[..n], input)
 }
 
+// Where packets come from: records, or ADTS frames.
+fn source_of(input: i32) -> Source {
+    Source {
+        fd: input,
+        adts: options::given(&transmission::KNOWN, b"adts"),
+    }
+}
+
 // Opens the file of PDUs, and sends.
 fn with_input(asked: Transmission, writer: Writer, psd: &[u8], from: &[u8], input: i32) -> bool {
     let mut onto = files::label_buffer();
@@ -63,11 +77,9 @@ fn with_input(asked: Transmission, writer: Writer, psd: &[u8], from: &[u8], inpu
         return false;
     }
     let settings = asked.settings;
+    let source = source_of(input);
     let task = Task {
-        source: Source {
-            fd: input,
-            adts: transmission::given(b"adts"),
-        },
+        source: source,
         output: output,
         settings: settings,
     };

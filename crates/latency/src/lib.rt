@@ -148,7 +148,7 @@ fn taken(v: u8, t: usize, waiting: usize) -> usize
 }
 
 // Whether a tick is dry where so many packets wait.
-fn is_dry(v: u8, t: usize, waiting: usize) -> bool
+pub fn is_dry(v: u8, t: usize, waiting: usize) -> bool
     ensures { λ r. ⌜ r ≡ isDry v t waiting ⌝ }
 {
     if t < start(v) {

@@ -8,6 +8,9 @@ use settings::Settings;
 use writer::Writer;
 use writer::Written;
 
+// Where PDUs go that are written to no file.
+pub const NOWHERE: i32 = -1;
+
 // Where packets come from, where PDUs go, and the settings of each PDU.
 pub struct Task {
     pub source: Source,
@@ -21,6 +24,8 @@ pub struct Run {
     pub ok: bool,
     pub writer: Writer,
     pub window: Window,
+    // How many packets ended in the last PDU.
+    pub ended: u32,
     // How many packets, bytes of packets, PDUs and bytes of PDUs are sent.
     pub packets: u64,
     pub octets: u64,
@@ -28,12 +33,13 @@ pub struct Run {
     pub size: u64,
 }
 
-fn begin(writer: Writer) -> Run {
+pub fn begin(writer: Writer) -> Run {
     Run {
         going: true,
         ok: true,
         writer: writer,
         window: window::empty(),
+        ended: 0,
         packets: 0,
         octets: 0,
         pdus: 0,
@@ -92,7 +98,7 @@ fn all_turns(
 }
 
 // Reads ahead and sends a PDU; stops where no packet waits.
-fn turn(
+pub fn turn(
     task: Task,
     from: &[u8],
     onto: &[u8],
@@ -139,11 +145,14 @@ fn progress(pdus: u64) {
     files::progress(b"barzhilup generate", b": PDUs ", pdus);
 }
 
-// Writes a PDU that was not refused to its file. Answers whether it is there; if not, says why.
+// Writes a PDU that was not refused to its file, if it has one. Answers whether it is there; if not, says why.
 fn is_kept(r: Written, output: i32, onto: &[u8], pdu: &[u8]) -> bool {
     if r.refusal != 0 {
-        trial::say_refusal(r.refusal);
+        trial::say_refusal(onto, r.refusal);
         return false;
+    }
+    if output < 0 {
+        return true;
     }
     if !records::write(output, pdu) {
         os::fail(onto);
@@ -161,6 +170,7 @@ fn stopped(run: Run, ok: bool) -> Run {
         ok: ok,
         writer: writer,
         window: window,
+        ended: 0,
         packets: run.packets,
         octets: run.octets,
         pdus: run.pdus,
@@ -183,6 +193,7 @@ fn advanced(run: Run, r: Written, before: Window, next: Window, length: usize) -
         ok: true,
         writer: writer,
         window: next,
+        ended: r.ended,
         packets: std::num::wrapping_add_u64(run.packets, r.ended as u64),
         octets: std::num::wrapping_add_u64(run.octets, between(before.from, next.from)),
         pdus: std::num::wrapping_add_u64(run.pdus, 1),

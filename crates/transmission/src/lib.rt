@@ -2,10 +2,8 @@
 pub mod psd;
 
 use settings::Settings;
-use text::Number;
-ghost use Prim.Native.Nat.{_≤_};
 
-// The options that are known.
+// The options of `generate`.
 pub const KNOWN: [u8; 160] =
     *b"in=\0out=\0mode=\0stream=\0crc-start=\0length=\0psd=\0adts\0blend=\0gain=\0common-delay=\0latency=\0class=\0program=\0displacement\0access=\0type=\0services=\0marker=\0force\0help\0";
 
@@ -32,69 +30,40 @@ struct Chosen {
 }
 
 // Whether every option is one that is known, with its value, and packets and PSD are not both on standard input; if not, says what is wrong.
-pub fn check() -> bool {
-    if !options::check(b"barzhilup generate", &KNOWN) {
-        return false;
-    }
-    if is_shared() {
-        files::say(
-            b"barzhilup generate",
-            b": --psd: standard input has the packets\n",
-        );
-        return false;
-    }
-    true
+pub fn check(program: &[u8], known: &[u8]) -> bool {
+    files::check(
+        program,
+        known,
+        b"psd",
+        b"in",
+        b": --psd: standard input has the packets\n",
+    )
 }
 
-// Whether packets and PSD would both be read from standard input.
-fn is_shared() -> bool {
-    if !is_dash(b"psd") {
-        return false;
-    }
-    !given(b"in") | is_dash(b"in")
-}
-
-// Whether an option's value is a dash, for standard input.
-fn is_dash(name: &[u8]) -> bool {
-    let mut value = [0u8; 2];
-    let n = options::value(&KNOWN, name, &mut value);
-    check::same(&value[..n], b"-")
-}
-
-pub fn given(name: &[u8]) -> bool {
-    options::given(&KNOWN, name)
-}
-
-fn number(name: &[u8], default: u32, high: u32) -> Number
-    ensures { λ r. ⌜ r .value ≤ high ⌝ }
-{
-    options::number(b"barzhilup generate", &KNOWN, name, default, 0, high)
-}
-
-fn setting(name: &[u8]) -> Choice {
-    let n = number(name, 0, 255);
+fn setting(program: &[u8], known: &[u8], name: &[u8]) -> Choice {
+    let n = options::number(program, known, name, 0, 0, 255);
     Choice {
         ok: n.ok,
-        given: given(name),
+        given: options::given(known, name),
         value: n.value as u8,
     }
 }
 
 // The settings of every PDU: an expansion field is asked for where an option of it is given.
-fn settings_chosen() -> Chosen {
-    let blend = setting(b"blend");
-    let gain = setting(b"gain");
-    let common = setting(b"common-delay");
-    let latency = setting(b"latency");
-    let class = setting(b"class");
-    let program = setting(b"program");
-    let access = setting(b"access");
-    let ptype = setting(b"type");
-    let services = setting(b"services");
-    let marker = number(b"marker", 0, 4294967295);
+fn settings_chosen(program: &[u8], known: &[u8]) -> Chosen {
+    let blend = setting(program, known, b"blend");
+    let gain = setting(program, known, b"gain");
+    let common = setting(program, known, b"common-delay");
+    let latency = setting(program, known, b"latency");
+    let class = setting(program, known, b"class");
+    let service = setting(program, known, b"program");
+    let access = setting(program, known, b"access");
+    let ptype = setting(program, known, b"type");
+    let services = setting(program, known, b"services");
+    let marker = options::number(program, known, b"marker", 0, 0, 4294967295);
     Chosen {
         ok: (blend.ok & gain.ok & common.ok & latency.ok & class.ok)
-            & (program.ok & access.ok & ptype.ok & services.ok & marker.ok),
+            & (service.ok & access.ok & ptype.ok & services.ok & marker.ok),
         settings: Settings {
             blend: blend.value,
             gain: gain.value,
@@ -102,25 +71,26 @@ fn settings_chosen() -> Chosen {
             latency: latency.value,
             classed: class.given,
             class: class.value,
-            programmed: program.given,
-            program: program.value,
-            displaced: given(b"displacement"),
+            programmed: service.given,
+            program: service.value,
+            displaced: options::given(known, b"displacement"),
             typed: access.given | ptype.given,
             access: access.value,
             ptype: ptype.value,
-            serviced: services.given | given(b"marker"),
+            serviced: services.given | options::given(known, b"marker"),
             services: services.value,
             marker: marker.value,
         },
     }
 }
 
-pub fn asked() -> Transmission {
-    let mode = setting(b"mode");
-    let stream = setting(b"stream");
-    let register = setting(b"crc-start");
-    let length = number(b"length", 1024, 65535);
-    let chosen = settings_chosen();
+// What a program asks for, by the options that it knows.
+pub fn asked(program: &[u8], known: &[u8]) -> Transmission {
+    let mode = setting(program, known, b"mode");
+    let stream = setting(program, known, b"stream");
+    let register = setting(program, known, b"crc-start");
+    let length = options::number(program, known, b"length", 1024, 0, 65535);
+    let chosen = settings_chosen(program, known);
     let settings = chosen.settings;
     Transmission {
         ok: mode.ok & stream.ok & register.ok & length.ok & chosen.ok,
