@@ -94,6 +94,7 @@ input_of() {
         generate) echo packets ;;
         channel | log) echo sent ;;
         coverage) echo log.csv ;;
+        latency) echo counts ;;
     esac
 }
 
@@ -160,7 +161,7 @@ made() {
     ended "$file is whole" 0 "$1"
 }
 
-# Files for all checks: packets, their PDUs, a bad road's, and its log; PDUs of mode 1 that end one packet each.
+# Files for all checks: packets, their PDUs, a bad road's, and its log; PDUs of mode 1 that end one packet each; counts of packets ended in PDUs.
 prepare() {
     local length
     for length in 100 50 1 4096 700 33 2 9 600 5 80 1200; do
@@ -168,6 +169,7 @@ prepare() {
         frame $((length + 7)) >>dump
     done >packets
     printf 'Song by Singer' >psd
+    printf '%s\n' 30 33 31 34 32 >counts
     : >empty
     record 100 >one
     records 8 79 >eight

@@ -15,8 +15,8 @@ if [ ! -x "$program" ]; then
     exit 1
 fi
 program=$(readlink -f "$program")
-subs=(generate channel log coverage)
-for part in harness usage files generate log marks registers coverage; do
+subs=(generate channel log coverage latency)
+for part in harness usage files generate log marks registers coverage latency; do
     # shellcheck source=/dev/null
     . "$here/$part.sh"
 done
@@ -83,6 +83,17 @@ check_totals drive.csv
 check_wrong_crcs
 check_no_pdus
 check_picture
+check_latency_table
+check_latency_values
+check_latency_random
+check_latency_text
+check_latency_strange
+check_latency_refused
+check_latency_option
+check_latency_packets
+check_latency_packets_refused
+check_latency_picture
+check_latency_made
 check_cuts
 check_cut_files
 check_full_devices

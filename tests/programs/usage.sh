@@ -48,7 +48,7 @@ check_subcommands() {
 said_of_subcommand() {
     same "$1, exit status" 2 "$status"
     same "$1" "$2
-usage: barzhilup generate|channel|log|coverage [OPTION]...
+usage: barzhilup generate|channel|log|coverage|latency [OPTION]...
 try 'barzhilup --help'" "$(cat err)"
     same "$1 writes nothing" "" "$(cat out)"
 }
@@ -87,8 +87,9 @@ check_help_again() {
 # A value that an option takes.
 right_value() {
     case $2 in
-        in | out | psd | marks | title) echo value ;;
+        in | out | psd | marks | svg | title) echo value ;;
         format) echo csv ;;
+        counts) echo 3 ;;
         *) range_of "$1" "$2" | cut -d ' ' -f 1 ;;
     esac
 }

@@ -4,8 +4,8 @@ use crate::columns::Bench;
 use latency::Trial;
 ghost use Rattle.io.specs.Counts.{Counts};
 
-// From the first tag to the line under the title. Classes: a and b the most and the fewest packets that wait, d dry ticks, s their ground, v lines,
-// h the title, t words, q and e words that end at their place.
+// From the first tag to the ground of the columns. Classes: a and b the most and the fewest packets that wait, d dry ticks, s the ground, p that of
+// the ticks that take nothing, h the title, t words, q words that end at their place.
 fn put_head(out: &mut [u8], b: Bench, pdus: u64, trial: Trial) -> usize {
     text::fill(
         out,
@@ -13,8 +13,8 @@ fn put_head(out: &mut [u8], b: Bench, pdus: u64, trial: Trial) -> usize {
         b"<svg xmlns=\"http://www.w3.org/2000/svg\" viewBox=\"0 0 736 324\" width=\"736\" height=\"324\" font-family=\"sans-serif\" font-size=\"10\">
 <title>Packets waiting, latency @</title>
 <style>
-.a{fill:#9cbbe0}.b{fill:#4a78b5}.d{fill:#c00018}.s{fill:#f0f0f0}.v{stroke:#222;stroke-dasharray:3 2;fill:none;vector-effect:non-scaling-stroke}
-.h{fill:#222;font-weight:bold;font-size:20px}.t{fill:#222}.q{fill:#444;text-anchor:end}.e{fill:#444;text-anchor:middle}
+.a{fill:#9cbbe0}.b{fill:#4a78b5}.d{fill:#c00018}.s{fill:#f0f0f0}.p{fill:#f5dfa8}
+.h{fill:#222;font-weight:bold;font-size:20px}.t{fill:#222}.q{fill:#444;text-anchor:end}
 </style>
 <rect width=\"736\" height=\"324\" fill=\"#fff\"/>
 <text class=\"h\" x=\"64\" y=\"36\">Packets waiting, latency @</text>
@@ -60,21 +60,23 @@ fn put_steps(out: &mut [u8], at: usize, height: u64, row: &[u32]) -> usize {
     n
 }
 
-// The columns of two rows, one before the other, and a line at a column, in a view that has a unit for each column and each packet.
+// The columns of two rows, one before the other, and before both the ground of the first ones, which take nothing: in a view that has a unit for
+// each column and each packet.
 fn put_columns(
     out: &mut [u8],
     at: usize,
     height: u64,
     most: &[u32],
     least: &[u32],
-    line: u64,
+    early: u64,
 ) -> usize {
     let mut n = text::fill(
         out,
         at,
         b"<svg x=\"64\" y=\"72\" width=\"648\" height=\"180\" viewBox=\"0 0 @ @\" preserveAspectRatio=\"none\">
+<path class=\"p\" d=\"M0 0H@V@H0z\"/>
 <path class=\"a\" d=\"M0 @",
-        &[most.len() as u64, height, height],
+        &[most.len() as u64, height, early, height, height],
     );
     n = put_steps(out, n, height, most);
     n = text::fill(
@@ -84,12 +86,7 @@ fn put_columns(
         &[height, height],
     );
     n = put_steps(out, n, height, least);
-    text::fill(
-        out,
-        n,
-        b"V@z\"/>\n<path class=\"v\" d=\"M@ 0V@\"/>\n</svg>\n",
-        &[height, line, height],
-    )
+    text::fill(out, n, b"V@z\"/>\n</svg>\n", &[height])
 }
 
 // A mark in a column, if a tick in it is dry.
@@ -147,12 +144,12 @@ fn put_legend(out: &mut [u8], at: usize, b: Bench, trial: Trial) -> usize
 <text class=\"q\" x=\"712\" y=\"281\">tick @</text>
 <rect class=\"a\" x=\"64\" y=\"295\" width=\"9\" height=\"9\"/>
 <text class=\"t\" x=\"78\" y=\"303\">most waiting in a column (ticks: @)</text>
-<rect class=\"b\" x=\"248\" y=\"295\" width=\"9\" height=\"9\"/>
-<text class=\"t\" x=\"262\" y=\"303\">fewest waiting in it</text>
-<rect class=\"d\" x=\"372\" y=\"295\" width=\"9\" height=\"9\"/>
-<text class=\"t\" x=\"386\" y=\"303\">a dry tick in it</text>
-<path class=\"v\" d=\"M484 293V307\"/>
-<text class=\"t\" x=\"492\" y=\"303\">the first tick that takes a packet, @</text>
+<rect class=\"b\" x=\"280\" y=\"295\" width=\"9\" height=\"9\"/>
+<text class=\"t\" x=\"294\" y=\"303\">fewest waiting in it</text>
+<rect class=\"d\" x=\"408\" y=\"295\" width=\"9\" height=\"9\"/>
+<text class=\"t\" x=\"422\" y=\"303\">a dry tick in it</text>
+<rect class=\"p\" x=\"514\" y=\"295\" width=\"9\" height=\"9\"/>
+<text class=\"t\" x=\"528\" y=\"303\">nothing taken before tick @</text>
 </svg>
 ",
         &[

@@ -10,43 +10,8 @@ pub const NAME: [u8; 17] = *b"barzhilup latency";
 pub const KNOWN: [u8; 187] =
     *b"in=\0counts=\0packets\0out=\0svg=\0draw=\0force\0help\0mode=\0stream=\0adts\0length=\0psd=\0crc-start=\0blend=\0gain=\0common-delay=\0latency=\0class=\0program=\0displacement\0access=\0type=\0services=\0marker=\0";
 
-// Those that make a difference for packets only, and how many they are.
-const PACKING: [u8; 113] =
-    *b"adts\0length\0psd\0crc-start\0blend\0gain\0common-delay\0latency\0class\0program\0displacement\0access\0type\0services\0marker\0";
-
-const PACKINGS: u32 = 15;
-
 pub fn given(name: &[u8]) -> bool {
     options::given(&KNOWN, name)
-}
-
-// Whether an option that another one needs is given without it; says so.
-fn lacks(name: &[u8], other: &[u8], words: &[u8]) -> bool {
-    if !given(name) | given(other) {
-        return false;
-    }
-    let mut label = [0u8; 128];
-    let mut n = text::put(&mut label, 0, &NAME);
-    n = text::put(&mut label, n, b": --");
-    n = text::put(&mut label, n, name);
-    files::say(&label[..n], words);
-    true
-}
-
-// Whether an option for packing is given without packets; says so for each.
-fn packs_nothing() -> bool {
-    let mut wrong = false;
-    let mut k: u32 = 0;
-    while k < PACKINGS {
-        wrong = lacks(
-            text::entry(&PACKING, k),
-            b"packets",
-            b": is for --packets only\n",
-        )
-            | wrong;
-        k += 1;
-    }
-    wrong
 }
 
 // Whether counts are given twice; says so.
@@ -78,9 +43,7 @@ pub fn check() -> bool {
     ) {
         return false;
     }
-    let twofold = is_twofold();
-    let lacking = lacks(b"draw", b"svg", b": is for --svg only\n");
-    !packs_nothing() & !twofold & !lacking
+    !is_twofold()
 }
 
 // The latency that is to be drawn, if one is given.
