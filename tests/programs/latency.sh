@@ -172,7 +172,7 @@ check_latency_text() {
 check_latency_strange() {
     local line text
     while IFS='|' read -r line text; do
-        printf "$text" >some
+        printf '%b' "$text" >some
         stops "barzhilup latency: some: line $line: not counts with blanks between them" latency --in some --out new --svg new.svg
         there "counts that are none" no new
         there "counts that are none" no new.svg
@@ -183,10 +183,10 @@ check_latency_strange() {
 1|3.5
 1|+3
 1|0x3
-2|3\\n5a\\n
-3|3\\n\\n# five\\n
-1|\\x00
-1|\\xef\\xbb\\xbf3
+2|3\n5a\n
+3|3\n\n# five\n
+1|\x00
+1|\xef\xbb\xbf3
 LINES
     stops "barzhilup latency: packets: line 1: not counts with blanks between them" latency --in packets
     stops "barzhilup latency: folder: Is a directory" latency --in folder
@@ -250,7 +250,7 @@ check_latency_packets() {
         run generate --in packets --length "$length" $options
         ended "generate --length $length $options" 0 generate
         ended_in out "$length" >some
-        run latency --in some $(grep -o -- '--\(mode\|stream\) [0-9]*' <<<"$options")
+        run latency --in some $(grep -o -- '--\(mode\|stream\) [0-9]*' <<<"$options" || true)
         cp out wanted
         cp err wanted.err
         run latency --packets --in packets --length "$length" $options
@@ -315,7 +315,7 @@ check_latency_picture() {
             "$(sed -n 's/^<path class="a" d="\(.*\)".*/\1/p' out)"
         same "latency $v, the fewest are the same where a column is a tick" "$(sed -n 's/^<path class="a" d="\(.*\)".*/\1/p' out)" \
             "$(sed -n 's/^<path class="b" d="\(.*\)".*/\1/p' out)"
-        same "latency $v, a mark for each dry tick" "$(bench 4 "$v" "${counts[@]}" | cut -d ' ' -f 1)" "$(sed -n 's/^<path class="d" d="\(.*\)".*/\1/p' out | grep -o M | wc -l)"
+        same "latency $v, a mark for each dry tick" "$(bench 4 "$v" "${counts[@]}" | cut -d ' ' -f 1)" "$(sed -n 's/^<path class="d" d="\(.*\)".*/\1/p' out | tr -cd M | wc -c)"
         has_line "latency $v, the title" "<title>Packets waiting, latency $v</title>" out
     done
     check_latency_drawn
@@ -352,7 +352,7 @@ check_latency_long_picture() {
     same "a long run, the fewest in a column" "$(awk '{ if (NR % 15 == 1 || $1 < least) least = $1; if (NR % 15 == 0 || NR == 9600) print least }' waits)" \
         "$(sed -n 's/^<path class="b" d="M0 [0-9]*\(.*\)V[0-9]*z".*/\1/p' out | sed 's/V\([0-9]*\)h1/\1\n/g' | awk -v most="$(sort -n waits | tail -n 1)" 'NF { print most - $1 }')"
     same "a long run, columns with a dry tick" "$(awk 'NR > 4 && $1 == 0 { print int((NR - 1) / 15) }' waits | uniq | wc -l)" \
-        "$(sed -n 's/^<path class="d" d="\(.*\)".*/\1/p' out | grep -o M | wc -l)"
+        "$(sed -n 's/^<path class="d" d="\(.*\)".*/\1/p' out | tr -cd M | wc -c)"
     head -c 8192 /dev/zero | tr '\0' '9' | sed 's/\(.\)./\1 /g' >some
     run latency --in some --out new --svg - --draw 0
     rm new
