@@ -121,9 +121,9 @@ extern "C" {
 /* The PDU sequence is outside its mode's range. */
 #define BARZHILUP_REFUSED_SEQUENCE 7
 
-/* Pfirst or Plast is set with NOP 0. Any count of pieces is read: one for which
- * the PDU is too short is refused with BARZHILUP_REFUSED_LA. (Document 02, Ask
- * 9.) */
+/* Pfirst or Plast is set with NOP 0. Any count of pieces is read: one whose
+ * locators go past La, or past the PDU's end, is refused with
+ * BARZHILUP_REFUSED_LA. (Document 02, Ask 9.) */
 #define BARZHILUP_REFUSED_PIECES 8
 
 /* La is before the last locator byte, or not below the length. Judged before any
