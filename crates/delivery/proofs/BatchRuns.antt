@@ -61,7 +61,7 @@ asked-of first count steps t = record { opens = opens; sized = packets-right; of
 
 -- the two are taken
 two-taken : answerOf fresh (batch (map length two) (joined two) long) .refusal ≡ 0
-two-taken = delivers 0 0 0 three six 0 2 carry (batches two long ∷ []) (asked-of 0 2 (batches two long ∷ []) (in-one defined fresh two long (usable 0 2) (let n = two-are in let l = long-is in omega (arith, n, l)))) .accepted .0
+two-taken = delivers 0 0 0 three six 0 2 carry (batches two long ∷ []) (asked-of 0 2 (batches two long ∷ []) (in-one defined fresh two long (usable 0 2) (let n = two-are in let l = long-is in omega (arith, n, l)))) .accepted .0 .0
 
 -- a PDU of no bytes is refused
 module _ (x : Station) (log : List ℕ) where

@@ -1,7 +1,7 @@
 -- Document 02, Ask 1: what its PDUs' calls do, one after another, a batch does; and the calls of a run, batches among them, as a machine that hands over
 -- PDUs (runs/specs/Calls.antt).
 use mathlib.Core.Path.{_≡_, refl, sym, ap, ap₂, subst, _∙_}
-use mathlib.Core.Bool.{Bool, true, false, not, cond}
+use mathlib.Core.Bool.{Bool, true, false, not, _||_, cond}
 use mathlib.Core.List.{List, [], _∷_, _++_, map, append-assoc, append-nil}
 use Prim.Native.Nat.{ℕ, zero, suc, _+_, _*_, _<_, _≤_}
 use native.Mathlib.Omega.{arith}
@@ -28,7 +28,7 @@ use Rattle.batch.proofs.OneByOne.{followed-none, followed-twice, next-taken, fi
 use Rattle.runs.specs.Transmissions.{Way, gone, here}
 use Rattle.runs.specs.Calls.{Speech, heard, Matching, Machine, Serves, Bridge, Step as Part, handed, waysOf, Through as Goes, logsFrom as logsOf, finally, AllGood}
 use Rattle.runs.proofs.General.{Served, serve}
-use Rattle.delivery.specs.Delivery.{joined, Station, Call, receive, batch, markLost, answerOf, logOf, defined, stationAfter, RefusedAfter, loggedBy}
+use Rattle.delivery.specs.Delivery.{joined, Station, Call, receive, batch, markLost, answerOf, logOf, defined, stationAfter, RefusedAfter, logCounts, loggedBy}
 use Rattle.delivery.specs.Copies.{Copy, causesFor}
 use Rattle.delivery.specs.Channel.{Came, pdusIn, Step, receives, batches, stops, loses, refuses, callOf, NotRefused}
 use Rattle.delivery.proofs.Serving.{Shows}
@@ -59,12 +59,15 @@ module _ (x : Station) (lengths pdus log : List ℕ) where
       → result .log ≡ words ++ left → (n ≡ 0 → words ≡ []) → Does y words
   does y n words left er ec et ew el z = record {
     station = ap₂ (λ (r : Receiver) (c : List ℕ). record { receiver = r; carry = c }) er ec;
-    logs = ap (λ (k : ℕ). cond (eqb k 0) [] (take (result .answer .words) (result .log))) et ∙ ap₂ (λ (k : ℕ) (l : List ℕ). cond (eqb n 0) [] (take k l)) ew el ∙ go (eqb n 0) refl;
+    logs = ap₂ (λ (k : ℕ) (l : List ℕ). cond (logCounts defined x (batch lengths pdus log)) (take k l) []) ew el
+        ∙ ap (λ (l : List ℕ). cond (logCounts defined x (batch lengths pdus log)) l []) (take-at words left (length words) refl)
+        ∙ go (eqb (result .answer .refusal) 0) (eqb (result .answer .taken) 0) refl;
   }
     where
-      go : (b : Bool) → eqb n 0 ≡ b → cond (eqb n 0) [] (take (length words) (words ++ left)) ≡ words
-      go true e = rw e (sym (z (eqb-true n 0 e)))
-      go false e = rw e (take-at words left (length words) refl)
+      go : (a b : Bool) → eqb (result .answer .taken) 0 ≡ b → cond (a || not b) words [] ≡ words
+      go true b e = refl
+      go false true e = sym (z (sym et ∙ eqb-true (result .answer .taken) 0 e))
+      go false false e = refl
 
 -- the lengths of PDUs sum to the PDUs joined
 lengths-sum : (qs : List (List ℕ)) → total (map length qs) ≡ length (joined qs)
@@ -198,15 +201,15 @@ module _ (mode stream register : ℕ) (m : Mode) (l : listing mode stream ≡ Li
           let t : eqb (batchNumber lengths (x .carry) (joined (pdusIn cs)) log (x .receiver)) 0 ≡ true = eq-eqb (batchNumber lengths (x .carry) (joined (pdusIn cs)) log (x .receiver)) 0 right-number in
           rw t (ap₂ (λ (ns ps : List ℕ). oneByOne ns (x .receiver) (x .carry) ps log) (sym (append-nil lengths)) (sym (append-nil (joined (pdusIn cs)))) ∙ all .is)
 
-      batch-taken : answerOf x (batch lengths (joined (pdusIn cs)) log) .refusal ≡ 0
-      batch-taken = ap (λ (u : Result). u .answer .refusal) ends
+      batch-taken : (answerOf x (batch lengths (joined (pdusIn cs)) log) .refusal ≡ 0) × (answerOf x (batch lengths (joined (pdusIn cs)) log) .taken ≡ length cs)
+      batch-taken = (ap (λ (u : Result). u .answer .refusal) ends, ap (λ (u : Result). u .answer .taken) ends ∙ add-zero (length cs))
 
       batch-does : Does x lengths (joined (pdusIn cs)) log end words
       batch-does =
           does x lengths (joined (pdusIn cs)) log end (length cs) words (logLeft x log cs)
           (ap (λ (u : Result). u .answer .receiver) ends)
           (ap (λ (u : Result). u .carry) ends)
-          (ap (λ (u : Result). u .answer .taken) ends ∙ add-zero (length cs))
+          (batch-taken .1)
           (ap (λ (u : Result). u .answer .words) ends ∙ add-zero (length words))
           (ap (λ (u : Result). u .log) ends)
           (λ e. none-none cs e .0)

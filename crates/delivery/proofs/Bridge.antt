@@ -1,11 +1,11 @@
 -- The receiver's calls as a machine that hands over PDUs of a run (runs/specs/Calls.antt): what each kind of call has to prove.
 use mathlib.Core.Path.{_≡_, refl, sym, ap, ap₂, subst, _∙_}
-use mathlib.Core.Bool.{Bool, true, false, _||_, cond}
+use mathlib.Core.Bool.{Bool, true, false, not, _||_, cond}
 use mathlib.Core.List.{List, [], _∷_, _++_}
 use Prim.Native.Nat.{ℕ, zero, suc, _+_, _<_, _≤_}
 use native.Mathlib.Omega.{arith}
 use lib.Dec.{eqb}
-use borrow.Author.Tests.{eq-eqb}
+use borrow.Author.Tests.{eq-eqb, ne-eqb}
 use lib.ListN.{length, take, drop, take-append-drop}
 use Rattle.header.proofs.Unique.{all-bytes}
 use Rattle.modes.specs.Modes.{listing}
@@ -31,7 +31,7 @@ use Rattle.runs.specs.Calls.{Speech, heard, Matching, Machine, Serves, Bridge}
 use Rattle.runs.proofs.Bridges.{serves-one, serves-none}
 use Rattle.batch.proofs.Single.{kept}
 use Rattle.batch.proofs.OneByOne.{none-taken}
-use Rattle.delivery.specs.Delivery.{Station, Call, receive, batch, markLost, answerOf, stationAfter, RefusedAfter, loggedBy, defined, HeaderAltered}
+use Rattle.delivery.specs.Delivery.{Station, Call, receive, batch, markLost, answerOf, stationAfter, takenBy, RefusedAfter, loggedBy, defined, HeaderAltered}
 use Rattle.delivery.specs.Copies.{frontLength, restored, bytesAt, crcAt, Copy, causesFor}
 use Rattle.delivery.specs.Pairs.{pairSaid}
 use Rattle.delivery.proofs.Pairs.{pair-heard, pair-sane}
@@ -58,7 +58,10 @@ station-kept x (markLost log) h =
     (kept-by (eqb (lostNumber log (x .receiver)) 0) (lostNumber log (x .receiver)) _ (x .receiver) 0 refl refl (h .0))
 
 nothing-logged : (x : Station) (c : Call) → RefusedAfter defined 0 x c → loggedBy defined x c ≡ []
-nothing-logged x c h = let e : eqb (answerOf x c .taken) 0 ≡ true = eq-eqb (answerOf x c .taken) 0 (h .1) in rw e
+nothing-logged x c h =
+    let r : eqb (answerOf x c .refusal) 0 ≡ false = ne-eqb (answerOf x c .refusal) 0 (h .0) in
+    let e : eqb (takenBy defined x c) 0 ≡ true = eq-eqb (takenBy defined x c) 0 (h .1) in
+    rw (r, e)
 
 -- ---- the machine
 

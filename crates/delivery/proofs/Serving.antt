@@ -28,8 +28,12 @@ use Rattle.receiver.specs.declared.Receiver.{Receiver}
 use Rattle.receiver.specs.declared.Received.{Received}
 use Rattle.refusal.proofs.Rows.{past, row-off, rest-off}
 use Rattle.receiver.proofs.Enough.{firstTwelve, most}
-use Rattle.delivery.specs.Delivery.{Station, Call, receive, markLost, ofOne, answerOf, stationAfter, loggedBy, defined}
+use Rattle.delivery.specs.Delivery.{Station, Call, receive, markLost, Answer, ofOne, answerOf, stationAfter, loggedBy, defined}
 use Rattle.delivery.proofs.Made.{Heard}
+
+-- what is logged by a call that receives a PDU or marks it lost, by its answer and the log after it
+abbrev pub loggedAlone : Answer → List ℕ → List ℕ
+loggedAlone a log = cond (eqb (a .refusal) 0 || not (eqb (cond (eqb (a .refusal) 0) 1 0) 0)) (take (a .words) log) []
 
 -- ---- what is remembered is what is put down
 
@@ -168,7 +172,7 @@ module _ (mode stream register : ℕ) (m : Mode) (l : listing mode stream ≡ Li
 
     pub receive-logged : loggedBy defined x (receive marks q log) ≡ logWords (received (m .sequences) y d .entries)
     receive-logged =
-        ap₂ (λ (a : Received) (w : List ℕ). cond (eqb (ofOne a .taken) 0) [] (take (a .words) w)) answer-is log-is
+        ap₂ (λ (a : Received) (w : List ℕ). loggedAlone (ofOne a) w) answer-is log-is
         ∙ take-put log (receivedWords marks carry q log r)
         ∙ words-are
 
@@ -208,7 +212,7 @@ module _ (mode stream register : ℕ) (m : Mode) (l : listing mode stream ≡ Li
 
     pub lost-logged : loggedBy defined x (markLost log) ≡ logWords lostEntries
     lost-logged =
-        ap₂ (λ (a : Received) (w : List ℕ). cond (eqb (ofOne a .taken) 0) [] (take (a .words) w)) lost-answer lost-log
+        ap₂ (λ (a : Received) (w : List ℕ). loggedAlone (ofOne a) w) lost-answer lost-log
         ∙ take-put log (logWords lostEntries)
 
     pub lost-shows : Shows (stationAfter defined x (markLost log)) forgotten

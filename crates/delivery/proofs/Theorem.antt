@@ -11,7 +11,7 @@ use Rattle.pdu.specs.Reading.{modeIn}
 use Rattle.writer.specs.Writing.{opened as writerOpened}
 use Rattle.runs.specs.Model.{Fate, lose, read, Mark}
 use Rattle.runs.specs.Spans.{Span, lies, wholePackets as wholeByMarks}
-use Rattle.delivery.specs.Delivery.{Packets, joined, Writing, Station, Call, receive, batch, markLost, answerOf, defined, freshStation, stationAfter, loggedBy, AllAltered, Step, receives, batches, stops, loses, refuses, callOf, RefusedAfter, Through, receptions, inReceived, wholePackets, logsFrom, NotRefused, NoneRefused, runOf, made as madeBy, spans as spansOf, arrived, Asked, Delivered, Demand3}
+use Rattle.delivery.specs.Delivery.{Packets, joined, Writing, Station, Call, receive, batch, markLost, answerOf, defined, freshStation, stationAfter, loggedBy, AllAltered, Step, receives, batches, stops, loses, refuses, callOf, takenBy, RefusedAfter, Through, receptions, inReceived, wholePackets, logsFrom, NotRefused, NoneRefused, runOf, made as madeBy, spans as spansOf, arrived, Asked, Delivered, Demand3}
 use Rattle.delivery.specs.Channel.{Came, pdusIn, Step as ChannelStep, receives as takes, batches as takesAll, stops as takesSome, loses as misses, refuses as declines, callOf as channelCall, AllCopies, Through as Goes, fatesIn, fates, logsFrom as channelLogs, NotRefused as ChannelTakes, NoneRefused as ChannelAccepted}
 use Rattle.delivery.proofs.Made.{sized-of}
 use Rattle.delivery.proofs.Bridge.{altered-copy}
@@ -84,7 +84,7 @@ same-logs (s ∷ ss) x =
 
 not-refused : (s : Step) (x : Station) → ChannelTakes x (over s) → NotRefused defined x s
 not-refused (receives n q log) x a = a
-not-refused (batches qs log) x a = subst (λ (c : Call). answerOf x c .refusal ≡ 0) (same-call (batches qs log)) a
+not-refused (batches qs log) x a = subst₂ (λ (c : Call) (n : ℕ). (answerOf x c .refusal ≡ 0) × (takenBy defined x c ≡ n)) (same-call (batches qs log)) (same-count qs) a
 not-refused (stops qs ls bytes log) x a = tt
 not-refused (loses log) x a = a
 not-refused (refuses c) x a = tt

@@ -1,6 +1,6 @@
 -- Demand 3 is false of wrong receivers: for each, small calls for which the claim asks for other packets than it logs.
 use mathlib.Core.Path.{_≡_, refl, sym, ap, ap₂, subst, _∙_}
-use mathlib.Core.Bool.{Bool, true, false, cond}
+use mathlib.Core.Bool.{Bool, true, false, not, _||_, cond}
 use mathlib.Core.List.{List, [], _∷_, _++_, map, append-nil}
 use Prim.Native.Nat.{ℕ, zero, suc, _<_, _≤_}
 use native.Mathlib.Omega.{arith}
@@ -26,8 +26,9 @@ use Rattle.writer.specs.declared.Writer.{Writer}
 use Rattle.receiver.specs.Receiving.{opened as receiverOpened, remembering, refusedAnswer, receiveNumber, receiveAnswer, lostNumber, lostAnswer, logAfterLost}
 use Rattle.receiver.specs.declared.Receiver.{Receiver}
 use Rattle.runs.specs.Spans.{Span}
-use Rattle.delivery.specs.Delivery.{Packets, Writing, bufferAfter, pdusFrom, spansFrom, InOrder, Behaviour, Station, Call, receive, markLost, answerOf, carryOf, logOf, defined, Step, callOf, receives, loses, receptions, freshStation, stationAfter, NoneRefused, loggedBy, logsFrom, inReceived, wholePackets, runOf, made, spans, arrived, Asked, Delivered, Demand3For}
-use Rattle.delivery.specs.WrongReceivers.{withWords, lentLog, silent, untouched, fixedWords, fixed, advancing, joining}
+use Rattle.delivery.specs.Delivery.{Packets, Writing, bufferAfter, pdusFrom, spansFrom, InOrder, Behaviour, Answer, Station, Call, receive, markLost, answerOf, carryOf, logOf, defined, Step, callOf, receives, loses, receptions, freshStation, stationAfter, NoneRefused, logCounts, loggedBy, logsFrom, inReceived, wholePackets, runOf, made, spans, arrived, Asked, Delivered, Demand3For}
+use Rattle.delivery.specs.WrongReceivers.{withWords, lentLog, silent, untouched, fixedWords, fixed, inventing, advancing, joining}
+use Rattle.delivery.proofs.Serving.{loggedAlone}
 use Rattle.delivery.proofs.Possible.{words, asSent, stepsFor, possible}
 use Rattle.delivery.proofs.Theorem.{delivers}
 use Rattle.delivery.proofs.SmallRuns.{three, six, offering, opens, packets-right, in-order, carry, carry-room, calls, run-length, told, askedFor, asked-is, bytes-same}
@@ -60,14 +61,14 @@ module _ (b : Behaviour) (claim : Demand3For b) where
 
 -- ---- an empty log for everything
 
-nothing-counted : (b : Bool) (l : List ℕ) → cond b [] (take 0 l) ≡ []
+nothing-counted : (b : Bool) (l : List ℕ) → cond b (take 0 l) [] ≡ []
 nothing-counted true l = refl
 nothing-counted false l = refl
 
 nothing-logged : (ss : List Step) (x : Station) → logsFrom silent x ss ≡ []
 nothing-logged [] x = refl
 nothing-logged (s ∷ ss) x =
-    ap₂ (λ (l m : List ℕ). l ++ m) (nothing-counted (eqb (answerOf x (callOf s) .taken) 0) (lentLog (callOf s))) (nothing-logged ss (stationAfter silent x (callOf s)))
+    ap₂ (λ (l m : List ℕ). l ++ m) (nothing-counted (logCounts silent x (callOf s)) (lentLog (callOf s))) (nothing-logged ss (stationAfter silent x (callOf s)))
 
 pub silent-wrong : ¬ Demand3For silent
 unfolding packetWordsAfter
@@ -91,19 +92,19 @@ zeros-take zero m = tt
 zeros-take (suc n) zero = tt
 zeros-take (suc n) (suc m) = (refl, zeros-take n m)
 
-zeros-if : (b : Bool) (l : List ℕ) → Zeros l → Zeros (cond b [] l)
-zeros-if true l h = tt
-zeros-if false l h = h
+zeros-if : (b : Bool) (l : List ℕ) → Zeros l → Zeros (cond b l [])
+zeros-if true l h = h
+zeros-if false l h = tt
 
 zeros-logged : (pdus : List (List ℕ)) (bs : List Bool) (x : Station) → Zeros (logsFrom untouched x (stepsFor [] asSent [] pdus bs))
 unfolding stepsFor
 zeros-logged [] bs x = tt
 zeros-logged (p ∷ ps) [] x =
-    zeros-append (loggedBy untouched x (markLost words)) _ (zeros-if (eqb (answerOf x (markLost words) .taken) 0) _ (zeros-take (answerOf x (markLost words) .words) 8400)) (zeros-logged ps [] (stationAfter untouched x (markLost words)))
+    zeros-append (loggedBy untouched x (markLost words)) _ (zeros-if (logCounts untouched x (markLost words)) _ (zeros-take (answerOf x (markLost words) .words) 8400)) (zeros-logged ps [] (stationAfter untouched x (markLost words)))
 zeros-logged (p ∷ ps) (true ∷ bs) x =
-    zeros-append (loggedBy untouched x (receive [] p words)) _ (zeros-if (eqb (answerOf x (receive [] p words) .taken) 0) _ (zeros-take (answerOf x (receive [] p words) .words) 8400)) (zeros-logged ps bs (stationAfter untouched x (receive [] p words)))
+    zeros-append (loggedBy untouched x (receive [] p words)) _ (zeros-if (logCounts untouched x (receive [] p words)) _ (zeros-take (answerOf x (receive [] p words) .words) 8400)) (zeros-logged ps bs (stationAfter untouched x (receive [] p words)))
 zeros-logged (p ∷ ps) (false ∷ bs) x =
-    zeros-append (loggedBy untouched x (markLost words)) _ (zeros-if (eqb (answerOf x (markLost words) .taken) 0) _ (zeros-take (answerOf x (markLost words) .words) 8400)) (zeros-logged ps bs (stationAfter untouched x (markLost words)))
+    zeros-append (loggedBy untouched x (markLost words)) _ (zeros-if (logCounts untouched x (markLost words)) _ (zeros-take (answerOf x (markLost words) .words) 8400)) (zeros-logged ps bs (stationAfter untouched x (markLost words)))
 
 zeros-first : (l : List ℕ) → Zeros l → getD (packetWords l) 0 0 ≡ 0
 unfolding packetWordsAfter
@@ -116,25 +117,47 @@ untouched-wrong claim =
     let h : _≡_ {A = ℕ} 0 20 = sym (zeros-first (logsFrom untouched (freshStation untouched 0 0 0 carry) (calls 0 5 all)) z) ∙ ap (λ (l : List ℕ). getD l 0 0) (all-logged untouched claim) ∙ all-words .1 in
     absurd (omega (arith, h))
 
--- ---- one fixed packet for every PDU received: of the second PDU alone, none is asked for
+-- ---- one fixed packet for every PDU received, or for every one marked lost: of the second PDU alone, none is asked for
 
-pub fixed-wrong : (number : ℕ) (bytes : List ℕ) → Fit (packet number bytes) → ¬ Demand3For (fixed number bytes)
-unfolding stepsFor logWords entryWords packetsOf
-fixed-wrong number bytes fits claim =
-    go (runOf 1 1 (made 0 0 0 six)) (run-length 1 1 1 refl) (claimed defined delivers 1 1 (true ∷ []) .accepted) (claimed (fixed number bytes) claim 1 1 (true ∷ []) .log ∙ ap (askedFor 1 1) (told 1 1 (true ∷ []) refl) ∙ second-asked)
-  where
-    go : (pdus : List (List ℕ)) → length pdus ≡ 1 → NoneRefused defined (freshStation defined 0 0 0 carry) (stepsFor [] asSent [] pdus (true ∷ []))
-        → ¬ (packetWords (logsFrom (fixed number bytes) (freshStation defined 0 0 0 carry) (stepsFor [] asSent [] pdus (true ∷ []))) ≡ [])
-    go [] n a e = absurd (omega (arith, n))
-    go (p ∷ q ∷ ps) n a e = absurd (omega (arith, n))
-    go (p ∷ []) n a e =
-        let w : List ℕ = fixedWords number bytes in
-        let t : eqb (answerOf (freshStation defined 0 0 0 carry) (receive [] p words) .refusal) 0 ≡ true = eq-eqb _ 0 (a .0) in
-        let l : logsFrom (fixed number bytes) (freshStation defined 0 0 0 carry) (receives [] p words ∷ []) ≡ w ++ [] =
-        ap (λ (b : Bool). cond (eqb (cond b 1 0) 0) [] (take (length w) (putAt words 0 w)) ++ []) t ∙ ap (λ (l : List ℕ). l ++ []) (take-put words w) in
-        let h : w ≡ [] = sym (packet-words false (packet number bytes ∷ []) (fits, tt)) ∙ ap packetWords (sym (append-nil w)) ∙ ap packetWords (sym l) ∙ e in
-        let z : _≡_ {A = ℕ} (length w) 0 = ap length h in
-        absurd (omega (arith, z))
+second-lost : askedFor 1 1 (false ∷ []) ≡ []
+unfolding wholePackets logWords
+second-lost = asked-is 1 1 (false ∷ []) [] refl
+
+module _ (number : ℕ) (bytes : List ℕ) (fits : Fit (packet number bytes)) where
+  -- an accepted call that counts its words logs the packet
+  one-logged : (a : Answer) → a .refusal ≡ 0 → ¬ (packetWords (loggedAlone (withWords (length (fixedWords number bytes)) a) (putAt words 0 (fixedWords number bytes)) ++ []) ≡ [])
+  unfolding logWords entryWords packetsOf
+  one-logged a r e =
+      let w : List ℕ = fixedWords number bytes in
+      let t : eqb (a .refusal) 0 ≡ true = eq-eqb (a .refusal) 0 r in
+      let l : loggedAlone (withWords (length w) a) (putAt words 0 w) ++ [] ≡ w ++ [] =
+      ap (λ (b : Bool). cond (b || not (eqb (cond b 1 0) 0)) (take (length w) (putAt words 0 w)) [] ++ []) t ∙ ap (λ (l : List ℕ). l ++ []) (take-put words w) in
+      let h : w ≡ [] = sym (packet-words false (packet number bytes ∷ []) (fits, tt)) ∙ ap packetWords (sym (append-nil w)) ∙ ap packetWords (sym l) ∙ e in
+      let z : _≡_ {A = ℕ} (length w) 0 = ap length h in
+      absurd (omega (arith, z))
+
+  pub fixed-wrong : ¬ Demand3For (fixed number bytes)
+  unfolding stepsFor
+  fixed-wrong claim =
+      go (runOf 1 1 (made 0 0 0 six)) (run-length 1 1 1 refl) (claimed defined delivers 1 1 (true ∷ []) .accepted) (claimed (fixed number bytes) claim 1 1 (true ∷ []) .log ∙ ap (askedFor 1 1) (told 1 1 (true ∷ []) refl) ∙ second-asked)
+    where
+      go : (pdus : List (List ℕ)) → length pdus ≡ 1 → NoneRefused defined (freshStation defined 0 0 0 carry) (stepsFor [] asSent [] pdus (true ∷ []))
+          → ¬ (packetWords (logsFrom (fixed number bytes) (freshStation defined 0 0 0 carry) (stepsFor [] asSent [] pdus (true ∷ []))) ≡ [])
+      go [] n a e = absurd (omega (arith, n))
+      go (p ∷ q ∷ ps) n a e = absurd (omega (arith, n))
+      go (p ∷ []) n a e = one-logged (answerOf (freshStation defined 0 0 0 carry) (receive [] p words)) (a .0) e
+
+  -- whatever it says of PDUs taken
+  pub inventing-wrong : ¬ Demand3For (inventing number bytes)
+  unfolding stepsFor
+  inventing-wrong claim =
+      go (runOf 1 1 (made 0 0 0 six)) (run-length 1 1 1 refl) (claimed defined delivers 1 1 (false ∷ []) .accepted) (claimed (inventing number bytes) claim 1 1 (false ∷ []) .log ∙ ap (askedFor 1 1) (told 1 1 (false ∷ []) refl) ∙ second-lost)
+    where
+      go : (pdus : List (List ℕ)) → length pdus ≡ 1 → NoneRefused defined (freshStation defined 0 0 0 carry) (stepsFor [] asSent [] pdus (false ∷ []))
+          → ¬ (packetWords (logsFrom (inventing number bytes) (freshStation defined 0 0 0 carry) (stepsFor [] asSent [] pdus (false ∷ []))) ≡ [])
+      go [] n a e = absurd (omega (arith, n))
+      go (p ∷ q ∷ ps) n a e = absurd (omega (arith, n))
+      go (p ∷ []) n a e = one-logged (answerOf (freshStation defined 0 0 0 carry) (markLost words)) (a .0) e
 
 -- ---- joins in the first PDU, and then only advances
 
@@ -160,8 +183,8 @@ only-advances n [] x l h = refl
 only-advances zero (p ∷ ps) x l h = absurd (not-suc-le-zero l)
 only-advances (suc n) (p ∷ ps) x l h =
     ap₂ (λ (l m : List ℕ). l ++ m)
-    (ap (λ (b : Bool). cond (eqb (cond b (withWords 0 (answerOf x (receive [] p words))) (answerOf x (receive [] p words)) .taken) 0) [] (take (cond b (withWords 0 (answerOf x (receive [] p words))) (answerOf x (receive [] p words)) .words) (logOf x (receive [] p words)))) h
-    ∙ nothing-counted (eqb (answerOf x (receive [] p words) .taken) 0) (logOf x (receive [] p words)))
+    (ap (λ (b : Bool). loggedAlone (cond b (withWords 0 (answerOf x (receive [] p words))) (answerOf x (receive [] p words))) (logOf x (receive [] p words))) h
+    ∙ nothing-counted (logCounts defined x (receive [] p words)) (logOf x (receive [] p words)))
     (only-advances n ps (stationAfter advancing x (receive [] p words)) (le-of-suc-le-suc l) (ap (λ (b : Bool). cond b (withWords 0 (answerOf x (receive [] p words))) (answerOf x (receive [] p words)) .receiver .known) h ∙ known-kept x [] p words h))
 
 first-asked : askedFor 0 1 (true ∷ []) ≡ logWords (packet 0 (replicate 20 1) ∷ [])
@@ -187,7 +210,7 @@ advancing-wrong claim =
     go (p ∷ ps) n a l e =
         let c : Call = receive [] p words in
         let first : loggedBy advancing fresh c ≡ loggedBy defined fresh c =
-        ap (λ (b : Bool). cond (eqb (cond b (withWords 0 (answerOf fresh c)) (answerOf fresh c) .taken) 0) [] (take (cond b (withWords 0 (answerOf fresh c)) (answerOf fresh c) .words) (logOf fresh c))) fresh-unknown in
+        ap (λ (b : Bool). loggedAlone (cond b (withWords 0 (answerOf fresh c)) (answerOf fresh c)) (logOf fresh c)) fresh-unknown in
         let known : stationAfter advancing fresh c .receiver .known ≡ true =
         ap (λ (b : Bool). cond b (withWords 0 (answerOf fresh c)) (answerOf fresh c) .receiver .known) fresh-unknown ∙ known-after fresh [] p words (a .0) in
         let few : length (take 4 ps) ≤ 4 = (let t = length-take 4 ps in omega (arith, t)) in

@@ -11,7 +11,7 @@ use Rattle.log.specs.Log.{Entry, logWords, packetWords}
 use Rattle.writer.specs.Writing.{opened as writerOpened}
 use Rattle.runs.specs.Model.{Fate, lose, read}
 use Rattle.runs.specs.Spans.{lies, wholePackets}
-use Rattle.delivery.specs.Delivery.{Packets, joined, Writing, InOrder, Station, Call, receive, batch, markLost, answerOf, defined, freshStation, stationAfter, RefusedAfter, loggedBy, runOf, made, spans}
+use Rattle.delivery.specs.Delivery.{Packets, joined, Writing, InOrder, Station, Call, receive, batch, markLost, answerOf, defined, freshStation, stationAfter, takenBy, RefusedAfter, loggedBy, runOf, made, spans}
 use Rattle.delivery.specs.Copies.{Copy, causesFor}
 
 -- a PDU as it came in a batch, and which of its pieces are sound
@@ -78,10 +78,10 @@ abbrev pub logsFrom : Station → List Step → List ℕ
 logsFrom x [] = []
 logsFrom x (s ∷ ss) = loggedBy defined x (callOf s) ++ logsFrom (stationAfter defined x (callOf s)) ss
 
--- a call for PDUs of the run alone is not refused
+-- a call for PDUs of the run alone is not refused, and a batch of them takes them all
 abbrev pub NotRefused : Station → Step → Type 0
 NotRefused x (receives marks q log s) = answerOf x (receive marks q log) .refusal ≡ 0
-NotRefused x (batches cs log) = answerOf x (callOf (batches cs log)) .refusal ≡ 0
+NotRefused x (batches cs log) = (answerOf x (callOf (batches cs log)) .refusal ≡ 0) × (takenBy defined x (callOf (batches cs log)) ≡ length cs)
 NotRefused x (stops cs lengths bytes log) = Unit {0}
 NotRefused x (loses log) = answerOf x (markLost log) .refusal ≡ 0
 NotRefused x (refuses c) = Unit {0}

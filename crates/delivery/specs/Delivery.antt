@@ -116,14 +116,14 @@ pub data Call : Type 0 where
   batch : (lengths pdus log : List ℕ) → Call
   markLost : (log : List ℕ) → Call
 
--- what a call answers: the refusal number, how many PDUs it took, the count of log words, and the receiver
+-- what a call answers: the refusal number, how many PDUs it took, the count of log words, and the receiver. How many it took is a batch's to say; what a
+-- single call says of it counts for nothing (`takenBy`, below)
 pub record Answer : Type 0 where
   pub refusal : ℕ
   pub taken : ℕ
   pub words : ℕ
   pub receiver : Receiver
 
--- receiving a PDU or marking it lost takes it, if it is not refused; a batch counts those that it took
 abbrev pub ofOne : Received → Answer
 ofOne a = record { refusal = a .refusal; taken = cond (eqb (a .refusal) 0) 1 0; words = a .words; receiver = a .receiver }
 
@@ -210,9 +210,15 @@ module _ (b : Behaviour) where
   abbrev pub stationAfter : Station → Call → Station
   stationAfter x c = record { receiver = b .answer x c .receiver; carry = b .carry x c }
 
+  -- how many PDUs a call took: receiving a PDU or marking it lost takes it, if it is not refused; a batch counts those that it took
+  abbrev pub takenBy : Station → Call → ℕ
+  takenBy x (receive marks pdu log) = cond (eqb (b .answer x (receive marks pdu log) .refusal) 0) 1 0
+  takenBy x (batch lengths pdus log) = b .answer x (batch lengths pdus log) .taken
+  takenBy x (markLost log) = cond (eqb (b .answer x (markLost log) .refusal) 0) 1 0
+
   -- a call is refused after it took so many PDUs
   abbrev pub RefusedAfter : ℕ → Station → Call → Type 0
-  RefusedAfter n x c = (¬ (b .answer x c .refusal ≡ 0)) × (b .answer x c .taken ≡ n)
+  RefusedAfter n x c = (¬ (b .answer x c .refusal ≡ 0)) × (takenBy x c ≡ n)
 
   -- the calls go through these PDUs in order: each PDU has one call, with a log that suffices
   abbrev pub Through : Station → List (List ℕ) → List Step → Type 0
@@ -227,10 +233,10 @@ module _ (b : Behaviour) where
   Through x [] (loses log ∷ ss) = ⊥
   Through x (p ∷ ps) (loses log ∷ ss) = (8400 ≤ length log) × Through (stationAfter x (markLost log)) ps ss
 
-  -- a call for PDUs of the run alone is not refused
+  -- a call for PDUs of the run alone is not refused, and a batch of them takes them all
   abbrev pub NotRefused : Station → Step → Type 0
   NotRefused x (receives marks q log) = b .answer x (receive marks q log) .refusal ≡ 0
-  NotRefused x (batches qs log) = b .answer x (callOf (batches qs log)) .refusal ≡ 0
+  NotRefused x (batches qs log) = (b .answer x (callOf (batches qs log)) .refusal ≡ 0) × (takenBy x (callOf (batches qs log)) ≡ length qs)
   NotRefused x (stops qs lengths bytes log) = Unit {0}
   NotRefused x (loses log) = b .answer x (markLost log) .refusal ≡ 0
   NotRefused x (refuses c) = Unit {0}
@@ -239,9 +245,13 @@ module _ (b : Behaviour) where
   NoneRefused x [] = Unit {0}
   NoneRefused x (s ∷ ss) = NotRefused x s × NoneRefused (stationAfter x (callOf s)) ss
 
-  -- the log of a call that took PDUs, as far as its answer counts
+  -- a call's log counts if it is accepted, or took PDUs before it was refused
+  abbrev pub logCounts : Station → Call → Bool
+  logCounts x c = eqb (b .answer x c .refusal) 0 || not (eqb (takenBy x c) 0)
+
+  -- such a log, as far as the call's answer counts
   abbrev pub loggedBy : Station → Call → List ℕ
-  loggedBy x c = cond (eqb (b .answer x c .taken) 0) [] (take (b .answer x c .words) (b .log x c))
+  loggedBy x c = cond (logCounts x c) (take (b .answer x c .words) (b .log x c)) []
 
   -- the calls' logs, joined
   abbrev pub logsFrom : Station → List Step → List ℕ

@@ -1,6 +1,6 @@
--- The receivers that document 01 wants thrown out by demand 3, one that joins across a lost PDU, and one that does not take the register it is given. Each is
--- the receiver of document 01 but for what its line says; proofs/WrongReceivers.antt and, for the last, proofs/Registers.antt show that demand 3 is false of
--- each.
+-- The receivers that document 01 wants thrown out by demand 3, one that delivers a packet for a PDU marked lost, one that joins across a lost PDU, one that
+-- does not take the register it is given, and one whose batches forget. Each is the receiver of document 01 but for what its line says; demand 3 is shown
+-- false of `zeroed` in proofs/Registers.antt, of `forgetting` in proofs/BatchRuns.antt, and of the others in proofs/WrongReceivers.antt.
 use mathlib.Core.Bool.{Bool, true, false, cond}
 use mathlib.Core.List.{List, [], _∷_}
 use Prim.Native.Nat.{ℕ}
@@ -31,7 +31,7 @@ silent = record { opening = defined .opening; answer = λ x c. withWords 0 (answ
 abbrev pub untouched : Behaviour
 untouched = record { opening = defined .opening; answer = answerOf; carry = carryOf; log = λ x c. lentLog c }
 
--- it delivers one fixed packet for every PDU handed to it, also for one that it refuses
+-- it delivers one fixed packet for every PDU handed to it by a single call, also for one that it refuses
 module _ (number : ℕ) (bytes : List ℕ) where
   abbrev pub fixedWords : List ℕ
   fixedWords = logWords (packet number bytes ∷ [])
@@ -49,7 +49,21 @@ module _ (number : ℕ) (bytes : List ℕ) where
   abbrev pub fixed : Behaviour
   fixed = record { opening = defined .opening; answer = fixedAnswer; carry = carryOf; log = fixedLog }
 
--- it joins in the first PDU, and then only advances
+  -- it delivers the packet for every PDU marked lost, and says that it took none
+  abbrev pub inventingAnswer : Station → Call → Answer
+  inventingAnswer x (receive marks pdu log) = answerOf x (receive marks pdu log)
+  inventingAnswer x (batch lengths pdus log) = answerOf x (batch lengths pdus log)
+  inventingAnswer x (markLost log) = record { refusal = answerOf x (markLost log) .refusal; taken = 0; words = length fixedWords; receiver = answerOf x (markLost log) .receiver }
+
+  abbrev pub inventingLog : Station → Call → List ℕ
+  inventingLog x (receive marks pdu log) = logOf x (receive marks pdu log)
+  inventingLog x (batch lengths pdus log) = logOf x (batch lengths pdus log)
+  inventingLog x (markLost log) = putAt log 0 fixedWords
+
+  abbrev pub inventing : Behaviour
+  inventing = record { opening = defined .opening; answer = inventingAnswer; carry = carryOf; log = inventingLog }
+
+-- it joins in the first PDU, and then, by single calls, only advances
 abbrev pub advancingAnswer : Station → Call → Answer
 advancingAnswer x (receive marks pdu log) = cond (x .receiver .known) (withWords 0 (answerOf x (receive marks pdu log))) (answerOf x (receive marks pdu log))
 advancingAnswer x (batch lengths pdus log) = answerOf x (batch lengths pdus log)
