@@ -766,7 +766,8 @@ typedef struct {
 typedef struct {
     /* BARZHILUP_ACCEPTED, BARZHILUP_REFUSED_MODE or BARZHILUP_REFUSED_COUNTS. */
     uint32_t refusal;
-    /* How many ticks were written, from the buffer's first entry on. */
+    /* How many ticks were written, from the buffer's first entry on; 0 if
+     * refused. */
     uint32_t count;
 } barzhilup_waiting_answer;
 
