@@ -239,6 +239,34 @@ static void mark_lost_in_place(void)
     MEASURE(sink = barzhilup_mark_lost_in_place(&receiver, log_words, BARZHILUP_LOG_WORDS).words);
 }
 
+/* Counts for the latency bench: 0 to 63, by the PDU's bytes. */
+static uint32_t counts[HEADER];
+
+static void count(void)
+{
+    size_t i;
+    for (i = 0; i < HEADER; i++)
+        counts[i] = pdu[i] % 64;
+}
+
+static void smallest_latency(void)
+{
+    count();
+    MEASURE(sink = barzhilup_smallest_latency(0, 0, counts, HEADER).latency);
+}
+
+static void try_latency(void)
+{
+    count();
+    MEASURE(sink = barzhilup_try_latency(0, 0, counts, HEADER, 3).dry);
+}
+
+static void waiting_packets(void)
+{
+    count();
+    MEASURE(sink = barzhilup_waiting_packets(0, 0, counts, HEADER, 3, 40, log_words, 64).count);
+}
+
 #ifdef WITH_LIBFEC
 static void plain_writes(void)
 {
@@ -280,6 +308,9 @@ static const struct {
     {"barzhilup_receive_marked", receive_marked},
     {"barzhilup_receive_batch", receive_batch},
     {"barzhilup_mark_lost", mark_lost},
+    {"barzhilup_smallest_latency", smallest_latency},
+    {"barzhilup_try_latency", try_latency},
+    {"barzhilup_waiting_packets", waiting_packets},
     {"barzhilup_list_pieces", list_pieces},
     {"barzhilup_receive_in_place", receive_in_place},
     {"barzhilup_mark_lost_in_place", mark_lost_in_place},

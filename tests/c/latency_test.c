@@ -273,6 +273,6 @@ int main(void)
     refusals();
     shown();
     at_random();
-    printf("  %lu checks, %lu failed\n", checks, failed);
+    printf("  latency: %lu checks, %lu failed\n", checks, failed);
     return failed > 0;
 }
