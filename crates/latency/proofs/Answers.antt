@@ -8,12 +8,14 @@ use native.Mathlib.Omega.{arith}
 use lib.Dec.{eqb}
 use borrow.Author.Tests.{eqb-true, eqb-false}
 use Rattle.latency.specs.declared.Answer.{Answer}
-use Rattle.latency.specs.declared.Answer.the-variants.{Smallest, AllDry}
-use Rattle.latency.specs.Latency.{runsDry, smallestOf}
+use Rattle.latency.specs.declared.Answer.the-variants.{Smallest, AllDry, Refused}
+use Rattle.latency.specs.declared.Spacing.the-variants.{Every}
+use Rattle.latency.specs.Latency.{runsDry, smallestOf, spacingOf, answer}
 use Rattle.latency.specs.Bench.{Answers}
 
 -- what an answer says of k latencies from v on
 record Says (n : ℕ) (counts : List ℕ) (v k : ℕ) (a : Answer) : Type 0 where
+  accepted : (x : ℕ) → a ≡ Refused x → ⊥
   below : (x : ℕ) → a ≡ Smallest x → x < v + k
   without : (x : ℕ) → a ≡ Smallest x → runsDry n counts x ≡ false
   least : (x : ℕ) → a ≡ Smallest x → (u : ℕ) → v ≤ u → u < x → runsDry n counts u ≡ true
@@ -35,6 +37,16 @@ not-none x e =
     let z : _≡_ {A = ℕ} 0 1 = cc in
     omega arith
 
+none-accepted : (x : ℕ) → AllDry ≡ Refused x → ⊥
+none-accepted x e =
+    let z : _≡_ {A = ℕ} 0 1 = cc in
+    omega arith
+
+found-accepted : (v x : ℕ) → Smallest v ≡ Refused x → ⊥
+found-accepted v x e =
+    let z : _≡_ {A = ℕ} 0 1 = cc in
+    omega arith
+
 same : (v x : ℕ) → Smallest v ≡ Smallest x → v ≡ x
 same v x e = cc
 
@@ -42,6 +54,7 @@ smallest-says : (n : ℕ) (counts : List ℕ) (v k : ℕ) → Says n counts v k 
 unfolding smallestOf
 smallest-says n counts v zero =
     record {
+      accepted = none-accepted;
       below = λ x e. absurd (not-none x e);
       without = λ x e. absurd (not-none x e);
       least = λ x e. absurd (not-none x e);
@@ -54,6 +67,7 @@ smallest-says n counts v (suc k) = go (runsDry n counts v) refl (smallest-says n
         → Says n counts v (suc k) (cond b (smallestOf n counts (suc v) k) (Smallest v))
     go true e s =
         record {
+          accepted = s .accepted;
           below = λ x f. (let w = s .below x f in omega arith);
           without = s .without;
           least = λ x f u l h. first n counts v u e l (λ p. s .least x f u p h);
@@ -62,6 +76,7 @@ smallest-says n counts v (suc k) = go (runsDry n counts v) refl (smallest-says n
         }
     go false e s =
         record {
+          accepted = found-accepted v;
           below = λ x f. (let w = same v x f in omega arith);
           without = λ x f. ap (runsDry n counts) (sym (same v x f)) ∙ e;
           least = λ x f u l h. (let w = same v x f in absurd (omega arith));
@@ -74,12 +89,18 @@ pub answers : (n : ℕ) (counts : List ℕ) → Answers n counts (smallestOf n c
 answers n counts =
     let s = smallest-says n counts 0 8 in
     record {
+      accepted = s .accepted;
       below = s .below;
       without = s .without;
       least = λ x e u h. s .least x e u (omega arith) h;
       all-dry = λ e u h. s .all-dry e u (omega arith) h;
       none-found = λ h. s .none-found (λ u l b. h u b);
     }
+
+-- the answer of a call whose counts are not refused
+pub reported : (mode stream n : ℕ) (counts : List ℕ) → spacingOf mode stream counts ≡ Every n → Answers n counts (answer mode stream counts)
+unfolding answer
+reported mode stream n counts e = rw e (answers n counts)
 
 -- ---- a turn of the loop
 

@@ -5,7 +5,7 @@ use mathlib.Core.List.{List}
 use Prim.Native.Nat.{ℕ, zero, suc, _+_, _*_, _<_, _≤_}
 use lib.ListN.{length, getD}
 use Rattle.latency.specs.declared.Answer.{Answer}
-use Rattle.latency.specs.declared.Answer.the-variants.{Smallest, AllDry}
+use Rattle.latency.specs.declared.Answer.the-variants.{Smallest, AllDry, Refused}
 use Rattle.latency.specs.Latency.{added, taken, isDry, left, waiting, ticks, tally, runsDry}
 
 -- counts that are not refused, n ticks apart
@@ -50,8 +50,10 @@ pub record Told (n : ℕ) (counts : List ℕ) (v : ℕ) : Type 0 where
   pub most : (t : ℕ) → t < ticks n counts → waiting n counts v t ≤ tally n counts v (ticks n counts) .most
   pub reached : 0 < ticks n counts → (t : ℕ) × (t < ticks n counts) × (waiting n counts v t ≡ tally n counts v (ticks n counts) .most)
 
--- of an answer: a latency that is found is below 8 and has no dry tick, and each smaller one has; none exactly when all eight have one
+-- of an answer to counts that are not refused: a latency that is found is below 8 and has no dry tick, and each smaller one has; none exactly when
+-- all eight have one
 pub record Answers (n : ℕ) (counts : List ℕ) (a : Answer) : Type 0 where
+  pub accepted : (k : ℕ) → ¬ (a ≡ Refused k)
   pub below : (v : ℕ) → a ≡ Smallest v → v < 8
   pub without : (v : ℕ) → a ≡ Smallest v → runsDry n counts v ≡ false
   pub least : (v : ℕ) → a ≡ Smallest v → (u : ℕ) → u < v → runsDry n counts u ≡ true
