@@ -1203,10 +1203,22 @@ impl Tally {
         self.received == 0 && !self.refused.is_empty()
     }
 
-    /// Whether pieces were received, and each of them has a wrong CRC, note 2.
-    fn is_all_wrong(&self) -> bool {
+    /// How many pieces have a wrong CRC, note 2, and how many a right one.
+    fn crcs(&self) -> (u64, u64) {
         let wrong = self.notes.get(&2).copied().unwrap_or(0);
-        self.pieces > 0 && wrong == self.pieces as u64
+        (wrong, self.pieces as u64 - wrong)
+    }
+
+    /// Whether pieces were received, and each of them has a wrong CRC.
+    fn is_all_wrong(&self) -> bool {
+        let (wrong, right) = self.crcs();
+        wrong > 0 && right == 0
+    }
+
+    /// Whether more than 16 pieces have a wrong CRC for each that has a right one.
+    fn is_nearly_all_wrong(&self) -> bool {
+        let (wrong, right) = self.crcs();
+        right > 0 && wrong > 16 * right
     }
 
     /// The lines of the log's summary.
@@ -1247,8 +1259,9 @@ struct Reading {
     drives: u64,
     words: u64,
     lines: u64,
-    /// Drives of which it is said that all CRCs were wrong.
+    /// Drives of which it is said that all CRCs were wrong, or nearly all.
     all_wrong: u64,
+    nearly_all_wrong: u64,
     total: Tally,
 }
 
@@ -1298,7 +1311,8 @@ fn refusals_said(logged: &[Logged]) -> Vec<String> {
 
 /// What is said on standard error: the refused PDUs, the counts, and, where PDUs
 /// were refused and none was received, whether the file is of this mode and
-/// stream; where all CRCs were wrong, whether they start at this register.
+/// stream; where all CRCs were wrong, or nearly all, whether they start at this
+/// register.
 fn log_said(end: &End, logged: &[Logged]) -> Vec<String> {
     let line = end.line;
     let tally = Tally::of(logged);
@@ -1310,9 +1324,14 @@ fn log_said(end: &End, logged: &[Logged]) -> Vec<String> {
             line.mode, line.stream
         ));
     }
-    if tally.is_all_wrong() {
+    let many = if tally.is_all_wrong() {
+        Some("all")
+    } else {
+        tally.is_nearly_all_wrong().then_some("nearly all")
+    };
+    if let Some(many) = many {
         said.push(format!(
-            "barzhilup log: all CRCs were wrong: is {} the start of this file's CRCs (--crc-start)?",
+            "barzhilup log: {many} CRCs were wrong: is {} the start of this file's CRCs (--crc-start)?",
             end.register
         ));
     }
@@ -1355,6 +1374,7 @@ fn logged(bench: &mut Bench, end: &End, records: &[Vec<u8>], seen: &mut Reading)
     }
     seen.drives += 1;
     seen.all_wrong += u64::from(Tally::of(&wanted).is_all_wrong());
+    seen.nearly_all_wrong += u64::from(Tally::of(&wanted).is_nearly_all_wrong());
     seen.total.take(&wanted);
     csv
 }
