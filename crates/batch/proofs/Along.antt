@@ -8,17 +8,17 @@ use native.Mathlib.Nat.{add-zero}
 use native.Mathlib.Numerals.{add-one}
 use lib.Dec.{eqb}
 use borrow.Author.Tests.{eq-eqb, ne-eqb}
-use lib.ListN.{length, getD, take, drop, take-append-drop, drop-of-length-le, length-drop, length-append}
-use lib.Seq.{take-all, take-at, drop-at, drop-cons, length-take-le, take-append-add, drop-append-add}
+use lib.ListN.{length, getD, set, take, drop, take-append-drop, drop-of-length-le, length-drop, length-append}
+use lib.Seq.{sets, take-all, take-at, drop-at, drop-cons, length-take-le, take-append-add, drop-append-add}
 use Rattle.pieces.specs.Pieces.{total}
 use Rattle.pieces.proofs.Cutting.{total-drop}
 use Rattle.receiver.specs.Receiving.{receiveAnswer, carryAfter, pduAfter, logAfter}
 use Rattle.receiver.specs.declared.Receiver.{Receiver}
 use Rattle.receiver.specs.declared.Received.{Received}
 use Rattle.batch.specs.declared.Batch.{Batch}
-use Rattle.batch.specs.Batches.{Result, unchanged, followed, oneByOne}
+use Rattle.batch.specs.Batches.{Result, unchanged, followed, oneByOne, wordEnds}
 use Rattle.batch.specs.Steps.{leaving, begunWith, counted}
-use Rattle.batch.proofs.OneByOne.{followed-none, followed-twice, first-taken, first-refused}
+use Rattle.batch.proofs.OneByOne.{followed-none, followed-twice, first-taken, first-refused, end-taken, end-refused}
 use Rattle.batch.proofs.Single.{kept, no-k, words-fit}
 
 -- ---- after some PDUs
@@ -78,6 +78,19 @@ at-end lengths whole carry pdus log b from i h done =
     all-done (b .refusal) (b .wrong) (b .taken) (b .words) (b .receiver) carry pdus log from (h .none) (h .right)
     ∙ ap (λ (l : List ℕ). followed (b .taken) (b .words) (take from pdus) (take (b .words) log) (oneByOne l (b .receiver) carry (drop from pdus) (drop (b .words) log))) (sym e)
     ∙ h .same
+
+-- the list of ends at the i-th PDU, once those of the PDUs that are left are put into it
+abbrev pub endsLeft : List ℕ → List ℕ → List ℕ → List ℕ → List ℕ → Batch → ℕ → ℕ → List ℕ
+endsLeft ends lengths carry pdus log b from i = sets ends i (wordEnds (b .words) (drop i lengths) (b .receiver) carry (drop from pdus) (drop (b .words) log))
+
+pub ends-at-start : (ends lengths carry pdus log : List ℕ) (b : Batch) (r : Receiver) → b ≡ begunWith r 0 → endsLeft ends lengths carry pdus log b 0 0 ≡ sets ends 0 (wordEnds 0 lengths r carry pdus log)
+ends-at-start ends lengths carry pdus log b r e = rw e
+
+pub ends-at-end : (ends lengths carry pdus log : List ℕ) (b : Batch) (from i : ℕ) → length lengths ≤ i → ends ≡ endsLeft ends lengths carry pdus log b from i
+unfolding wordEnds
+ends-at-end ends lengths carry pdus log b from i done =
+    let e : drop i lengths ≡ [] = drop-of-length-le lengths {i = i} done in
+    rw e
 
 -- ---- a turn
 
@@ -235,3 +248,19 @@ module _ (lengths : List ℕ) (whole : Result) (carry pdus log : List ℕ) (b : 
         (ap length (sym pdu-is) ∙ lp ∙ ap (λ (k : ℕ). length (take k (drop from pdus))) size-is)
         (ap length (sym log-is) ∙ ll ∙ ap length rest-is)
         (sym (ap (λ (x : Batch). x .refusal) answer-is) ∙ z))
+
+    -- the list of ends: nothing more is put into it, or the end of this PDU's words
+    pub tells-none : (ends : List ℕ) → ¬ (a .refusal ≡ 0) → ends ≡ endsLeft ends lengths carry pdus log b from i
+    tells-none ends z =
+        let none = end-refused n (drop (i + 1) lengths) (b .receiver) carry (drop from pdus) rest (b .words) (λ q. z (ap (λ (x : Batch). x .refusal) answer-is ∙ q)) in
+        rw (split, none)
+
+    pub tells : (ends told : List ℕ) → told ≡ set ends i (a .words) → length p ≡ length pdu′ → length l ≡ length rest′ → a .refusal ≡ 0 → endsLeft told lengths c pdusAfter wordsAfter a (from + n) (i + 1) ≡ endsLeft ends lengths carry pdus log b from i
+    tells ends told e lp ll z =
+        let y : answer .refusal ≡ 0 = sym (ap (λ (x : Batch). x .refusal) answer-is) ∙ z in
+        let lp′ : length pduEnd ≡ length pdu = ap length (sym pdu-is) ∙ lp ∙ ap (λ (k : ℕ). length (take k (drop from pdus))) size-is in
+        let ll′ : length logEnd ≡ length rest = ap length (sym log-is) ∙ ll ∙ ap length rest-is in
+        let more-left = end-taken n (drop (i + 1) lengths) (b .receiver) carry (drop from pdus) rest (b .words) y in
+        let bytes-left = pdus-left pdus log pduEnd logEnd from n (b .words) (inside lp′ ll′ y) (h .room) (size lp′ ll′ y) ll′ in
+        let log-left = words-left pdus log pduEnd logEnd from n (b .words) (inside lp′ ll′ y) (h .room) (size lp′ ll′ y) ll′ (answer .words) in
+        rw (e, split, more-left, pdus-are, words-are, answer-is, carry-is, bytes-left, log-left, add-one i)

@@ -12,7 +12,7 @@ use lib.Seq.{take-at, drop-at}
 use Rattle.receiver.specs.Receiving.{receiveAnswer, carryAfter, pduAfter, logAfter}
 use Rattle.receiver.specs.declared.Receiver.{Receiver}
 use Rattle.receiver.specs.declared.Received.{Received}
-use Rattle.batch.specs.Batches.{Result, unchanged, followed, oneByOne, batchNumber, received}
+use Rattle.batch.specs.Batches.{Result, unchanged, followed, oneByOne, wordEnds, batchNumber, received}
 
 pub followed-none : (x : Result) → followed 0 0 [] [] x ≡ x
 followed-none x = rw (zero-add (x .answer .taken), zero-add (x .answer .words))
@@ -38,6 +38,16 @@ module _ (n : ℕ) (ns : List ℕ) (r : Receiver) (carry pdus log : List ℕ) wh
   pub first-refused : ¬ (first .refusal ≡ 0) → oneByOne (n ∷ ns) r carry pdus log ≡ unchanged (first .refusal) (first .wrong) r carry pdus log
   unfolding oneByOne
   first-refused h = let t : eqb (first .refusal) 0 ≡ false = ne-eqb (first .refusal) 0 h in rw t
+
+  -- where its words end, after those before them
+  pub end-taken : (before : ℕ) → first .refusal ≡ 0
+      → wordEnds before (n ∷ ns) r carry pdus log ≡ (before + first .words) ∷ wordEnds (before + first .words) ns (first .receiver) (carryAfter [] carry (take n pdus) log r) (drop n pdus) (drop (first .words) firstLog)
+  unfolding wordEnds
+  end-taken before h = let t : eqb (first .refusal) 0 ≡ true = eq-eqb (first .refusal) 0 h in rw t
+
+  pub end-refused : (before : ℕ) → ¬ (first .refusal ≡ 0) → wordEnds before (n ∷ ns) r carry pdus log ≡ []
+  unfolding wordEnds
+  end-refused before h = let t : eqb (first .refusal) 0 ≡ false = ne-eqb (first .refusal) 0 h in rw t
 
   -- its bytes stand first in the buffer
   module _ (rest q : List ℕ) (l : length q ≡ n) (e : pdus ≡ q ++ rest) where

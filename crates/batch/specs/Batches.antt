@@ -4,6 +4,7 @@ use mathlib.Core.List.{List, [], _∷_, _++_}
 use Prim.Native.Nat.{ℕ, _+_}
 use lib.Dec.{eqb, ltb}
 use lib.ListN.{length, take, drop}
+use lib.Seq.{sets}
 use Rattle.refusal.specs.Refusal.{firstOf, anyOf}
 use Rattle.pieces.specs.Pieces.{total}
 use Rattle.receiver.specs.Receiving.{wrongState, receiveAnswer, carryAfter, pduAfter, logAfter}
@@ -44,6 +45,17 @@ oneByOne (n ∷ ns) r carry pdus log =
     (oneByOne ns (a .receiver) (carryAfter [] carry pdu log r) (drop n pdus) (drop (a .words) logged)))
     (unchanged (a .refusal) (a .wrong) r carry pdus log)
 
+-- Where the words of each PDU that is taken end in the log, as a count of words from its first on, after so many that stand before them
+unfoldable pub wordEnds : ℕ → List ℕ → Receiver → List ℕ → List ℕ → List ℕ → List ℕ
+wordEnds before [] r carry pdus log = []
+wordEnds before (n ∷ ns) r carry pdus log =
+    let pdu = take n pdus in
+    let a = receiveAnswer [] carry pdu log r in
+    let end = before + a .words in
+    cond (eqb (a .refusal) 0)
+    (end ∷ wordEnds end ns (a .receiver) (carryAfter [] carry pdu log r) (drop n pdus) (drop (a .words) (logAfter [] carry pdu log r)))
+    []
+
 -- ---- the call
 
 module _ (lengths carry pdus log : List ℕ) (r : Receiver) where
@@ -60,3 +72,7 @@ module _ (lengths carry pdus log : List ℕ) (r : Receiver) where
 
   unfoldable pub received : Result
   received = cond (eqb batchNumber 0) (oneByOne lengths r carry pdus log) (unchanged batchNumber 0 r carry pdus log)
+
+  -- a list after the call that tells where words end: these ends, from its first place on, as far as it has places
+  unfoldable pub endsAfter : List ℕ → List ℕ
+  endsAfter ends = cond (eqb batchNumber 0) (sets ends 0 (wordEnds 0 lengths r carry pdus log)) ends

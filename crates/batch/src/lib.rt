@@ -4,10 +4,11 @@ ghost use mathlib.Core.Path.{_≡_};
 ghost use mathlib.Core.List.{[]};
 ghost use Prim.Native.Nat.{_+_, _<_};
 ghost use lib.Dec.{eqb};
-ghost use lib.ListN.{length};
+ghost use lib.ListN.{length, set};
+ghost use lib.Seq.{sets};
 ghost use Rattle.pieces.specs.Pieces.{total};
 ghost use Rattle.receiver.specs.Receiving.{receiveAnswer, carryAfter, pduAfter, logAfter};
-ghost use Rattle.batch.specs.Batches.{oneByOne, received};
+ghost use Rattle.batch.specs.Batches.{oneByOne, received, wordEnds, endsAfter};
 ghost use Rattle.batch.specs.Steps.{leaving, begunWith, counted};
 
 // What came of a batch: the refusal number, 0 where there is none, with the smallest k whose locator is wrong where it is 11; how many PDUs were taken, and
@@ -83,16 +84,28 @@ fn receive_next(b: Batch, carry: &mut [u8], pdu: &mut [u8], log: &mut [u32]) -> 
     }
 }
 
-// Receives the PDUs one after another, each log following the last, and stops at the first refused one.
+// Puts a number at a place of a list, if the list has that place.
+fn note(list: &mut [usize], at: usize, number: usize)
+    ensures { λ _. ⌜ now (list .exit) ≡ set (now (list .entry)) at number ⌝ }
+{
+    if list.len() <= at {
+        return;
+    }
+    list[at] = number;
+}
+
+// Receives the PDUs one after another, each log following the last, and stops at the first refused one. Where the words of each end goes into a list.
 fn receive_each(
     receiver: Receiver,
     carry: &mut [u8],
     pdus: &mut [u8],
     lengths: &[usize],
     log: &mut [u32],
+    ends: &mut [usize],
 ) -> Batch
     requires { ⌜ total (now lengths) ≡ length (now pdus) ⌝ }
     ensures { λ b. ⌜ leaving b (now (carry .exit)) (now (pdus .exit)) (now (log .exit)) ≡ oneByOne (now (lengths .entry)) receiver (now (carry .entry)) (now (pdus .entry)) (now (log .entry)) ⌝ }
+    ensures { λ _. ⌜ now (ends .exit) ≡ sets (now (ends .entry)) 0 (wordEnds 0 (now (lengths .entry)) receiver (now (carry .entry)) (now (pdus .entry)) (now (log .entry))) ⌝ }
 {
     let mut b = begun(receiver, 0);
     let mut from: usize = 0;
@@ -104,10 +117,37 @@ fn receive_each(
         if b.refusal != 0 {
             return b;
         }
+        note(&mut *ends, i, b.words);
         from = to;
         i += 1;
     }
     b
+}
+
+// Receives PDUs as `receive` does, and puts into a list, from its first place on, where the words of each PDU taken end in the log. Ends that the list has
+// no place for are left out, and its other places keep what they held.
+pub fn receive_with_ends(
+    receiver: Receiver,
+    carry: &mut [u8],
+    pdus: &mut [u8],
+    lengths: &[usize],
+    log: &mut [u32],
+    ends: &mut [usize],
+) -> Batch
+    ensures { λ b. ⌜ b ≡ received (now (lengths .entry)) (now (carry .entry)) (now (pdus .entry)) (now (log .entry)) receiver .answer ⌝ }
+    ensures { λ _. ⌜ now (carry .exit) ≡ received (now (lengths .entry)) (now (carry .entry)) (now (pdus .entry)) (now (log .entry)) receiver .carry ⌝ }
+    ensures { λ _. ⌜ now (pdus .exit) ≡ received (now (lengths .entry)) (now (carry .entry)) (now (pdus .entry)) (now (log .entry)) receiver .pdus ⌝ }
+    ensures { λ _. ⌜ now (log .exit) ≡ received (now (lengths .entry)) (now (carry .entry)) (now (pdus .entry)) (now (log .entry)) receiver .log ⌝ }
+    ensures { λ _. ⌜ now (ends .exit) ≡ endsAfter (now (lengths .entry)) (now (carry .entry)) (now (pdus .entry)) (now (log .entry)) receiver (now (ends .entry)) ⌝ }
+{
+    let number = receiver.state_refusal(carry.len());
+    if number != 0 {
+        return begun(receiver, number);
+    }
+    if !sums_to(lengths, pdus.len()) {
+        return begun(receiver, 18);
+    }
+    receive_each(receiver, carry, pdus, lengths, log, ends)
 }
 
 // Receives PDUs that stand joined in a buffer, of these lengths, as one call after another would: each header is corrected in place, and each log follows
@@ -125,12 +165,6 @@ pub fn receive(
     ensures { λ _. ⌜ now (pdus .exit) ≡ received (now (lengths .entry)) (now (carry .entry)) (now (pdus .entry)) (now (log .entry)) receiver .pdus ⌝ }
     ensures { λ _. ⌜ now (log .exit) ≡ received (now (lengths .entry)) (now (carry .entry)) (now (pdus .entry)) (now (log .entry)) receiver .log ⌝ }
 {
-    let number = receiver.state_refusal(carry.len());
-    if number != 0 {
-        return begun(receiver, number);
-    }
-    if !sums_to(lengths, pdus.len()) {
-        return begun(receiver, 18);
-    }
-    receive_each(receiver, carry, pdus, lengths, log)
+    let mut none = [0usize; 0];
+    receive_with_ends(receiver, carry, pdus, lengths, log, &mut none)
 }

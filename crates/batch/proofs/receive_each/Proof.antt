@@ -1,4 +1,4 @@
-use Rattle.batch.proofs.Along.{Along, at-start, at-end, stops, turns}
+use Rattle.batch.proofs.Along.{Along, endsLeft, at-start, at-end, ends-at-start, ends-at-end, stops, turns, tells, tells-none}
 use Rattle.pieces.proofs.Cutting.{total-drop}
 use Rattle.pieces.specs.Pieces.{total}
 use Rattle.batch.specs.Batches.{oneByOne}
@@ -17,20 +17,20 @@ use Rattle.batch.proofs.begun.Reads as begun-reads
 use Rattle.batch.proofs.receive_next.Reads as receive-next-reads
 
 abbrev Inv-loop : tie.InvT-loop
-Inv-loop carry₀ pdus₀ lengths log₀ b₀ from₀ i₀ carry pdus log b from i =
-    Along lengths (oneByOne lengths (b₀ .receiver) carry₀ pdus₀ log₀) carry pdus log b from i × (length carry ≡ length carry₀) × (length pdus ≡ length pdus₀) × (length log ≡ length log₀)
+Inv-loop carry₀ pdus₀ lengths log₀ ends₀ b₀ from₀ i₀ carry pdus log ends b from i =
+    Along lengths (oneByOne lengths (b₀ .receiver) carry₀ pdus₀ log₀) carry pdus log b from i × (length carry ≡ length carry₀) × (length pdus ≡ length pdus₀) × (length log ≡ length log₀) × (length ends ≡ length ends₀) × (endsLeft ends lengths carry pdus log b from i ≡ endsLeft ends₀ lengths carry₀ pdus₀ log₀ b₀ 0 0)
 
 abbrev μ-loop : tie.MeasureT-loop
-μ-loop carry₀ pdus₀ lengths log₀ b₀ from₀ i₀ carry pdus log b from i = length lengths - i
+μ-loop carry₀ pdus₀ lengths log₀ ends₀ b₀ from₀ i₀ carry pdus log ends b from i = length lengths - i
 
 begun-requires : tie.Need-begun-requires Inv-loop μ-loop
 begun-requires c κs = search needs
 
 loop-holds : tie.Need-loop-holds Inv-loop μ-loop
 loop-holds c =
-    let s = c .before .before .before .before .before in
+    let s = c .before .before .before .before .before .before in
     let a = s .args in
-    (at-start (now (a .lengths)) (now (a .carry)) (now (a .pdus)) (now (a .log)) (c .begun .result) (a .receiver) (c .begun .ensures) (s .pre), refl, refl, refl)
+    (at-start (now (a .lengths)) (now (a .carry)) (now (a .pdus)) (now (a .log)) (c .begun .result) (a .receiver) (c .begun .ensures) (s .pre), refl, refl, refl, refl, refl)
 
 mul-to : tie.Need-mul-to Inv-loop μ-loop
 mul-to c = search needs
@@ -41,7 +41,7 @@ shared-slice-read-to c = search needs
 add-to : tie.Need-add-to Inv-loop μ-loop
 add-to c =
     let p = c .before .before in
-    let d = total-drop (now (p .before .before .before .before .before .before .args .lengths)) (p .loop .i) (c .before .loop-test .taken) in
+    let d = total-drop (now (p .before .before .before .before .before .before .before .args .lengths)) (p .loop .i) (c .before .loop-test .taken) in
     record { fits = omega (arith, d, p .loop .inv .0 .left) }
 
 sub-receive-next : tie.Need-sub-receive-next Inv-loop μ-loop
@@ -53,7 +53,7 @@ part-receive-next-start c = search needs
 part-receive-next-end : tie.Need-part-receive-next-end Inv-loop μ-loop
 part-receive-next-end c =
     let p = c .before .before .before in
-    let d = total-drop (now (p .before .before .before .before .before .before .args .lengths)) (p .loop .i) (c .before .before .loop-test .taken) in
+    let d = total-drop (now (p .before .before .before .before .before .before .before .args .lengths)) (p .loop .i) (c .before .before .loop-test .taken) in
     omega (arith, d, p .loop .inv .0 .left)
 
 mul-receive-next : tie.Need-mul-receive-next Inv-loop μ-loop
@@ -71,7 +71,7 @@ part-receive-next-end-2 c = search needs
 receive-next-requires : tie.Need-receive-next-requires Inv-loop μ-loop
 receive-next-requires c κs =
     let p = c .before .before .before .before .before in
-    let s = p .before .before .before .before .before .before in
+    let s = p .before .before .before .before .before .before .before in
     let w = p .loop .b .words in
     let l = p .loop .log in
     let v = p .loop .inv in
@@ -86,30 +86,45 @@ same-length-2 c = search needs
 same-length-3 : tie.Need-same-length-3 Inv-loop μ-loop
 same-length-3 c = search needs
 
+same-length-4 : tie.Need-same-length-4 Inv-loop μ-loop
+same-length-4 c = search needs
+
 returns : tie.Need-returns Inv-loop μ-loop
 returns c =
     let k = c .before .before .before .before .before .before .before .before in
     let p = k .before .before .before .before .before .before in
-    let a = p .before .before .before .before .before .before .args in
-    let o = p .loop in
-    stops (now (a .lengths)) _ (o .carry) (o .pdus) (o .log) (o .b) (o .from) (o .i) (o .inv .0) (k .before .before .before .before .before .loop-test .taken) _ (k .receive-next .result) (k .receive-next .last .1 .0) (k .receive-next .last .1 .1 .0) (k .receive-next .last .1 .1 .1 .0) (k .receive-next .ensures .0) (k .receive-next .ensures .1 .0) (k .receive-next .ensures .1 .1 .0) (k .receive-next .ensures .1 .1 .1) refl (λ q. omega (arith, q, c .if1 .taken)) ∙ ap (λ (x : Batch). oneByOne (now (a .lengths)) (x .receiver) (now (a .carry)) (now (a .pdus)) (now (a .log))) (p .before .begun .ensures)
+    let a = p .before .before .before .before .before .before .before .args in
+    let o = p .loop in (
+      stops (now (a .lengths)) _ (o .carry) (o .pdus) (o .log) (o .b) (o .from) (o .i) (o .inv .0) (k .before .before .before .before .before .loop-test .taken) _ (k .receive-next .result) (k .receive-next .last .1 .0) (k .receive-next .last .1 .1 .0) (k .receive-next .last .1 .1 .1 .0) (k .receive-next .ensures .0) (k .receive-next .ensures .1 .0) (k .receive-next .ensures .1 .1 .0) (k .receive-next .ensures .1 .1 .1) refl (λ q. omega (arith, q, c .if1 .taken)) ∙ ap (λ (x : Batch). oneByOne (now (a .lengths)) (x .receiver) (now (a .carry)) (now (a .pdus)) (now (a .log))) (p .before .begun .ensures),
+      tells-none (now (a .lengths)) _ (o .carry) (o .pdus) (o .log) (o .b) (o .from) (o .i) (o .inv .0) (k .before .before .before .before .before .loop-test .taken) _ (k .receive-next .result) (k .receive-next .last .1 .0) (k .receive-next .last .1 .1 .0) (k .receive-next .last .1 .1 .1 .0) (k .receive-next .ensures .0) (k .receive-next .ensures .1 .0) (k .receive-next .ensures .1 .1 .0) (k .receive-next .ensures .1 .1 .1) refl (o .ends) (λ q. omega (arith, q, c .if1 .taken)) ∙ o .inv .5 ∙ ends-at-start (now (a .ends)) (now (a .lengths)) (now (a .carry)) (now (a .pdus)) (now (a .log)) (p .before .begun .result) (a .receiver) (p .before .begun .ensures),
+    )
+
+note-requires : tie.Need-note-requires Inv-loop μ-loop
+note-requires c κs = search needs
 
 add-i : tie.Need-add-i Inv-loop μ-loop
-add-i c = record { fits = omega (arith, c .before .before .before .before .before .before .before .before .before .before .before .before .before .loop-test .taken, c .before .before .before .before .before .before .before .before .before .before .before .before .before .before .before .before .before .before .before .before .good .1 .1 .1 .0) }
+add-i c =
+    let w = c .before .before .before .before .before .before .before .before .before .before .before .before .before .before .before .before .before in
+    record { fits = omega (arith, w .loop-test .taken, w .before .before .before .before .before .before .before .before .good .1 .1 .1 .0) }
 
 loop-less : tie.Need-loop-less Inv-loop μ-loop
 loop-less c = search needs
 
 loop-again : tie.Need-loop-again Inv-loop μ-loop
 loop-again c =
-    let k = c .before .before .before .before .before .before .before .before in
+    let t = c .before .before in
+    let e = t .before .before in
+    let k = e .before .before .before .before .before .before .before .before in
     let p = k .before .before .before .before .before .before in
-    let a = p .before .before .before .before .before .before .args in
-    let o = p .loop in
-    (turns (now (a .lengths)) _ (o .carry) (o .pdus) (o .log) (o .b) (o .from) (o .i) (o .inv .0) (k .before .before .before .before .before .loop-test .taken) _ (k .receive-next .result) (k .receive-next .last .1 .0) (k .receive-next .last .1 .1 .0) (k .receive-next .last .1 .1 .1 .0) (k .receive-next .ensures .0) (k .receive-next .ensures .1 .0) (k .receive-next .ensures .1 .1 .0) (k .receive-next .ensures .1 .1 .1) refl (k .receive-next .kept .1 .1 .0) (k .receive-next .kept .1 .1 .1 .0) (omega (arith, c .if1 .left)), omega (arith, k .receive-next .kept .1 .0, o .inv .1), omega (arith, c .before .before .before .before .before .pdus .given, o .inv .2), omega (arith, c .before .before .before .log .given, o .inv .3))
-
-same-length-4 : tie.Need-same-length-4 Inv-loop μ-loop
-same-length-4 c = search needs
+    let a = p .before .before .before .before .before .before .before .args in
+    let o = p .loop in (
+      turns (now (a .lengths)) _ (o .carry) (o .pdus) (o .log) (o .b) (o .from) (o .i) (o .inv .0) (k .before .before .before .before .before .loop-test .taken) _ (k .receive-next .result) (k .receive-next .last .1 .0) (k .receive-next .last .1 .1 .0) (k .receive-next .last .1 .1 .1 .0) (k .receive-next .ensures .0) (k .receive-next .ensures .1 .0) (k .receive-next .ensures .1 .1 .0) (k .receive-next .ensures .1 .1 .1) refl (k .receive-next .kept .1 .1 .0) (k .receive-next .kept .1 .1 .1 .0) (omega (arith, e .if1 .left)),
+      omega (arith, k .receive-next .kept .1 .0, o .inv .1),
+      omega (arith, e .before .before .before .before .before .pdus .given, o .inv .2),
+      omega (arith, e .before .before .before .log .given, o .inv .3),
+      omega (arith, t .note .kept .0, o .inv .4),
+      tells (now (a .lengths)) _ (o .carry) (o .pdus) (o .log) (o .b) (o .from) (o .i) (o .inv .0) (k .before .before .before .before .before .loop-test .taken) _ (k .receive-next .result) (k .receive-next .last .1 .0) (k .receive-next .last .1 .1 .0) (k .receive-next .last .1 .1 .1 .0) (k .receive-next .ensures .0) (k .receive-next .ensures .1 .0) (k .receive-next .ensures .1 .1 .0) (k .receive-next .ensures .1 .1 .1) refl (o .ends) (t .note .last .0) (t .note .ensures) (k .receive-next .kept .1 .1 .0) (k .receive-next .kept .1 .1 .1 .0) (omega (arith, e .if1 .left)) ∙ o .inv .5,
+    )
 
 same-length-5 : tie.Need-same-length-5 Inv-loop μ-loop
 same-length-5 c = search needs
@@ -117,12 +132,20 @@ same-length-5 c = search needs
 same-length-6 : tie.Need-same-length-6 Inv-loop μ-loop
 same-length-6 c = search needs
 
+same-length-7 : tie.Need-same-length-7 Inv-loop μ-loop
+same-length-7 c = search needs
+
+same-length-8 : tie.Need-same-length-8 Inv-loop μ-loop
+same-length-8 c = search needs
+
 returns-2 : tie.Need-returns-2 Inv-loop μ-loop
 returns-2 c =
     let p = c .before in
-    let a = p .before .before .before .before .before .before .args in
-    let o = p .loop in
-    at-end (now (a .lengths)) _ (o .carry) (o .pdus) (o .log) (o .b) (o .from) (o .i) (o .inv .0) (omega (arith, c .loop-test .left)) ∙ ap (λ (x : Batch). oneByOne (now (a .lengths)) (x .receiver) (now (a .carry)) (now (a .pdus)) (now (a .log))) (p .before .begun .ensures)
+    let a = p .before .before .before .before .before .before .before .args in
+    let o = p .loop in (
+      at-end (now (a .lengths)) _ (o .carry) (o .pdus) (o .log) (o .b) (o .from) (o .i) (o .inv .0) (omega (arith, c .loop-test .left)) ∙ ap (λ (x : Batch). oneByOne (now (a .lengths)) (x .receiver) (now (a .carry)) (now (a .pdus)) (now (a .log))) (p .before .begun .ensures),
+      ends-at-end (o .ends) (now (a .lengths)) (o .carry) (o .pdus) (o .log) (o .b) (o .from) (o .i) (omega (arith, c .loop-test .left)) ∙ o .inv .5 ∙ ends-at-start (now (a .ends)) (now (a .lengths)) (now (a .carry)) (now (a .pdus)) (now (a .log)) (p .before .begun .result) (a .receiver) (p .before .begun .ensures),
+    )
 
 pub receive-each-spec : {M : Type 1} → statement M
 receive-each-spec =
@@ -146,11 +169,14 @@ receive-each-spec =
     same-length
     same-length-2
     same-length-3
+    same-length-4
     returns
+    note-requires
     add-i
     loop-less
     loop-again
-    same-length-4
     same-length-5
     same-length-6
+    same-length-7
+    same-length-8
     returns-2)
