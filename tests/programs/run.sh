@@ -16,7 +16,7 @@ if [ ! -x "$program" ]; then
 fi
 program=$(readlink -f "$program")
 subs=(generate channel log coverage latency)
-for part in harness usage files generate log marks registers coverage latency; do
+for part in harness usage files generate log marks registers batches coverage latency; do
     # shellcheck source=/dev/null
     . "$here/$part.sh"
 done
@@ -74,6 +74,11 @@ check_register_refused
 check_register_all
 check_register_drive
 check_register_said
+check_batches
+check_batches_drives
+check_batches_long
+check_batches_files
+check_batches_asked
 check_stored
 check_lines
 check_line_ends

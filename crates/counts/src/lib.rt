@@ -75,6 +75,14 @@ fn place_of(first: usize, number: u32, many: u32) -> usize
     first
 }
 
+// Counts the bytes of a header that were corrected.
+fn add_corrected(counts: &mut [u64], bytes: u32) {
+    if bytes != 0 {
+        add(counts, HEADERS, 1);
+        add(counts, BYTES, bytes as u64);
+    }
+}
+
 // Counts what came of a PDU.
 pub fn add_outcome(counts: &mut [u64], o: Outcome) {
     if o.kind == outcome::LOST {
@@ -88,10 +96,7 @@ pub fn add_outcome(counts: &mut [u64], o: Outcome) {
     let receiver = o.receiver;
     add(counts, RECEIVED, 1);
     add(counts, HELD, (receiver.held != 0) as u64);
-    if o.number != 0 {
-        add(counts, HEADERS, 1);
-        add(counts, BYTES, o.number as u64);
-    }
+    add_corrected(counts, o.number);
 }
 
 fn add_word(counts: &mut [u64], w: Word) {
@@ -111,6 +116,24 @@ pub fn add_log(counts: &mut [u64], log: &[u32]) {
         add_word(counts, words::split(log[i]));
         i += 1;
     }
+}
+
+// How many pieces were delivered or noted.
+fn settled(counts: &[u64]) -> u64 {
+    let noted = std::num::wrapping_add_u64(at(counts, NOTHING_HELD), at(counts, TOO_LONG));
+    let wrong = std::num::wrapping_add_u64(noted, at(counts, WRONG_CRCS));
+    std::num::wrapping_add_u64(wrong, at(counts, PACKETS))
+}
+
+// Counts a PDU that was received with others in one call, whose receiver after it is not known: the bytes of its header that were corrected, its pieces, and the
+// entries of its log. A piece that is neither delivered nor noted is held (document 01, "Receiver", step 4).
+pub fn add_received(counts: &mut [u64], corrected: u32, pieces: u64, log: &[u32]) {
+    add(counts, RECEIVED, 1);
+    add_corrected(counts, corrected);
+    let before = settled(counts);
+    add_log(counts, log);
+    let more = std::num::wrapping_sub_u64(settled(counts), before);
+    add(counts, HELD, std::num::wrapping_sub_u64(pieces, more));
 }
 
 // The sum of so many counts from a place on.

@@ -3,16 +3,18 @@ use text::Number;
 ghost use Prim.Native.Nat.{_≤_};
 
 // The options that are known.
-pub const KNOWN: [u8; 60] =
-    *b"in=\0out=\0marks=\0force\0mode=\0stream=\0crc-start=\0format=\0help\0";
+pub const KNOWN: [u8; 67] =
+    *b"in=\0out=\0marks=\0force\0mode=\0stream=\0crc-start=\0format=\0batch=\0help\0";
 
-// What is asked for; ok where mode, stream, the register that CRCs start with and format are given as they can be.
+// What is asked for; ok where mode, stream, the register that CRCs start with, format and the records of a frame are given as they can be.
 pub struct Job {
     pub ok: bool,
     pub mode: u8,
     pub stream: u8,
     pub register: u8,
     pub format: u8,
+    // How many records are received in one call, 1 to 64; 0 where that is not asked for.
+    pub batch: usize,
 }
 
 // A number of one byte, 0 where its option is not given.
@@ -49,16 +51,41 @@ fn format_asked() -> u8 {
     format
 }
 
+// How many records are received in one call, 0 where that is not asked for.
+fn batch_asked() -> Number {
+    options::number(b"barzhilup log", &KNOWN, b"batch", 0, 1, 64)
+}
+
+// Whether frames can be received in one call with what else is asked for (document 02, Ask 3: only mending and the single receive call take marks); if not,
+// says so.
+fn can_batch() -> bool {
+    if !options::given(&KNOWN, b"batch") {
+        return true;
+    }
+    if options::given(&KNOWN, b"marks") {
+        files::say(b"barzhilup log", b": --batch: a batch takes no marks\n");
+        return false;
+    }
+    true
+}
+
 pub fn asked() -> Job {
     let mode = number(b"mode");
     let stream = number(b"stream");
     let register = number(b"crc-start");
     let format = format_asked();
+    let batch = batch_asked();
     Job {
-        ok: mode.ok & stream.ok & register.ok & (format != formats::NO_FORMAT),
+        ok: mode.ok
+            & stream.ok
+            & register.ok
+            & (format != formats::NO_FORMAT)
+            & batch.ok
+            & can_batch(),
         mode: mode.value as u8,
         stream: stream.value as u8,
         register: register.value as u8,
         format: format,
+        batch: batch.value as usize,
     }
 }

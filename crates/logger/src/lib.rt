@@ -114,7 +114,7 @@ fn with_marks(
         },
     };
     let mut counts = counts::none();
-    let run = logging::log_all(task, receiver, &mut counts);
+    let run = batch_logging::log_all(task, job.batch, receiver, &mut counts);
     report::ends(run.status, from, marking, &onto[..n], run.pdus);
     finish(job, run, output, &onto[..n], &counts)
 }

@@ -110,6 +110,8 @@ that is marked lost.
   --crc-start N   the register that CRCs start with, 0 to 255 (0; recordings
                   off the air check with 255)
   --format F      words, text or csv (text)
+  --batch N       receives frames of N records, 1 to 64, in one call each; the
+                  log is the same for every N, and without it; no marks
   --help          prints this and does nothing else (also -h)
 
 Marks: a record for each record of PDUs, in the same form; each of its bytes is

@@ -25,7 +25,7 @@ pub struct Run {
     pub pdus: u64,
 }
 
-fn run_of(status: u8, receiver: Receiver, pdus: u64) -> Run {
+pub fn run_of(status: u8, receiver: Receiver, pdus: u64) -> Run {
     Run {
         status: status,
         receiver: receiver,
@@ -67,7 +67,7 @@ pub fn log_all(task: Task, receiver: Receiver, counts: &mut [u64]) -> Run {
 }
 
 // Writes what stands after all PDUs, if all are logged.
-fn ended(sink: Sink, block: &mut [u8], run: Run) -> Run {
+pub fn ended(sink: Sink, block: &mut [u8], run: Run) -> Run {
     if run.status != records::END {
         return run;
     }
@@ -79,7 +79,7 @@ fn ended(sink: Sink, block: &mut [u8], run: Run) -> Run {
 }
 
 // How far the work is, where somebody looks on.
-fn progress(pdus: u64) {
+pub fn progress(pdus: u64) {
     files::progress(b"barzhilup log", b": PDUs ", pdus);
 }
 
@@ -168,7 +168,7 @@ fn turn(
 }
 
 // Receives a PDU with its marked places, and writes what came of it.
-fn received(
+pub fn received(
     sink: Sink,
     carry: &mut [u8],
     pdu: &mut [u8],

@@ -1,0 +1,396 @@
+// A run by batches (document 02, Ask 1): each turn reads a frame, some records joined in a buffer, has its PDUs received in one call, and writes what came of
+// each. Where the call stops, at a PDU that is refused or at an empty record, this one and those behind it in the frame are received by calls of their own, as in
+// a run without batches. So the log is the same for every count of records in a frame.
+use batch::Batch;
+use logging::Run;
+use logging::Task;
+use logging::output;
+use outcome::Outcome;
+use output::Sink;
+use receiver::Receiver;
+ghost use mathlib.Core.Path.{_≡_};
+ghost use Prim.Native.Nat.{_≤_};
+ghost use lib.ListN.{length};
+ghost use Rattle.io.specs.Counts.{Counts};
+
+// No record is longer: a frame ends where its buffer has less room.
+const LONGEST: usize = 65535;
+
+fn least(a: usize, b: usize) -> usize
+    ensures { λ r. ⌜ r ≤ b ⌝ }
+{
+    if b < a {
+        return b;
+    }
+    a
+}
+
+// Where the words of the PDUs before a place end: at the log's start for the first one.
+fn start_of(ends: &[usize], place: usize) -> usize {
+    if place == 0 {
+        return 0;
+    }
+    if ends.len() < place {
+        return 0;
+    }
+    ends[place - 1]
+}
+
+// The bytes from a place on, none past the end.
+fn from(bytes: &[u8], place: usize) -> &[u8] {
+    if bytes.len() < place {
+        return &bytes[0..0];
+    }
+    &bytes[place..]
+}
+
+// The words of a log from a place to another, none where it has not both.
+fn between(log: &[u32], start: usize, end: usize) -> &[u32] {
+    if log.len() < end {
+        return &log[0..0];
+    }
+    if end < start {
+        return &log[0..0];
+    }
+    &log[start..end]
+}
+
+// So many places of a list, or as many as it has.
+fn places(list: &[usize], many: usize) -> usize
+    ensures { λ r. ⌜ Counts r (now (list .entry)) ⌝ }
+{
+    if list.len() < many {
+        return list.len();
+    }
+    many
+}
+
+// Puts a number at a place of a list, if the list has that place.
+fn put(list: &mut [usize], place: usize, number: usize) {
+    if list.len() <= place {
+        return;
+    }
+    list[place] = number;
+}
+
+// A frame: what came of the last reading, how many records it has, and how many bytes.
+struct Frame {
+    status: u8,
+    count: usize,
+    bytes: usize,
+}
+
+// Reads records to the frame's start and their lengths to the list's, as many as the list has places for.
+fn read(input: i32, frame: &mut [u8], lengths: &mut [usize]) -> Frame
+    ensures { λ r. ⌜ Counts (r .bytes) (now (frame .exit)) ⌝ }
+    ensures { λ r. ⌜ Counts (r .count) (now (lengths .exit)) ⌝ }
+{
+    let mut end: usize = 0;
+    let mut i: usize = 0;
+    let mut status = records::WHOLE;
+    while i < lengths.len() {
+        if frame.len() - end < LONGEST {
+            break;
+        }
+        let r = records::read(input, &mut frame[end..]);
+        status = r.status;
+        if status != records::WHOLE {
+            break;
+        }
+        put(lengths, i, r.length);
+        end += r.length;
+        i += 1;
+    }
+    Frame {
+        status: status,
+        count: i,
+        bytes: end,
+    }
+}
+
+// Receives the PDUs of a frame in one call, and puts where the words of each end; `came` gets its bytes as they came.
+fn call(
+    receiver: Receiver,
+    carry: &mut [u8],
+    came: &mut [u8],
+    frame: &mut [u8],
+    lengths: &[usize],
+    ends: &mut [usize],
+    log: &mut [u32],
+) -> Batch {
+    text::put(came, 0, frame);
+    batch::receive_with_ends(receiver, carry, frame, lengths, log, ends)
+}
+
+// Writes what came of a PDU that a call took, with its log, and counts it; stops where it cannot be written.
+fn kept(
+    sink: Sink,
+    run: Run,
+    came: &[u8],
+    pdu: &[u8],
+    log: &[u32],
+    block: &mut [u8],
+    counts: &mut [u64],
+) -> Run {
+    let receiver = run.receiver;
+    let corrected = header::difference(header::header_of(came), header::header_of(pdu));
+    let o = Outcome {
+        kind: outcome::RECEIVED,
+        number: corrected,
+        wrong: 0,
+        length: pdu.len(),
+        words: log.len(),
+        receiver: receiver,
+    };
+    if !output::keep(sink, run.pdus, o, log, block) {
+        return logging::run_of(logging::UNWRITTEN, receiver, run.pdus);
+    }
+    let word = layout::control_word(pdu);
+    counts::add_received(counts, corrected, word.nop as u64, log);
+    logging::run_of(
+        records::WHOLE,
+        receiver,
+        std::num::wrapping_add_u64(run.pdus, 1),
+    )
+}
+
+// The record at a place of a frame: what came of it is written if it is one of so many that the call took, else it is received by a call of its own.
+fn one(
+    sink: Sink,
+    run: Run,
+    taken: usize,
+    place: usize,
+    carry: &mut [u8],
+    came: &[u8],
+    pdu: &mut [u8],
+    ends: &[usize],
+    log: &mut [u32],
+    block: &mut [u8],
+    counts: &mut [u64],
+) -> Run {
+    if run.status != records::WHOLE {
+        return run;
+    }
+    if taken <= place {
+        return logging::received(sink, carry, pdu, b"", log, block, counts, run);
+    }
+    let end = start_of(ends, std::num::wrapping_add_usize(place, 1));
+    let words = between(log, start_of(ends, place), end);
+    kept(sink, run, came, pdu, words, block, counts)
+}
+
+// All records of a frame, of which a call took so many, until one cannot be written.
+fn each(
+    sink: Sink,
+    start: Run,
+    taken: usize,
+    carry: &mut [u8],
+    came: &[u8],
+    frame: &mut [u8],
+    lengths: &[usize],
+    ends: &[usize],
+    log: &mut [u32],
+    block: &mut [u8],
+    counts: &mut [u64],
+) -> Run {
+    let mut run = start;
+    let mut at: usize = 0;
+    let mut i: usize = 0;
+    while i < lengths.len() {
+        let end = at + least(lengths[i], frame.len() - at);
+        run = one(
+            sink,
+            run,
+            taken,
+            i,
+            &mut *carry,
+            from(came, at),
+            &mut frame[at..end],
+            ends,
+            &mut *log,
+            &mut *block,
+            &mut *counts,
+        );
+        at = end;
+        i += 1;
+    }
+    run
+}
+
+// Receives a frame, and writes what came of it.
+fn received(
+    sink: Sink,
+    run: Run,
+    carry: &mut [u8],
+    came: &mut [u8],
+    frame: &mut [u8],
+    lengths: &[usize],
+    ends: &mut [usize],
+    log: &mut [u32],
+    block: &mut [u8],
+    counts: &mut [u64],
+) -> Run {
+    let receiver = run.receiver;
+    let b = call(
+        receiver,
+        &mut *carry,
+        &mut *came,
+        &mut *frame,
+        lengths,
+        &mut *ends,
+        &mut *log,
+    );
+    let next = b.receiver;
+    let start = logging::run_of(records::WHOLE, next, run.pdus);
+    each(
+        sink,
+        start,
+        b.taken,
+        carry,
+        came,
+        frame,
+        lengths,
+        ends,
+        log,
+        block,
+        counts,
+    )
+}
+
+// How a run stands after a frame whose last reading came to a status.
+fn after(run: Run, status: u8) -> Run {
+    if run.status != records::WHOLE {
+        return run;
+    }
+    let receiver = run.receiver;
+    logging::run_of(status, receiver, run.pdus)
+}
+
+// Reads a frame and receives it; stops where a record cannot be read.
+fn turn(
+    task: Task,
+    carry: &mut [u8],
+    came: &mut [u8],
+    frame: &mut [u8],
+    lengths: &mut [usize],
+    ends: &mut [usize],
+    log: &mut [u32],
+    block: &mut [u8],
+    counts: &mut [u64],
+    run: Run,
+) -> Run {
+    let f = read(task.input, frame, lengths);
+    let n = f.bytes;
+    let k = f.count;
+    let sink = task.sink;
+    let next = received(
+        sink,
+        run,
+        carry,
+        came,
+        &mut frame[..n],
+        &lengths[..k],
+        ends,
+        log,
+        block,
+        counts,
+    );
+    after(next, f.status)
+}
+
+// How far the work is, each time that another thousand PDUs are logged.
+fn progress(before: u64, pdus: u64) {
+    if before / 1000 != pdus / 1000 {
+        logging::progress(pdus / 1000 * 1000);
+    }
+}
+
+// All turns, counted down as in a run without batches.
+fn all_turns(
+    task: Task,
+    carry: &mut [u8],
+    came: &mut [u8],
+    frame: &mut [u8],
+    lengths: &mut [usize],
+    ends: &mut [usize],
+    log: &mut [u32],
+    block: &mut [u8],
+    counts: &mut [u64],
+    start: Run,
+) -> Run {
+    let mut run = start;
+    let mut turns = u64::MAX;
+    while 0 < turns {
+        let before = run.pdus;
+        let next = turn(
+            task,
+            carry,
+            came,
+            frame,
+            lengths,
+            ends,
+            log,
+            block,
+            counts,
+            run,
+        );
+        run = next;
+        if run.status != records::WHOLE {
+            return run;
+        }
+        progress(before, run.pdus);
+        turns -= 1;
+    }
+    run
+}
+
+// A buffer for the bytes of a frame, and one for the words of its log.
+fn bytes() -> [u8; 196605]
+    ensures { λ r. ⌜ 196605 ≡ length r ⌝ }
+{
+    [0; 196605]
+}
+
+fn words() -> [u32; 50000]
+    ensures { λ r. ⌜ 50000 ≡ length r ⌝ }
+{
+    [0; 50000]
+}
+
+// Logs all PDUs by frames of so many records. What stopped it before the end, its status says, and errno with that.
+fn log_frames(task: Task, many: usize, receiver: Receiver, counts: &mut [u64]) -> Run {
+    let mut carry = [0u8; 4096];
+    let mut came = bytes();
+    let mut frame = bytes();
+    let mut lengths = [0usize; 64];
+    let n = places(&lengths, many);
+    let mut ends = [0usize; 64];
+    let mut log = words();
+    let mut block = io::large_buffer();
+    let sink = task.sink;
+    if !output::begin(sink, &mut block) {
+        return logging::run_of(logging::UNWRITTEN, receiver, 0);
+    }
+    let start = logging::run_of(records::WHOLE, receiver, 0);
+    let run = all_turns(
+        task,
+        &mut carry,
+        &mut came,
+        &mut frame,
+        &mut lengths[..n],
+        &mut ends,
+        &mut log,
+        &mut block,
+        counts,
+        start,
+    );
+    logging::ended(sink, &mut block, run)
+}
+
+// Logs all PDUs: each by a call of its own where no frames are asked for, else by frames of so many records, at most 64.
+pub fn log_all(task: Task, many: usize, receiver: Receiver, counts: &mut [u64]) -> Run {
+    if many == 0 {
+        return logging::log_all(task, receiver, counts);
+    }
+    log_frames(task, many, receiver, counts)
+}
