@@ -238,29 +238,21 @@ module _ (lengths : List ℕ) (whole : Result) (carry pdus log : List ℕ) (b : 
     words-are : wordsAfter ≡ take (b .words) log ++ logEnd
     words-are = ap₂ (λ (x y : List ℕ). take w log ++ (x ++ y)) log-is none-after ∙ ap (λ (x : List ℕ). take w log ++ x) (append-nil logEnd) ∙ ap (λ (k : ℕ). take k log ++ logEnd) ew
 
-    pub stops : ¬ (a .refusal ≡ 0) → leaving a c pdusAfter wordsAfter ≡ whole
-    stops z = rw (pdus-are, words-are, answer-is, carry-is) (turn-stops (λ q. z (ap (λ (x : Batch). x .refusal) answer-is ∙ q)))
+    -- a refused PDU ends the batch, and nothing more is put into the list of ends
+    pub stops : (ends : List ℕ) → ¬ (a .refusal ≡ 0) → (leaving a c pdusAfter wordsAfter ≡ whole) × (ends ≡ endsLeft ends lengths carry pdus log b from i)
+    stops ends z =
+        let y : ¬ (answer .refusal ≡ 0) = λ q. z (ap (λ (x : Batch). x .refusal) answer-is ∙ q) in
+        let none = end-refused n (drop (i + 1) lengths) (b .receiver) carry (drop from pdus) rest (b .words) y in
+        (rw (pdus-are, words-are, answer-is, carry-is) (turn-stops y), rw (split, none))
 
-    pub turns : length p ≡ length pdu′ → length l ≡ length rest′ → a .refusal ≡ 0 → Along lengths whole c pdusAfter wordsAfter a (from + n) (i + 1)
-    turns lp ll z =
-        rw (pdus-are, words-are, answer-is, carry-is)
-        (turn-goes-on
-        (ap length (sym pdu-is) ∙ lp ∙ ap (λ (k : ℕ). length (take k (drop from pdus))) size-is)
-        (ap length (sym log-is) ∙ ll ∙ ap length rest-is)
-        (sym (ap (λ (x : Batch). x .refusal) answer-is) ∙ z))
-
-    -- the list of ends: nothing more is put into it, or the end of this PDU's words
-    pub tells-none : (ends : List ℕ) → ¬ (a .refusal ≡ 0) → ends ≡ endsLeft ends lengths carry pdus log b from i
-    tells-none ends z =
-        let none = end-refused n (drop (i + 1) lengths) (b .receiver) carry (drop from pdus) rest (b .words) (λ q. z (ap (λ (x : Batch). x .refusal) answer-is ∙ q)) in
-        rw (split, none)
-
-    pub tells : (ends told : List ℕ) → told ≡ set ends i (a .words) → length p ≡ length pdu′ → length l ≡ length rest′ → a .refusal ≡ 0 → endsLeft told lengths c pdusAfter wordsAfter a (from + n) (i + 1) ≡ endsLeft ends lengths carry pdus log b from i
-    tells ends told e lp ll z =
+    -- one that is taken leaves the next, once the end of its words is put into the list
+    pub turns : (ends told : List ℕ) → told ≡ set ends i (a .words) → length p ≡ length pdu′ → length l ≡ length rest′ → a .refusal ≡ 0
+        → Along lengths whole c pdusAfter wordsAfter a (from + n) (i + 1) × (endsLeft told lengths c pdusAfter wordsAfter a (from + n) (i + 1) ≡ endsLeft ends lengths carry pdus log b from i)
+    turns ends told e lp ll z =
         let y : answer .refusal ≡ 0 = sym (ap (λ (x : Batch). x .refusal) answer-is) ∙ z in
         let lp′ : length pduEnd ≡ length pdu = ap length (sym pdu-is) ∙ lp ∙ ap (λ (k : ℕ). length (take k (drop from pdus))) size-is in
         let ll′ : length logEnd ≡ length rest = ap length (sym log-is) ∙ ll ∙ ap length rest-is in
         let more-left = end-taken n (drop (i + 1) lengths) (b .receiver) carry (drop from pdus) rest (b .words) y in
         let bytes-left = pdus-left pdus log pduEnd logEnd from n (b .words) (inside lp′ ll′ y) (h .room) (size lp′ ll′ y) ll′ in
         let log-left = words-left pdus log pduEnd logEnd from n (b .words) (inside lp′ ll′ y) (h .room) (size lp′ ll′ y) ll′ (answer .words) in
-        rw (e, split, more-left, pdus-are, words-are, answer-is, carry-is, bytes-left, log-left, add-one i)
+        (rw (pdus-are, words-are, answer-is, carry-is) (turn-goes-on lp′ ll′ y), rw (e, split, more-left, pdus-are, words-are, answer-is, carry-is, bytes-left, log-left, add-one i))

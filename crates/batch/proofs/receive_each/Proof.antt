@@ -1,4 +1,4 @@
-use Rattle.batch.proofs.Along.{Along, endsLeft, at-start, at-end, ends-at-start, ends-at-end, stops, turns, tells, tells-none}
+use Rattle.batch.proofs.Along.{Along, endsLeft, at-start, at-end, ends-at-start, ends-at-end, stops, turns}
 use Rattle.pieces.proofs.Cutting.{total-drop}
 use Rattle.pieces.specs.Pieces.{total}
 use Rattle.batch.specs.Batches.{oneByOne}
@@ -94,9 +94,10 @@ returns c =
     let k = c .before .before .before .before .before .before .before .before in
     let p = k .before .before .before .before .before .before in
     let a = p .before .before .before .before .before .before .before .args in
-    let o = p .loop in (
-      stops (now (a .lengths)) _ (o .carry) (o .pdus) (o .log) (o .b) (o .from) (o .i) (o .inv .0) (k .before .before .before .before .before .loop-test .taken) _ (k .receive-next .result) (k .receive-next .last .1 .0) (k .receive-next .last .1 .1 .0) (k .receive-next .last .1 .1 .1 .0) (k .receive-next .ensures .0) (k .receive-next .ensures .1 .0) (k .receive-next .ensures .1 .1 .0) (k .receive-next .ensures .1 .1 .1) refl (λ q. omega (arith, q, c .if1 .taken)) ∙ ap (λ (x : Batch). oneByOne (now (a .lengths)) (x .receiver) (now (a .carry)) (now (a .pdus)) (now (a .log))) (p .before .begun .ensures),
-      tells-none (now (a .lengths)) _ (o .carry) (o .pdus) (o .log) (o .b) (o .from) (o .i) (o .inv .0) (k .before .before .before .before .before .loop-test .taken) _ (k .receive-next .result) (k .receive-next .last .1 .0) (k .receive-next .last .1 .1 .0) (k .receive-next .last .1 .1 .1 .0) (k .receive-next .ensures .0) (k .receive-next .ensures .1 .0) (k .receive-next .ensures .1 .1 .0) (k .receive-next .ensures .1 .1 .1) refl (o .ends) (λ q. omega (arith, q, c .if1 .taken)) ∙ o .inv .5 ∙ ends-at-start (now (a .ends)) (now (a .lengths)) (now (a .carry)) (now (a .pdus)) (now (a .log)) (p .before .begun .result) (a .receiver) (p .before .begun .ensures),
+    let o = p .loop in
+    let s = stops (now (a .lengths)) _ (o .carry) (o .pdus) (o .log) (o .b) (o .from) (o .i) (o .inv .0) (k .before .before .before .before .before .loop-test .taken) _ (k .receive-next .result) (k .receive-next .last .1 .0) (k .receive-next .last .1 .1 .0) (k .receive-next .last .1 .1 .1 .0) (k .receive-next .ensures .0) (k .receive-next .ensures .1 .0) (k .receive-next .ensures .1 .1 .0) (k .receive-next .ensures .1 .1 .1) refl (o .ends) (λ q. omega (arith, q, c .if1 .taken)) in (
+      s .0 ∙ ap (λ (x : Batch). oneByOne (now (a .lengths)) (x .receiver) (now (a .carry)) (now (a .pdus)) (now (a .log))) (p .before .begun .ensures),
+      s .1 ∙ o .inv .5 ∙ ends-at-start (now (a .ends)) (now (a .lengths)) (now (a .carry)) (now (a .pdus)) (now (a .log)) (p .before .begun .result) (a .receiver) (p .before .begun .ensures),
     )
 
 note-requires : tie.Need-note-requires Inv-loop μ-loop
@@ -117,13 +118,14 @@ loop-again c =
     let k = e .before .before .before .before .before .before .before .before in
     let p = k .before .before .before .before .before .before in
     let a = p .before .before .before .before .before .before .before .args in
-    let o = p .loop in (
-      turns (now (a .lengths)) _ (o .carry) (o .pdus) (o .log) (o .b) (o .from) (o .i) (o .inv .0) (k .before .before .before .before .before .loop-test .taken) _ (k .receive-next .result) (k .receive-next .last .1 .0) (k .receive-next .last .1 .1 .0) (k .receive-next .last .1 .1 .1 .0) (k .receive-next .ensures .0) (k .receive-next .ensures .1 .0) (k .receive-next .ensures .1 .1 .0) (k .receive-next .ensures .1 .1 .1) refl (k .receive-next .kept .1 .1 .0) (k .receive-next .kept .1 .1 .1 .0) (omega (arith, e .if1 .left)),
+    let o = p .loop in
+    let m = turns (now (a .lengths)) _ (o .carry) (o .pdus) (o .log) (o .b) (o .from) (o .i) (o .inv .0) (k .before .before .before .before .before .loop-test .taken) _ (k .receive-next .result) (k .receive-next .last .1 .0) (k .receive-next .last .1 .1 .0) (k .receive-next .last .1 .1 .1 .0) (k .receive-next .ensures .0) (k .receive-next .ensures .1 .0) (k .receive-next .ensures .1 .1 .0) (k .receive-next .ensures .1 .1 .1) refl (o .ends) (t .note .last .0) (t .note .ensures) (k .receive-next .kept .1 .1 .0) (k .receive-next .kept .1 .1 .1 .0) (omega (arith, e .if1 .left)) in (
+      m .0,
       omega (arith, k .receive-next .kept .1 .0, o .inv .1),
       omega (arith, e .before .before .before .before .before .pdus .given, o .inv .2),
       omega (arith, e .before .before .before .log .given, o .inv .3),
       omega (arith, t .note .kept .0, o .inv .4),
-      tells (now (a .lengths)) _ (o .carry) (o .pdus) (o .log) (o .b) (o .from) (o .i) (o .inv .0) (k .before .before .before .before .before .loop-test .taken) _ (k .receive-next .result) (k .receive-next .last .1 .0) (k .receive-next .last .1 .1 .0) (k .receive-next .last .1 .1 .1 .0) (k .receive-next .ensures .0) (k .receive-next .ensures .1 .0) (k .receive-next .ensures .1 .1 .0) (k .receive-next .ensures .1 .1 .1) refl (o .ends) (t .note .last .0) (t .note .ensures) (k .receive-next .kept .1 .1 .0) (k .receive-next .kept .1 .1 .1 .0) (omega (arith, e .if1 .left)) ∙ o .inv .5,
+      m .1 ∙ o .inv .5,
     )
 
 same-length-5 : tie.Need-same-length-5 Inv-loop μ-loop
