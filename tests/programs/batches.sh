@@ -66,14 +66,22 @@ check_batches_drives() {
 
 # Frames that end before their count is reached, since their PDUs are long, and logs that would not fit: 64 PDUs, the last of which is the longest.
 check_batches_long() {
+    local turn
     run generate --in packets --length 20480
     cp out mixed
     same_in_batches "long PDUs" mixed
-    records 30 4096 >large
-    run generate --in large --length 2080
+    record 40 >short
+    for turn in {1..12}; do
+        cat short short >mixed
+        mv mixed short
+    done
+    run generate --in short --length 2080
     head -c $((63 * 2082)) out >mixed
+    records 63 320 >large
     run generate --in large --length 20480
     head -c 20482 out >>mixed
+    run log --in mixed --format words
+    same "64 PDUs with more words than the room of a frame" yes "$([ "$(stat -c %s out)" -gt 200000 ] && echo yes || echo no)"
     same_in_batches "a log for which the room of a frame is too short" mixed
 }
 
