@@ -156,8 +156,9 @@ reading-same p q m n ep eq s =
 -- ---- a locator is read from its own bytes
 
 module _ (y z : List ℕ) where
-  control-same : ((i : ℕ) → i < 14 → getD y i 0 ≡ getD z i 0) → controlAt y ≡ controlAt z
-  control-same e = λ i. controlOf (e 8 (omega arith) i) (e 9 (omega arith) i) (e 10 (omega arith) i) (e 11 (omega arith) i) (e 12 (omega arith) i) (e 13 (omega arith) i)
+  pub control-same : ((i : ℕ) → 8 ≤ i → i < 14 → getD y i 0 ≡ getD z i 0) → controlAt y ≡ controlAt z
+  control-same e =
+      λ i. controlOf (e 8 (omega arith) (omega arith) i) (e 9 (omega arith) (omega arith) i) (e 10 (omega arith) (omega arith) i) (e 11 (omega arith) (omega arith) i) (e 12 (omega arith) (omega arith) i) (e 13 (omega arith) (omega arith) i)
 
   same16 : (k : ℕ) → getD y (14 + 2 * k) 0 ≡ getD z (14 + 2 * k) 0 → getD y (15 + 2 * k) 0 ≡ getD z (15 + 2 * k) 0 → locator16 y k ≡ locator16 z k
   unfolding locator16
@@ -173,16 +174,16 @@ module _ (y z : List ℕ) where
       go (yes e) = spare-bits-ignored y z k e (a e .0) (a e .1)
       go (no e) = let t : eqb (k % 2) 0 ≡ false = ne-eqb (k % 2) 0 e in rw (t, b e .0, b e .1)
 
-  -- the bytes before the place after n locators
-  locator-same : (width n k : ℕ) → k < n → ((i : ℕ) → i < 14 + locatorSize width n → getD y i 0 ≡ getD z i 0) → locatorAt width y k ≡ locatorAt width z k
+  -- the bytes of n locators
+  pub locator-same : (width n k : ℕ) → k < n → ((i : ℕ) → 14 ≤ i → i < 14 + locatorSize width n → getD y i 0 ≡ getD z i 0) → locatorAt width y k ≡ locatorAt width z k
   locator-same width n k h = go (eqb width 16)
     where
-      go : (b : Bool) → ((i : ℕ) → i < 14 + cond b ((16 * n + 7) / 8) ((12 * n + 7) / 8) → getD y i 0 ≡ getD z i 0)
+      go : (b : Bool) → ((i : ℕ) → 14 ≤ i → i < 14 + cond b ((16 * n + 7) / 8) ((12 * n + 7) / 8) → getD y i 0 ≡ getD z i 0)
           → cond b (locator16 y k) (locator12 y k) ≡ cond b (locator16 z k) (locator12 z k)
-      go true e = same16 k (e (14 + 2 * k) (omega arith)) (e (15 + 2 * k) (omega arith))
+      go true e = same16 k (e (14 + 2 * k) (omega arith) (omega arith)) (e (15 + 2 * k) (omega arith) (omega arith))
       go false e =
-          same12 k (λ q. (e (14 + 3 * (k / 2)) (omega arith), ap (λ (x : ℕ). x % 16) (e (15 + 3 * (k / 2)) (omega arith))))
-          (λ q. (e (15 + 3 * (k / 2)) (omega arith), e (16 + 3 * (k / 2)) (omega arith)))
+          same12 k (λ q. (e (14 + 3 * (k / 2)) (omega arith) (omega arith), ap (λ (x : ℕ). x % 16) (e (15 + 3 * (k / 2)) (omega arith) (omega arith))))
+          (λ q. (e (15 + 3 * (k / 2)) (omega arith) (omega arith), e (16 + 3 * (k / 2)) (omega arith) (omega arith)))
 
   -- ---- bytes after La
 
@@ -195,8 +196,8 @@ module _ (y z : List ℕ) where
       (or-left (ltb (controlAt y .la + 1) (afterLocators (widthOf y) (controlAt y))) (leb (length y) (controlAt y .la)) right) in
       alike y z (record {
         long = long;
-        control = control-same (λ i h. byte i (omega arith));
-        locators = λ k h. locator-same (widthOf y) (controlAt y .nop) k h (λ i l. byte i (omega arith));
+        control = control-same (λ i g h. byte i (omega arith));
+        locators = λ k h. locator-same (widthOf y) (controlAt y .nop) k h (λ i g l. byte i (omega arith));
         middle = ap (drop (afterLocators (widthOf y) (controlAt y))) front;
       })
     where
@@ -235,7 +236,7 @@ module _ (y z : List ℕ) where
       let at : afterLocators (widthOf y) (controlAt y) ≡ 14 + (12 * controlAt y .nop + 7) / 8 = ap (λ (b : ℕ). 14 + locatorSize b (controlAt y .nop)) w in
       alike y z (record {
         long = long;
-        control = control-same (λ i h. others i (λ q. absurd (omega arith)));
+        control = control-same (λ i g h. others i (λ q. absurd (omega arith)));
         locators = λ k h. ap (λ (b : ℕ). locatorAt b y k) w ∙ spare12 (controlAt y .nop) odd others low k h ∙ sym (ap (λ (b : ℕ). locatorAt b z k) w);
         middle = rest-same (afterLocators (widthOf y) (controlAt y)) (controlAt y .la + 1) long (λ i h. others i (λ q. absurd (omega arith)));
       })

@@ -1,16 +1,18 @@
--- How many bytes are held after a PDU.
-use mathlib.Core.Path.{sym, subst}
+-- How many bytes are held after a PDU, and how many words are written for it.
+use mathlib.Core.Path.{_≡_, refl, sym, ap, _∙_, subst}
 use mathlib.Core.Bool.{Bool, false}
 use mathlib.Core.List.{List}
 use Prim.Native.Nat.{ℕ, zero, suc, _+_, _≤_}
 use native.Mathlib.Omega.{arith}
-use lib.ListN.{length}
+use lib.ListN.{length, getD, drop, length-take}
+use Rattle.log.specs.Log.{logWords}
 use Rattle.reassembly.specs.Reassembly.{Partial, Outcome, received, piecesStep, numberAt}
-use Rattle.reassembly.specs.Run.{bytesOf, partialOf, piecesFrom, Marked, Parsed, saidOf, memoryOf, firstCause}
+use Rattle.reassembly.specs.Run.{bytesOf, partialOf, placeAt, lengthAt, pieceAt, piecesFrom, Marked, psdOf, Parsed, saidOf, memoryOf, firstCause}
 use Rattle.reassembly.specs.declared.Head.{Head}
 use Rattle.reassembly.specs.declared.State.{State}
+use Rattle.reassembly.proofs.Bound.{pieceBytes, bound}
 use Rattle.reassembly.proofs.Runs.{Fine, fine-partial, this, rest, all-cons, all-none, rest-is, fine-this, piece-some}
-use Rattle.reassembly.proofs.Whole.{begins, extras, tail, total-is, fine-begun}
+use Rattle.reassembly.proofs.Whole.{begins, extras, tail, total-is, fine-begun, psd-length}
 
 module _ (num : ℕ → ℕ) (plast : Bool) (d m g : List ℕ) (nop : ℕ) (w : Marked d m nop) where
   pieces-fine : (k n : ℕ) (cont : Bool) (h : Partial) → Fine h → k + n ≤ nop → Fine (piecesStep num k cont plast h (piecesFrom d m g k n) .partial)
@@ -29,3 +31,32 @@ held-bounded s range head m g d c small big w =
     let last : Fine (tail s range head m g d c (begins s range head m g d c .partial) .partial) =
     pieces-fine (numberAt (head .pfirst) (head .start)) (head .plast) d m g (head .nop) (w .marked) 0 (head .nop) (head .pfirst) (begins s range head m g d c .partial) first (omega arith) in
     subst (λ (o : Outcome). length (bytesOf (o .partial)) ≤ 4096) (sym (total-is s range head m g d c)) (last .0)
+
+-- ---- words
+
+-- n pieces from piece k on end by mark k + n
+pieces-within : (d m g : List ℕ) (nop : ℕ) → Marked d m nop → (n k : ℕ) → k + n ≤ nop
+    → (length (piecesFrom d m g k n) ≡ n) × (pieceBytes (piecesFrom d m g k n) + getD m k 0 ≤ getD m (k + n) 0)
+unfolding piecesFrom pieceAt
+pieces-within d m g nop w zero k h = let e : k + 0 ≡ k = omega arith in (refl, subst (λ (i : ℕ). 0 + getD m k 0 ≤ getD m i 0) (sym e) (omega arith))
+pieces-within d m g nop w (suc n) k h =
+    let i = pieces-within d m g nop w n (k + 1) (omega arith) in
+    let e : k + 1 + n ≡ k + suc n = omega arith in
+    let t = length-take (lengthAt m k) (drop (placeAt m k) d) in
+    let r = w .rising k (omega arith) in
+    (ap suc (i .0), subst (λ (j : ℕ). pieceBytes (piecesFrom d m g k (suc n)) + getD m k 0 ≤ getD m j 0) e (omega (arith, i .1, t, r)))
+
+last-within : (d m : List ℕ) (n : ℕ) → Marked d m n → getD m (0 + n) 0 + 1 ≤ length d
+last-within d m zero w = let h = w .first in omega (arith, h)
+last-within d m (suc n) w = let e : n + 1 ≡ 0 + suc n = omega arith in subst (λ (i : ℕ). getD m i 0 + 1 ≤ length d) e (let h = w .within n (omega arith) in omega (arith, h))
+
+-- at most 8,400, whatever the causes of its pieces are
+pub words-bounded : (s : State) (range : ℕ) (head : Head) (m g d c : List ℕ) → s .held ≤ 4096 → 4096 ≤ length c → Parsed head d m
+    → length (logWords (received range (memoryOf s c) (saidOf head m g d) .entries)) ≤ 8400
+unfolding memoryOf saidOf
+words-bounded s range head m g d c small big w =
+    let p = pieces-within d m g (head .nop) (w .marked) (head .nop) 0 (omega arith) in
+    let l = last-within d m (head .nop) (w .marked) in
+    let q = psd-length head m d w in
+    let f = fine-partial (s .held) (s .number) c small (omega arith) in
+    bound range _ _ (f .0) (let n = w .marked .few in omega (arith, p .0, n)) (let z = w .size in omega (arith, p .1, l, q, z))

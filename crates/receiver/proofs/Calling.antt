@@ -22,7 +22,7 @@ use Rattle.layout.specs.declared.ControlWord.{ControlWord}
 use Rattle.pdu.specs.Reading.{readerTests, modeIn, wrongWith, wrongOf}
 use Rattle.pdu.proofs.Lowest.{without-eleven}
 use Rattle.receiver.specs.Receiving.{saidBy, modeOf, wrongFields, wrongState, refusedAnswer, receiveNumber, receiveAnswer, carryAfter, pduAfter, logAfter}
-use Rattle.receiver.specs.Steps.{noRoom, streamTests, correctedNumber, Answered}
+use Rattle.receiver.specs.Steps.{noRoom, Takes, streamTests, correctedNumber, Answered}
 use Rattle.receiver.specs.declared.Receiver.{Receiver}
 use Rattle.receiver.specs.declared.Received.{Received}
 use Rattle.receiver.proofs.Answering.{answered-refused, answered-number}
@@ -61,7 +61,7 @@ module _ (m : Mode) (r : Receiver) (carry y log : List ℕ) where
 
       -- 13, or accepted
       pub log-call : (v : ℕ) (a : Received) (carryEnd logEnd : List ℕ) → v ≡ firstOf (readerTests m c y) → v ≡ 0
-          → Answered (m .sequences) (saidBy (r .register) (m .width) c y) r carry log (cond (noRoom (m .sequences) (saidBy (r .register) (m .width) c y) r carry log) 13 0) 0 a carryEnd logEnd
+          → Takes (m .sequences) (saidBy (r .register) (m .width) c y) r carry log a carryEnd logEnd
           → Corrects a carryEnd logEnd
       log-call v a carryEnd logEnd e z q =
           let n : ℕ = cond (noRoom (m .sequences) (saidBy (r .register) (m .width) c y) r carry log) 13 0 in
@@ -99,7 +99,7 @@ module _ (marks carry pdu log : List ℕ) (r : Receiver) where
       let y = correctedPduWith marks pdu in
       Answered (m .sequences) (saidBy (r .register) (m .width) (controlAt y) y) r carry log n (wrongOf y n) a carryEnd logEnd
 
-  turned-down : (n : ℕ) (a : Received) → receiveNumber marks carry pdu log r ≡ n → (n ≡ 0 → ⊥) → (n ≡ 11 → ⊥) → a ≡ refusedAnswer r n 0 → Promised a carry pdu log
+  pub turned-down : (n : ℕ) (a : Received) → receiveNumber marks carry pdu log r ≡ n → (n ≡ 0 → ⊥) → (n ≡ 11 → ⊥) → a ≡ refusedAnswer r n 0 → Promised a carry pdu log
   unfolding receiveAnswer carryAfter pduAfter logAfter
   turned-down n a e z d q =
       let t : eqb (receiveNumber marks carry pdu log r) 0 ≡ false = ne-eqb (receiveNumber marks carry pdu log r) 0 (λ h. z (sym e ∙ h)) in

@@ -32,7 +32,7 @@ use Rattle.receiver.proofs.Rows.{both-on, same-listing}
 
 -- ---- what a PDU says comes from its bytes
 
-taken-few : (n k : ℕ) (y : List ℕ) → length (take n (drop k y)) ≤ n
+pub taken-few : (n k : ℕ) (y : List ℕ) → length (take n (drop k y)) ≤ n
 taken-few n k y = let e = length-take n (drop k y) in omega (arith, e)
 
 pieces-few : (register width : ℕ) (c : ControlWord) (y : List ℕ) (k n : ℕ) → (length (piecesIn register width c y k n) ≡ n) × (pieceBytes (piecesIn register width c y k n) ≤ lengthsFrom width c y k n)
@@ -43,7 +43,7 @@ pieces-few register width c y k (suc n) =
     let t = taken-few (lengthAt width c y k) (startAt width c y k) y in
     (ap suc (h .0), omega (arith, h .1, t))
 
-held-few : (held number : ℕ) (c : List ℕ) → held ≤ 4096 → length (bytesOf (partialOf held number c)) ≤ 4096
+pub held-few : (held number : ℕ) (c : List ℕ) → held ≤ 4096 → length (bytesOf (partialOf held number c)) ≤ 4096
 held-few zero number c h = omega arith
 held-few (suc x) number c h = let e = length-take (suc x) c in omega (arith, e, h)
 

@@ -29,7 +29,7 @@ use Rattle.receiver.specs.Steps.{Usable, noRoom, streamTests, correctedN
 use Rattle.receiver.specs.declared.Receiver.{Receiver}
 
 -- rows of which one applies: later ones are not looked at
-first-on : (ts us : List (Bool × ℕ)) → ¬ (firstOf ts ≡ 0) → firstOf (ts ++ us) ≡ firstOf ts
+pub first-on : (ts us : List (Bool × ℕ)) → ¬ (firstOf ts ≡ 0) → firstOf (ts ++ us) ≡ firstOf ts
 first-on [] us z = absurd (z refl)
 first-on ((true, n) ∷ ts) us z = refl
 first-on ((false, n) ∷ ts) us z = first-on ts us z

@@ -9,8 +9,7 @@ use lib.Dec.{eqb}
 use lib.ListN.{getD, take, drop}
 use Rattle.crc.specs.Crc.{crcFrom}
 use Rattle.layout.specs.declared.ControlWord.{ControlWord}
-use Rattle.layout.specs.Locators.{locatorAt}
-use Rattle.pdu.specs.Reading.{afterLocators, expansionBytes, startAt, lengthAt, psdOf}
+use Rattle.pdu.specs.Reading.{afterLocators, expansionBytes, psdOf}
 use Rattle.reassembly.specs.Run.{pieceAt, pieceOf, piecesFrom, psdOf as psdBy, saidOf, memoryOf as memoryBy}
 use Rattle.receiver.specs.Receiving.{pieceIn, piecesIn, saidBy, memoryOf}
 use Rattle.receiver.specs.declared.Receiver.{Receiver}
@@ -21,19 +20,17 @@ pub same-memory : (r : Receiver) (carry : List ℕ) → memoryBy (stateOf r) car
 unfolding memoryBy memoryOf
 same-memory r carry = refl
 
+-- piece k by its marks
+pub piece-here : (register width : ℕ) (c : ControlWord) (y marks : List ℕ) → MarksOf width c y marks → (k : ℕ) → k < c .nop
+    → pieceOf (causeAt register y marks k) (pieceAt y marks k) ≡ pieceIn register width c y k
+unfolding causeAt pieceAt
+piece-here register width c y marks em k h =
+    ap₂ (λ (e a : ℕ). pieceOf (cond (eqb (crcFrom register (take (e - (a + 1)) (drop (a + 1) y))) (getD y e 0)) 0 2) (take (e - (a + 1)) (drop (a + 1) y)))
+    (next-mark width c y marks em k h) (em k (omega arith))
+
 module _ (register width : ℕ) (c : ControlWord) (y marks causes : List ℕ) (em : MarksOf width c y marks) (ec : CausesOf register y marks (c .nop) causes) where
-  next : (k : ℕ) → k < c .nop → getD marks (k + 1) 0 ≡ locatorAt width y k
-  next = next-mark width c y marks em
-
-  bytes-same : (k : ℕ) → k < c .nop → pieceAt y marks k ≡ take (lengthAt width c y k) (drop (startAt width c y k) y)
-  unfolding pieceAt
-  bytes-same k h = ap₂ (λ (e a : ℕ). take (e - (a + 1)) (drop (a + 1) y)) (next k h) (em k (omega arith))
-
   piece-same : (k : ℕ) → k < c .nop → pieceOf (getD causes k 0) (pieceAt y marks k) ≡ pieceIn register width c y k
-  unfolding causeAt
-  piece-same k h =
-      ap (λ (n : ℕ). pieceOf n (pieceAt y marks k)) (ec k h)
-      ∙ ap₂ (λ (b : List ℕ) (e : ℕ). pieceOf (cond (eqb (crcFrom register b) (getD y e 0)) 0 2) b) (bytes-same k h) (next k h)
+  piece-same k h = ap (λ (n : ℕ). pieceOf n (pieceAt y marks k)) (ec k h) ∙ piece-here register width c y marks em k h
 
   pieces-same : (k n : ℕ) → k + n ≤ c .nop → piecesFrom y marks causes k n ≡ piecesIn register width c y k n
   unfolding piecesFrom piecesIn

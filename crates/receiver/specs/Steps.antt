@@ -80,6 +80,10 @@ module _ (range : ℕ) (said : Said) (r : Receiver) (carry log : List ℕ) where
     pub held : carryAfter ≡ cond (eqb n 0) (putAt carry 0 (bytesOf (outcomeOf .partial))) carry
     pub logged : logAfter ≡ cond (eqb n 0) (putAt log 0 (logWords (outcomeOf .entries))) log
 
+-- 13, or accepted
+abbrev pub Takes : ℕ → Said → Receiver → List ℕ → List ℕ → Received → List ℕ → List ℕ → Type 0
+Takes range said r carry log a carryAfter logAfter = Answered range said r carry log (cond (noRoom range said r carry log) 13 0) 0 a carryAfter logAfter
+
 -- ---- rows 5 to 13, of a corrected PDU
 
 -- mode and stream not in the table, or not those opened

@@ -18,9 +18,9 @@ ghost use Rattle.modes.specs.declared.Listing.the-variants.{Listed};
 ghost use Rattle.header.specs.Header.{frontReplaced};
 ghost use Rattle.layout.specs.Control.{controlAt};
 ghost use Rattle.pdu.specs.Reading.{readerTests, wrongOf};
-ghost use Rattle.reassembly.specs.Run.{placeAt, Marked};
+ghost use Rattle.reassembly.specs.Run.{placeAt, Marked, Parsed, saidOf};
 ghost use Rattle.receiver.specs.Receiving.{saidBy, opened, wrongFields, refusedAnswer, receiveAnswer, carryAfter, pduAfter, logAfter, lostAnswer, logAfterLost};
-ghost use Rattle.receiver.specs.Steps.{MarksOf, causeAt, CausesOf, headOf, stateOf, stateTests, Usable, acceptedAfter, noRoom, Answered, streamTests, correctedNumber, forgetful};
+ghost use Rattle.receiver.specs.Steps.{MarksOf, causeAt, CausesOf, headOf, stateOf, stateTests, Usable, acceptedAfter, Answered, Takes, streamTests, correctedNumber, forgetful};
 
 // What a receiver was opened with, and what it remembers. A field not known or not held is 0; held length 0 means nothing held.
 #[repr(C)]
@@ -99,7 +99,7 @@ fn wrong_state(r: Receiver, m: Mode) -> bool
 }
 
 // Refusal 1 or 2, for a mode and stream that the table has and a carry of so many bytes, or 0.
-fn listed_refusal(r: Receiver, m: Mode, carry: usize) -> u32
+pub fn listed_refusal(r: Receiver, m: Mode, carry: usize) -> u32
     requires { ⌜ listing (r .mode) (r .stream) ≡ Listed m ⌝ }
     ensures { λ n. ⌜ n ≡ firstOf (stateTests r carry) ⌝ }
 {
@@ -119,7 +119,7 @@ fn place(x: u16) -> usize
 }
 
 // La and then each locator.
-fn marks_of(y: &[u8], width: u8, c: ControlWord) -> [u16; 64]
+pub fn marks_of(y: &[u8], width: u8, c: ControlWord) -> [u16; 64]
     requires { ⌜ c .nop < 64 ⌝ }
     ensures { λ r. ⌜ MarksOf width c (now (y .entry)) r ⌝ }
 {
@@ -136,7 +136,7 @@ fn marks_of(y: &[u8], width: u8, c: ControlWord) -> [u16; 64]
 }
 
 // Piece k's cause: 0 where the byte at its locator is its CRC, by the register that it starts with, 2 where it is not.
-fn cause_at(register: u8, y: &[u8], marks: [u16; 64], k: usize) -> u8
+pub fn cause_at(register: u8, y: &[u8], marks: [u16; 64], k: usize) -> u8
     requires { ⌜ (k < 63) × (placeAt marks k < getD marks (k + 1) 0) × (getD marks (k + 1) 0 < length (now y)) ⌝ }
     ensures { λ r. ⌜ r ≡ causeAt register (now (y .entry)) marks k ⌝ }
 {
@@ -150,7 +150,7 @@ fn cause_at(register: u8, y: &[u8], marks: [u16; 64], k: usize) -> u8
 }
 
 // Each piece's cause.
-fn causes_of(register: u8, y: &[u8], marks: [u16; 64], nop: usize) -> [u8; 64]
+pub fn causes_of(register: u8, y: &[u8], marks: [u16; 64], nop: usize) -> [u8; 64]
     requires { ⌜ Marked (now y) marks nop ⌝ }
     ensures { λ r. ⌜ CausesOf register (now (y .entry)) marks nop r ⌝ }
 {
@@ -164,7 +164,7 @@ fn causes_of(register: u8, y: &[u8], marks: [u16; 64], nop: usize) -> [u8; 64]
 }
 
 // What the header says, for reassembly.
-fn head_of(y: &[u8], width: u8, c: ControlWord) -> Head
+pub fn head_of(y: &[u8], width: u8, c: ControlWord) -> Head
     ensures { λ r. ⌜ r ≡ headOf width c (now (y .entry)) ⌝ }
 {
     let psd = pdu::psd_start(y, width, c);
@@ -191,7 +191,7 @@ fn state_of(r: Receiver) -> State
 }
 
 // A refusal: nothing is changed. k comes with 11.
-fn refused(r: Receiver, number: u32, k: u32) -> Received
+pub fn refused(r: Receiver, number: u32, k: u32) -> Received
     ensures { λ a. ⌜ a ≡ refusedAnswer r number k ⌝ }
 {
     Received {
@@ -223,6 +223,30 @@ fn accepted(r: Receiver, sequence: u8, run: Run) -> Received
     }
 }
 
+// Receives a PDU by what its header says, its marks and each piece's cause, or refuses with 13.
+pub fn receive_parsed(
+    r: Receiver,
+    range: u8,
+    head: Head,
+    marks: [u16; 64],
+    causes: [u8; 64],
+    carry: &mut [u8],
+    y: &[u8],
+    log: &mut [u32],
+) -> Received
+    requires { ⌜ Usable r (now carry) ⌝ }
+    requires { ⌜ Parsed head (now y) marks ⌝ }
+    ensures { λ a. ⌜ Takes range (saidOf head marks causes (now (y .entry))) r (now (carry .entry)) (now (log .entry)) a (now (carry .exit)) (now (log .exit)) ⌝ }
+{
+    let state = state_of(r);
+    let words = reassembly::words_needed(state, range, head, marks, causes);
+    if log.len() < words {
+        return refused(r, 13, 0);
+    }
+    let run = reassembly::accept(state, range, head, marks, causes, y, &mut *carry, &mut *log);
+    accepted(r, head.sequence, run)
+}
+
 // Receives a corrected PDU that no row from 1 to 12 turns down, or refuses with 13.
 fn receive_read(
     r: Receiver,
@@ -235,27 +259,21 @@ fn receive_read(
     requires { ⌜ Usable r (now carry) ⌝ }
     requires { ⌜ (length (now y) ≤ 20480) × (c .nop < 64) ⌝ }
     requires { ⌜ firstOf (readerTests m c (now y)) ≡ 0 ⌝ }
-    ensures { λ a. ⌜ Answered (m .sequences) (saidBy (r .register) (m .width) c (now (y .entry))) r (now (carry .entry)) (now (log .entry)) (cond (noRoom (m .sequences) (saidBy (r .register) (m .width) c (now (y .entry))) r (now (carry .entry)) (now (log .entry))) 13 0) 0 a (now (carry .exit)) (now (log .exit)) ⌝ }
+    ensures { λ a. ⌜ Takes (m .sequences) (saidBy (r .register) (m .width) c (now (y .entry))) r (now (carry .entry)) (now (log .entry)) a (now (carry .exit)) (now (log .exit)) ⌝ }
 {
     let marks = marks_of(y, m.width, c);
     let causes = causes_of(r.register, y, marks, c.nop as usize);
     let head = head_of(y, m.width, c);
-    let state = state_of(r);
-    let words = reassembly::words_needed(state, m.sequences, head, marks, causes);
-    if log.len() < words {
-        return refused(r, 13, 0);
-    }
-    let run = reassembly::accept(
-        state,
+    receive_parsed(
+        r,
         m.sequences,
         head,
         marks,
         causes,
-        y,
         &mut *carry,
+        y,
         &mut *log,
-    );
-    accepted(r, c.sequence, run)
+    )
 }
 
 // Refusal 6: a PDU's mode and stream are not those opened.
@@ -266,7 +284,7 @@ fn other_stream(r: Receiver, c: ControlWord) -> bool
 }
 
 // Refusal 5 or 6, for a PDU's mode and stream, or 0.
-fn wrong_stream(r: Receiver, c: ControlWord) -> u32
+pub fn wrong_stream(r: Receiver, c: ControlWord) -> u32
     ensures { λ n. ⌜ n ≡ firstOf (streamTests r c) ⌝ }
 {
     let listing = modes::look_up(c.mode, c.stream);
@@ -301,7 +319,7 @@ fn receive_corrected(r: Receiver, m: Mode, carry: &mut [u8], y: &[u8], log: &mut
 }
 
 // Receives a corrected PDU; where it is refused, the header that it had before is put back.
-fn receive_or_restore(
+pub fn receive_or_restore(
     r: Receiver,
     m: Mode,
     carry: &mut [u8],
