@@ -1,0 +1,26 @@
+use Rattle.diversity.proofs.Choosing.{choice-is}
+use borrow.Author.Needs.{needs}
+use Rattle.diversity.proofs.choice.Statement.{statement}
+use Rattle.diversity.proofs.choice.Tie as tie
+use Rattle.diversity.proofs.choice.Reads as reads
+use Rattle.diversity.proofs.choice.Lts as lts
+use Rattle.diversity.proofs.better_of.Reads as better-of-reads
+use Rattle.diversity.proofs.count.Reads as count-reads
+
+count-requires : tie.Need-count-requires
+count-requires c κs = search needs
+
+count-requires-2 : tie.Need-count-requires-2
+count-requires-2 c κs = search needs
+
+better-of-requires : tie.Need-better-of-requires
+better-of-requires c κs = search needs
+
+returns : tie.Need-returns
+returns c =
+    let b = c .before in
+    let a = b .before in
+    choice-is _ _ (a .count .result) (b .count2 .result) _ (a .count .ensures) (b .count2 .ensures) (c .better-of .ensures)
+
+pub choice-spec : {M : Type 1} → statement M
+choice-spec = tie.close (tie.spec count-requires count-requires-2 better-of-requires returns)

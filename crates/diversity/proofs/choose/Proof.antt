@@ -1,0 +1,29 @@
+use mathlib.Core.Path.{refl}
+use Rattle.diversity.proofs.Choosing.{is-first, is-second, is-neither}
+use borrow.Author.Needs.{needs}
+use Rattle.diversity.proofs.choose.Statement.{statement}
+use Rattle.diversity.proofs.choose.Tie as tie
+use Rattle.diversity.proofs.choose.Reads as reads
+use Rattle.diversity.proofs.choose.Lts as lts
+use Rattle.diversity.proofs.choice.Reads as choice-reads
+
+choice-requires : tie.Need-choice-requires
+choice-requires c κs = search needs
+
+returns : tie.Need-returns
+returns c = rw (is-first _ _ _ (c .before .choice .ensures) (c .if1 .taken)) refl
+
+returns-2 : tie.Need-returns-2
+returns-2 c = rw (is-second _ _ _ (c .before .before .choice .ensures) (c .if2 .taken)) refl
+
+slice-aggregate-result : tie.Need-slice-aggregate-result
+slice-aggregate-result c = search needs
+
+returns-3 : tie.Need-returns-3
+returns-3 c =
+    let e = c .before in
+    rw (is-neither _ _ _ (e .before .before .choice .ensures) (e .before .if1 .left) (e .if2 .left)) (refl, refl)
+
+pub choose-spec : {M : Type 1} → statement M
+choose-spec =
+    tie.close (tie.spec choice-requires returns returns-2 slice-aggregate-result returns-3)

@@ -1,0 +1,79 @@
+use denote.Ref.{now}
+use mathlib.Core.Path.{_≡_}
+use native.Mathlib.Omega.{arith}
+use Rattle.diversity.proofs.Exchanging.{piece-stays, piece-goes}
+use borrow.Author.Needs.{needs}
+use Rattle.diversity.proofs.exchange_piece.Statement.{statement}
+use Rattle.diversity.proofs.exchange_piece.Tie as tie
+use Rattle.diversity.proofs.exchange_piece.Reads as reads
+use Rattle.diversity.proofs.exchange_piece.Lts as lts
+use Rattle.diversity.proofs.exchange.Reads as exchange-reads
+use Rattle.diversity.proofs.place.Reads as place-reads
+
+returns : tie.Need-returns
+returns c =
+    let a = c .before .before .before .args in
+    let z : a .cause ≡ 0 = omega (arith, c .if1 .taken) in
+    (piece-stays (a .t3) (a .cause) (a .k) (now (a .first)) (now (a .second)) z, piece-stays (a .t3) (a .cause) (a .k) (now (a .second)) (now (a .first)) z)
+
+mul-place : tie.Need-mul-place
+mul-place c = search needs
+
+array-read-place : tie.Need-array-read-place
+array-read-place c = search needs
+
+place-requires : tie.Need-place-requires
+place-requires c κs = search needs
+
+add-a : tie.Need-add-a
+add-a c = search needs
+
+add-place : tie.Need-add-place
+add-place c = search needs
+
+mul-place-2 : tie.Need-mul-place-2
+mul-place-2 c = search needs
+
+array-read-place-2 : tie.Need-array-read-place-2
+array-read-place-2 c = search needs
+
+place-requires-2 : tie.Need-place-requires-2
+place-requires-2 c κs = search needs
+
+exchange-requires : tie.Need-exchange-requires
+exchange-requires c κs = search needs
+
+same-length : tie.Need-same-length
+same-length c = search needs
+
+same-length-2 : tie.Need-same-length-2
+same-length-2 c = search needs
+
+returns-2 : tie.Need-returns-2
+returns-2 c =
+    let f = c .before .before .before .before in
+    let e = f .before .before .before in
+    let d = e .before in
+    let i = d .before in
+    let a = i .before .before .before .args in (
+      piece-goes (a .t3) (a .cause) (a .k) (d .place .result) (e .place2 .result) (now (a .first)) (now (a .second)) _ (i .if1 .left) (d .place .ensures .0) (e .place2 .ensures .0) (f .exchange .ensures .0),
+      piece-goes (a .t3) (a .cause) (a .k) (d .place .result) (e .place2 .result) (now (a .second)) (now (a .first)) _ (i .if1 .left) (d .place .ensures .0) (e .place2 .ensures .0) (f .exchange .ensures .1),
+    )
+
+pub exchange-piece-spec : {M : Type 1} → statement M
+exchange-piece-spec =
+    tie.close
+    (tie.spec
+    returns
+    mul-place
+    array-read-place
+    place-requires
+    add-a
+    add-place
+    mul-place-2
+    array-read-place-2
+    place-requires-2
+    exchange-requires
+    same-length
+    same-length-2
+    returns-2)

@@ -1,0 +1,108 @@
+use denote.Ref.{now}
+use mathlib.Core.Path.{subst}
+use Rattle.reassembly.specs.Reassembly.{Said}
+use Rattle.receiver.specs.Steps.{Takes}
+use Rattle.diversity.proofs.Alike.{alike-length, few, marked-first, marked-second, parsed-first, said-here}
+use borrow.Author.Needs.{needs}
+use Rattle.diversity.proofs.receive_alike.Statement.{statement}
+use Rattle.diversity.proofs.receive_alike.Tie as tie
+use Rattle.diversity.proofs.receive_alike.Reads as reads
+use Rattle.diversity.proofs.receive_alike.Lts as lts
+use Rattle.diversity.proofs.pair_causes.Reads as pair-causes-reads
+use Rattle.diversity.proofs.receive_exchanged.Reads as receive-exchanged-reads
+use Rattle.layout.proofs.control_word.Reads as control-word-reads
+use Rattle.receiver.proofs.causes_of.Reads as causes-of-reads
+use Rattle.receiver.proofs.head_of.Reads as head-of-reads
+use Rattle.receiver.proofs.marks_of.Reads as marks-of-reads
+
+control-word-requires : tie.Need-control-word-requires
+control-word-requires c κs = search needs
+
+cast-nop : tie.Need-cast-nop
+cast-nop c = search needs
+
+marks-of-requires : tie.Need-marks-of-requires
+marks-of-requires c κs =
+    let w = c .before .before in
+    let s = w .before .before .before .before .before .before in
+    few (s .args .m) (w .control-word .result) (now (s .args .first)) (now (s .args .second)) (w .control-word .ensures) (s .pre .1 .1 .0) (s .pre .1 .1 .1)
+
+causes-of-requires : tie.Need-causes-of-requires
+causes-of-requires c κs =
+    let k = c .before in
+    let w = k .before .before .before in
+    let s = w .before .before .before .before .before .before in
+    marked-first (s .args .m) (w .control-word .result) (now (s .args .first)) (now (s .args .second)) (w .control-word .ensures) (s .pre .1 .1 .0) (s .pre .1 .1 .1) (k .marks-of .result) (k .marks-of .ensures)
+
+pair-causes-requires : tie.Need-pair-causes-requires
+pair-causes-requires c κs =
+    let g = c .before .before in
+    let k = g .before .before in
+    let w = k .before .before .before in
+    let s = w .before .before .before .before .before .before in (
+      (
+        marked-first (s .args .m) (w .control-word .result) (now (s .args .first)) (now (s .args .second)) (w .control-word .ensures) (s .pre .1 .1 .0) (s .pre .1 .1 .1) (k .marks-of .result) (k .marks-of .ensures),
+        marked-second (s .args .m) (w .control-word .result) (now (s .args .first)) (now (s .args .second)) (w .control-word .ensures) (s .pre .1 .1 .0) (s .pre .1 .1 .1) (k .marks-of .result) (k .marks-of .ensures),
+      ),
+      g .causes-of .ensures,
+    )
+
+head-of-requires : tie.Need-head-of-requires
+head-of-requires c κs = search needs
+
+receive-exchanged-requires : tie.Need-receive-exchanged-requires
+receive-exchanged-requires c κs =
+    let h = c .before .before .before .before in
+    let g = h .before .before .before .before .before in
+    let k = g .before .before in
+    let w = k .before .before .before in
+    let s = w .before .before .before .before .before .before in (
+      s .pre .0,
+      (
+        parsed-first (s .args .m) (w .control-word .result) (now (s .args .first)) (now (s .args .second)) (w .control-word .ensures) (s .pre .1 .1 .0) (s .pre .1 .1 .1) (k .marks-of .result) (k .marks-of .ensures) (h .head-of .result) (h .head-of .ensures) (s .pre .1 .0),
+        alike-length (now (s .args .first)) (now (s .args .second)) (s .pre .1 .1 .1),
+      ),
+    )
+
+same-length : tie.Need-same-length
+same-length c = search needs
+
+same-length-2 : tie.Need-same-length-2
+same-length-2 c = search needs
+
+same-length-3 : tie.Need-same-length-3
+same-length-3 c = search needs
+
+same-length-4 : tie.Need-same-length-4
+same-length-4 c = search needs
+
+returns : tie.Need-returns
+returns c =
+    let f = c .before .before .before .before .before .before .before .before in
+    let h = f .before .before .before .before .before in
+    let p = h .before .before in
+    let g = p .before .before .before in
+    let k = g .before .before in
+    let w = k .before .before .before in
+    let s = w .before .before .before .before .before .before in
+    let a = s .args in
+    let d = f .receive-exchanged in
+    let said = said-here (a .m) (w .control-word .result) (now (a .first)) (now (a .second)) (w .control-word .ensures) (s .pre .1 .1 .0) (s .pre .1 .1 .1) (k .marks-of .result) (k .marks-of .ensures) (h .head-of .result) (h .head-of .ensures) (a .r .register) (g .causes-of .result) (p .pair-causes .result) (g .causes-of .ensures) (p .pair-causes .ensures) in
+    (subst (λ (x : Said). Takes (a .m .sequences) x (a .r) (now (a .carry)) (now (a .log)) (d .result) (d .last .1 .1 .1 .1 .1 .1 .0) (d .last .1 .1 .1 .1 .1 .1 .1 .1 .1 .0)) said (d .ensures .0), d .ensures .1)
+
+pub receive-alike-spec : {M : Type 1} → statement M
+receive-alike-spec =
+    tie.close
+    (tie.spec
+    control-word-requires
+    cast-nop
+    marks-of-requires
+    causes-of-requires
+    pair-causes-requires
+    head-of-requires
+    receive-exchanged-requires
+    same-length
+    same-length-2
+    same-length-3
+    same-length-4
+    returns)

@@ -1,0 +1,62 @@
+use denote.Ref.{now}
+use mathlib.Core.Path.{_≡_}
+use Prim.Native.Nat.{_-_, _≤_}
+use native.Mathlib.Omega.{arith}
+use lib.ListN.{length, take}
+use Rattle.diversity.specs.Diversity.{sameBytes}
+use Rattle.diversity.proofs.Bytes.{same-lengths, same-start, same-turn, same-end}
+use borrow.Author.Needs.{needs}
+use Rattle.diversity.proofs.same_bytes.Statement.{statement}
+use Rattle.diversity.proofs.same_bytes.Tie as tie
+use Rattle.diversity.proofs.same_bytes.Reads as reads
+use Rattle.diversity.proofs.same_bytes.Lts as lts
+
+abbrev Inv-loop : tie.InvT-loop
+Inv-loop a b same₀ i₀ same i = ((i ≤ length a) × (length a ≡ length b)) × (same ≡ sameBytes (take i a) (take i b))
+
+abbrev μ-loop : tie.MeasureT-loop
+μ-loop a b same₀ i₀ same i = length a - i
+
+returns : tie.Need-returns Inv-loop μ-loop
+returns c = same-lengths _ _ (c .if1 .taken)
+
+loop-holds : tie.Need-loop-holds Inv-loop μ-loop
+loop-holds c = let a = c .before .args in ((omega arith, omega (arith, c .if1 .left)), same-start (now (a .a)) (now (a .b)))
+
+shared-slice-read-same : tie.Need-shared-slice-read-same Inv-loop μ-loop
+shared-slice-read-same c = omega arith
+
+shared-slice-read-same-2 : tie.Need-shared-slice-read-same-2 Inv-loop μ-loop
+shared-slice-read-same-2 c = omega arith
+
+add-i : tie.Need-add-i Inv-loop μ-loop
+add-i c = omega arith
+
+loop-less : tie.Need-loop-less Inv-loop μ-loop
+loop-less c = omega arith
+
+loop-again : tie.Need-loop-again Inv-loop μ-loop
+loop-again c =
+    let p = c .before .before .before in
+    let t = c .before .before .loop-test .taken in
+    ((omega arith, p .loop .inv .0 .1), same-turn (p .loop .i) _ _ (p .loop .same) t (p .loop .inv .0 .1) (p .loop .inv .1))
+
+returns-2 : tie.Need-returns-2 Inv-loop μ-loop
+returns-2 c =
+    let p = c .before in
+    same-end (p .loop .i) _ _ (p .loop .same) (omega arith) (p .loop .inv .0 .1) (p .loop .inv .1)
+
+pub same-bytes-spec : {M : Type 1} → statement M
+same-bytes-spec =
+    tie.close
+    (tie.spec
+    Inv-loop
+    μ-loop
+    returns
+    loop-holds
+    shared-slice-read-same
+    shared-slice-read-same-2
+    add-i
+    loop-less
+    loop-again
+    returns-2)

@@ -1,0 +1,2 @@
+pub mod Diversity
+pub mod Steps
