@@ -1,0 +1,5 @@
+pub mod Calling
+pub mod Enough
+pub mod Judging
+pub mod Lowest
+pub mod Numbers

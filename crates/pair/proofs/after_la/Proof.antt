@@ -1,0 +1,28 @@
+use mathlib.Core.Path.{ap}
+use Prim.Native.Nat.{_+_}
+use native.Mathlib.Omega.{arith}
+use Rattle.layout.specs.declared.ControlWord.{ControlWord}
+use borrow.Author.Needs.{needs}
+use Rattle.pair.proofs.after_la.Statement.{statement}
+use Rattle.pair.proofs.after_la.Tie as tie
+use Rattle.pair.proofs.after_la.Reads as reads
+use Rattle.pair.proofs.after_la.Lts as lts
+use Rattle.layout.proofs.control_word.Reads as control-word-reads
+
+control-word-requires : tie.Need-control-word-requires
+control-word-requires c κs = search needs
+
+cast-result : tie.Need-cast-result
+cast-result c = search needs
+
+add-result : tie.Need-add-result
+add-result c = search needs
+
+returns : tie.Need-returns
+returns c =
+    let k = c .before in
+    let e = ap (λ (x : ControlWord). x .la + 1) (k .control-word .ensures) in
+    (e, omega arith)
+
+pub after-la-spec : {M : Type 1} → statement M
+after-la-spec = tie.close (tie.spec control-word-requires cast-result add-result returns)

@@ -1,0 +1,66 @@
+use denote.Ref.{now}
+use native.Mathlib.Omega.{arith}
+use Rattle.pair.proofs.Judging.{lengths-differ, bytes-differ}
+use borrow.Author.Needs.{needs}
+use Rattle.pair.proofs.differs.Statement.{statement}
+use Rattle.pair.proofs.differs.Tie as tie
+use Rattle.pair.proofs.differs.Reads as reads
+use Rattle.pair.proofs.differs.Lts as lts
+use Rattle.pair.proofs.after_la.Reads as after-la-reads
+use Rattle.diversity.proofs.same_bytes.Reads as same-bytes-reads
+
+returns : tie.Need-returns
+returns c =
+    let a = c .before .before .before .args in
+    lengths-differ (now (a .first)) (now (a .second)) (omega (arith, c .if1 .taken))
+
+after-la-requires : tie.Need-after-la-requires
+after-la-requires c κs = search needs
+
+after-la-requires-2 : tie.Need-after-la-requires-2
+after-la-requires-2 c κs = search needs
+
+sub-same-bytes : tie.Need-sub-same-bytes
+sub-same-bytes c = search needs
+
+part-same-bytes-start : tie.Need-part-same-bytes-start
+part-same-bytes-start c = search needs
+
+part-same-bytes-end : tie.Need-part-same-bytes-end
+part-same-bytes-end c = search needs
+
+sub-same-bytes-2 : tie.Need-sub-same-bytes-2
+sub-same-bytes-2 c = search needs
+
+part-same-bytes-start-2 : tie.Need-part-same-bytes-start-2
+part-same-bytes-start-2 c = search needs
+
+part-same-bytes-end-2 : tie.Need-part-same-bytes-end-2
+part-same-bytes-end-2 c = search needs
+
+same-bytes-requires : tie.Need-same-bytes-requires
+same-bytes-requires c κs = search needs
+
+returns-2 : tie.Need-returns-2
+returns-2 c =
+    let d = c .before .before .before in
+    let e = d .before in
+    let i = e .before in
+    let a = i .before .before .before .args in
+    bytes-differ (now (a .first)) (now (a .second)) (e .after-la .result) (d .after-la2 .result) _ (omega (arith, i .if1 .left)) (e .after-la .ensures .0) (d .after-la2 .ensures .0) (c .same-bytes .ensures)
+
+pub differs-spec : {M : Type 1} → statement M
+differs-spec =
+    tie.close
+    (tie.spec
+    returns
+    after-la-requires
+    after-la-requires-2
+    sub-same-bytes
+    part-same-bytes-start
+    part-same-bytes-end
+    sub-same-bytes-2
+    part-same-bytes-start-2
+    part-same-bytes-end-2
+    same-bytes-requires
+    returns-2)

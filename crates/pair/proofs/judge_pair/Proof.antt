@@ -1,0 +1,29 @@
+use denote.Ref.{now}
+use Rattle.pair.proofs.Lowest.{pair-wrong}
+use borrow.Author.Needs.{needs}
+use Rattle.pair.proofs.judge_pair.Statement.{statement}
+use Rattle.pair.proofs.judge_pair.Tie as tie
+use Rattle.pair.proofs.judge_pair.Reads as reads
+use Rattle.pair.proofs.judge_pair.Lts as lts
+use Rattle.pair.proofs.judge_copy.Reads as judge-copy-reads
+use Rattle.pair.proofs.lower_of.Reads as lower-of-reads
+
+judge-copy-requires : tie.Need-judge-copy-requires
+judge-copy-requires c κs = search needs
+
+judge-copy-requires-2 : tie.Need-judge-copy-requires-2
+judge-copy-requires-2 c κs = search needs
+
+lower-of-requires : tie.Need-lower-of-requires
+lower-of-requires c κs = search needs
+
+returns : tie.Need-returns
+returns c =
+    let b = c .before in
+    let a = b .before in
+    let s = a .before .before .before in
+    pair-wrong (s .args .r) (now (s .args .first)) (now (s .args .second)) (a .judge-copy .result) (b .judge-copy2 .result) (c .lower-of .result) (a .judge-copy .ensures .0) (a .judge-copy .ensures .1) (b .judge-copy2 .ensures .0) (b .judge-copy2 .ensures .1) (c .lower-of .ensures)
+
+pub judge-pair-spec : {M : Type 1} → statement M
+judge-pair-spec =
+    tie.close (tie.spec judge-copy-requires judge-copy-requires-2 lower-of-requires returns)

@@ -1,0 +1,120 @@
+use denote.Ref.{now}
+use mathlib.Core.Path.{_≡_, refl, sym, _∙_}
+use native.Mathlib.Omega.{arith}
+use Rattle.pair.proofs.Lowest.{lower-is-zero}
+use Rattle.pair.proofs.Judging.{right-copy, la-inside, judged-call, differs-call, alike-call}
+use borrow.Author.Needs.{needs}
+use Rattle.pair.proofs.receive_both.Statement.{statement}
+use Rattle.pair.proofs.receive_both.Tie as tie
+use Rattle.pair.proofs.receive_both.Reads as reads
+use Rattle.pair.proofs.receive_both.Lts as lts
+use Rattle.pair.proofs.differs.Reads as differs-reads
+use Rattle.pair.proofs.judge_pair.Reads as judge-pair-reads
+use Rattle.diversity.proofs.receive_alike.Reads as receive-alike-reads
+use Rattle.receiver.proofs.refused.Reads as refused-reads
+
+judge-pair-requires : tie.Need-judge-pair-requires
+judge-pair-requires c κs = search needs
+
+cast-refused : tie.Need-cast-refused
+cast-refused c = search needs
+
+refused-requires : tie.Need-refused-requires
+refused-requires c κs = search needs
+
+same-length : tie.Need-same-length
+same-length c = search needs
+
+same-length-2 : tie.Need-same-length-2
+same-length-2 c = search needs
+
+returns : tie.Need-returns
+returns c =
+    let v = c .before .before .before .before in
+    let s = v .before .before .before .before .before .before .before in
+    let a = s .args in
+    (judged-call (a .m) (a .r) (now (a .carry)) (now (a .first)) (now (a .second)) (now (a .log)) (v .judge-pair .result) (c .refused .result) (v .judge-pair .ensures) (c .before .before .if1 .taken) (c .refused .ensures), (refl, refl))
+
+differs-requires : tie.Need-differs-requires
+differs-requires c κs =
+    let e = c .before .before in
+    let v = e .before .before in
+    let s = v .before .before .before .before .before .before .before in
+    let a = s .args in
+    let none : v .judge-pair .result .number ≡ 0 = omega (arith, e .if1 .left) in
+    let z = lower-is-zero _ _ (sym (v .judge-pair .ensures .0) ∙ none) in
+    (la-inside (a .m) (a .r) (now (a .first)) (s .pre .0) (z .0), la-inside (a .m) (a .r) (now (a .second)) (s .pre .0) (z .1))
+
+refused-requires-2 : tie.Need-refused-requires-2
+refused-requires-2 c κs = search needs
+
+same-length-3 : tie.Need-same-length-3
+same-length-3 c = search needs
+
+same-length-4 : tie.Need-same-length-4
+same-length-4 c = search needs
+
+returns-2 : tie.Need-returns-2
+returns-2 c =
+    let d = c .before .before in
+    let e = d .before .before .before in
+    let v = e .before .before in
+    let s = v .before .before .before .before .before .before .before in
+    let a = s .args in
+    (differs-call (a .m) (a .r) (now (a .carry)) (now (a .first)) (now (a .second)) (now (a .log)) (sym (v .judge-pair .ensures .0) ∙ e .if1 .left) _ (c .refused2 .result) (d .differs .ensures) (c .before .if2 .taken) (c .refused2 .ensures), (refl, refl))
+
+receive-alike-requires : tie.Need-receive-alike-requires
+receive-alike-requires c κs =
+    let i = c .before .before .before .before in
+    let d = i .before in
+    let e = d .before .before .before in
+    let v = e .before .before in
+    let s = v .before .before .before .before .before .before .before in
+    let a = s .args in
+    let z = lower-is-zero _ _ (sym (v .judge-pair .ensures .0) ∙ e .if1 .left) in
+    (s .pre .1 .0, (s .pre .1 .1, (right-copy (a .m) (a .r) (now (a .first)) (s .pre .0) (z .0), sym (d .differs .ensures) ∙ i .if2 .left)))
+
+same-length-5 : tie.Need-same-length-5
+same-length-5 c = search needs
+
+same-length-6 : tie.Need-same-length-6
+same-length-6 c = search needs
+
+same-length-7 : tie.Need-same-length-7
+same-length-7 c = search needs
+
+same-length-8 : tie.Need-same-length-8
+same-length-8 c = search needs
+
+returns-3 : tie.Need-returns-3
+returns-3 c =
+    let f = c .before .before .before .before .before .before .before .before in
+    let i = f .before .before .before .before .before in
+    let d = i .before in
+    let e = d .before .before .before in
+    let v = e .before .before in
+    let s = v .before .before .before .before .before .before .before in
+    let a = s .args in
+    (alike-call (a .m) (a .r) (now (a .carry)) (now (a .first)) (now (a .second)) (now (a .log)) (sym (v .judge-pair .ensures .0) ∙ e .if1 .left) _ (f .receive-alike .result) (f .receive-alike .last .1 .1 .0) (f .receive-alike .last .1 .1 .1 .1 .1 .0) (d .differs .ensures) (i .if2 .left) (f .receive-alike .ensures .0), f .receive-alike .ensures .1)
+
+pub receive-both-spec : {M : Type 1} → statement M
+receive-both-spec =
+    tie.close
+    (tie.spec
+    judge-pair-requires
+    cast-refused
+    refused-requires
+    same-length
+    same-length-2
+    returns
+    differs-requires
+    refused-requires-2
+    same-length-3
+    same-length-4
+    returns-2
+    receive-alike-requires
+    same-length-5
+    same-length-6
+    same-length-7
+    same-length-8
+    returns-3)

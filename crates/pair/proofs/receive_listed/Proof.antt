@@ -1,0 +1,205 @@
+use denote.Ref.{now}
+use mathlib.Core.Path.{sym, _∙_}
+use native.Mathlib.Omega.{arith}
+use Rattle.pair.proofs.Calling.{both-true, not-both, early-call, Known, fine, first-long, second-long, both-call, first-call, second-call, neither-call}
+use borrow.Author.Needs.{needs}
+use Rattle.pair.proofs.receive_listed.Statement.{statement}
+use Rattle.pair.proofs.receive_listed.Tie as tie
+use Rattle.pair.proofs.receive_listed.Reads as reads
+use Rattle.pair.proofs.receive_listed.Lts as lts
+use Rattle.correction.proofs.correct.Reads as correct-reads
+use Rattle.pair.proofs.both_or_restore.Reads as both-or-restore-reads
+use Rattle.pair.proofs.is_corrected.Reads as is-corrected-reads
+use Rattle.header.proofs.header_of.Reads as header-of-reads
+use Rattle.receiver.proofs.listed_refusal.Reads as listed-refusal-reads
+use Rattle.receiver.proofs.receive_or_restore.Reads as receive-or-restore-reads
+use Rattle.receiver.proofs.refused.Reads as refused-reads
+
+listed-refusal-requires : tie.Need-listed-refusal-requires
+listed-refusal-requires c κs = search needs
+
+refused-requires : tie.Need-refused-requires
+refused-requires c κs = search needs
+
+returns : tie.Need-returns
+returns c =
+    let n = c .before .before in
+    let a = n .before .before .before .before .before .args in
+    early-call (now (a .carry)) (now (a .first)) (now (a .second)) (now (a .log)) (a .r) (n .listed-refusal .result) (c .before .if1 .taken) (n .listed-refusal .ensures) (c .refused .result) (c .refused .ensures)
+
+header-of-requires : tie.Need-header-of-requires
+header-of-requires c κs = search needs
+
+header-of-requires-2 : tie.Need-header-of-requires-2
+header-of-requires-2 c κs = search needs
+
+correct-requires : tie.Need-correct-requires
+correct-requires c κs = search needs
+
+is-corrected-requires : tie.Need-is-corrected-requires
+is-corrected-requires c κs = search needs
+
+correct-requires-2 : tie.Need-correct-requires-2
+correct-requires-2 c κs = search needs
+
+is-corrected-requires-2 : tie.Need-is-corrected-requires-2
+is-corrected-requires-2 c κs = search needs
+
+-- what is known once correction was tried on both
+known : (x : tie.After-is-corrected2)
+    → let d = x .before .before .before in
+    let u = d .before .before in
+    let e = u .before .before .before in
+    let h = e .before .before in
+    let g = h .before .before in
+    let a = g .before .before .before .before .before .before .before .before .args in
+    Known (now (a .carry)) (now (a .first)) (now (a .second)) (a .r) (a .m) (e .correct .result) (d .correct2 .result) (u .is-corrected .result) (x .is-corrected2 .result) (e .correct .last .0) (d .correct2 .last .0) (g .header-of .result) (h .header-of2 .result)
+known x =
+    let d = x .before .before .before in
+    let u = d .before .before in
+    let e = u .before .before .before in
+    let h = e .before .before in
+    let g = h .before .before in
+    let i = g .before .before in
+    let n = i .before in
+    record {
+      listed = n .before .before .before .before .before .pre;
+      free = sym (n .listed-refusal .ensures) ∙ i .if1 .left;
+      answer = e .correct .ensures .0;
+      answer′ = d .correct2 .ensures .0;
+      is = u .is-corrected .ensures;
+      is′ = x .is-corrected2 .ensures;
+      after = e .correct .ensures .1;
+      after′ = d .correct2 .ensures .1;
+      long = omega (arith, e .correct .kept .0);
+      long′ = omega (arith, d .correct2 .kept .0);
+      before = g .header-of .ensures;
+      before′ = h .header-of2 .ensures;
+      bytes = λ j. n .before .before .before .slice-known2 .given j .fits;
+      bytes′ = λ j. n .before .before .slice-known3 .given j .fits;
+    }
+
+both-or-restore-requires : tie.Need-both-or-restore-requires
+both-or-restore-requires c κs =
+    let w = c .before .before .before .before in
+    let k = known (w .before) in
+    (k .listed, (fine k, first-long k (both-true _ _ (w .if2 .taken) .0)))
+
+same-length : tie.Need-same-length
+same-length c = search needs
+
+same-length-2 : tie.Need-same-length-2
+same-length-2 c = search needs
+
+same-length-3 : tie.Need-same-length-3
+same-length-3 c = search needs
+
+same-length-4 : tie.Need-same-length-4
+same-length-4 c = search needs
+
+returns-2 : tie.Need-returns-2
+returns-2 c =
+    let f = c .before .before .before .before .before .before .before .before in
+    let w = f .before .before .before .before .before in
+    let b = f .both-or-restore in
+    both-call (known (w .before)) _ (b .result) (b .last .1 .1 .0) (b .last .1 .1 .1 .0) (b .last .1 .1 .1 .1 .0) (b .last .1 .1 .1 .1 .1 .0) (both-true _ _ (w .if2 .taken)) (b .ensures .0) (b .ensures .1 .0) (b .ensures .1 .1)
+
+receive-or-restore-requires : tie.Need-receive-or-restore-requires
+receive-or-restore-requires c κs =
+    let w = c .before .before .before in
+    let k = known (w .before .before) in
+    (k .listed, (fine k, first-long k (w .if3 .taken)))
+
+same-length-5 : tie.Need-same-length-5
+same-length-5 c = search needs
+
+same-length-6 : tie.Need-same-length-6
+same-length-6 c = search needs
+
+same-length-7 : tie.Need-same-length-7
+same-length-7 c = search needs
+
+same-length-8 : tie.Need-same-length-8
+same-length-8 c = search needs
+
+returns-3 : tie.Need-returns-3
+returns-3 c =
+    let f = c .before .before .before .before .before .before in
+    let w = f .before .before .before .before in
+    let b = f .receive-or-restore in
+    first-call (known (w .before .before)) _ (b .result) (b .last .1 .1 .0) (b .last .1 .1 .1 .0) (b .last .1 .1 .1 .1 .0) (w .if3 .taken) (not-both _ _ (w .before .if2 .left) (w .if3 .taken)) (b .ensures .0) (b .ensures .1)
+
+receive-or-restore-requires-2 : tie.Need-receive-or-restore-requires-2
+receive-or-restore-requires-2 c κs =
+    let w = c .before .before .before in
+    let k = known (w .before .before .before) in
+    (k .listed, (fine k, second-long k (w .if4 .taken)))
+
+same-length-9 : tie.Need-same-length-9
+same-length-9 c = search needs
+
+same-length-10 : tie.Need-same-length-10
+same-length-10 c = search needs
+
+same-length-11 : tie.Need-same-length-11
+same-length-11 c = search needs
+
+same-length-12 : tie.Need-same-length-12
+same-length-12 c = search needs
+
+returns-4 : tie.Need-returns-4
+returns-4 c =
+    let f = c .before .before .before .before .before .before in
+    let w = f .before .before .before .before in
+    let b = f .receive-or-restore2 in
+    second-call (known (w .before .before .before)) _ (b .result) (b .last .1 .1 .0) (b .last .1 .1 .1 .0) (b .last .1 .1 .1 .1 .0) (w .before .if3 .left) (w .if4 .taken) (b .ensures .0) (b .ensures .1)
+
+refused-requires-2 : tie.Need-refused-requires-2
+refused-requires-2 c κs = search needs
+
+same-length-13 : tie.Need-same-length-13
+same-length-13 c = search needs
+
+same-length-14 : tie.Need-same-length-14
+same-length-14 c = search needs
+
+returns-5 : tie.Need-returns-5
+returns-5 c =
+    let w = c .before in
+    neither-call (known (w .before .before .before)) _ (c .refused2 .result) (w .before .if3 .left) (w .if4 .left) (c .refused2 .ensures)
+
+pub receive-listed-spec : {M : Type 1} → statement M
+receive-listed-spec =
+    tie.close
+    (tie.spec
+    listed-refusal-requires
+    refused-requires
+    returns
+    header-of-requires
+    header-of-requires-2
+    correct-requires
+    is-corrected-requires
+    correct-requires-2
+    is-corrected-requires-2
+    both-or-restore-requires
+    same-length
+    same-length-2
+    same-length-3
+    same-length-4
+    returns-2
+    receive-or-restore-requires
+    same-length-5
+    same-length-6
+    same-length-7
+    same-length-8
+    returns-3
+    receive-or-restore-requires-2
+    same-length-9
+    same-length-10
+    same-length-11
+    same-length-12
+    returns-4
+    refused-requires-2
+    same-length-13
+    same-length-14
+    returns-5)
