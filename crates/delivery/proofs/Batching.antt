@@ -28,11 +28,11 @@ use Rattle.batch.proofs.OneByOne.{followed-none, followed-twice, next-taken, fi
 use Rattle.runs.specs.Transmissions.{Way, gone, here}
 use Rattle.runs.specs.Calls.{Speech, heard, Matching, Machine, Serves, Bridge, Step as Part, handed, waysOf, Through as Goes, logsFrom as logsOf, finally, AllGood}
 use Rattle.runs.proofs.General.{Served, serve}
-use Rattle.delivery.specs.Delivery.{joined, Station, Call, receive, batch, markLost, answerOf, logOf, defined, stationAfter, RefusedAfter, logCounts, loggedBy}
+use Rattle.delivery.specs.Delivery.{joined, Station, Call, receive, batch, pair, markLost, answerOf, logOf, defined, stationAfter, RefusedAfter, logCounts, loggedBy}
 use Rattle.delivery.specs.Copies.{Copy, causesFor}
-use Rattle.delivery.specs.Channel.{Came, pdusIn, Step, receives, batches, stops, loses, refuses, callOf, NotRefused}
+use Rattle.delivery.specs.Channel.{Came, pdusIn, Step, receives, pairs, batches, stops, loses, refuses, callOf, NotRefused}
 use Rattle.delivery.proofs.Serving.{Shows}
-use Rattle.delivery.proofs.Bridge.{stations, everything, copied, losing, refusing, Speaks, StandsFor, bridge}
+use Rattle.delivery.proofs.Bridge.{stations, everything, copied, paired, losing, refusing, Speaks, StandsFor, bridge}
 
 -- these PDUs come as these
 abbrev pub EachCopy : (register width : ℕ) → List (List ℕ) → List Came → Type 0
@@ -266,6 +266,8 @@ module _ (mode stream register : ℕ) (m : Mode) (l : listing mode stream ≡ Li
   -- How a call of the list hands over PDUs of the run. A new kind of call is a new line here, and a case of `serves`.
   pub data Handing (x : Station) : Step → List (List ℕ) → List Way → Type 0 where
     receiving : {marks p q log : List ℕ} {sound : ℕ → Bool} → Copy register (m .width) p marks q sound → 8400 ≤ length log → Handing x (receives marks q log sound) (p ∷ []) (here (causesFor sound) ∷ [])
+    pairing : {p q r log : List ℕ} {sound other : ℕ → Bool} → Copy register (m .width) p [] q sound → Copy register (m .width) p [] r other → 8400 ≤ length log
+        → Handing x (pairs q r log sound other) (p ∷ []) (here (causesFor (λ k. sound k || other k)) ∷ [])
     batching : {cs : List Came} {ps : List (List ℕ)} {log : List ℕ} → EachCopy register (m .width) ps cs → 8400 * length cs ≤ length log → Handing x (batches cs log) ps (waysIn cs)
     stopping : {cs : List Came} {ps : List (List ℕ)} {ls bytes log : List ℕ} → EachCopy register (m .width) ps cs → 8400 * length cs ≤ length log
         → RefusedAfter defined (length cs) x (callOf (stops cs ls bytes log)) → Handing x (stops cs ls bytes log) ps (waysIn cs)
@@ -280,6 +282,7 @@ module _ (mode stream register : ℕ) (m : Mode) (l : listing mode stream ≡ Li
 
   pub as-many : (x : Station) (s : Step) (ps : List (List ℕ)) (ws : List Way) → Handing x s ps ws → length ws ≡ length ps
   as-many x s ps ws (receiving a b) = refl
+  as-many x s ps ws (pairing a b h) = refl
   as-many x s ps ws (batching {cs = cs} e b) = as-many-in cs ps e
   as-many x s ps ws (stopping {cs = cs} e b r) = as-many-in cs ps e
   as-many x s ps ws (missing b) = refl
@@ -313,6 +316,9 @@ module _ (mode stream register : ℕ) (m : Mode) (l : listing mode stream ≡ Li
       → NotRefused x s × Serves everything (m .sequences) steps Stands x y s (heard ws ds)
   serves x y s ps ws ds t (receiving {marks = n} {p = p} {q = q} {log = log} {sound = v} a b) g =
       let r = one .serves x y (receive n q log) (p ∷ []) (here (causesFor v) ∷ []) ds t (copied a b) g tt in
+      (r .0, record { log = r .1 .log; fit = r .1 .fit; stands = r .1 .stands })
+  serves x y s ps ws ds t (pairing {p = p} {q = q} {r = k} {log = log} {sound = u} {other = v} a b h) g =
+      let r = one .serves x y (pair q k log) (p ∷ []) (here (causesFor (λ n. u n || v n)) ∷ []) ds t (paired a b h) g tt in
       (r .0, record { log = r .1 .log; fit = r .1 .fit; stands = r .1 .stands })
   serves x y s ps ws ds t (batching {cs = cs} {log = log} e b) g =
       let k = alone x y cs ps ds log t e b g in

@@ -14,7 +14,9 @@ use Rattle.modes.specs.declared.Listing.{Listing}
 use Rattle.modes.specs.declared.Listing.the-variants.{Listed}
 use Rattle.layout.specs.Control.{controlAt}
 use Rattle.layout.specs.declared.ControlWord.{ControlWord}
+use Rattle.correction.specs.Correction.{correctedPdu}
 use Rattle.correction.specs.Marks.{correctedPduWith}
+use Rattle.correction.proofs.Answers.{no-marks-pdu}
 use Rattle.pdu.specs.Reading.{modeIn, widthOf}
 use Rattle.log.specs.Log.{Entry, logWords}
 use Rattle.log.proofs.Packets.{FitAll}
@@ -31,11 +33,13 @@ use Rattle.runs.specs.Calls.{Speech, heard, Matching, Machine, Serves, Bridge}
 use Rattle.runs.proofs.Bridges.{serves-one, serves-none}
 use Rattle.batch.proofs.Single.{kept}
 use Rattle.batch.proofs.OneByOne.{none-taken}
-use Rattle.delivery.specs.Delivery.{Station, Call, receive, batch, markLost, answerOf, stationAfter, takenBy, RefusedAfter, loggedBy, defined, HeaderAltered}
+use Rattle.delivery.specs.Delivery.{Station, Call, receive, batch, pair, markLost, answerOf, stationAfter, takenBy, RefusedAfter, loggedBy, defined, HeaderAltered}
 use Rattle.delivery.specs.Copies.{frontLength, restored, bytesAt, crcAt, Copy, causesFor}
-use Rattle.delivery.specs.Pairs.{pairSaid}
-use Rattle.delivery.proofs.Pairs.{pair-heard, pair-sane}
-use Rattle.delivery.proofs.Copies.{stricken, Plain, copy-size, copy-correctable, copy-reads, copy-control, copy-says, copy-sane}
+use Rattle.diversity.specs.Diversity.{pairSaid}
+use Rattle.pair.proofs.Enough.{Passes}
+use Rattle.delivery.proofs.Diversity.{pair-kept, pair-passes, pair-accepted, pair-logged, pair-shows}
+use Rattle.delivery.proofs.Pairs.{pair-heard, pair-sane, pair-agrees}
+use Rattle.delivery.proofs.Copies.{stricken, Plain, copy-long, copy-size, copy-correctable, copy-reads, copy-control, copy-says, copy-sane}
 use Rattle.delivery.proofs.Made.{Heard, Says}
 use Rattle.delivery.proofs.Serving.{Shows, receive-accepted, receive-logged, receive-shows, lost-accepted, lost-logged, lost-shows}
 
@@ -52,6 +56,9 @@ station-kept x (receive n q log) h =
     ap₂ (λ (r : Receiver) (c : List ℕ). record { receiver = r; carry = c }) (k .receiver) (k .carry′)
 station-kept x (batch lengths pdus log) h =
     let k = none-taken lengths (x .carry) pdus log (x .receiver) (h .0) (h .1) in
+    ap₂ (λ (r : Receiver) (c : List ℕ). record { receiver = r; carry = c }) (k .0) (k .1)
+station-kept x (pair q r log) h =
+    let k = pair-kept (x .carry) q r log (x .receiver) (h .0) in
     ap₂ (λ (r : Receiver) (c : List ℕ). record { receiver = r; carry = c }) (k .0) (k .1)
 station-kept x (markLost log) h =
     ap (λ (r : Receiver). record { receiver = r; carry = x .carry })
@@ -78,6 +85,8 @@ asSent k = 0
 -- How a call hands over a PDU of a run, or none. A new kind of call is a new line here, and a case of `serves`.
 pub data Handing (register width : ℕ) (x : Station) : Call → List (List ℕ) → List Way → Type 0 where
   copied : {marks p q log : List ℕ} {sound : ℕ → Bool} → Copy register width p marks q sound → 8400 ≤ length log → Handing register width x (receive marks q log) (p ∷ []) (here (causesFor sound) ∷ [])
+  paired : {p q r log : List ℕ} {sound other : ℕ → Bool} → Copy register width p [] q sound → Copy register width p [] r other → 8400 ≤ length log
+      → Handing register width x (pair q r log) (p ∷ []) (here (causesFor (λ k. sound k || other k)) ∷ [])
   losing : {p log : List ℕ} → 8400 ≤ length log → Handing register width x (markLost log) (p ∷ []) (gone ∷ [])
   refusing : {c : Call} → RefusedAfter defined 0 x c → Handing register width x c [] []
 
@@ -87,6 +96,7 @@ Accepted x c (p ∷ ps) = answerOf x c .refusal ≡ 0
 
 pub as-many : (register width : ℕ) (x : Station) (c : Call) (ps : List (List ℕ)) (ws : List Way) → Handing register width x c ps ws → length ws ≡ length ps
 as-many register width x c ps ws (copied a b) = refl
+as-many register width x c ps ws (paired a b h) = refl
 as-many register width x c ps ws (losing b) = refl
 as-many register width x c ps ws (refusing h) = refl
 
@@ -156,22 +166,48 @@ module _ (mode stream register : ℕ) (m : Mode) (l : listing mode stream ≡ Li
       copy-remembered z = remembered-blind (m .sequences) z read (under false (d (causesFor sound) .said)) alike
 
     -- document 02, Ask 5: two copies
-    module _ (mq q mr r : List ℕ) (s t : ℕ → Bool) (x : Copy register (m .width) p mq q s) (v : Copy register (m .width) p mr r t) where
+    module _ (q r : List ℕ) (s t : ℕ → Bool) (x : Copy register (m .width) p [] q s) (v : Copy register (m .width) p [] r t) where
+      -- sound in one copy at least
+      abbrev pub either : ℕ → Bool
+      either k = s k || t k
+
       -- what the receiver reads of the pair
       abbrev pub readPair : Said
-      readPair = pairSaid register (m .width) (controlAt (correctedPduWith mq q)) (correctedPduWith mq q) (correctedPduWith mr r)
+      readPair = pairSaid register (m .width) (controlAt (correctedPdu q)) (correctedPdu q) (correctedPdu r)
 
-      together : blankSaid readPair ≡ blankSaid (under false (d (causesFor (λ k. s k || t k)) .said))
-      together = pair-heard register (m .width) p mq q mr r s t plain x v ∙ ap (λ (u : Said). blankSaid (stricken (λ k. s k || t k) u)) (g .says .says) ∙ ap blankSaid (g .struck (λ k. s k || t k))
+      read-is : pairSaid register (m .width) (controlAt (correctedPduWith [] q)) (correctedPduWith [] q) (correctedPduWith [] r) ≡ readPair
+      read-is = λ i. pairSaid register (m .width) (controlAt (no-marks-pdu q i)) (no-marks-pdu q i) (no-marks-pdu r i)
+
+      heard-pair : blankSaid readPair ≡ blankSaid (stricken either (under false (d asSent .said)))
+      heard-pair = ap blankSaid (sym read-is) ∙ pair-heard register (m .width) p [] q [] r s t plain x v ∙ ap (λ (u : Said). blankSaid (stricken either u)) (g .says .says)
+
+      together : blankSaid readPair ≡ blankSaid (under false (d (causesFor either) .said))
+      together = heard-pair ∙ ap blankSaid (g .struck either)
 
       pub sane-readPair : SaneSaid readPair
-      sane-readPair = pair-sane register (m .width) p mq q mr r s t plain x v (subst SaneSaid (sym (g .says .says)) (g .says .sane))
+      sane-readPair = subst SaneSaid read-is (pair-sane register (m .width) p [] q [] r s t plain x v (subst SaneSaid (sym (g .says .says)) (g .says .sane)))
 
-      pub pair-received : (z : Memory) → received (m .sequences) z readPair ≡ received (m .sequences) z (under false (d (causesFor (λ k. s k || t k)) .said))
-      pair-received z = received-blind (m .sequences) z readPair (under false (d (causesFor (λ k. s k || t k)) .said)) together
+      pub pair-below : readPair .sequence < m .sequences
+      pair-below =
+          let e : readPair .sequence ≡ d asSent .said .sequence = ap (λ (u : Said). u .sequence) heard-pair in
+          let b = g .below in
+          omega (arith, e, b)
 
-      pub pair-remembered : (z : Memory) → remembered (m .sequences) z readPair ≡ remembered (m .sequences) z (under false (d (causesFor (λ k. s k || t k)) .said))
-      pair-remembered z = remembered-blind (m .sequences) z readPair (under false (d (causesFor (λ k. s k || t k)) .said)) together
+      pub pair-received : (z : Memory) → received (m .sequences) z readPair ≡ received (m .sequences) z (under false (d (causesFor either) .said))
+      pair-received z = received-blind (m .sequences) z readPair (under false (d (causesFor either) .said)) together
+
+      pub pair-remembered : (z : Memory) → remembered (m .sequences) z readPair ≡ remembered (m .sequences) z (under false (d (causesFor either) .said))
+      pair-remembered z = remembered-blind (m .sequences) z readPair (under false (d (causesFor either) .said)) together
+
+      -- no row turns the pair down
+      pub copies-pass : (y : Station) (z : Memory) (log : List ℕ) → Shows mode stream register m l range y z → Passes (y .carry) q r log (y .receiver)
+      copies-pass y z log u =
+          let eq = no-marks-pdu q in
+          let er = no-marks-pdu r in
+          pair-passes mode stream register m l range y z u (controlAt p) q r log _ _ (heard-copy [] q s x) (heard-copy [] r t v)
+          (ap controlAt (sym eq) ∙ copy-control register (m .width) p [] q s plain x) (ap controlAt (sym er) ∙ copy-control register (m .width) p [] r t plain v)
+          (ap length (sym eq) ∙ copy-long register (m .width) p [] q s plain x ∙ sym (ap length (sym er) ∙ copy-long register (m .width) p [] r t plain v))
+          (ap (take (controlAt p .la + 1)) (sym eq) ∙ pair-agrees register (m .width) p [] q [] r s t plain x v ∙ ap (take (controlAt p .la + 1)) er)
 
   abbrev pub StandsFor : Station → Holder → Type 0
   StandsFor x y = Shows mode stream register m l range x (y .memory)
@@ -193,6 +229,21 @@ module _ (mode stream register : ℕ) (m : Mode) (l : listing mode stream ≡ Li
             (receive-logged mode stream register m l range x (y .memory) s n q log u hq sn lo b big ∙ ap (λ (o : Outcome). logWords (o .entries)) er)
             (subst (λ (o : Outcome). FitAll (o .entries)) er (fit-received (m .sequences) (y .memory) u (s .sane) sn .0))
             (subst (λ (z : Memory). Shows mode stream register m l range (stationAfter defined x (receive n q log)) z) (copy-remembered p d (g .0) n q sound a (y .memory)) (receive-shows mode stream register m l range x (y .memory) s n q log u hq sn lo b big)),
+      )
+  serves x y c ps ws [] s (paired a b h) g = absurd g
+  serves x y c ps ws (d ∷ e ∷ ds) s (paired a b h) g = absurd (g .1)
+  serves x y c ps ws (d ∷ []) s (paired {p = p} {q = q} {r = r} {log = log} {sound = i} {other = j} a b big) g =
+      let u : Said = readPair p d (g .0) q r i j a b in
+      let k = all-bytes q (a .header .bytes) in
+      let h = copies-pass p d (g .0) q r i j a b x (y .memory) log s in
+      let sn = sane-readPair p d (g .0) q r i j a b in
+      let lo = pair-below p d (g .0) q r i j a b in
+      let er = pair-received p d (g .0) q r i j a b (y .memory) in (
+        pair-accepted mode stream register m l range x (y .memory) s q r log u h refl sn lo k big,
+        serves-one everything (m .sequences) stations StandsFor x y (pair q r log) (came (d (causesFor (λ n. i n || j n))))
+            (pair-logged mode stream register m l range x (y .memory) s q r log u h refl sn lo k big ∙ ap (λ (o : Outcome). logWords (o .entries)) er)
+            (subst (λ (o : Outcome). FitAll (o .entries)) er (fit-received (m .sequences) (y .memory) u (s .sane) sn .0))
+            (subst (λ (z : Memory). Shows mode stream register m l range (stationAfter defined x (pair q r log)) z) (pair-remembered p d (g .0) q r i j a b (y .memory)) (pair-shows mode stream register m l range x (y .memory) s q r log u h refl sn lo k big)),
       )
   serves x y c ps ws [] s (losing b) g = absurd g
   serves x y c ps ws (d ∷ e ∷ ds) s (losing b) g = absurd (g .1)

@@ -11,6 +11,7 @@ use lib.ListN.{length, getD, take, drop, replicate, length-take, take-append-dro
 use lib.Seq.{drop-drop}
 use Rattle.algebra.specs.Places.{All}
 use Rattle.refusal.specs.Refusal.{anyOf}
+use Rattle.header.specs.Header.{isCodeWord}
 use Rattle.modes.specs.Modes.{listing, numberOf}
 use Rattle.modes.specs.declared.Mode.{Mode}
 use Rattle.modes.specs.declared.Listing.{Listing}
@@ -32,23 +33,23 @@ use Rattle.runs.specs.Transmissions.{Way, gone, here, keptOf, plansFrom}
 use Rattle.runs.specs.Spans.{packetAt, Span, within, lies, bytesIn, fatesOf, wholePackets as wholeByMarks}
 use Rattle.runs.specs.Calls.{Load, transmissionsOf, LoadsFit, spansFrom as spansOfLoads, speechesFrom, fatesFrom, Matching, Bridge, Step as Part, handed, waysOf, Through as Goes, logsFrom as logsOf, AllGood}
 use Rattle.runs.proofs.General.{Delivered as RunDelivered, general}
-use Rattle.delivery.specs.Delivery.{Packets, Writing, pdusFrom, spansFrom, InOrder, Station, Call, receive, markLost, answerOf, defined, freshStation, stationAfter, loggedBy, runOf, made as madeBy, spans as spansOf}
+use Rattle.delivery.specs.Delivery.{Packets, Writing, pdusFrom, spansFrom, InOrder, Station, Call, receive, pair, markLost, answerOf, defined, freshStation, stationAfter, loggedBy, runOf, made as madeBy, spans as spansOf}
 use Rattle.delivery.specs.Copies.{causesFor}
-use Rattle.delivery.specs.Channel.{Came, Step, receives, batches, stops, loses, refuses, callOf, AllCopies, Through, fatesIn, fates, logsFrom, NoneRefused, Asked, Delivered, ChannelDelivery}
+use Rattle.delivery.specs.Channel.{Came, Step, receives, pairs, batches, stops, loses, refuses, callOf, AllCopies, Through, fatesIn, fates, logsFrom, NoneRefused, Asked, Delivered, ChannelDelivery}
 use Rattle.delivery.proofs.Counting.{stands-first}
 use Rattle.delivery.proofs.Calling.{stateAt, next-in-range}
 use Rattle.delivery.proofs.Made.{sized-of}
 use Rattle.delivery.proofs.Course.{Course, done, next, Runs, course}
 use Rattle.delivery.proofs.Serving.{Shows}
 use Rattle.delivery.proofs.Bridge.{everything, Speaks}
-use Rattle.delivery.proofs.Batching.{EachCopy, waysIn, Handing, receiving, batching, stopping, missing, declining, steps as stepMachine, stepping}
+use Rattle.delivery.proofs.Batching.{EachCopy, waysIn, Handing, receiving, pairing, batching, stopping, missing, declining, steps as stepMachine, stepping}
 use Rattle.delivery.proofs.Copies.{struck-read}
 use Rattle.delivery.proofs.Lies.{Following}
 use Rattle.delivery.proofs.Examples.{second-missing}
 
 -- a PDU that can be received
 abbrev pub Usable : List ℕ → Type 0
-Usable p = Bytes p × (96 ≤ length p)
+Usable p = Bytes p × (96 ≤ length p) × (length p ≤ 20480) × (isCodeWord (take 96 p) ≡ true)
 
 -- ---- what holds along a course
 
@@ -109,6 +110,7 @@ plain-lies range (c ∷ cs) (here f ∷ ws) q g s kept ps rest j =
 abbrev waysBy : List Step → List Way
 waysBy [] = []
 waysBy (receives n q log v ∷ ss) = here (causesFor v) ∷ waysBy ss
+waysBy (pairs q r log u v ∷ ss) = here (causesFor (λ k. u k || v k)) ∷ waysBy ss
 waysBy (batches cs log ∷ ss) = waysIn cs ++ waysBy ss
 waysBy (stops cs ls bytes log ∷ ss) = waysIn cs ++ waysBy ss
 waysBy (loses log ∷ ss) = gone ∷ waysBy ss
@@ -121,6 +123,7 @@ fates-in (c ∷ cs) ws = ap (λ (l : List Fate). read false (causesFor (c .sound
 fates-are : (ss : List Step) → plainFates (waysBy ss) ≡ fates ss
 fates-are [] = refl
 fates-are (receives n q log v ∷ ss) = ap (λ (l : List Fate). read false (causesFor v) ∷ l) (fates-are ss)
+fates-are (pairs q r log u v ∷ ss) = ap (λ (l : List Fate). read false (causesFor (λ k. u k || v k)) ∷ l) (fates-are ss)
 fates-are (batches cs log ∷ ss) = fates-in cs (waysBy ss) ∙ ap (λ (l : List Fate). fatesIn cs ++ l) (fates-are ss)
 fates-are (stops cs ls bytes log ∷ ss) = fates-in cs (waysBy ss) ∙ ap (λ (l : List Fate). fatesIn cs ++ l) (fates-are ss)
 fates-are (loses log ∷ ss) = ap (λ (l : List Fate). lose ∷ l) (fates-are ss)
@@ -149,6 +152,7 @@ module _ (mode stream register : ℕ) (m : Mode) (l : listing mode stream ≡ Li
   parts : List Step → List (List ℕ) → List (Part all)
   parts [] pdus = []
   parts (receives n q log v ∷ ss) pdus = record { call = receives n q log v; pdus = take 1 pdus; ways = here (causesFor v) ∷ [] } ∷ parts ss (drop 1 pdus)
+  parts (pairs q r log u v ∷ ss) pdus = record { call = pairs q r log u v; pdus = take 1 pdus; ways = here (causesFor (λ k. u k || v k)) ∷ [] } ∷ parts ss (drop 1 pdus)
   parts (batches cs log ∷ ss) pdus = record { call = batches cs log; pdus = take (length cs) pdus; ways = waysIn cs } ∷ parts ss (drop (length cs) pdus)
   parts (stops cs ls bytes log ∷ ss) pdus = record { call = stops cs ls bytes log; pdus = take (length cs) pdus; ways = waysIn cs } ∷ parts ss (drop (length cs) pdus)
   parts (loses log ∷ ss) pdus = record { call = loses log; pdus = take 1 pdus; ways = gone ∷ [] } ∷ parts ss (drop 1 pdus)
@@ -179,6 +183,9 @@ module _ (mode stream register : ℕ) (m : Mode) (l : listing mode stream ≡ Li
   parted (receives n q log v ∷ ss) x [] t = absurd t
   parted (receives n q log v ∷ ss) x (p ∷ pdus) t =
       with-call (receives n q log v) ss x (p ∷ []) pdus (here (causesFor v) ∷ []) (receiving (t .0) (t .1)) (parts ss pdus) (parted ss (stationAfter defined x (receive n q log)) pdus (t .2)) (p ∷ pdus) refl refl
+  parted (pairs q r log u v ∷ ss) x [] t = absurd t
+  parted (pairs q r log u v ∷ ss) x (p ∷ pdus) t =
+      with-call (pairs q r log u v) ss x (p ∷ []) pdus (here (causesFor (λ k. u k || v k)) ∷ []) (pairing (t .0) (t .1) (t .2)) (parts ss pdus) (parted ss (stationAfter defined x (pair q r log)) pdus (t .3)) (p ∷ pdus) refl refl
   parted (batches cs log ∷ ss) x pdus t =
       with-call (batches cs log) ss x (take (length cs) pdus) (drop (length cs) pdus) (waysIn cs) (batching (first-copies register (m .width) cs pdus (t .0)) (batch-room register (m .width) x pdus cs log ss t)) (parts ss (drop (length cs) pdus))
       (parted ss (stationAfter defined x (callOf (batches cs log))) (drop (length cs) pdus) (t .2)) pdus (take-append-drop (length cs) pdus) refl
@@ -300,7 +307,7 @@ channel-delivers mode stream register packets writings first count carry steps d
 module _ (mode stream register : ℕ) (m : Mode) (ps : List (List ℕ)) where
   course-usable : {q g i s : ℕ} {pdus : List (List ℕ)} {spans : List Span} {cs : List Load} → Course mode stream register m ps q g i s pdus spans cs → All Usable pdus
   course-usable done = tt
-  course-usable (next f h r) = ((h .bytes, h .least), course-usable r)
+  course-usable (next f h r) = ((h .bytes, h .least, h .most, h .code), course-usable r)
 
   course-count : {q g i s : ℕ} {pdus : List (List ℕ)} {spans : List Span} {cs : List Load} → Course mode stream register m ps q g i s pdus spans cs → length spans ≡ length pdus
   course-count done = refl

@@ -5,7 +5,7 @@ use mathlib.Core.List.{List, [], _∷_, _++_, map}
 use Prim.Native.Nat.{ℕ, zero, suc, _+_, _-_, _*_, _/_, _%_, _<_, _≤_, min}
 use native.Mathlib.Omega.{arith}
 use native.Mathlib.Nat.{zero-add}
-use native.Mathlib.Decide.{ℕ-discrete, decLe}
+use native.Mathlib.Decide.{decLe}
 use lib.Dec.{eqb, ltb, leb}
 use borrow.Author.Tests.{eq-eqb, ne-eqb, le-leb, ltb-false}
 use lib.ListN.{length, getD, take, drop, length-take, length-drop, length-append, take-append-drop}
@@ -21,10 +21,9 @@ use Rattle.crc.specs.Crc.{crcFrom}
 use Rattle.burst.proofs.Found.{burst-found}
 use Rattle.header.specs.Header.{isCodeWord}
 use Rattle.header.proofs.Unique.{all-bytes, all-take, all-drop}
-use Rattle.layout.specs.Control.{controlOf, controlAt}
+use Rattle.layout.specs.Control.{controlAt}
 use Rattle.layout.specs.declared.ControlWord.{ControlWord}
-use Rattle.layout.specs.Locators.{locatorSize, locator16, locator12, locatorAt}
-use Rattle.layout.proofs.LocatorLaw.{spare-bits-ignored}
+use Rattle.layout.specs.Locators.{locatorAt}
 use Rattle.correction.specs.Marks.{Within, correctedWith, correctedPduWith}
 use Rattle.correction.proofs.MarkLists.{allowed-marks}
 use Rattle.correction.proofs.Marking.{with-some}
@@ -32,7 +31,7 @@ use Rattle.correction.proofs.Theorem.{corrects-with}
 use Rattle.expansion.specs.Expansion.{chainLength, expansionLength}
 use Rattle.pdu.specs.Reading.{afterLocators, expansionBytes, markAt, startAt, lengthAt, psdOf, wrongLa, fieldsOf, correctedTests, listingOf, modeIn, answered, accepted, judged, widthOf, uncorrectable}
 use Rattle.pdu.specs.declared.Reading.{Reading}
-use Rattle.pdu.proofs.Ignored.{reserved-ignored}
+use Rattle.pdu.proofs.Ignored.{control-same, locator-same, reserved-ignored}
 use Rattle.reassembly.specs.Reassembly.{Piece, Said}
 use Rattle.reassembly.proofs.Fitting.{SanePiece, SanePieces, SaneSaid}
 use Rattle.reassembly.proofs.Blind.{blank, blanks, blankSaid}
@@ -40,6 +39,7 @@ use Rattle.receiver.specs.Receiving.{pieceIn, piecesIn, saidBy}
 use Rattle.runs.specs.Model.{later, readPieces}
 use Rattle.writer.specs.RoundTrip.{Bytes}
 use Rattle.delivery.proofs.Made.{bytes-of, bytes-drop, bytes-take}
+use Rattle.delivery.specs.Delivery.{Correctable}
 use Rattle.delivery.specs.Copies.{frontLength, restored, bytesAt, crcAt, Damage, wrong, burst, Copy, causesFor}
 
 -- ---- bytes that agree up to a place
@@ -50,7 +50,7 @@ slice (suc at) n zero l h = absurd (omega arith)
 slice (suc at) n (suc m) [] h = refl
 slice (suc at) n (suc m) (b ∷ l) h = slice at n m l (omega arith)
 
-same-slice : (at m : ℕ) (y z : List ℕ) → take m y ≡ take m z → take (m - at) (drop at y) ≡ take (m - at) (drop at z)
+pub same-slice : (at m : ℕ) (y z : List ℕ) → take m y ≡ take m z → take (m - at) (drop at y) ≡ take (m - at) (drop at z)
 same-slice at m y z e = sym (part y) ∙ ap (λ (l : List ℕ). take (m - at) (drop at l)) e ∙ part z
   where
     by : (l : List ℕ) → Dec (at ≤ m) → take (m - at) (drop at (take m l)) ≡ take (m - at) (drop at l)
@@ -63,34 +63,6 @@ same-slice at m y z e = sym (part y) ∙ ap (λ (l : List ℕ). take (m - at) (d
 -- lists that agree up to a place agree up to one before it
 agree-before : (n m : ℕ) (y z : List ℕ) → n ≤ m → take m y ≡ take m z → take n y ≡ take n z
 agree-before n m y z h e = sym (take-take n m y h) ∙ ap (take n) e ∙ take-take n m z h
-
-module _ (y z : List ℕ) where
-  control-same : ((i : ℕ) → i < 14 → getD y i 0 ≡ getD z i 0) → controlAt y ≡ controlAt z
-  control-same e = λ i. controlOf (e 8 (omega arith) i) (e 9 (omega arith) i) (e 10 (omega arith) i) (e 11 (omega arith) i) (e 12 (omega arith) i) (e 13 (omega arith) i)
-
-  same16 : (k : ℕ) → getD y (14 + 2 * k) 0 ≡ getD z (14 + 2 * k) 0 → getD y (15 + 2 * k) 0 ≡ getD z (15 + 2 * k) 0 → locator16 y k ≡ locator16 z k
-  unfolding locator16
-  same16 k a b = ap₂ (λ (low high : ℕ). low + 256 * high) a b
-
-  same12 : (k : ℕ) → (k % 2 ≡ 0 → (getD y (14 + 3 * (k / 2)) 0 ≡ getD z (14 + 3 * (k / 2)) 0) × (getD y (15 + 3 * (k / 2)) 0 % 16 ≡ getD z (15 + 3 * (k / 2)) 0 % 16))
-      → (¬ (k % 2 ≡ 0) → (getD y (15 + 3 * (k / 2)) 0 ≡ getD z (15 + 3 * (k / 2)) 0) × (getD y (16 + 3 * (k / 2)) 0 ≡ getD z (16 + 3 * (k / 2)) 0))
-      → locator12 y k ≡ locator12 z k
-  unfolding locator12
-  same12 k a b = go (ℕ-discrete (k % 2) 0)
-    where
-      go : Dec (k % 2 ≡ 0) → locator12 y k ≡ locator12 z k
-      go (yes e) = spare-bits-ignored y z k e (a e .0) (a e .1)
-      go (no e) = let t : eqb (k % 2) 0 ≡ false = ne-eqb (k % 2) 0 e in rw (t, b e .0, b e .1)
-
-  locator-same : (width n k : ℕ) → k < n → ((i : ℕ) → i < 14 + locatorSize width n → getD y i 0 ≡ getD z i 0) → locatorAt width y k ≡ locatorAt width z k
-  locator-same width n k h = go (eqb width 16)
-    where
-      go : (b : Bool) → ((i : ℕ) → i < 14 + cond b ((16 * n + 7) / 8) ((12 * n + 7) / 8) → getD y i 0 ≡ getD z i 0)
-          → cond b (locator16 y k) (locator12 y k) ≡ cond b (locator16 z k) (locator12 z k)
-      go true e = same16 k (e (14 + 2 * k) (omega arith)) (e (15 + 2 * k) (omega arith))
-      go false e =
-          same12 k (λ q. (e (14 + 3 * (k / 2)) (omega arith), ap (λ (x : ℕ). x % 16) (e (15 + 3 * (k / 2)) (omega arith))))
-          (λ q. (e (15 + 3 * (k / 2)) (omega arith), e (16 + 3 * (k / 2)) (omega arith)))
 
 -- ---- pieces that are struck
 
@@ -137,6 +109,25 @@ pub record Plain (register width : ℕ) (p : List ℕ) : Type 0 where
   pub wide : widthOf p ≡ width
   pub right : (k : ℕ) → k < controlAt p .nop → crcFrom register (bytesAt width p p k) ≡ crcAt width p p k
 
+-- its header is found again where it is altered and marked within the bound
+module _ (p marks q : List ℕ) (code : isCodeWord (take 96 p) ≡ true) (least : 96 ≤ length p) (most : length p ≤ 20480) (bytes : Bytes p) (x : Correctable marks p q) where
+  low : 96 ≤ length q
+  low = let e = x .long in omega (arith, e, least)
+
+  high : length q ≤ 20480
+  high = let e = x .long in omega (arith, e, most)
+
+  within : Within marks (take 96 q) (take 96 p)
+  within = record {
+    right = code;
+    close = (let f = x .few in omega (arith, f));
+    long = length-take-le 96 p least ∙ sym (length-take-le 96 q low);
+    bytes = all-take 96 p (all-bytes p bytes);
+  }
+
+  pub corrected-back : correctedPduWith marks q ≡ restored p q
+  corrected-back = corrects-with q low high (all-bytes q (x .bytes)) marks (x .allowed) .header (take 96 p) within
+
 module _ (register width : ℕ) (p marks q : List ℕ) (sound : ℕ → Bool) (w : Plain register width p) (x : Copy register width p marks q sound) where
   abbrev c : ControlWord
   c = controlAt p
@@ -144,22 +135,11 @@ module _ (register width : ℕ) (p marks q : List ℕ) (sound : ℕ → Bool) (w
   abbrev y : List ℕ
   y = restored p q
 
-  low : 96 ≤ length q
-  low = let e = x .header .long in let l = w .least in omega (arith, e, l)
+  q-low : 96 ≤ length q
+  q-low = low p marks q (w .code) (w .least) (w .most) (w .bytes) (x .header)
 
-  high : length q ≤ 20480
-  high = let e = x .header .long in let l = w .most in omega (arith, e, l)
-
-  within : Within marks (take 96 q) (take 96 p)
-  within = record {
-    right = w .code;
-    close = (let f = x .header .few in omega (arith, f));
-    long = length-take-le 96 p (w .least) ∙ sym (length-take-le 96 q low);
-    bytes = all-take 96 p (all-bytes p (w .bytes));
-  }
-
-  corrected-back : correctedPduWith marks q ≡ y
-  corrected-back = corrects-with q low high (all-bytes q (x .header .bytes)) marks (x .header .allowed) .header (take 96 p) within
+  back : correctedPduWith marks q ≡ y
+  back = corrected-back p marks q (w .code) (w .least) (w .most) (w .bytes) (x .header)
 
   lengths-same : length y ≡ length p
   lengths-same =
@@ -190,10 +170,10 @@ module _ (register width : ℕ) (p marks q : List ℕ) (sound : ℕ → Bool) (w
   byte i h = sym (getD-take (c .la + 1) y i 0 h) ∙ ap (λ (l : List ℕ). getD l i 0) (front) ∙ getD-take (c .la + 1) p i 0 h
 
   control-is : controlAt y ≡ c
-  control-is = control-same y p (λ i h. byte i (let a = after-locators in omega (arith, a)))
+  control-is = control-same y p (λ i g h. byte i (let a = after-locators in omega (arith, a)))
 
   locators-are : (k : ℕ) → k < c .nop → locatorAt width y k ≡ locatorAt width p k
-  locators-are k h = locator-same y p width (c .nop) k h (λ i l. byte i (let a = after-locators in omega (arith, a)))
+  locators-are k h = locator-same y p width (c .nop) k h (λ i g l. byte i (let a = after-locators in omega (arith, a)))
 
   mark-is : (k : ℕ) → k ≤ c .nop → markAt width c y k ≡ markAt width c p k
   mark-is zero h = refl
@@ -306,7 +286,10 @@ module _ (register width : ℕ) (p marks q : List ℕ) (sound : ℕ → Bool) (w
 
   -- the parts of what a copy says
   pub copy-corrected : correctedPduWith marks q ≡ y
-  copy-corrected = corrected-back
+  copy-corrected = back
+
+  pub copy-long : length (correctedPduWith marks q) ≡ length p
+  copy-long = ap length back ∙ lengths-same
 
   pub copy-control-is : controlAt y ≡ c
   copy-control-is = control-is
@@ -316,21 +299,21 @@ module _ (register width : ℕ) (p marks q : List ℕ) (sound : ℕ → Bool) (w
 
   -- all that a receiver needs of the copy
   pub copy-size : (leb 96 (length q) && leb (length q) 20480) ≡ true
-  copy-size = ap₂ _&&_ (le-leb 96 (length q) low) (le-leb (length q) 20480 high)
+  copy-size = ap₂ _&&_ (le-leb 96 (length q) q-low) (le-leb (length q) 20480 (high p marks q (w .code) (w .least) (w .most) (w .bytes) (x .header)))
 
   pub copy-correctable : uncorrectable (correctedWith marks (take 96 q)) ≡ false
   copy-correctable =
       ap uncorrectable
-      (with-some marks (allowed-marks marks (x .header .allowed) .0) (take 96 q) (length-take-le 96 q low) (all-take 96 q (all-bytes q (x .header .bytes))) (take 96 p) within)
+      (with-some marks (allowed-marks marks (x .header .allowed) .0) (take 96 q) (length-take-le 96 q q-low) (all-take 96 q (all-bytes q (x .header .bytes))) (take 96 p) (within p marks q (w .code) (w .least) (w .most) (w .bytes) (x .header)))
 
   pub copy-reads : judged (correctedPduWith marks q) ≡ 0
-  copy-reads = ap judged corrected-back ∙ judged-is
+  copy-reads = ap judged back ∙ judged-is
 
   pub copy-control : controlAt (correctedPduWith marks q) ≡ controlAt p
-  copy-control = ap controlAt corrected-back ∙ control-is
+  copy-control = ap controlAt back ∙ control-is
 
   pub copy-says : blankSaid (saidBy register width (controlAt (correctedPduWith marks q)) (correctedPduWith marks q)) ≡ blankSaid (stricken sound (saidBy register width (controlAt p) p))
-  copy-says = ap (λ (z : List ℕ). blankSaid (saidBy register width (controlAt z) z)) corrected-back ∙ said-blank
+  copy-says = ap (λ (z : List ℕ). blankSaid (saidBy register width (controlAt z) z)) back ∙ said-blank
 
   pub copy-sane : SaneSaid (saidBy register width (controlAt p) p) → SaneSaid (saidBy register width (controlAt (correctedPduWith marks q)) (correctedPduWith marks q))
-  copy-sane s = subst (λ (z : List ℕ). SaneSaid (saidBy register width (controlAt z) z)) (sym corrected-back) (sane-said s)
+  copy-sane s = subst (λ (z : List ℕ). SaneSaid (saidBy register width (controlAt z) z)) (sym back) (sane-said s)

@@ -6,11 +6,14 @@ pub mod Channel
 pub mod Copies
 pub mod Counting
 pub mod Course
+pub mod Diversity
 pub mod Examples
 pub mod Lies
 pub mod Made
 pub mod ManyPieces
 pub mod Packed
+pub mod PairRuns
+pub mod PairTheorem
 pub mod Pairs
 pub mod Possible
 pub mod ReadBack

@@ -19,13 +19,9 @@ use Rattle.reassembly.proofs.Blind.{blank, blanks, blankSaid}
 use Rattle.receiver.specs.Receiving.{pieceIn, piecesIn, saidBy}
 use Rattle.runs.specs.Model.{later}
 use Rattle.delivery.specs.Copies.{restored, Copy}
-use Rattle.delivery.specs.Pairs.{sameBytes, pairPiece, pairPieces, pairSaid}
+use Rattle.diversity.specs.Diversity.{sameBytes, pairPiece, pairPieces, pairSaid}
+use Rattle.diversity.proofs.Bytes.{same-itself}
 use Rattle.delivery.proofs.Copies.{struck, stricken, blank-two, Plain, sound-piece, unsound-piece, own-right, sane-piece, count-pieces, copy-corrected, copy-control-is, copy-psd}
-
-same-itself : (l : List ℕ) → sameBytes l l ≡ true
-unfolding sameBytes
-same-itself [] = refl
-same-itself (a ∷ l) = let e : eqb a a ≡ true = eq-eqb a a refl in rw e (same-itself l)
 
 -- either of two like pieces
 pair-both : (a : Piece) → a .cause ≡ 0 → pairPiece a a ≡ a

@@ -99,7 +99,7 @@ in-one b x ps log h big = (
 
 -- ---- the PDUs of a run
 
-all-drop : (n : ℕ) (l : List (List ℕ)) → All Usable l → All Usable (drop n l)
+pub all-drop : (n : ℕ) (l : List (List ℕ)) → All Usable l → All Usable (drop n l)
 all-drop zero l h = h
 all-drop (suc n) [] h = tt
 all-drop (suc n) (x ∷ l) h = all-drop n l (h .1)

@@ -69,11 +69,11 @@ abbrev base : ℕ → List ℕ
 base register = replicate 8 0 ++ rest (crcBy register)
 
 -- a list by its places
-abbrev gets : ℕ → List ℕ → List ℕ
+abbrev pub gets : ℕ → List ℕ → List ℕ
 gets zero l = []
 gets (suc n) l = getD l 0 0 ∷ gets n (drop 1 l)
 
-gets-all : (n : ℕ) (l : List ℕ) → length l ≡ n → l ≡ gets n l
+pub gets-all : (n : ℕ) (l : List ℕ) → length l ≡ n → l ≡ gets n l
 gets-all zero [] e = refl
 gets-all zero (x ∷ l) e = absurd (omega (arith, e))
 gets-all (suc n) [] e = absurd (omega (arith, e))

@@ -70,7 +70,7 @@ held-long nothing s = omega arith
 held-long (beginning n b) s = s .2
 
 module _ (mode stream register : ℕ) (m : Mode) (l : listing mode stream ≡ Listed m) (range : 0 < m .sequences) where
-  mode-is : (r : Receiver) → r .mode ≡ mode → r .stream ≡ stream → listing (r .mode) (r .stream) ≡ Listed m
+  pub mode-is : (r : Receiver) → r .mode ≡ mode → r .stream ≡ stream → listing (r .mode) (r .stream) ≡ Listed m
   mode-is r a b = ap₂ listing a b ∙ l
 
   state-right : (r : Receiver) (z : Memory) → r .mode ≡ mode → r .stream ≡ stream → Below (m .sequences) (z .last) → SanePartial (z .partial) → anyOf (wrongState (remembering r z)) ≡ false
@@ -92,10 +92,10 @@ module _ (mode stream register : ℕ) (m : Mode) (l : listing mode stream ≡ Li
     pub sane : SanePartial (y .partial)
 
   -- the station that remembers z
-  abbrev put : Receiver → List ℕ → Memory → Station
+  abbrev pub put : Receiver → List ℕ → Memory → Station
   put r carry z = record { receiver = remembering r z; carry = putAt carry 0 (bytesOf (z .partial)) }
 
-  shows-put : (r : Receiver) (carry : List ℕ) (z : Memory) → r .mode ≡ mode → r .stream ≡ stream → r .register ≡ register → 4096 ≤ length carry → Below (m .sequences) (z .last) → SanePartial (z .partial) → Shows (put r carry z) z
+  pub shows-put : (r : Receiver) (carry : List ℕ) (z : Memory) → r .mode ≡ mode → r .stream ≡ stream → r .register ≡ register → 4096 ≤ length carry → Below (m .sequences) (z .last) → SanePartial (z .partial) → Shows (put r carry z) z
   shows-put r carry z a b g big w s = record {
     sameMode = unfold remembering in a;
     sameStream = unfold remembering in b;

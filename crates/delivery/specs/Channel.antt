@@ -1,7 +1,7 @@
--- Delivery over a channel that alters pieces too: one claim for demand 3 and for what document 02 adds to it. Each PDU of a run is marked lost or
--- comes as a copy (Copies.antt), some of whose pieces are sound; the list's other calls are refused ones.
+-- Delivery over a channel that alters pieces too: one claim for demand 3 and for what document 02 adds to it. Each PDU of a run is marked lost, or
+-- comes as a copy (Copies.antt), some of whose pieces are sound, or as two copies in a pair; the list's other calls are refused ones.
 use mathlib.Core.Path.{_≡_}
-use mathlib.Core.Bool.{Bool, true, false}
+use mathlib.Core.Bool.{Bool, true, false, _||_}
 use mathlib.Core.List.{List, [], _∷_, _++_, map}
 use Prim.Native.Nat.{ℕ, _*_, _≤_}
 use lib.ListN.{length, drop, replicate}
@@ -11,7 +11,7 @@ use Rattle.log.specs.Log.{Entry, logWords, packetWords}
 use Rattle.writer.specs.Writing.{opened as writerOpened}
 use Rattle.runs.specs.Model.{Fate, lose, read}
 use Rattle.runs.specs.Spans.{lies, wholePackets}
-use Rattle.delivery.specs.Delivery.{Packets, joined, Writing, InOrder, Station, Call, receive, batch, markLost, answerOf, defined, freshStation, stationAfter, takenBy, RefusedAfter, loggedBy, runOf, made, spans}
+use Rattle.delivery.specs.Delivery.{Packets, joined, Writing, InOrder, Station, Call, receive, batch, pair, markLost, answerOf, defined, freshStation, stationAfter, takenBy, RefusedAfter, loggedBy, runOf, made, spans}
 use Rattle.delivery.specs.Copies.{Copy, causesFor}
 
 -- a PDU as it came in a batch, and which of its pieces are sound
@@ -23,10 +23,11 @@ abbrev pub pdusIn : List Came → List (List ℕ)
 pdusIn [] = []
 pdusIn (c ∷ cs) = c .pdu ∷ pdusIn cs
 
--- A call of the list: for the next PDU of the run, received with these marks and these pieces sound, or marked lost; a batch of the next ones; a batch that has
--- others after the next ones, and is refused at the first of those; or another call, a refused one
+-- A call of the list: for the next PDU of the run, received with these marks and these pieces sound, or as a pair of copies of which these pieces are sound, or
+-- marked lost; a batch of the next ones; a batch that has others after the next ones, and is refused at the first of those; or another call, a refused one
 pub data Step : Type 0 where
   receives : (marks pdu log : List ℕ) (sound : ℕ → Bool) → Step
+  pairs : (first second log : List ℕ) (sound other : ℕ → Bool) → Step
   batches : (came : List Came) (log : List ℕ) → Step
   stops : (came : List Came) (lengths bytes log : List ℕ) → Step
   loses : (log : List ℕ) → Step
@@ -34,6 +35,7 @@ pub data Step : Type 0 where
 
 abbrev pub callOf : Step → Call
 callOf (receives marks pdu log sound) = receive marks pdu log
+callOf (pairs first second log sound other) = pair first second log
 callOf (batches came log) = batch (map length (pdusIn came)) (joined (pdusIn came)) log
 callOf (stops came lengths bytes log) = batch (map length (pdusIn came) ++ lengths) (joined (pdusIn came) ++ bytes) log
 callOf (loses log) = markLost log
@@ -58,10 +60,12 @@ module _ (register width : ℕ) where
   Through x (p ∷ ps) [] = ⊥
   Through x [] (receives marks q log s ∷ ss) = ⊥
   Through x (p ∷ ps) (receives marks q log s ∷ ss) = Copy register width p marks q s × (8400 ≤ length log) × Through (stationAfter defined x (receive marks q log)) ps ss
+  Through x [] (pairs q r log s t ∷ ss) = ⊥
+  Through x (p ∷ ps) (pairs q r log s t ∷ ss) = Copy register width p [] q s × Copy register width p [] r t × (8400 ≤ length log) × Through (stationAfter defined x (pair q r log)) ps ss
   Through x [] (loses log ∷ ss) = ⊥
   Through x (p ∷ ps) (loses log ∷ ss) = (8400 ≤ length log) × Through (stationAfter defined x (markLost log)) ps ss
 
--- what came of each PDU of the run
+-- what came of each PDU of the run; of a pair, a piece is taken that is sound in one copy at least
 abbrev pub fatesIn : List Came → List Fate
 fatesIn [] = []
 fatesIn (c ∷ cs) = read false (causesFor (c .sound)) ∷ fatesIn cs
@@ -69,6 +73,7 @@ fatesIn (c ∷ cs) = read false (causesFor (c .sound)) ∷ fatesIn cs
 abbrev pub fates : List Step → List Fate
 fates [] = []
 fates (receives marks pdu log sound ∷ ss) = read false (causesFor sound) ∷ fates ss
+fates (pairs first second log sound other ∷ ss) = read false (causesFor (λ k. sound k || other k)) ∷ fates ss
 fates (batches came log ∷ ss) = fatesIn came ++ fates ss
 fates (stops came lengths bytes log ∷ ss) = fatesIn came ++ fates ss
 fates (loses log ∷ ss) = lose ∷ fates ss
@@ -81,6 +86,7 @@ logsFrom x (s ∷ ss) = loggedBy defined x (callOf s) ++ logsFrom (stationAfter 
 -- a call for PDUs of the run alone is not refused, and a batch of them takes them all
 abbrev pub NotRefused : Station → Step → Type 0
 NotRefused x (receives marks q log s) = answerOf x (receive marks q log) .refusal ≡ 0
+NotRefused x (pairs q r log s t) = answerOf x (pair q r log) .refusal ≡ 0
 NotRefused x (batches cs log) = (answerOf x (callOf (batches cs log)) .refusal ≡ 0) × (takenBy defined x (callOf (batches cs log)) ≡ length cs)
 NotRefused x (stops cs lengths bytes log) = Unit {0}
 NotRefused x (loses log) = answerOf x (markLost log) .refusal ≡ 0

@@ -1,7 +1,7 @@
 -- Document 00, demand 3, by document 01, "Demand 3 is a single claim about whole lists of calls". The claim is of a receiver (`Demand3For`), with
 -- opening and writing as writer/specs/Writing.antt defines them. `Demand3` is its case at the receiver of receiver/specs/Receiving.antt: the
 -- contracts say that the code does what these two define. Calls have marked places (document 02, Ask 3), and batches of PDUs stand among them (Ask 1); without
--- both it is document 00's claim.
+-- both it is document 00's claim. A refused call may be of any kind, a pair (Ask 5) too; runs of pairs are claimed in Diversity.antt.
 use mathlib.Core.Path.{_≡_}
 use mathlib.Core.Bool.{Bool, true, false, not, _&&_, _||_, cond}
 use mathlib.Core.List.{List, [], _∷_, _++_, map}
@@ -24,6 +24,7 @@ use Rattle.receiver.specs.declared.Receiver.{Receiver}
 use Rattle.receiver.specs.declared.Received.{Received}
 use Rattle.batch.specs.Batches.{received}
 use Rattle.batch.specs.declared.Batch.{Batch}
+use Rattle.diversity.specs.Diversity.{pairReceived}
 
 -- ---- one list of packets
 
@@ -103,17 +104,19 @@ module _ (mode stream : ℕ) (packets : List (List ℕ)) where
   InOrder g [] = Unit {0}
   InOrder g (a ∷ al) = either (refusedAt g a) (InOrder g al) (Offers (drop (unfinished packets g) packets) a × InOrder (g + placedAt g a) al)
 
--- ---- receive calls, batches, and calls marking a PDU lost
+-- ---- receive calls, batches, pairs, and calls marking a PDU lost
 
 -- a receiver and its carry
 pub record Station : Type 0 where
   pub receiver : Receiver
   pub carry : List ℕ
 
--- a call's arguments besides, as they were before the call: the marked places and the lent PDU, or the lengths of a batch's PDUs and these, joined; and the log
+-- a call's arguments besides, as they were before the call: the marked places and the lent PDU, or the lengths of a batch's PDUs and these, joined, or the two
+-- PDUs of a pair; and the log
 pub data Call : Type 0 where
   receive : (marks pdu log : List ℕ) → Call
   batch : (lengths pdus log : List ℕ) → Call
+  pair : (first second log : List ℕ) → Call
   markLost : (log : List ℕ) → Call
 
 -- what a call answers: the refusal number, how many PDUs it took, the count of log words, and the receiver. How many it took is a batch's to say; what a
@@ -137,20 +140,23 @@ pub record Behaviour : Type 0 where
   pub carry : Station → Call → List ℕ
   pub log : Station → Call → List ℕ
 
--- the receiver of document 01, with the marks and the batches of document 02
+-- the receiver of document 01, with the marks, the batches and the pairs of document 02
 abbrev pub answerOf : Station → Call → Answer
 answerOf x (receive marks pdu log) = ofOne (receiveAnswer marks (x .carry) pdu log (x .receiver))
 answerOf x (batch lengths pdus log) = ofBatch (received lengths (x .carry) pdus log (x .receiver) .answer)
+answerOf x (pair first second log) = ofOne (pairReceived (x .carry) first second log (x .receiver) .answer)
 answerOf x (markLost log) = ofOne (lostAnswer log (x .receiver))
 
 abbrev pub carryOf : Station → Call → List ℕ
 carryOf x (receive marks pdu log) = carryAfter marks (x .carry) pdu log (x .receiver)
 carryOf x (batch lengths pdus log) = received lengths (x .carry) pdus log (x .receiver) .carry
+carryOf x (pair first second log) = pairReceived (x .carry) first second log (x .receiver) .carry
 carryOf x (markLost log) = x .carry
 
 abbrev pub logOf : Station → Call → List ℕ
 logOf x (receive marks pdu log) = logAfter marks (x .carry) pdu log (x .receiver)
 logOf x (batch lengths pdus log) = received lengths (x .carry) pdus log (x .receiver) .log
+logOf x (pair first second log) = pairReceived (x .carry) first second log (x .receiver) .log
 logOf x (markLost log) = logAfterLost log (x .receiver)
 
 abbrev pub defined : Behaviour
@@ -210,10 +216,11 @@ module _ (b : Behaviour) where
   abbrev pub stationAfter : Station → Call → Station
   stationAfter x c = record { receiver = b .answer x c .receiver; carry = b .carry x c }
 
-  -- how many PDUs a call took: receiving a PDU or marking it lost takes it, if it is not refused; a batch counts those that it took
+  -- how many PDUs a call took: receiving a PDU, alone or as a pair, or marking it lost takes it, if it is not refused; a batch counts those that it took
   abbrev pub takenBy : Station → Call → ℕ
   takenBy x (receive marks pdu log) = cond (eqb (b .answer x (receive marks pdu log) .refusal) 0) 1 0
   takenBy x (batch lengths pdus log) = b .answer x (batch lengths pdus log) .taken
+  takenBy x (pair first second log) = cond (eqb (b .answer x (pair first second log) .refusal) 0) 1 0
   takenBy x (markLost log) = cond (eqb (b .answer x (markLost log) .refusal) 0) 1 0
 
   -- a call is refused after it took so many PDUs

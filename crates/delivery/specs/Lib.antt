@@ -1,5 +1,5 @@
 pub mod Channel
 pub mod Copies
 pub mod Delivery
-pub mod Pairs
+pub mod Diversity
 pub mod WrongReceivers

@@ -1,6 +1,7 @@
 -- The receivers that document 01 wants thrown out by demand 3, one that delivers a packet for a PDU marked lost, one that joins across a lost PDU, one that
--- does not take the register it is given, and one whose batches forget. Each is the receiver of document 01 but for what its line says; demand 3 is shown
--- false of `zeroed` in proofs/Registers.antt, of `forgetting` in proofs/BatchRuns.antt, and of the others in proofs/WrongReceivers.antt.
+-- does not take the register it is given, one whose batches forget, and one that takes the whole of the better copy. Each is the receiver of document 01 but for
+-- what its line says; demand 3 is shown false of `zeroed` in proofs/Registers.antt, of `forgetting` in proofs/BatchRuns.antt, and of the others in
+-- proofs/WrongReceivers.antt, but the promise over runs of pairs of `choosing`, in proofs/PairRuns.antt.
 use mathlib.Core.Bool.{Bool, true, false, cond}
 use mathlib.Core.List.{List, [], _∷_}
 use Prim.Native.Nat.{ℕ}
@@ -8,7 +9,8 @@ use lib.ListN.{length}
 use Rattle.buffer.specs.Buffer.{putAt}
 use Rattle.log.specs.Log.{packet, logWords}
 use Rattle.receiver.specs.declared.Receiver.{Receiver}
-use Rattle.delivery.specs.Delivery.{Behaviour, Answer, Station, Call, receive, batch, markLost, answerOf, carryOf, logOf, defined}
+use Rattle.diversity.specs.Diversity.{Choice, neither, theFirst, theSecond, choiceOf}
+use Rattle.delivery.specs.Delivery.{Behaviour, Answer, Station, Call, receive, batch, pair, markLost, answerOf, carryOf, logOf, defined}
 
 -- an answer with another count of words, or with another receiver
 abbrev pub withWords : ℕ → Answer → Answer
@@ -21,6 +23,7 @@ withReceiver r a = record { refusal = a .refusal; taken = a .taken; words = a .w
 abbrev pub lentLog : Call → List ℕ
 lentLog (receive marks pdu log) = log
 lentLog (batch lengths pdus log) = log
+lentLog (pair first second log) = log
 lentLog (markLost log) = log
 
 -- an empty log for everything
@@ -39,11 +42,13 @@ module _ (number : ℕ) (bytes : List ℕ) where
   abbrev pub fixedAnswer : Station → Call → Answer
   fixedAnswer x (receive marks pdu log) = withWords (length fixedWords) (answerOf x (receive marks pdu log))
   fixedAnswer x (batch lengths pdus log) = answerOf x (batch lengths pdus log)
+  fixedAnswer x (pair first second log) = answerOf x (pair first second log)
   fixedAnswer x (markLost log) = answerOf x (markLost log)
 
   abbrev pub fixedLog : Station → Call → List ℕ
   fixedLog x (receive marks pdu log) = putAt log 0 fixedWords
   fixedLog x (batch lengths pdus log) = logOf x (batch lengths pdus log)
+  fixedLog x (pair first second log) = logOf x (pair first second log)
   fixedLog x (markLost log) = logOf x (markLost log)
 
   abbrev pub fixed : Behaviour
@@ -53,11 +58,13 @@ module _ (number : ℕ) (bytes : List ℕ) where
   abbrev pub inventingAnswer : Station → Call → Answer
   inventingAnswer x (receive marks pdu log) = answerOf x (receive marks pdu log)
   inventingAnswer x (batch lengths pdus log) = answerOf x (batch lengths pdus log)
+  inventingAnswer x (pair first second log) = answerOf x (pair first second log)
   inventingAnswer x (markLost log) = record { refusal = answerOf x (markLost log) .refusal; taken = 0; words = length fixedWords; receiver = answerOf x (markLost log) .receiver }
 
   abbrev pub inventingLog : Station → Call → List ℕ
   inventingLog x (receive marks pdu log) = logOf x (receive marks pdu log)
   inventingLog x (batch lengths pdus log) = logOf x (batch lengths pdus log)
+  inventingLog x (pair first second log) = logOf x (pair first second log)
   inventingLog x (markLost log) = putAt log 0 fixedWords
 
   abbrev pub inventing : Behaviour
@@ -67,6 +74,7 @@ module _ (number : ℕ) (bytes : List ℕ) where
 abbrev pub advancingAnswer : Station → Call → Answer
 advancingAnswer x (receive marks pdu log) = cond (x .receiver .known) (withWords 0 (answerOf x (receive marks pdu log))) (answerOf x (receive marks pdu log))
 advancingAnswer x (batch lengths pdus log) = answerOf x (batch lengths pdus log)
+advancingAnswer x (pair first second log) = answerOf x (pair first second log)
 advancingAnswer x (markLost log) = answerOf x (markLost log)
 
 abbrev pub advancing : Behaviour
@@ -76,6 +84,7 @@ advancing = record { opening = defined .opening; answer = advancingAnswer; carry
 abbrev pub joiningAnswer : Station → Call → Answer
 joiningAnswer x (receive marks pdu log) = answerOf x (receive marks pdu log)
 joiningAnswer x (batch lengths pdus log) = answerOf x (batch lengths pdus log)
+joiningAnswer x (pair first second log) = answerOf x (pair first second log)
 joiningAnswer x (markLost log) = withReceiver (x .receiver) (answerOf x (markLost log))
 
 abbrev pub joining : Behaviour
@@ -89,7 +98,23 @@ zeroed = record { opening = λ mode stream register. defined .opening mode strea
 abbrev pub forgettingAnswer : Station → Call → Answer
 forgettingAnswer x (receive marks pdu log) = answerOf x (receive marks pdu log)
 forgettingAnswer x (batch lengths pdus log) = withReceiver (x .receiver) (answerOf x (batch lengths pdus log))
+forgettingAnswer x (pair first second log) = answerOf x (pair first second log)
 forgettingAnswer x (markLost log) = answerOf x (markLost log)
 
 abbrev pub forgetting : Behaviour
 forgetting = record { opening = defined .opening; answer = forgettingAnswer; carry = carryOf; log = logOf }
+
+-- it chooses the better copy of a pair and receives that one alone (document 02, Ask 5)
+abbrev pub chosen : Choice → List ℕ → List ℕ → List ℕ
+chosen neither first second = []
+chosen theFirst first second = first
+chosen theSecond first second = second
+
+abbrev pub better : Call → Call
+better (receive marks pdu log) = receive marks pdu log
+better (batch lengths pdus log) = batch lengths pdus log
+better (pair first second log) = receive [] (chosen (choiceOf first second) first second) log
+better (markLost log) = markLost log
+
+abbrev pub choosing : Behaviour
+choosing = record { opening = defined .opening; answer = λ x c. answerOf x (better c); carry = λ x c. carryOf x (better c); log = λ x c. logOf x (better c) }

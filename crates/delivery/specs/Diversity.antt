@@ -1,0 +1,155 @@
+-- Document 02, Ask 5: a run of pairs. Each PDU of a run of demand 3 comes as two copies, or as one, alone or in a batch, or is marked lost; the list's other
+-- calls are refused ones, of any kind. The claim is of a receiver; the packets, the writing calls, the run, the fresh receiver and the sizes of the buffers are
+-- demand 3's (Delivery.antt).
+use mathlib.Core.Path.{_≡_}
+use mathlib.Core.Bool.{Bool, true, false, _||_}
+use mathlib.Core.List.{List, [], _∷_, _++_, map}
+use Prim.Native.Nat.{ℕ, _*_, _<_, _≤_}
+use lib.ListN.{length, take, drop, replicate}
+use Rattle.crc.specs.Crc.{crcFrom}
+use Rattle.header.specs.Header.{distance}
+use Rattle.modes.specs.Modes.{listing}
+use Rattle.layout.specs.Control.{controlAt}
+use Rattle.correction.specs.Correction.{correctedPdu}
+use Rattle.pdu.specs.Reading.{modeIn}
+use Rattle.log.specs.Log.{Entry, logWords, packetWords}
+use Rattle.writer.specs.Writing.{opened as writerOpened}
+use Rattle.writer.specs.RoundTrip.{Bytes}
+use Rattle.runs.specs.Model.{Fate, lose, read}
+use Rattle.runs.specs.Spans.{lies, wholePackets}
+use Rattle.diversity.specs.Diversity.{sameBytes}
+use Rattle.delivery.specs.Delivery.{Packets, joined, Writing, InOrder, Station, Call, receive, batch, pair, markLost, Behaviour, defined, freshStation, stationAfter, takenBy, RefusedAfter, loggedBy, runOf, made, spans}
+use Rattle.delivery.specs.Copies.{frontLength, bytesAt, crcAt, pieceAt, causesFor}
+
+-- ---- a copy q of a PDU p with locators of a width
+
+-- piece k, with its CRC byte, is as sent, once the copy is corrected
+abbrev pub asSent : (width : ℕ) (p q : List ℕ) → ℕ → Bool
+asSent width p q k = sameBytes (pieceAt width p (correctedPdu q) k) (pieceAt width p p k)
+
+-- it has p's length; at most four of the first 96 bytes are altered; bytes 96 to La are as sent; and every piece that is still damaged once the copy is
+-- corrected has a wrong CRC, by the register that CRCs start with. Bytes after the last locator may be any
+pub record ComesAs (register width : ℕ) (p q : List ℕ) : Type 0 where
+  pub bytes : Bytes q
+  pub long : length q ≡ length p
+  pub few : distance (take 96 q) (take 96 p) ≤ 4
+  pub front : drop 96 (take (frontLength p) q) ≡ drop 96 (take (frontLength p) p)
+  pub damaged : (k : ℕ) → k < controlAt p .nop → asSent width p q k ≡ false → ¬ (crcFrom register (bytesAt width p (correctedPdu q) k) ≡ crcAt width p (correctedPdu q) k)
+
+-- the first ones of ps, as many as these are, come as these
+abbrev pub AllComeAs : (register width : ℕ) → List (List ℕ) → List (List ℕ) → Type 0
+AllComeAs register width ps [] = Unit {0}
+AllComeAs register width [] (q ∷ qs) = ⊥
+AllComeAs register width (p ∷ ps) (q ∷ qs) = ComesAs register width p q × AllComeAs register width ps qs
+
+-- ---- going through a run
+
+-- a call of the list: for the next PDU of the run, come as two copies, or as one, or marked lost; a batch of the next ones; a batch that has others after the
+-- next ones, of these lengths and with these bytes, and is refused at the first of those; or another call, a refused one
+pub data Step : Type 0 where
+  pairs : (first second log : List ℕ) → Step
+  receives : (pdu log : List ℕ) → Step
+  batches : (pdus : List (List ℕ)) (log : List ℕ) → Step
+  stops : (pdus : List (List ℕ)) (lengths bytes log : List ℕ) → Step
+  loses : (log : List ℕ) → Step
+  refuses : Call → Step
+
+abbrev pub callOf : Step → Call
+callOf (pairs first second log) = pair first second log
+callOf (receives pdu log) = receive [] pdu log
+callOf (batches pdus log) = batch (map length pdus) (joined pdus) log
+callOf (stops pdus lengths bytes log) = batch (map length pdus ++ lengths) (joined pdus ++ bytes) log
+callOf (loses log) = markLost log
+callOf (refuses c) = c
+
+-- what came of these PDUs: a piece is taken that is as sent in one copy at least
+abbrev pub fatesIn : ℕ → List (List ℕ) → List (List ℕ) → List Fate
+fatesIn width ps [] = []
+fatesIn width [] (q ∷ qs) = []
+fatesIn width (p ∷ ps) (q ∷ qs) = read false (causesFor (asSent width p q)) ∷ fatesIn width ps qs
+
+abbrev pub fates : ℕ → List (List ℕ) → List Step → List Fate
+fates width ps [] = []
+fates width ps (refuses c ∷ ss) = fates width ps ss
+fates width ps (batches qs log ∷ ss) = fatesIn width ps qs ++ fates width (drop (length qs) ps) ss
+fates width ps (stops qs lengths bytes log ∷ ss) = fatesIn width ps qs ++ fates width (drop (length qs) ps) ss
+fates width [] (pairs q r log ∷ ss) = []
+fates width [] (receives q log ∷ ss) = []
+fates width [] (loses log ∷ ss) = []
+fates width (p ∷ ps) (pairs q r log ∷ ss) = read false (causesFor (λ k. asSent width p q k || asSent width p r k)) ∷ fates width ps ss
+fates width (p ∷ ps) (receives q log ∷ ss) = read false (causesFor (asSent width p q)) ∷ fates width ps ss
+fates width (p ∷ ps) (loses log ∷ ss) = lose ∷ fates width ps ss
+
+module _ (b : Behaviour) where
+  -- the calls go through these PDUs in order: each PDU has one call, with a log that suffices
+  abbrev pub Through : (register width : ℕ) → Station → List (List ℕ) → List Step → Type 0
+  Through register width x ps (refuses c ∷ ss) = RefusedAfter b 0 x c × Through register width (stationAfter b x c) ps ss
+  Through register width x ps (batches qs log ∷ ss) =
+      AllComeAs register width ps qs × (8400 * length qs ≤ length log) × Through register width (stationAfter b x (callOf (batches qs log))) (drop (length qs) ps) ss
+  Through register width x ps (stops qs lengths bytes log ∷ ss) =
+      AllComeAs register width ps qs × (8400 * length qs ≤ length log) × RefusedAfter b (length qs) x (callOf (stops qs lengths bytes log))
+      × Through register width (stationAfter b x (callOf (stops qs lengths bytes log))) (drop (length qs) ps) ss
+  Through register width x [] [] = Unit {0}
+  Through register width x (p ∷ ps) [] = ⊥
+  Through register width x [] (pairs q r log ∷ ss) = ⊥
+  Through register width x (p ∷ ps) (pairs q r log ∷ ss) =
+      ComesAs register width p q × ComesAs register width p r × (8400 ≤ length log) × Through register width (stationAfter b x (pair q r log)) ps ss
+  Through register width x [] (receives q log ∷ ss) = ⊥
+  Through register width x (p ∷ ps) (receives q log ∷ ss) = ComesAs register width p q × (8400 ≤ length log) × Through register width (stationAfter b x (receive [] q log)) ps ss
+  Through register width x [] (loses log ∷ ss) = ⊥
+  Through register width x (p ∷ ps) (loses log ∷ ss) = (8400 ≤ length log) × Through register width (stationAfter b x (markLost log)) ps ss
+
+  -- a call for PDUs of the run alone is not refused, and a batch of them takes them all
+  abbrev pub NotRefused : Station → Step → Type 0
+  NotRefused x (pairs q r log) = b .answer x (pair q r log) .refusal ≡ 0
+  NotRefused x (receives q log) = b .answer x (receive [] q log) .refusal ≡ 0
+  NotRefused x (batches qs log) = (b .answer x (callOf (batches qs log)) .refusal ≡ 0) × (takenBy b x (callOf (batches qs log)) ≡ length qs)
+  NotRefused x (stops qs lengths bytes log) = Unit {0}
+  NotRefused x (loses log) = b .answer x (markLost log) .refusal ≡ 0
+  NotRefused x (refuses c) = Unit {0}
+
+  abbrev pub NoneRefused : Station → List Step → Type 0
+  NoneRefused x [] = Unit {0}
+  NoneRefused x (s ∷ ss) = NotRefused x s × NoneRefused (stationAfter b x (callOf s)) ss
+
+  -- the calls' logs, joined
+  abbrev pub logsFrom : Station → List Step → List ℕ
+  logsFrom x [] = []
+  logsFrom x (s ∷ ss) = loggedBy b x (callOf s) ++ logsFrom (stationAfter b x (callOf s)) ss
+
+-- ---- the claim
+
+module _ (b : Behaviour) (mode stream register : ℕ) (packets : List (List ℕ)) (writings : List Writing) (first count : ℕ) (carry : List ℕ) (steps : List Step) where
+  abbrev pub width : ℕ
+  width = modeIn (listing mode stream) .width
+
+  -- the PDUs of the run
+  abbrev pub run : List (List ℕ)
+  run = runOf first count (made mode stream register writings)
+
+  -- the packets with every byte in PDUs of the run, each of whose pieces is, once corrected, as sent in one copy at least; PDUs before the run count as lost
+  abbrev pub arrived : List Entry
+  arrived = wholePackets (lies packets (spans mode stream packets writings) (replicate first lose ++ fates width run steps)) 0 0 packets
+
+  -- what is asked of the calls
+  pub record Asked : Type 0 where
+    pub opens : writerOpened mode stream register .refusal ≡ 0
+    pub sized : Packets packets
+    pub offered : InOrder mode stream packets 0 writings
+    pub room : 4096 ≤ length carry
+    pub through : Through b register width (freshStation b mode stream register carry) run steps
+
+  -- what is promised of them: none of the run is refused, and the joined logs hold exactly these packets
+  pub record Delivered : Type 0 where
+    pub accepted : NoneRefused b (freshStation b mode stream register carry) steps
+    pub log : packetWords (logsFrom b (freshStation b mode stream register carry) steps) ≡ logWords arrived
+
+abbrev pub PairDeliveryFor : Behaviour → Type 0
+PairDeliveryFor b =
+    (mode stream register : ℕ) (packets : List (List ℕ)) (writings : List Writing) (first count : ℕ) (carry : List ℕ) (steps : List Step)
+    → Asked b mode stream register packets writings first count carry steps
+    → Delivered b mode stream register packets writings first count carry steps
+
+-- the promise over a run of pairs
+abbrev pub PairDelivery : Type 0
+PairDelivery = PairDeliveryFor defined
