@@ -22,6 +22,7 @@ ghost use Rattle.pdu.specs.Reading.{readingOf, readPdu};
 ghost use Rattle.writer.specs.Writing.{opened, writeAnswer, writtenPdu};
 ghost use Rattle.receiver.specs.Receiving.{opened as receiverOpened, receiveAnswer, carryAfter, pduAfter, logAfter, lostAnswer, logAfterLost};
 ghost use Rattle.batch.specs.Batches.{received};
+ghost use Rattle.diversity.specs.Diversity.{choiceOf, numberOf as choiceNumber, pairReceived};
 ghost use Rattle.correction.specs.Marks.{correctionWith, correctedPduWith};
 ghost use Rattle.correction.specs.Correction.{correctionOf, correctedPdu, numberOf, countOf};
 ghost use Rattle.latency.specs.Latency.{answer, numberOf as refusalOf, latencyOf, isFound, trial, shown, rowAfter};
@@ -274,6 +275,34 @@ pub extern "C" fn barzhilup_receive_batch(
     ensures { λ _. ⌜ now (log .exit) ≡ received (now (lengths .entry)) (now (carry .entry)) (now (pdus .entry)) (now (log .entry)) receiver .log ⌝ }
 {
     batch::receive(receiver, carry, pdus, lengths, log)
+}
+
+// Which of two PDUs is the better copy: 1 the first, 2 the second, 0 where neither can be corrected, which stands for an empty part of the first. Nothing is
+// refused or changed.
+#[no_mangle]
+pub extern "C" fn barzhilup_choose(first: &[u8], second: &[u8]) -> u32
+    ensures { λ r. ⌜ r ≡ choiceNumber (choiceOf (now (first .entry)) (now (second .entry))) ⌝ }
+{
+    diversity::choice(first, second)
+}
+
+// Receives a pair of PDUs, two copies of one: each header that can be corrected is left corrected, and each piece is taken from a copy in which its CRC is
+// right. Where only one can be corrected, that one is received alone. It is refused with 1, 2, 4 to 12, 20 or 13, and nothing is changed.
+#[no_mangle]
+pub extern "C" fn barzhilup_receive_pair(
+    receiver: Receiver,
+    carry: &mut [u8],
+    first: &mut [u8],
+    second: &mut [u8],
+    log: &mut [u32],
+) -> Received
+    ensures { λ a. ⌜ a ≡ pairReceived (now (carry .entry)) (now (first .entry)) (now (second .entry)) (now (log .entry)) receiver .answer ⌝ }
+    ensures { λ _. ⌜ now (carry .exit) ≡ pairReceived (now (carry .entry)) (now (first .entry)) (now (second .entry)) (now (log .entry)) receiver .carry ⌝ }
+    ensures { λ _. ⌜ now (first .exit) ≡ pairReceived (now (carry .entry)) (now (first .entry)) (now (second .entry)) (now (log .entry)) receiver .first ⌝ }
+    ensures { λ _. ⌜ now (second .exit) ≡ pairReceived (now (carry .entry)) (now (first .entry)) (now (second .entry)) (now (log .entry)) receiver .second ⌝ }
+    ensures { λ _. ⌜ now (log .exit) ≡ pairReceived (now (carry .entry)) (now (first .entry)) (now (second .entry)) (now (log .entry)) receiver .log ⌝ }
+{
+    pair::receive(receiver, carry, first, second, log)
 }
 
 // Marks a PDU lost: note 6, and the receiver forgets; or it is refused with 1 or 13, and nothing is changed.
