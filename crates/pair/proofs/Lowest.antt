@@ -68,7 +68,7 @@ lowest-cut (suc n) (suc m) t h =
 -- ---- in a corrected PDU
 
 module _ (y : List ℕ) where
-  abbrev any : Bool
+  abbrev pub any : Bool
   any = anyBelow (controlAt y .nop) (wrongLocator (widthOf y) (controlAt y) y)
 
   lowest-in : lowestBelow 64 (wrongIn y) ≡ cond any (wrongOf y 11) 64
@@ -78,7 +78,7 @@ module _ (y : List ℕ) where
       lowest-cut 64 (controlAt y .nop) (wrongLocator (widthOf y) (controlAt y) y) (omega (arith, h))
       ∙ ap (λ (b : Bool). cond b (lowestWrong (widthOf y) (controlAt y) y) 64) (sym (any-lowest (wrongLocator (widthOf y) (controlAt y) y) (controlAt y .nop)))
 
-  small : any ≡ true → wrongOf y 11 < 64
+  pub small : any ≡ true → wrongOf y 11 < 64
   unfolding wrongOf
   small e = let l = lowest-inside (widthOf y) (controlAt y) y e in let h = nop-small y in omega (arith, l, h)
 
@@ -105,7 +105,7 @@ module _ (r : Receiver) (y : List ℕ) where
   abbrev rows : List (Bool × ℕ)
   rows = streamTests r (controlAt y) ++ readerTests (modeIn (listingOf (controlAt y))) (controlAt y) y
 
-  some-wrong : copyNumber r y ≡ 11 → any y ≡ true
+  pub some-wrong : copyNumber r y ≡ 11 → any y ≡ true
   unfolding copyNumber widthOf
   some-wrong e = row-on _ 11 (take 6 rows) (drop 7 rows) refl refl refl e
 
@@ -191,10 +191,10 @@ module _ (a b : Verdict) where
 
 -- m and n are the numbers of the two
 module _ (r : Receiver) (y z : List ℕ) where
-  abbrev lowestOfBoth : ℕ
+  abbrev pub lowestOfBoth : ℕ
   lowestOfBoth = lowestBelow 64 (λ k. wrongIn y k || wrongIn z k)
 
-  both-lowest : lowestOfBoth ≡ min (cond (any y) (wrongOf y 11) 64) (cond (any z) (wrongOf z 11) 64)
+  pub both-lowest : lowestOfBoth ≡ min (cond (any y) (wrongOf y 11) 64) (cond (any z) (wrongOf z 11) 64)
   both-lowest = lowest-either 64 (wrongIn y) (wrongIn z) ∙ ap₂ min (lowest-in y) (lowest-in z)
 
   k-with : (m n : ℕ) → m ≡ copyNumber r y → n ≡ copyNumber r z → lowerWrong (record { number = m; wrong = wrongOf y m }) (record { number = n; wrong = wrongOf z n }) ≡ wrongInPair y z (lower m n)
