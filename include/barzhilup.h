@@ -16,15 +16,18 @@
  *  - A refused call returns a number of the table in document 01, "What is
  *    turned down", or of document 02, and leaves every byte lent to it as it
  *    was. If several causes apply, the lowest number is returned, except that 19
- *    comes directly after 3, and 18 directly after 2. A batch of PDUs that stops at
- *    a refused one has received those before it (barzhilup_receive_batch).
+ *    comes directly after 3, 18 directly after 2, and 20 directly after 12. A
+ *    batch of PDUs that stops at a refused one has received those before it
+ *    (barzhilup_receive_batch).
  *
  * Where document 01 has a word of its own, these are the usual ones:
  *    correct        for "mend",
  *    uncorrectable  for "beyond mending",
  *    syndromes      for "the eight sums" of a header,
  *    marked place   for a place whose byte is "marked doubtful" (document 02, Ask
- *                   3): an erasure.
+ *                   3): an erasure,
+ *    pair, copies   for the PDUs of "two antennas" (document 02, Ask 5): two
+ *                   receptions of one PDU.
  */
 #ifndef BARZHILUP_H
 #define BARZHILUP_H
@@ -172,6 +175,12 @@ extern "C" {
  * BARZHILUP_REFUSED_PDU_LENGTH, and before BARZHILUP_REFUSED_UNCORRECTABLE.
  * (Document 02, Ask 3.) */
 #define BARZHILUP_REFUSED_MARKS 19
+
+/* A pair of PDUs that can both be corrected: their lengths differ, or their
+ * corrected bytes 8 to La do, ignored bits too. Checked after
+ * BARZHILUP_REFUSED_DISPLACEMENT, and before BARZHILUP_REFUSED_LOG_LENGTH.
+ * (Document 02, Ask 5.) */
+#define BARZHILUP_REFUSED_PAIR 20
 
 /* A bench for latency settings: no counts, more than 4,096, or one over 63.
  * Checked after BARZHILUP_REFUSED_MODE. (Document 02, Ask 7.) */
@@ -563,6 +572,12 @@ barzhilup_written barzhilup_write(barzhilup_writer writer,
 /* The PDU was marked lost. What was held is dropped. About no piece. */
 #define BARZHILUP_NOTE_LOST 6
 
+/* The piece of a pair has a right CRC in both copies, and other bytes in one than
+ * in the other; they are dropped. It stands where BARZHILUP_NOTE_CRC would, so it
+ * comes before BARZHILUP_NOTE_NOTHING_HELD and BARZHILUP_NOTE_TOO_LONG. (Document
+ * 02, Ask 5.) */
+#define BARZHILUP_NOTE_COPIES_DIFFER 7
+
 /* ---- Receiver (document 01, "Receiver") ---------------------------------- */
 
 /* What a receiver was opened with and what it remembers. A caller keeps it
@@ -597,13 +612,15 @@ typedef struct {
     barzhilup_receiver receiver;
 } barzhilup_receiver_opened;
 
-/* What came of receiving a PDU or marking one lost. */
+/* What came of receiving a PDU or a pair, or marking a PDU lost. */
 typedef struct {
     /* BARZHILUP_ACCEPTED, or a BARZHILUP_REFUSED_ number: 1 to 13 for receiving,
-     * with marks also 19; 1 or 13 for marking lost. */
+     * with marks also 19; 1, 2, 4 to 13 or 20 for a pair; 1 or 13 for marking
+     * lost. */
     uint32_t refusal;
     /* With BARZHILUP_REFUSED_LOCATOR, the number k of the first wrong locator,
-     * from 0; otherwise 0. (Document 02, Ask 6.) */
+     * from 0, for a pair the smallest over both copies; otherwise 0. (Document 02,
+     * Ask 6.) */
     uint32_t wrong_locator;
     /* How many words of the log were written, from its first on. 0 if
      * refused. */
@@ -712,6 +729,79 @@ barzhilup_batch barzhilup_receive_batch(barzhilup_receiver receiver,
                                         uint8_t *pdus, size_t pdus_length,
                                         const size_t *lengths, size_t count,
                                         uint32_t *log, size_t log_length);
+
+/*
+ * Of two copies of a PDU, says which one to take (document 02, Ask 5): the one in
+ * whose header fewer bytes have to be corrected, the first if equal; the other
+ * where one can't be corrected. A length that is refused with
+ * BARZHILUP_REFUSED_PDU_LENGTH counts as one that can't. The lengths may differ.
+ * Nothing else is judged: mode, locators and CRCs make no difference.
+ *
+ * Returns 1 for the first and 2 for the second; 0 where neither can be corrected.
+ * Nothing is refused. Both PDUs are only read: the one that is chosen is left
+ * uncorrected. They may overlap, and may be the same.
+ */
+uint32_t barzhilup_choose(const uint8_t *first, size_t first_length,
+                          const uint8_t *second, size_t second_length);
+
+/* A part of a buffer that its caller lent. */
+typedef struct {
+    const uint8_t *bytes;
+    size_t length;
+} barzhilup_part;
+
+/* The copy that barzhilup_choose chooses, as a pointer with a length: the buffer
+ * itself, whole. Where neither can be corrected, it is an empty part of the first:
+ * its pointer, and length 0. */
+static inline barzhilup_part
+barzhilup_chosen(const uint8_t *first, size_t first_length,
+                 const uint8_t *second, size_t second_length)
+{
+    barzhilup_part part;
+    const uint32_t choice =
+        barzhilup_choose(first, first_length, second, second_length);
+    part.bytes = choice == 2 ? second : first;
+    part.length = choice == 0 ? 0 : choice == 2 ? second_length : first_length;
+    return part;
+}
+
+/*
+ * Receives a pair of PDUs: two copies of one, from two receivers on one signal
+ * (document 02, Ask 5). It counts as one PDU, and is logged as one.
+ *
+ * Where only one copy can be corrected, that one is received as
+ * barzhilup_receive receives it, and the other keeps its bytes; a length that is
+ * refused with BARZHILUP_REFUSED_PDU_LENGTH counts as one that can't. Otherwise
+ * each piece is taken by its CRC:
+ *  - right in one copy alone: the bytes of that one;
+ *  - right in both, and the bytes equal: these;
+ *  - right in both, and the bytes differ: BARZHILUP_NOTE_COPIES_DIFFER;
+ *  - wrong in both: BARZHILUP_NOTE_CRC, even where the bytes are equal.
+ * All else is as for barzhilup_receive: the log's order, what is held, the carry
+ * and its length. A log of BARZHILUP_LOG_WORDS words is always long enough.
+ *
+ * `first` and `second` are whole PDUs; their lengths may differ. The four buffers
+ * must not overlap.
+ *
+ * It is refused, in this order, with
+ *  - 1 and 2, as barzhilup_receive is;
+ *  - 4 where neither copy can be corrected; never with 3;
+ *  - 5 to 12, the lowest that applies to a copy that can be corrected: one such
+ *    copy refuses the pair, however good the other is;
+ *  - 20 where both can be corrected, and lengths or corrected bytes 8 to La
+ *    differ;
+ *  - 13.
+ *
+ * If the pair is accepted, the header of each copy that can be corrected is left
+ * corrected, the first `words` words of `log` are written, and the first `held`
+ * bytes of `carry` are the bytes held now; no other byte or word has changed. If it
+ * is refused, none has: a copy can still be received alone.
+ */
+barzhilup_received barzhilup_receive_pair(barzhilup_receiver receiver,
+                                          uint8_t *carry, size_t carry_length,
+                                          uint8_t *first, size_t first_length,
+                                          uint8_t *second, size_t second_length,
+                                          uint32_t *log, size_t log_length);
 
 /*
  * Marks a PDU lost, in its place in the row of PDUs: logs note 6, one word,

@@ -39,6 +39,7 @@ for test in header_test marks_test writer_test receiver_test latency_test; do
 done
 run shares_test "$library"
 run batch_test "$library"
+run pair_test "$library"
 run panel_test "$panel" "$library"
 run registers_test "$panel" "$library"
 
@@ -84,10 +85,12 @@ int main()
         barzhilup_list_pieces(pdu, sizeof pdu, BARZHILUP_CRC_START, list, 2);
     const bool listed = reading.refusal == 0 && list[0].start == 16 && list[0].length == 1
                         && list[0].right && list[1].start == 7 && !list[1].right;
+    const barzhilup_part part = barzhilup_chosen(pdu, 95, pdu, sizeof pdu);
+    const bool chosen = part.bytes == pdu && part.length == sizeof pdu;
     const bool opened =
         barzhilup_open_receiver_with(0, 0, BARZHILUP_CRC_START_OFF_AIR).receiver.crc_start == 255
         && barzhilup_crc8_from(255, piece, sizeof piece) == 0x9d;
-    return barzhilup_crc8(piece, sizeof piece) == 0x31 && lost && listed && opened ? 0 : 1;
+    return barzhilup_crc8(piece, sizeof piece) == 0x31 && lost && listed && chosen && opened ? 0 : 1;
 }
 CPP
 g++ -std=c++11 "${warnings[@]}" -o "$build/header_cpp" "$build/header.cpp" "$panel" "$library"
