@@ -3,9 +3,10 @@
 //! the header code, the CRC-8, reading without a receiver, the writer, the
 //! receiver, the packet log and the refusals 1 to 17; and of document 02, PDUs
 //! received in one call with refusal 18 (Ask 1), the CRC's starting register
-//! (Ask 2), header bytes marked doubtful with refusal 19 (Ask 3), a bench for
-//! latency settings with refusal 21 (Ask 7), parity as bytes arrive (Ask 8), and
-//! up to 63 pieces (Ask 9):
+//! (Ask 2), header bytes marked doubtful with refusal 19 (Ask 3), two copies of a
+//! PDU with refusal 20 and note 7 (Ask 5), a bench for latency settings with
+//! refusal 21 (Ask 7), parity as bytes arrive (Ask 8), and up to 63 pieces (Ask
+//! 9):
 //!
 //! - `field`: the bytes as elements of GF(256);
 //! - `linear`: systems of linear equations over them;
@@ -23,6 +24,7 @@
 //! - `log`: the words of the packet log;
 //! - `receiver`: the receiver, opened, receiving and marking lost;
 //! - `batches`: PDUs received in one call;
+//! - `pairs`: two copies of a PDU, one chosen, or both received in one call;
 //! - `refusal`: the numbers of the table of refusals, and their causes;
 //! - `encode`: PDUs made of any parts, for the writer and the tests;
 //! - `latency`: the bench for latency settings;
@@ -43,6 +45,7 @@ pub mod linear;
 pub mod locators;
 pub mod log;
 pub mod modes;
+pub mod pairs;
 pub mod placing;
 pub mod reading;
 pub mod receiver;

@@ -16,6 +16,9 @@ pub enum Note {
     TooLong(usize),
     /// 6: marked lost.
     Lost,
+    /// 7: right CRCs in both copies, and other bytes in one than in the other
+    /// (document 02, Ask 5).
+    Differing(usize),
 }
 
 impl Note {
@@ -28,13 +31,14 @@ impl Note {
             Note::NotContinued => 4,
             Note::TooLong(_) => 5,
             Note::Lost => 6,
+            Note::Differing(_) => 7,
         }
     }
 
     /// The piece; 0 if the note is about none.
     pub fn piece(self) -> usize {
         match self {
-            Note::WrongCrc(k) | Note::NothingHeld(k) | Note::TooLong(k) => k,
+            Note::WrongCrc(k) | Note::NothingHeld(k) | Note::TooLong(k) | Note::Differing(k) => k,
             Note::NotTheNext | Note::NotContinued | Note::Lost => 0,
         }
     }
@@ -48,6 +52,7 @@ impl Note {
             4 => Note::NotContinued,
             5 => Note::TooLong(piece),
             6 => Note::Lost,
+            7 => Note::Differing(piece),
             _ => return None,
         };
         (note.piece() == piece).then_some(note)
@@ -166,6 +171,7 @@ mod tests {
             Entry::Note(Note::NotContinued),
             Entry::Note(Note::TooLong(53)),
             Entry::Note(Note::Lost),
+            Entry::Note(Note::Differing(62)),
             Entry::Packet(63, vec![1, 2, 3, 4, 5]),
             Entry::Packet(0, vec![9, 8, 7]),
         ];
@@ -178,6 +184,7 @@ mod tests {
             0xC004_0000,
             0xC005_0035,
             0xC006_0000,
+            0xC007_003E,
             0x003F_0005,
             0x4301_0203,
             0x4204_0500,
@@ -211,7 +218,7 @@ mod tests {
                 assert_eq!(entries(&wrong), None);
             }
         }
-        for wrong in [0xC000_0000, 0xC007_0000, 0xC006_0001, 0x4100_0000] {
+        for wrong in [0xC000_0000, 0xC008_0000, 0xC006_0001, 0x4100_0000] {
             assert_eq!(entries(&[wrong]), None);
         }
     }

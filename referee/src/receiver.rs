@@ -1,7 +1,7 @@
 //! The receiver (document 01, "Receiver"; the CRC's register, document 02, Ask
 //! 2; with marks, Ask 3), with the refusals 1 to 13 and 19. All causes for a
 //! refusal are gathered first; of their numbers the one checked first is the
-//! answer.
+//! answer. `pairs` receives two copies of a PDU by the same steps.
 
 use crate::control::{self, ControlWord};
 use crate::crc::crc8_from;
@@ -120,28 +120,15 @@ pub fn receive_marked(
     causes.extend(pdu_causes(&reading));
     causes.extend(opened_causes(&receiver, pdu, marks));
     // What would be logged can be told only if nothing else is wrong.
-    let accepted = match reading {
+    match reading {
         Ok(reading) if causes.is_empty() => {
-            let heard = Heard::new(&receiver, carry, &reading, &mended);
-            let words = log::words(&heard.entries);
-            causes.extend(log_causes(words.len(), log.len()));
-            Some((heard, words))
-        }
-        _ => None,
-    };
-    match accepted {
-        Some((heard, words)) if causes.is_empty() => {
-            pdu.copy_from_slice(&mended);
-            log[..words.len()].copy_from_slice(&words);
-            if let Some(beginning) = &heard.held {
-                carry[..beginning.bytes.len()].copy_from_slice(&beginning.bytes);
+            let pieces = pieces_alone(&receiver, &reading, &mended);
+            let heard = Heard::new(&receiver, carry, &reading, &mended, &pieces);
+            let answer = heard.answer(receiver, carry, log);
+            if answer.refusal == 0 {
+                pdu.copy_from_slice(&mended);
             }
-            Answer {
-                refusal: 0,
-                causes,
-                words: words.len(),
-                receiver: heard.next(&receiver),
-            }
+            answer
         }
         _ => refused(receiver, causes),
     }
@@ -171,7 +158,7 @@ pub fn mark_lost(receiver: Receiver, log: &mut [u32]) -> Answer {
 }
 
 /// The answer to a call that is turned down for these causes.
-fn refused(receiver: Receiver, causes: Vec<ReceiverCause>) -> Answer {
+pub(crate) fn refused(receiver: Receiver, causes: Vec<ReceiverCause>) -> Answer {
     let numbers = causes.iter().map(|cause| cause.number());
     Answer {
         refusal: refusal::first(numbers).expect("a cause"),
@@ -215,7 +202,7 @@ pub(crate) fn carry_causes(length: usize) -> Vec<ReceiverCause> {
 }
 
 /// Refusals 3 to 5 and 7 to 12: those of reading without a receiver.
-fn pdu_causes(reading: &Result<Reading, reading::Refusal>) -> Vec<ReceiverCause> {
+pub(crate) fn pdu_causes(reading: &Result<Reading, reading::Refusal>) -> Vec<ReceiverCause> {
     match reading {
         Ok(_) => Vec::new(),
         Err(refusal) => refusal
@@ -227,7 +214,7 @@ fn pdu_causes(reading: &Result<Reading, reading::Refusal>) -> Vec<ReceiverCause>
 }
 
 /// Refusal 6: mode and stream of the mended PDU aren't those opened.
-fn opened_causes(receiver: &Receiver, pdu: &[u8], marks: &[u8]) -> Vec<ReceiverCause> {
+pub(crate) fn opened_causes(receiver: &Receiver, pdu: &[u8], marks: &[u8]) -> Vec<ReceiverCause> {
     match sent_word(pdu, marks) {
         Some(word) if (word.mode, word.stream) != (receiver.mode, receiver.stream) => {
             vec![ReceiverCause::NotThoseOpened]
@@ -262,8 +249,40 @@ struct Beginning {
     bytes: Vec<u8>,
 }
 
+/// What is said of a piece.
+#[derive(Clone, Debug, PartialEq, Eq)]
+pub(crate) enum Said<'a> {
+    /// These bytes, with a right CRC.
+    Bytes(&'a [u8]),
+    /// Wrong CRC.
+    WrongCrc,
+    /// Right CRCs, and other bytes in one copy than in the other (document 02,
+    /// Ask 5).
+    Differing,
+}
+
+/// What a PDU that comes alone says of its pieces.
+fn pieces_alone<'a>(receiver: &Receiver, reading: &Reading, pdu: &'a [u8]) -> Vec<Said<'a>> {
+    let said = |&piece: &reading::Piece| match right_piece(receiver, piece, pdu) {
+        Some(bytes) => Said::Bytes(bytes),
+        None => Said::WrongCrc,
+    };
+    reading.pieces.iter().map(said).collect()
+}
+
+/// The bytes of a piece, if its CRC is right.
+pub(crate) fn right_piece<'a>(
+    receiver: &Receiver,
+    piece: reading::Piece,
+    pdu: &'a [u8],
+) -> Option<&'a [u8]> {
+    let locator = piece.start + piece.length;
+    let bytes = &pdu[piece.start..locator];
+    (crc8_from(receiver.register, bytes) == pdu[locator]).then_some(bytes)
+}
+
 /// What comes of a PDU that nothing is wrong with.
-struct Heard {
+pub(crate) struct Heard {
     /// In log order.
     entries: Vec<Entry>,
     /// What is held then.
@@ -273,8 +292,14 @@ struct Heard {
 }
 
 impl Heard {
-    /// The four steps, in log order.
-    fn new(receiver: &Receiver, carry: &[u8], reading: &Reading, pdu: &[u8]) -> Heard {
+    /// The four steps, in log order, with what is said of each piece.
+    pub(crate) fn new(
+        receiver: &Receiver,
+        carry: &[u8],
+        reading: &Reading,
+        pdu: &[u8],
+        pieces: &[Said],
+    ) -> Heard {
         let word = &reading.control;
         let mut heard = Heard {
             entries: Vec::new(),
@@ -284,7 +309,7 @@ impl Heard {
         heard.step_1(receiver, word);
         heard.step_2(word);
         heard.step_3(reading, pdu);
-        heard.step_4(receiver.register, reading, pdu);
+        heard.step_4(word, pieces);
         heard
     }
 
@@ -328,22 +353,29 @@ impl Heard {
 
     /// Step 4: each piece k: wrong CRC, note 2; continuing with nothing held,
     /// note 3; over 4,096 bytes with what was held, note 5; otherwise delivered
-    /// if it ends here, held if Plast. A noted piece leaves nothing held.
-    fn step_4(&mut self, register: u8, reading: &Reading, pdu: &[u8]) {
-        let word = &reading.control;
-        for (k, piece) in reading.pieces.iter().enumerate() {
-            let locator = piece.start + piece.length;
-            let bytes = &pdu[piece.start..locator];
+    /// if it ends here, held if Plast. A noted piece leaves nothing held. Note 7
+    /// stands in place of note 2 (document 02, Ask 5).
+    fn step_4(&mut self, word: &ControlWord, pieces: &[Said]) {
+        for (k, said) in pieces.iter().enumerate() {
             let continues = k == 0 && word.pfirst;
-            let goes_on = k + 1 == reading.pieces.len() && word.plast;
+            let goes_on = k + 1 == pieces.len() && word.plast;
             let before = self.held.take();
+            let bytes = match said {
+                Said::Bytes(bytes) => bytes,
+                Said::WrongCrc => {
+                    self.note(Note::WrongCrc(k));
+                    continue;
+                }
+                Said::Differing => {
+                    self.note(Note::Differing(k));
+                    continue;
+                }
+            };
             let nothing_held = before.is_none();
             let mut joined = before.map_or_else(Vec::new, |beginning| beginning.bytes);
-            joined.extend(bytes);
+            joined.extend(*bytes);
             let number = piece_number(word, k);
-            if crc8_from(register, bytes) != pdu[locator] {
-                self.note(Note::WrongCrc(k));
-            } else if continues && nothing_held {
+            if continues && nothing_held {
                 self.note(Note::NothingHeld(k));
             } else if joined.len() > LONGEST_PACKET {
                 self.note(Note::TooLong(k));
@@ -355,6 +387,26 @@ impl Heard {
             } else {
                 self.entries.push(Entry::Packet(number, joined));
             }
+        }
+    }
+
+    /// The answer, with words and held bytes where they belong; or 13, and
+    /// nothing is changed.
+    pub(crate) fn answer(self, receiver: Receiver, carry: &mut [u8], log: &mut [u32]) -> Answer {
+        let words = log::words(&self.entries);
+        let causes = log_causes(words.len(), log.len());
+        if !causes.is_empty() {
+            return refused(receiver, causes);
+        }
+        log[..words.len()].copy_from_slice(&words);
+        if let Some(beginning) = &self.held {
+            carry[..beginning.bytes.len()].copy_from_slice(&beginning.bytes);
+        }
+        Answer {
+            refusal: 0,
+            causes,
+            words: words.len(),
+            receiver: self.next(&receiver),
         }
     }
 

@@ -1,6 +1,6 @@
 //! The numbers of the table of refusals, and the causes its rows name. Where
-//! several apply, the lowest number is answered, but 19 directly after 3; and a
-//! refusal changes nothing that was lent.
+//! several apply, the lowest number is answered, but 19 directly after 3 and 20
+//! directly after 12; and a refusal changes nothing that was lent.
 
 /// A field of a lent state is outside its range.
 pub const STATE: u32 = 1;
@@ -68,13 +68,19 @@ pub const LENGTHS: u32 = 18;
 /// More than eight marks, one over 95, or one repeated (document 02, Ask 3).
 pub const MARKS: u32 = 19;
 
+/// Two copies that can both be mended have other lengths, or other mended bytes 8
+/// to La (document 02, Ask 5).
+pub const COPIES: u32 = 20;
+
 /// A bench has no counts, more than 4,096, or one over 63 (document 02, Ask 7).
 pub const COUNTS: u32 = 21;
 
-/// Which of these numbers is answered: the lowest, but 19 directly after 3.
+/// Which of these numbers is answered: the lowest, but 19 directly after 3 and 20
+/// directly after 12.
 pub fn first(numbers: impl Iterator<Item = u32>) -> Option<u32> {
     numbers.min_by_key(|&number| match number {
         MARKS => (LENGTH, MARKS),
+        COPIES => (DISPLACEMENT, COPIES),
         other => (other, 0),
     })
 }
@@ -237,6 +243,10 @@ pub enum ReceiverCause {
     /// What reading the PDU without a receiver turns down.
     Pdu(Cause),
     NotThoseOpened,
+    /// Two copies have other lengths.
+    LengthsDiffer,
+    /// They have other mended bytes 8 to La.
+    BytesDiffer,
     LogTooShort,
 }
 
@@ -250,6 +260,7 @@ impl ReceiverCause {
             Marks(_) => MARKS,
             Pdu(cause) => cause.number(),
             NotThoseOpened => NOT_THOSE_OPENED,
+            LengthsDiffer | BytesDiffer => COPIES,
             LogTooShort => LOG,
         }
     }

@@ -17,11 +17,11 @@ use crate::calls::{self, some_bytes, some_packet, Call};
 use crate::lent::{Lent, LentLog};
 use crate::noise::{self, Noise};
 use crate::product::receiver::{self as product, Place};
-use crate::receptions::{self, spoil_state, spoilable, NUMBERS, NUMBERS_MARKED};
+use crate::receptions::{self, spoil_state, NUMBERS, NUMBERS_MARKED};
 use crate::spoiling;
 use crate::told::{self, Kinds};
 use referee::header::{self, LONGEST, PLACES};
-use referee::modes::{self, Line, TABLE};
+use referee::modes::{self, Line};
 use referee::receiver::{self, Receiver, LOG_WORDS};
 use referee::refusal;
 use referee::rng::Rng;
@@ -85,6 +85,10 @@ fn nop(pdu: &[u8]) -> usize {
     usize::from(pdu[12] >> 1 & 63)
 }
 
+/// What came of a PDU of a run: none if it was lost, otherwise of each piece
+/// whether it came as it was sent.
+pub type Came = Option<Vec<bool>>;
+
 /// A list of packets, sent by one writer.
 pub struct List {
     pub line: Line,
@@ -145,6 +149,12 @@ impl List {
             list.send(&call);
         }
         list
+    }
+
+    /// How many packets it has.
+    #[allow(dead_code)]
+    pub fn count(&self) -> usize {
+        self.packets.len()
     }
 
     /// The writer's register.
@@ -272,24 +282,55 @@ impl List {
         assert_eq!(answer.writer, self.writer);
     }
 
-    /// Of each byte of the joined list, whether it lies in a received PDU of
-    /// the run.
-    fn received(&self, run: &Range<usize>, lost: &[bool]) -> Vec<bool> {
+    /// The pieces of a PDU, as bytes of the joined list: what it holds, cut where
+    /// packets end.
+    pub fn pieces(&self, index: usize) -> Vec<Range<usize>> {
+        let Sent { first, end, .. } = self.pdus[index];
+        let mut pieces = Vec::new();
+        let mut begin = 0;
+        for packet in &self.packets {
+            let behind = begin + packet.len();
+            let piece = begin.max(first)..behind.min(end);
+            if !piece.is_empty() {
+                pieces.push(piece);
+            }
+            begin = behind;
+        }
+        pieces
+    }
+
+    /// What comes of the PDUs of a run: all pieces of the received ones as sent.
+    fn came(&self, run: &Range<usize>, lost: &[bool]) -> Vec<Came> {
+        let pieces = |(index, &lost): (usize, &bool)| match lost {
+            true => None,
+            false => Some(vec![true; self.pdus[index].pieces()]),
+        };
+        run.clone().zip(lost).map(pieces).collect()
+    }
+
+    /// Of each byte of the joined list, whether it lies in a piece of a received
+    /// PDU of the run that came as it was sent.
+    fn received(&self, run: &Range<usize>, came: &[Came]) -> Vec<bool> {
         let total = self.packets.iter().map(Vec::len).sum();
         let mut received = vec![false; total];
-        for index in run.clone() {
-            if !lost[index - run.start] {
+        for (index, came) in run.clone().zip(came) {
+            let Some(as_sent) = came else { continue };
+            if as_sent.iter().all(|&as_sent| as_sent) {
                 let sent = &self.pdus[index];
                 received[sent.first..sent.end].fill(true);
+                continue;
+            }
+            for (piece, &as_sent) in self.pieces(index).into_iter().zip(as_sent) {
+                received[piece].fill(as_sent);
             }
         }
         received
     }
 
-    /// The words for the packets with every byte in a received PDU of the run,
-    /// in list order: how many packets, and their words.
-    fn wanted(&self, run: &Range<usize>, lost: &[bool]) -> (usize, Vec<u32>) {
-        let received = self.received(run, lost);
+    /// The words for the packets with every byte in such pieces, in list order:
+    /// how many packets, and their words.
+    pub fn wanted(&self, run: &Range<usize>, came: &[Came]) -> (usize, Vec<u32>) {
+        let received = self.received(run, came);
         let mut words = Vec::new();
         let mut count = 0;
         let mut begin = 0;
@@ -547,7 +588,8 @@ fn through(
 }
 
 /// The joined logs of a drive against what they have to hold, where the
-/// registers are equal and where they aren't.
+/// registers are equal and where they aren't: then each piece is as one that was
+/// damaged.
 pub fn check(
     drive: u64,
     list: &List,
@@ -556,40 +598,51 @@ pub fn check(
     equal: bool,
     joined: &[u32],
 ) {
+    let mut came = list.came(run, lost);
+    for as_sent in came.iter_mut().flatten() {
+        as_sent.fill(equal);
+    }
+    check_came(drive, list, run, &came, joined);
+}
+
+/// The joined logs of a drive against what they have to hold, where this came of
+/// the PDUs of the run.
+pub fn check_came(drive: u64, list: &List, run: &Range<usize>, came: &[Came], joined: &[u32]) {
     let told = || {
         format!(
-            "drive {drive}: mode {}, stream {}, register {}, equal {equal}, run {run:?}, \
-             lost {lost:?}",
+            "drive {drive}: mode {}, stream {}, register {}, run {run:?}, came {came:?}",
             list.line.mode,
             list.line.stream,
             list.register()
         )
     };
     let kinds = Kinds::of(joined);
-    let packets = match equal {
-        true => list.wanted(run, lost).1,
-        false => Vec::new(),
-    };
-    assert!(kinds.packets == packets, "packets; {}", told());
-    // Besides: the PSD of each received PDU, note 6 for each lost one, and
-    // note 3 where a received one begins inside a packet of which not all
-    // before it is received. From another register, note 2 for each piece.
-    let received = list.received(run, lost);
+    assert!(
+        kinds.packets == list.wanted(run, came).1,
+        "packets; {}",
+        told()
+    );
+    // Besides: the PSD of each received PDU, note 6 for each lost one, note 2 for
+    // each piece that came otherwise than it was sent, and note 3 where a received
+    // PDU begins inside a packet of which not all before it is received.
+    let received = list.received(run, came);
     let mut psd = Vec::new();
     let mut notes = Vec::new();
-    for (place, index) in run.clone().enumerate() {
+    for (came, index) in came.iter().zip(run.clone()) {
         let sent = &list.pdus[index];
-        if lost[place] {
+        let Some(as_sent) = came else {
             notes.push(told::note(6, 0));
             continue;
-        }
+        };
         if !sent.psd.is_empty() {
             psd.extend(told::psd(&sent.psd));
         }
-        if !equal {
-            notes.extend((0..sent.pieces()).map(|k| told::note(2, k)));
-        } else if received[list.begun(sent.first)].contains(&false) {
-            notes.push(told::note(3, 0));
+        for (k, &as_sent) in as_sent.iter().enumerate() {
+            if !as_sent {
+                notes.push(told::note(2, k));
+            } else if k == 0 && received[list.begun(sent.first)].contains(&false) {
+                notes.push(told::note(3, 0));
+            }
         }
     }
     assert!(kinds.psd == psd, "PSD; {}", told());
@@ -761,7 +814,8 @@ impl Drive<'_> {
             }
             refusal::LOG => self.too_short_a_log(next),
             _ => {
-                let pdu = self.spoiled_pdu(number);
+                let line = self.line();
+                let pdu = receptions::spoiled_pdu(&mut self.class.rng, line, number);
                 Some(self.correctable(&pdu))
             }
         }
@@ -802,23 +856,6 @@ impl Drive<'_> {
         Some(loan)
     }
 
-    /// A PDU that is refused with this number, 5 to 12.
-    fn spoiled_pdu(&mut self, number: u32) -> Vec<u8> {
-        let opened = self.line();
-        let rng = &mut self.class.rng;
-        if number != refusal::NOT_THOSE_OPENED {
-            let mut reception = spoilable(rng, opened);
-            receptions::spoil(rng, &mut reception, number);
-            return reception.pdu();
-        }
-        loop {
-            let line = TABLE[rng.below(TABLE.len())];
-            if line != opened {
-                return spoilable(rng, line).pdu();
-            }
-        }
-    }
-
     /// What the receiver was opened for.
     fn line(&self) -> Line {
         modes::line_for(self.receiver.mode, self.receiver.stream).expect("a line of the table")
@@ -845,7 +882,7 @@ pub fn count(seen: &mut Seen, list: &List, run: &Range<usize>, lost: &[bool], eq
         *pieces.entry(sent.pieces()).or_default() += 1;
     }
     if equal {
-        seen.logged += list.wanted(run, lost).0 as u64;
+        seen.logged += list.wanted(run, &list.came(run, lost)).0 as u64;
     }
     let line = (list.line.mode, list.line.stream);
     *seen.lines.entry(line).or_default() += 1;

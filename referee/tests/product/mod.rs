@@ -8,6 +8,9 @@ use referee::header::Header;
 /// PDUs received in one call.
 pub mod batches;
 
+/// Two copies of a PDU.
+pub mod pairs;
+
 /// The receiver's calls.
 pub mod receiver;
 

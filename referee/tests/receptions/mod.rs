@@ -345,6 +345,21 @@ pub fn spoil(rng: &mut Rng, reception: &mut Reception, number: u32) {
     }
 }
 
+/// A PDU that a receiver of this line refuses with this number, 5 to 12.
+pub fn spoiled_pdu(rng: &mut Rng, opened: Line, number: u32) -> Vec<u8> {
+    if number != refusal::NOT_THOSE_OPENED {
+        let mut reception = spoilable(rng, opened);
+        spoil(rng, &mut reception, number);
+        return reception.pdu();
+    }
+    loop {
+        let line = TABLE[rng.below(TABLE.len())];
+        if line != opened {
+            return spoilable(rng, line).pdu();
+        }
+    }
+}
+
 /// Puts a field of the state out of its range.
 pub fn spoil_state(rng: &mut Rng, receiver: &mut Receiver) {
     match rng.below(7) {
