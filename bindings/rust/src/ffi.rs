@@ -12,6 +12,7 @@ use crate::{Piece, HEADER_BYTES, PARITY_BYTES};
 
 pub(crate) mod batches;
 pub(crate) mod latency;
+pub(crate) mod pairs;
 pub(crate) mod shares;
 
 /// Eight bytes: syndromes or parity.
@@ -138,7 +139,7 @@ pub(crate) struct ReceiverOpened {
     pub(crate) receiver: Receiver,
 }
 
-/// What came of receiving a PDU or marking one lost.
+/// What came of receiving a PDU or a pair, or marking a PDU lost.
 #[repr(C)]
 pub(crate) struct Received {
     pub(crate) refusal: u32,

@@ -48,9 +48,9 @@
 //! has the number of document 01's table "What is turned down" or of document
 //! 02. A refused call changes nothing: the PDU, the list of pieces, the
 //! [`Writer`] and the [`Receiver`] are as they were. If several causes apply, the
-//! refusal has the lowest number, except that 19 comes directly after 3, and 18
-//! directly after 2. A batch of PDUs stops at a refused one; those before it are
-//! received, and its [`Batch`] says so.
+//! refusal has the lowest number, except that 19 comes directly after 3, 18
+//! directly after 2, and 20 directly after 12. A batch of PDUs stops at a refused
+//! one; those before it are received, and its [`Batch`] says so.
 //!
 //! Every call ends, on every input, and none panics.
 //!
@@ -70,6 +70,7 @@ mod header;
 mod latency;
 mod log;
 mod mode;
+mod pairs;
 mod reading;
 mod receiver;
 mod refusal;
@@ -82,6 +83,7 @@ pub use header::{
 pub use latency::{smallest_latency, try_latency, waiting_packets, LatencyTrial};
 pub use log::{Bytes, Cause, Data, Entries, Entry, Log, MalformedLog};
 pub use mode::{Mode, Stream};
+pub use pairs::choose;
 pub use reading::{list_pieces, read, ControlWord, Expansion, Piece, Reading};
 pub use receiver::{Batch, Receiver, ReceiverState};
 pub use refusal::Refusal;

@@ -126,10 +126,14 @@ pub enum Cause {
     TooLong,
     /// 6: the PDU was marked lost. What was held is dropped. About no piece.
     Lost,
+    /// 7: the piece has a right CRC in both copies of a pair, and other bytes in
+    /// one than in the other. It stands where [`Cause::Crc`] would. (Document 02,
+    /// Ask 5.)
+    CopiesDiffer,
 }
 
 impl Cause {
-    /// The cause's number in document 01, 1 to 6.
+    /// The cause's number in document 01, 1 to 6, or in document 02, 7.
     pub const fn number(self) -> u16 {
         match self {
             Cause::Sequence => 1,
@@ -138,6 +142,7 @@ impl Cause {
             Cause::NotContinued => 4,
             Cause::TooLong => 5,
             Cause::Lost => 6,
+            Cause::CopiesDiffer => 7,
         }
     }
 
@@ -150,13 +155,17 @@ impl Cause {
             4 => Cause::NotContinued,
             5 => Cause::TooLong,
             6 => Cause::Lost,
+            7 => Cause::CopiesDiffer,
             _ => return None,
         })
     }
 
     /// Whether a note with this cause is about a piece.
     fn about_a_piece(self) -> bool {
-        matches!(self, Cause::Crc | Cause::NothingHeld | Cause::TooLong)
+        matches!(
+            self,
+            Cause::Crc | Cause::NothingHeld | Cause::TooLong | Cause::CopiesDiffer
+        )
     }
 }
 
@@ -169,6 +178,7 @@ impl fmt::Display for Cause {
             Cause::NotContinued => "the held beginning is not continued",
             Cause::TooLong => "the packet is over 4,096 bytes",
             Cause::Lost => "the PDU was marked lost",
+            Cause::CopiesDiffer => "the two copies of the piece differ, and both CRCs are right",
         })
     }
 }

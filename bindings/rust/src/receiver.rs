@@ -1,9 +1,10 @@
-//! The PDU receiver (document 01, "Receiver"; document 02, Asks 1 to 3).
+//! The PDU receiver (document 01, "Receiver"; document 02, Asks 1 to 3 and 5).
 
 use crate::{ffi, Log, Mode, Refusal, Stream, CARRY_BYTES, CRC_START, LOG_WORDS};
 use std::fmt;
 
 mod batch;
+mod pair;
 
 pub use batch::Batch;
 

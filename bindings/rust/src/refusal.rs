@@ -7,8 +7,8 @@ use std::fmt;
 /// a number of document 02.
 ///
 /// A refused call has changed nothing. If several causes applied, this is the
-/// one with the lowest number, except that 19 comes directly after 3, and 18
-/// directly after 2. A batch that stopped at a refused PDU has received those
+/// one with the lowest number, except that 19 comes directly after 3, 18 directly
+/// after 2, and 20 directly after 12. A batch that stopped at a refused PDU has received those
 /// before it: see [`Batch`](crate::Batch).
 #[derive(Clone, Copy, Debug, PartialEq, Eq, Hash)]
 pub enum Refusal {
@@ -71,13 +71,17 @@ pub enum Refusal {
     /// 19: more than eight marks, one over 95, or one repeated (document 02, Ask
     /// 3).
     Marks,
+    /// 20: two copies of a PDU, of which both can be corrected, have other lengths
+    /// or other corrected bytes 8 to La (document 02, Ask 5).
+    Pair,
     /// 21: a bench for latency settings has no counts, more than 4,096, or one
     /// over 63 (document 02, Ask 7).
     Counts,
 }
 
 impl Refusal {
-    /// The number in document 01's table, 1 to 17, or in document 02, 18, 19 and 21.
+    /// The number in document 01's table, 1 to 17, or in document 02, 18 to
+    /// 21.
     pub const fn number(self) -> u32 {
         match self {
             Refusal::State => 1,
@@ -99,6 +103,7 @@ impl Refusal {
             Refusal::Room => 17,
             Refusal::Lengths => 18,
             Refusal::Marks => 19,
+            Refusal::Pair => 20,
             Refusal::Counts => 21,
         }
     }
@@ -127,6 +132,7 @@ impl Refusal {
             17 => Refusal::Room,
             18 => Refusal::Lengths,
             19 => Refusal::Marks,
+            20 => Refusal::Pair,
             21 => Refusal::Counts,
             _ => unreachable!("the library has no refusal {number}"),
         })
@@ -158,6 +164,7 @@ impl Refusal {
             Refusal::Room => "the PDU has no room for a byte of a packet, or for its overhead",
             Refusal::Lengths => "the lengths of the PDUs do not sum to the buffer",
             Refusal::Marks => "more than eight marks, one over 95, or one repeated",
+            Refusal::Pair => "the two copies say different things before their pieces",
             Refusal::Counts => "no counts, more than 4,096, or one over 63",
         }
     }

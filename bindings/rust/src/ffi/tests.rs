@@ -291,7 +291,7 @@ fn c_name(refusal: Refusal) -> String {
 #[test]
 fn refusals_are_numbered_as_in_c() {
     let mut lines = Vec::new();
-    for number in (1..=19).chain([21]) {
+    for number in 1..=21 {
         let refusal = Refusal::check(number, 3).expect_err("a refusal");
         assert_eq!(refusal.number(), number);
         let name = c_name(refusal);
@@ -318,6 +318,7 @@ fn causes_are_numbered_as_in_c() {
         ("NOTE_NOT_CONTINUED", NotContinued),
         ("NOTE_TOO_LONG", TooLong),
         ("NOTE_LOST", Lost),
+        ("NOTE_COPIES_DIFFER", CopiesDiffer),
     ];
     let lines =
         causes.map(|(name, cause)| holds(&format!("BARZHILUP_{name}"), cause.number() as usize));
