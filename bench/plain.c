@@ -291,7 +291,7 @@ struct reading {
     int displaced; /* whether a displacement was sent, and which */
     size_t displacement;
     size_t marks[PIECES + 1]; /* La and each locator */
-    int right[PIECES];        /* whether a piece's CRC is right */
+    uint8_t taken[PIECES];    /* from which copy a piece is taken, or its note */
     uint32_t wrong;           /* k of the first wrong locator */
 };
 
@@ -407,13 +407,21 @@ static uint32_t read_pdu(struct reading *r, const barzhilup_receiver *receiver,
     return BARZHILUP_ACCEPTED;
 }
 
+/* Whether piece k's CRC is right. */
+static int is_right(const struct reading *r, size_t k, uint8_t crc_start, const uint8_t *pdu)
+{
+    size_t start = r->marks[k] + 1, end = r->marks[k + 1];
+    return table_crc8(crc_start, pdu + start, end - start) == pdu[end];
+}
+
+/* From which copy a piece is taken; those after these are notes. */
+enum { FROM_FIRST, FROM_SECOND };
+
 static void check_pieces(struct reading *r, uint8_t crc_start, const uint8_t *pdu)
 {
     size_t k;
-    for (k = 0; k < r->pieces; k++) {
-        size_t start = r->marks[k] + 1, end = r->marks[k + 1];
-        r->right[k] = table_crc8(crc_start, pdu + start, end - start) == pdu[end];
-    }
+    for (k = 0; k < r->pieces; k++)
+        r->taken[k] = is_right(r, k, crc_start, pdu) ? FROM_FIRST : BARZHILUP_NOTE_CRC;
 }
 
 /* ---- Receiver: log words ------------------------------------------------- */
@@ -475,8 +483,8 @@ static unsigned first_note(const barzhilup_receiver *receiver, const struct read
 static unsigned piece_note(const struct reading *r, size_t k, size_t held)
 {
     size_t n = r->marks[k + 1] - r->marks[k] - 1;
-    if (!r->right[k])
-        return BARZHILUP_NOTE_CRC;
+    if (r->taken[k] > FROM_SECOND)
+        return r->taken[k];
     if (k == 0 && r->pfirst && held == 0)
         return BARZHILUP_NOTE_NOTHING_HELD;
     return held + n > BARZHILUP_PACKET_MAX ? BARZHILUP_NOTE_TOO_LONG : 0;
@@ -498,14 +506,14 @@ static size_t count_words(const struct reading *r, unsigned note, size_t held)
 }
 
 /* Step 4; the next receiver's held and number are set. */
-static uint32_t *take_pieces(const struct reading *r, const uint8_t *pdu, uint8_t *carry,
-                             barzhilup_receiver *next, uint32_t *log)
+static uint32_t *take_pieces(const struct reading *r, const uint8_t *pdu, const uint8_t *second,
+                             uint8_t *carry, barzhilup_receiver *next, uint32_t *log)
 {
     size_t k, held = next->held;
     next->held = 0;
     next->number = 0;
     for (k = 0; k < r->pieces; k++) {
-        const uint8_t *piece = pdu + r->marks[k] + 1;
+        const uint8_t *piece = (r->taken[k] == FROM_SECOND ? second : pdu) + r->marks[k] + 1;
         size_t n = r->marks[k + 1] - r->marks[k] - 1;
         unsigned number = (r->start + (unsigned)k + (r->pfirst ? 63 : 0)) % 64;
         unsigned note = piece_note(r, k, held);
@@ -523,9 +531,11 @@ static uint32_t *take_pieces(const struct reading *r, const uint8_t *pdu, uint8_
     return log;
 }
 
-/* Steps 1 to 4 on a PDU that was read, or refusal 13. */
-static uint32_t take_pdu(const struct reading *r, const uint8_t *pdu, uint8_t *carry,
-                         uint32_t *log, size_t log_length, barzhilup_received *answer)
+/* Steps 1 to 4 on a PDU that was read, or refusal 13. Pieces may stand in a second
+ * copy of it. */
+static uint32_t take_pdu(const struct reading *r, const uint8_t *pdu, const uint8_t *second,
+                         uint8_t *carry, uint32_t *log, size_t log_length,
+                         barzhilup_received *answer)
 {
     unsigned note = first_note(&answer->receiver, r);
     size_t psd = r->la + 1 - r->psd, held = note == 0 ? answer->receiver.held : 0;
@@ -539,7 +549,7 @@ static uint32_t take_pdu(const struct reading *r, const uint8_t *pdu, uint8_t *c
         at = put_data(at, pdu + r->psd, psd);
     }
     answer->receiver.held = (uint16_t)held;
-    at = take_pieces(r, pdu, carry, &answer->receiver, at);
+    at = take_pieces(r, pdu, second, carry, &answer->receiver, at);
     answer->receiver.known = true;
     answer->receiver.sequence = (uint8_t)r->sequence;
     answer->words = (uint32_t)(at - log);
@@ -594,11 +604,127 @@ barzhilup_received plain_receive(barzhilup_receiver receiver,
     answer.refusal = read_pdu(&r, &receiver, pdu, pdu_length);
     if (answer.refusal == BARZHILUP_ACCEPTED) {
         check_pieces(&r, receiver.crc_start, pdu);
-        answer.refusal = take_pdu(&r, pdu, carry, log, log_length, &answer);
+        answer.refusal = take_pdu(&r, pdu, pdu, carry, log, log_length, &answer);
     }
     if (answer.refusal != BARZHILUP_ACCEPTED) {
         answer.wrong_locator = answer.refusal == BARZHILUP_REFUSED_LOCATOR ? r.wrong : 0;
         memcpy(pdu, before, HEADER);
     }
     return answer;
+}
+
+/* ---- Pairs (document 02, Ask 5) ------------------------------------------ */
+
+/* A copy, with its header as it came. */
+struct copy {
+    uint8_t *pdu;
+    size_t length;
+    int wrong; /* bytes of the header; negative where it can't be corrected */
+    uint8_t before[HEADER];
+    struct reading r;
+    uint32_t refusal; /* 5 to 12, or 0 */
+};
+
+static void read_copy(struct copy *c, const barzhilup_receiver *receiver)
+{
+    c->refusal = BARZHILUP_ACCEPTED;
+    c->wrong = c->length < BARZHILUP_PDU_MIN || c->length > BARZHILUP_PDU_MAX
+                   ? -1
+                   : correct(c->pdu, c->before);
+    if (c->wrong >= 0)
+        c->refusal = read_pdu(&c->r, receiver, c->pdu, c->length);
+}
+
+/* Each piece of two copies that agree up to La. */
+static void check_pair(struct copy *first, const struct copy *second, uint8_t crc_start)
+{
+    struct reading *r = &first->r;
+    size_t k;
+    for (k = 0; k < r->pieces; k++) {
+        size_t start = r->marks[k] + 1, n = r->marks[k + 1] - start;
+        int one = is_right(r, k, crc_start, first->pdu);
+        int other = is_right(r, k, crc_start, second->pdu);
+        if (one && other && memcmp(first->pdu + start, second->pdu + start, n) != 0)
+            r->taken[k] = BARZHILUP_NOTE_COPIES_DIFFER;
+        else
+            r->taken[k] = one ? FROM_FIRST : other ? FROM_SECOND : BARZHILUP_NOTE_CRC;
+    }
+}
+
+/* Refusals 4 to 12 and 20; with 11 the smallest k. */
+static uint32_t judge_pair(const struct copy *first, const struct copy *second, uint32_t *k)
+{
+    const struct copy *low = first;
+    if (first->wrong < 0 && second->wrong < 0)
+        return BARZHILUP_REFUSED_UNCORRECTABLE;
+    if (first->refusal == BARZHILUP_ACCEPTED
+        || (second->refusal != BARZHILUP_ACCEPTED && second->refusal < first->refusal)
+        || (second->refusal == BARZHILUP_REFUSED_LOCATOR && second->refusal == first->refusal
+            && second->r.wrong < first->r.wrong))
+        low = second;
+    if (low->refusal != BARZHILUP_ACCEPTED) {
+        *k = low->refusal == BARZHILUP_REFUSED_LOCATOR ? low->r.wrong : 0;
+        return low->refusal;
+    }
+    if (first->wrong >= 0 && second->wrong >= 0
+        && (first->length != second->length
+            || memcmp(first->pdu + 8, second->pdu + 8, first->r.la - 7) != 0))
+        return BARZHILUP_REFUSED_PAIR;
+    return BARZHILUP_ACCEPTED;
+}
+
+barzhilup_received plain_receive_pair(barzhilup_receiver receiver,
+                                      uint8_t *carry, size_t carry_length,
+                                      uint8_t *first, size_t first_length,
+                                      uint8_t *second, size_t second_length,
+                                      uint32_t *log, size_t log_length)
+{
+    barzhilup_received answer = {0, 0, 0, {0, 0, 0, false, 0, 0, 0}};
+    struct copy one, other, *by = &one;
+    answer.receiver = receiver;
+    answer.refusal = wrong_reception(&receiver, carry_length, BARZHILUP_PDU_MIN);
+    if (answer.refusal != BARZHILUP_ACCEPTED)
+        return answer;
+    one.pdu = first;
+    one.length = first_length;
+    other.pdu = second;
+    other.length = second_length;
+    read_copy(&one, &receiver);
+    read_copy(&other, &receiver);
+    answer.refusal = judge_pair(&one, &other, &answer.wrong_locator);
+    if (answer.refusal == BARZHILUP_ACCEPTED) {
+        if (one.wrong >= 0 && other.wrong >= 0) {
+            check_pair(&one, &other, receiver.crc_start);
+        } else {
+            by = one.wrong >= 0 ? &one : &other;
+            check_pieces(&by->r, receiver.crc_start, by->pdu);
+        }
+        answer.refusal = take_pdu(&by->r, by->pdu, second, carry, log, log_length, &answer);
+    }
+    if (answer.refusal != BARZHILUP_ACCEPTED) {
+        if (one.wrong >= 0)
+            memcpy(first, one.before, HEADER);
+        if (other.wrong >= 0)
+            memcpy(second, other.before, HEADER);
+    }
+    return answer;
+}
+
+/* How many bytes of a header are wrong; negative where it can't be corrected. */
+static int wrong_bytes(const uint8_t *pdu, size_t length)
+{
+    uint8_t word[HEADER];
+    if (length < BARZHILUP_PDU_MIN || length > BARZHILUP_PDU_MAX)
+        return -1;
+    fec_reverse(pdu, word);
+    return fec_correct(word);
+}
+
+uint32_t plain_choose(const uint8_t *first, size_t first_length,
+                      const uint8_t *second, size_t second_length)
+{
+    int one = wrong_bytes(first, first_length), other = wrong_bytes(second, second_length);
+    if (one < 0 && other < 0)
+        return 0;
+    return one < 0 || (other >= 0 && other < one) ? 2 : 1;
 }

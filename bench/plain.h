@@ -1,7 +1,8 @@
 /*
  * The writer and the receiver once more, in plain C: what a C programmer would
- * write from document 01, with libfec for the header and a table CRC. It is what
- * the library is measured beside, and nothing else uses it.
+ * write from document 01, and for pairs from document 02, with libfec for the
+ * header and a table CRC. It is what the library is measured beside, and nothing
+ * else uses it.
  *
  * The functions are called as the library's are (barzhilup.h), and answer the
  * same, refusals included. Of wrong locators the first is named.
@@ -23,5 +24,14 @@ barzhilup_received plain_receive(barzhilup_receiver receiver,
                                  uint8_t *carry, size_t carry_length,
                                  uint8_t *pdu, size_t pdu_length,
                                  uint32_t *log, size_t log_length);
+
+uint32_t plain_choose(const uint8_t *first, size_t first_length,
+                      const uint8_t *second, size_t second_length);
+
+barzhilup_received plain_receive_pair(barzhilup_receiver receiver,
+                                      uint8_t *carry, size_t carry_length,
+                                      uint8_t *first, size_t first_length,
+                                      uint8_t *second, size_t second_length,
+                                      uint32_t *log, size_t log_length);
 
 #endif

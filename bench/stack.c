@@ -216,6 +216,30 @@ static void receive_batch(void)
                            .receiver);
 }
 
+/* Two copies: the PDU as it arrives, and as it was sent, with a piece damaged. */
+static uint8_t copy[BARZHILUP_PDU_MAX];
+
+static void make_copy(void)
+{
+    memcpy(copy, drive->pdus + at * drive->pdu_length, drive->pdu_length);
+    copy[drive->pdu_length - 1 - at] ^= (uint8_t)(at % 2);
+}
+
+static void choose(void)
+{
+    make_copy();
+    MEASURE(sink = barzhilup_choose(pdu, drive->pdu_length, copy, drive->pdu_length));
+}
+
+static void receive_pair(void)
+{
+    make_copy();
+    MEASURE(receiver = barzhilup_receive_pair(receiver, carry, sizeof carry, pdu,
+                                              drive->pdu_length, copy, drive->pdu_length,
+                                              log_words, BARZHILUP_LOG_WORDS)
+                           .receiver);
+}
+
 static void mark_lost(void)
 {
     MEASURE(sink = barzhilup_mark_lost(receiver, log_words, BARZHILUP_LOG_WORDS).words);
@@ -308,6 +332,8 @@ static const struct {
     {"barzhilup_receive_marked", receive_marked},
     {"barzhilup_receive_batch", receive_batch},
     {"barzhilup_mark_lost", mark_lost},
+    {"barzhilup_choose", choose},
+    {"barzhilup_receive_pair", receive_pair},
     {"barzhilup_smallest_latency", smallest_latency},
     {"barzhilup_try_latency", try_latency},
     {"barzhilup_waiting_packets", waiting_packets},

@@ -61,6 +61,7 @@ function growth_row(job, number,    costs) {
     next
 }
 /^Whose instructions/ { part = "shares"; head("job|bytes|its instructions"); next }
+/^a pair of PDUs/ { part = "pair"; head("ns by pair|library|plain C|ratio|middle half of the ratios|two calls"); next }
 /^bytes of stack/ { part = "stack"; head("function|bytes of stack"); next }
 /^$/ || /^per PDU/ || / 0 +L slope/ { next }
 
@@ -94,5 +95,10 @@ part == "shares" && /, library: / {
     sub(/, [0-9]+ bytes$/, "", job)
     gsub(/__mem[a-z_0-9]*/, "the C library", functions)
     printf "| %s | %s | %s |\n", job, grouped(bytes), functions
+}
+part == "pair" && / - +[0-9.]+ +([0-9]+|-)$/ {
+    name = $0
+    sub(/  .*/, "", name)
+    printf "| %s | %s | %s | %s | %s to %s | %s |\n", name, grouped($(NF - 6)), grouped($(NF - 5)), $(NF - 4), $(NF - 3), $(NF - 1), grouped($NF)
 }
 part == "stack" && NF == 2 { printf "| `%s` | %s |\n", $1, grouped($2) }
