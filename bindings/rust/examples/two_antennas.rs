@@ -31,7 +31,7 @@ fn write_all(packets: &[Vec<u8>]) -> Result<Vec<[u8; 300]>, Refusal> {
 /// more header bytes than can be corrected.
 fn heard(place: usize, antenna: usize, pdu: &[u8; 300]) -> [u8; 300] {
     let mut pdu = *pdu;
-    if (place + antenna) % 3 != 0 {
+    if place % 3 != antenna {
         pdu[110 + 150 * antenna + place % 30] ^= 0x10;
     }
     if place % 11 == 5 * antenna + 2 {
