@@ -2,13 +2,14 @@
 // stand in a column.
 ghost use Rattle.io.specs.Counts.{Counts};
 
-// The causes of the receiver's refusals by their numbers, from 0 on, which none has, to 13; and then that of 19 (document 02, Ask 3).
-const REFUSALS: [u8; 363] =
-    *b"unknown\0wrong receiver state\0carry buffer too short\0length not 96 to 20480\0header beyond correction\0mode and stream not in the table\0mode and stream not those asked for\0sequence outside its range\0Pfirst or Plast with no piece\0La out of place\0wrong expansion\0locator out of place\0displacement out of place\0log too short\0over eight marks or one over 95 or repeated\0";
+// The causes of the receiver's refusals by their numbers, from 0 on, which none has, to 13; and then those of 19 and 20 (document 02, Asks 3
+// and 5).
+const REFUSALS: [u8; 404] =
+    *b"unknown\0wrong receiver state\0carry buffer too short\0length not 96 to 20480\0header beyond correction\0mode and stream not in the table\0mode and stream not those asked for\0sequence outside its range\0Pfirst or Plast with no piece\0La out of place\0wrong expansion\0locator out of place\0displacement out of place\0log too short\0over eight marks or one over 95 or repeated\0copies differ in length or bytes 8 to La\0";
 
 // The causes of notes by their numbers, from 0 on, which none has.
-const NOTES: [u8; 68] =
-    *b"unknown\0sequence\0wrong CRC\0nothing held\0not continued\0too long\0lost\0";
+const NOTES: [u8; 82] =
+    *b"unknown\0sequence\0wrong CRC\0nothing held\0not continued\0too long\0lost\0copies differ\0";
 
 // The number of a cause, 0 where it is past the last one.
 fn listed(number: u32, last: u32) -> u32 {
@@ -22,6 +23,9 @@ fn listed(number: u32, last: u32) -> u32 {
 fn refusal_place(number: u32) -> u32 {
     if number == 19 {
         return 14;
+    }
+    if number == 20 {
+        return 15;
     }
     listed(number, 13)
 }
@@ -37,7 +41,7 @@ pub fn put_refusal(out: &mut [u8], at: usize, number: u32) -> usize
 pub fn put_note(out: &mut [u8], at: usize, number: u32) -> usize
     ensures { λ r. ⌜ Counts r (now (out .exit)) ⌝ }
 {
-    text::put(out, at, text::entry(&NOTES, listed(number, 6)))
+    text::put(out, at, text::entry(&NOTES, listed(number, 7)))
 }
 
 // 1 for the refusal that comes with the k of the first wrong locator, else 0.

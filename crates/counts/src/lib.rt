@@ -25,40 +25,47 @@ const REFUSED: usize = 6;
 // The place for the refusals with number 6.
 const OTHERS: usize = 12;
 
+// The place for the refusals with number 20.
+const DIFFERING: usize = 26;
+
 // How many numbers there are of refusals.
-const REFUSALS: u32 = 20;
+const REFUSALS: u32 = 21;
 
 // The place for the notes of cause 0; those of the other causes follow.
-const NOTES: usize = 26;
+const NOTES: usize = 27;
 
 // How many causes there are of notes.
 const CAUSES: u32 = 8;
 
-// The places for the notes 2, 3 and 5: a wrong CRC, nothing held, too long.
-const WRONG_CRCS: usize = 28;
+// The places for the notes 2, 3, 5 and 7: a wrong CRC, nothing held, too long, right in both copies and different.
+const WRONG_CRCS: usize = 29;
 
-const NOTHING_HELD: usize = 29;
+const NOTHING_HELD: usize = 30;
 
-const TOO_LONG: usize = 31;
+const TOO_LONG: usize = 32;
+
+const RIGHT_IN_BOTH: usize = 34;
 
 // PDUs whose last piece was held.
-const HELD: usize = 34;
+const HELD: usize = 35;
 
 // Every count 0.
-pub fn none() -> [u64; 35]
-    ensures { λ r. ⌜ 35 ≡ length r ⌝ }
+pub fn none() -> [u64; 36]
+    ensures { λ r. ⌜ 36 ≡ length r ⌝ }
 {
-    [0; 35]
+    [0; 36]
 }
 
-fn at(counts: &[u64], place: usize) -> u64 {
+// The count at a place, 0 where there is none.
+pub fn at(counts: &[u64], place: usize) -> u64 {
     if counts.len() <= place {
         return 0;
     }
     counts[place]
 }
 
-fn add(counts: &mut [u64], place: usize, more: u64) {
+// Adds to the count at a place, if there is one.
+pub fn add(counts: &mut [u64], place: usize, more: u64) {
     if counts.len() <= place {
         return;
     }
@@ -164,9 +171,15 @@ pub fn is_none_received(counts: &[u64]) -> bool {
     (at(counts, RECEIVED) == 0) & (refused(counts) != 0)
 }
 
-// How many pieces had a right CRC: such a one is delivered or held, or its note is 3 or 5 (document 01, "Receiver", step 4).
+// Whether more pairs were refused with 20, since their copies are not those of one PDU, than PDUs were received.
+pub fn is_out_of_step(counts: &[u64]) -> bool {
+    at(counts, RECEIVED) < at(counts, DIFFERING)
+}
+
+// How many pieces had a right CRC: such a one is delivered or held, or its note is 3 or 5 (document 01, "Receiver", step 4) or 7 (document 02, Ask 5).
 fn right_crcs(counts: &[u64]) -> u64 {
-    let noted = std::num::wrapping_add_u64(at(counts, NOTHING_HELD), at(counts, TOO_LONG));
+    let alone = std::num::wrapping_add_u64(at(counts, NOTHING_HELD), at(counts, TOO_LONG));
+    let noted = std::num::wrapping_add_u64(alone, at(counts, RIGHT_IN_BOTH));
     let taken = std::num::wrapping_add_u64(at(counts, PACKETS), at(counts, HELD));
     std::num::wrapping_add_u64(noted, taken)
 }
@@ -282,4 +295,23 @@ pub fn put_summary(out: &mut [u8], pdus: u64, counts: &[u64]) -> usize
 {
     let n = put_pdus(out, pdus, counts);
     put_logged(out, n, counts)
+}
+
+// What a receiver got by itself, in a line with its name.
+pub fn put_alone(out: &mut [u8], start: usize, name: &[u8], counts: &[u64]) -> usize
+    ensures { λ r. ⌜ Counts r (now (out .exit)) ⌝ }
+{
+    let n = text::put(out, start, name);
+    text::fill(
+        out,
+        n,
+        b" alone: PDUs came @, received @; headers corrected @, bytes corrected @; packets @\n",
+        &[
+            std::num::wrapping_add_u64(at(counts, RECEIVED), refused(counts)),
+            at(counts, RECEIVED),
+            at(counts, HEADERS),
+            at(counts, BYTES),
+            at(counts, PACKETS),
+        ],
+    )
 }

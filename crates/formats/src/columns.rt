@@ -3,8 +3,9 @@ use outcome::Outcome;
 use words::Word;
 ghost use Rattle.io.specs.Counts.{Counts};
 
-// The line of a PDU by its outcome's kind.
-const PDUS: [u8; 43] = *b"@,received,@,@,\n\0@,lost,,,\n\0@,refused,@,@,\0";
+// The line of a PDU by its outcome's kind; the last four are those of one that came as two copies.
+const PDUS: [u8; 154] =
+    *b"@,received,@,@,\n\0@,lost,,,\n\0@,refused,@,@,\0@,received,@,@,first copy\n\0@,received,@,@,second copy\n\0@,received,@,@,both copies\n\0@,received,@,@,either copy\n\0";
 
 // The line of an entry by its first word's kind, nothing for a data word.
 const ENTRIES: [u8; 38] = *b"@,packet,@,@,\n\0\0@,psd,,@,\n\0@,note,@,,\0";

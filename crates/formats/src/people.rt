@@ -3,19 +3,26 @@ use outcome::Outcome;
 use words::Word;
 ghost use Rattle.io.specs.Counts.{Counts};
 
-// The line of a PDU by its outcome's kind; the last is that of one byte corrected.
-const PDUS: [u8; 122] =
-    *b"PDU @: received, @ header bytes corrected\n\0PDU @: lost\n\0PDU @: refused with @: \0PDU @: received, @ header byte corrected\n\0";
+// The beginning of a PDU's line: one that is received, lost or refused; the last is that of one byte corrected.
+const PDUS: [u8; 119] =
+    *b"PDU @: received, @ header bytes corrected\0PDU @: lost\0PDU @: refused with @: \0PDU @: received, @ header byte corrected\0";
+
+// The end of a PDU's line by its outcome's kind; the last four are those of one that came as two copies.
+const ENDS: [u8; 92] =
+    *b"\n\0\n\0\0, from the first copy\n\0, from the second copy\n\0, from both copies\n\0, from either copy\n\0";
 
 // The line of an entry by its first word's kind, nothing for a data word; the last four are those of one byte.
 const ENTRIES: [u8; 92] =
     *b"  packet @, @ bytes\n\0\0  PSD, @ bytes\n\0  note: \0  packet @, @ byte\n\0\0  PSD, @ byte\n\0  note: \0";
 
 fn line_of_pdu(kind: u8, number: u32) -> u32 {
-    if (kind == outcome::RECEIVED) & (number == 1) {
+    if (kind == outcome::LOST) | (kind == outcome::REFUSED) {
+        return kind as u32;
+    }
+    if number == 1 {
         return 3;
     }
-    kind as u32
+    0
 }
 
 // What came of a PDU, counted from 0.
@@ -29,7 +36,7 @@ pub fn put_pdu(out: &mut [u8], pdu: u64, o: Outcome) -> usize
         &[pdu, o.number as u64],
     );
     if o.kind != outcome::REFUSED {
-        return n;
+        return text::put(out, n, text::entry(&ENDS, o.kind as u32));
     }
     causes::put_refused(out, n, o.number, o.wrong)
 }
@@ -43,7 +50,7 @@ fn line_of_entry(kind: u32, length: u32) -> u32 {
 
 // 1 for a note that is on a piece, else 0.
 fn is_on_piece(cause: u32) -> u32 {
-    if (cause == 2) | (cause == 3) | (cause == 5) {
+    if (cause == 2) | (cause == 3) | (cause == 5) | (cause == 7) {
         return 1;
     }
     0

@@ -79,3 +79,12 @@ pub fn receive(
     report(pdu, o, bytes, marks, refused, others);
     o
 }
+
+// Says that a PDU, counted from 0, of which two copies may have come, is refused, after so many that were refused, and so many of these with 6; this is the
+// control word that came.
+pub fn say_copies(pdu: u64, o: Outcome, came: ControlWord, refused: u64, others: u64) {
+    if has_line(o.number, refused, others) {
+        say_refused(pdu, o, came);
+    }
+    say_further(refused);
+}
