@@ -34,7 +34,7 @@ pub fn run_of(status: u8, receiver: Receiver, pdus: u64) -> Run {
 }
 
 // The words that were written to a log, which are its first ones.
-fn written(log: &[u32], words: usize) -> &[u32] {
+pub fn written(log: &[u32], words: usize) -> &[u32] {
     if words < log.len() {
         return &log[0..words];
     }

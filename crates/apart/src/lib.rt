@@ -1,0 +1,97 @@
+// What each of two recordings of a drive gives alone: each file has a receiver of its own, beside that of the pair (document 02, Ask 5).
+use receiver::Receiver;
+ghost use Prim.Native.Nat.{_≤_};
+
+// A carry's bytes; there are three, of the pair, of the first file alone and of the second.
+const CARRY: usize = 4096;
+
+// The places of a row of counts, of which there are three too. After the counts of `counts` stands what the receiver remembers that has its file alone.
+const ROW: usize = 40;
+
+const KNOWN: usize = 36;
+
+const SEQUENCE: usize = 37;
+
+const HELD: usize = 38;
+
+const NUMBER: usize = 39;
+
+// The receiver of a row, opened as the pair's is.
+fn remembered(row: &[u64], r: Receiver) -> Receiver {
+    Receiver {
+        mode: r.mode,
+        stream: r.stream,
+        register: r.register,
+        known: counts::at(row, KNOWN) != 0,
+        sequence: (counts::at(row, SEQUENCE) % 256) as u8,
+        held: (counts::at(row, HELD) % 65536) as u16,
+        number: (counts::at(row, NUMBER) % 256) as u8,
+    }
+}
+
+fn set(row: &mut [u64], place: usize, value: u64) {
+    if row.len() <= place {
+        return;
+    }
+    row[place] = value;
+}
+
+// Keeps in a row what a receiver remembers.
+fn remember(row: &mut [u64], r: Receiver) {
+    set(row, KNOWN, r.known as u64);
+    set(row, SEQUENCE, r.sequence as u64);
+    set(row, HELD, r.held as u64);
+    set(row, NUMBER, r.number as u64);
+}
+
+// What a file gives alone: its copy is received by its own receiver and counted, and is left as it came.
+fn alone(receiver: Receiver, carry: &mut [u8], pdu: &mut [u8], log: &mut [u32], row: &mut [u64]) {
+    let before = header::header_of(pdu);
+    let own = remembered(row, receiver);
+    let o = outcome::of_record(own, carry, &mut *pdu, b"", &mut *log);
+    header::put_front(pdu, &before);
+    counts::add_outcome(row, o);
+    counts::add_log(row, logging::written(log, o.words));
+    remember(row, o.receiver);
+}
+
+// The same with the carry and the row of a file, the first or the second.
+fn alone_at(
+    number: usize,
+    receiver: Receiver,
+    carries: &mut [u8],
+    pdu: &mut [u8],
+    log: &mut [u32],
+    rows: &mut [u64],
+)
+    requires { ⌜ number ≤ 2 ⌝ }
+{
+    let carry = number * CARRY;
+    let row = number * ROW;
+    if carries.len() < carry + CARRY {
+        return;
+    }
+    if rows.len() < row + ROW {
+        return;
+    }
+    alone(
+        receiver,
+        &mut carries[carry..carry + CARRY],
+        pdu,
+        log,
+        &mut rows[row..row + ROW],
+    )
+}
+
+// What each of two files gives alone.
+pub fn both(
+    receiver: Receiver,
+    carries: &mut [u8],
+    first: &mut [u8],
+    second: &mut [u8],
+    log: &mut [u32],
+    rows: &mut [u64],
+) {
+    alone_at(1, receiver, carries, first, &mut *log, rows);
+    alone_at(2, receiver, carries, second, log, rows);
+}

@@ -1,0 +1,358 @@
+// A drive that two receivers recorded, record for record: each turn reads a copy of a PDU from each file, receives the two, and writes the log (document 02,
+// Ask 5). Each file is also received alone (`apart`).
+use copies::Pieces;
+use copies::Taken;
+use logging::output;
+use logging::output::Sink;
+use outcome::Outcome;
+use receiver::Receiver;
+use records::Record;
+ghost use mathlib.Core.Path.{_≡_};
+ghost use lib.ListN.{length};
+ghost use Rattle.io.specs.Counts.{Counts};
+
+// After the three rows of `apart`: how many records of each file were read, and how many pieces are taken from the first copy alone, from the second alone, and
+// are alike in both.
+pub const FIRST_RECORDS: usize = 120;
+
+pub const SECOND_RECORDS: usize = 121;
+
+pub const FROM_FIRST: usize = 122;
+
+pub const FROM_SECOND: usize = 123;
+
+pub const ALIKE: usize = 124;
+
+// Every count 0, and nothing remembered.
+pub fn no_counts() -> [u64; 125]
+    ensures { λ r. ⌜ 125 ≡ length r ⌝ }
+{
+    [0; 125]
+}
+
+// Where the two copies come from, and where the log goes.
+pub struct Task {
+    pub first: i32,
+    pub second: i32,
+    pub sink: Sink,
+}
+
+// A run so far. How it stands: END where all copies of both files are read and logged, CUT where all are but one file ends inside a record,
+// `logging::UNWRITTEN`, or FAILED. How many PDUs were logged, the pair's receiver, and for each file what came of its last reading: after an answer other than
+// WHOLE it is not read again, and its copies do not come.
+pub struct Run {
+    pub status: u8,
+    pub pdus: u64,
+    pub first: u8,
+    pub second: u8,
+    pub receiver: Receiver,
+}
+
+// A run that stands otherwise.
+fn with_status(run: Run, status: u8) -> Run {
+    let mut next = run;
+    next.status = status;
+    next
+}
+
+// A run after a reading of both files.
+fn with_reading(run: Run, first: u8, second: u8) -> Run {
+    let mut next = run;
+    next.status = status_of(first, second);
+    next.first = first;
+    next.second = second;
+    next
+}
+
+// A run after one more PDU, with the pair's receiver.
+fn with_pdu(run: Run, receiver: Receiver) -> Run {
+    Run {
+        status: run.status,
+        pdus: std::num::wrapping_add_u64(run.pdus, 1),
+        first: run.first,
+        second: run.second,
+        receiver: receiver,
+    }
+}
+
+// Whether a file cannot be read, though it is not at its end.
+fn is_failed(status: u8) -> bool {
+    (status != records::WHOLE) & (status != records::END) & (status != records::CUT)
+}
+
+// How a run stands by what came of reading its files: it goes on while one of them gives a copy.
+fn status_of(first: u8, second: u8) -> u8 {
+    if is_failed(first) | is_failed(second) {
+        return records::FAILED;
+    }
+    if (first == records::WHOLE) | (second == records::WHOLE) {
+        return records::WHOLE;
+    }
+    if (first == records::END) & (second == records::END) {
+        return records::END;
+    }
+    records::CUT
+}
+
+// Reads the next copy of a file, by what came of its last reading, to the buffer's start; not where the reading of the other file failed just now, since errno
+// is of that one. Its length is 0 where it did not come.
+fn next(fd: i32, other: u8, status: u8, buf: &mut [u8]) -> Record
+    ensures { λ r. ⌜ Counts (r .length) (now (buf .exit)) ⌝ }
+{
+    if is_failed(other) | (status != records::WHOLE) {
+        return Record {
+            status: status,
+            length: 0,
+        };
+    }
+    let r = records::read(fd, buf);
+    if r.status != records::WHOLE {
+        return Record {
+            status: r.status,
+            length: 0,
+        };
+    }
+    r
+}
+
+// A run after a reading of both files, and how many bytes of each copy stand in its buffer.
+struct Both {
+    run: Run,
+    first: usize,
+    second: usize,
+}
+
+// Reads the next copy of each file.
+fn read(task: Task, first: &mut [u8], second: &mut [u8], run: Run) -> Both
+    ensures { λ r. ⌜ Counts (r .first) (now (first .exit)) ⌝ }
+    ensures { λ r. ⌜ Counts (r .second) (now (second .exit)) ⌝ }
+{
+    let a = next(task.first, records::WHOLE, run.first, first);
+    let b = next(task.second, a.status, run.second, second);
+    Both {
+        run: with_reading(run, a.status, b.status),
+        first: a.length,
+        second: b.length,
+    }
+}
+
+// Says that a PDU is refused, if it is.
+fn report(
+    receiver: Receiver,
+    first: &mut [u8],
+    second: &mut [u8],
+    o: Outcome,
+    counts: &[u64],
+    pdu: u64,
+) {
+    if o.kind != outcome::REFUSED {
+        return;
+    }
+    let came = copies::control_of(receiver, first, second);
+    reception::say_copies(
+        pdu,
+        o,
+        came,
+        counts::refused(counts),
+        counts::others(counts),
+    );
+}
+
+// Receives two copies as a pair, with the first carry and the first row, and says where the PDU is refused.
+fn paired(
+    receiver: Receiver,
+    carries: &mut [u8],
+    first: &mut [u8],
+    second: &mut [u8],
+    log: &mut [u32],
+    rows: &[u64],
+    pdu: u64,
+) -> Taken {
+    let t = copies::of_copies(receiver, carries, &mut *first, &mut *second, log);
+    let o = t.outcome;
+    report(receiver, first, second, o, rows, pdu);
+    t
+}
+
+// Counts the records of a PDU that were read, by what came of reading each file, and its pieces.
+fn add_copies(rows: &mut [u64], first: u8, second: u8, p: Pieces) {
+    counts::add(rows, FIRST_RECORDS, (first == records::WHOLE) as u64);
+    counts::add(rows, SECOND_RECORDS, (second == records::WHOLE) as u64);
+    counts::add(rows, FROM_FIRST, p.first);
+    counts::add(rows, FROM_SECOND, p.second);
+    counts::add(rows, ALIKE, p.alike);
+}
+
+// Writes what came of a PDU and counts it in the first row. Answers whether it is written.
+fn kept(sink: Sink, o: Outcome, log: &[u32], block: &mut [u8], rows: &mut [u64], pdu: u64) -> bool {
+    let words = logging::written(log, o.words);
+    if !output::keep(sink, pdu, o, words, block) {
+        return false;
+    }
+    counts::add_outcome(rows, o);
+    counts::add_log(rows, words);
+    true
+}
+
+// Writes what came of two copies; stops where it cannot be written.
+fn stored(sink: Sink, t: Taken, log: &[u32], block: &mut [u8], rows: &mut [u64], run: Run) -> Run {
+    let o = t.outcome;
+    if !kept(sink, o, log, block, rows, run.pdus) {
+        return with_status(run, logging::UNWRITTEN);
+    }
+    add_copies(rows, run.first, run.second, t.pieces);
+    with_pdu(run, o.receiver)
+}
+
+// Receives two copies as a pair, and writes what came of them.
+fn together(
+    sink: Sink,
+    carries: &mut [u8],
+    first: &mut [u8],
+    second: &mut [u8],
+    log: &mut [u32],
+    block: &mut [u8],
+    rows: &mut [u64],
+    run: Run,
+) -> Run {
+    let t = paired(
+        run.receiver,
+        carries,
+        first,
+        second,
+        &mut *log,
+        rows,
+        run.pdus,
+    );
+    stored(sink, t, log, block, rows, run)
+}
+
+// Receives two copies, each alone and then as a pair.
+fn received(
+    sink: Sink,
+    carries: &mut [u8],
+    first: &mut [u8],
+    second: &mut [u8],
+    log: &mut [u32],
+    block: &mut [u8],
+    rows: &mut [u64],
+    run: Run,
+) -> Run {
+    apart::both(
+        run.receiver,
+        carries,
+        &mut *first,
+        &mut *second,
+        &mut *log,
+        rows,
+    );
+    together(sink, carries, first, second, log, block, rows, run)
+}
+
+// Reads two copies and takes them; stops where neither file gives another.
+fn turn(
+    task: Task,
+    carries: &mut [u8],
+    first: &mut [u8],
+    second: &mut [u8],
+    log: &mut [u32],
+    block: &mut [u8],
+    rows: &mut [u64],
+    run: Run,
+) -> Run {
+    let r = read(task, first, second, run);
+    let next = r.run;
+    if next.status != records::WHOLE {
+        return next;
+    }
+    let n = r.first;
+    let m = r.second;
+    let sink = task.sink;
+    received(
+        sink,
+        carries,
+        &mut first[..n],
+        &mut second[..m],
+        log,
+        block,
+        rows,
+        next,
+    )
+}
+
+// How far the work is, where somebody looks on.
+fn progress(pdus: u64) {
+    files::progress(b"barzhilup log", b": PDUs ", pdus);
+}
+
+// All turns. They are counted down from a number that no run uses up, since a proved loop has to end, and nothing says that a file does.
+fn all_turns(
+    task: Task,
+    carries: &mut [u8],
+    first: &mut [u8],
+    second: &mut [u8],
+    log: &mut [u32],
+    block: &mut [u8],
+    rows: &mut [u64],
+    start: Run,
+) -> Run {
+    let mut run = start;
+    let mut turns = u64::MAX;
+    while 0 < turns {
+        let next = turn(task, carries, first, second, log, block, rows, run);
+        run = next;
+        if run.status != records::WHOLE {
+            return run;
+        }
+        progress(run.pdus);
+        turns -= 1;
+    }
+    run
+}
+
+// Writes what stands after all PDUs, if all are logged.
+fn ended(sink: Sink, block: &mut [u8], run: Run) -> Run {
+    if run.status != records::END {
+        return run;
+    }
+    if output::end(sink, run.pdus, block) {
+        return run;
+    }
+    with_status(run, logging::UNWRITTEN)
+}
+
+// The run before the first turn, from a receiver that is opened.
+fn start_of(receiver: Receiver) -> Run {
+    Run {
+        status: records::WHOLE,
+        pdus: 0,
+        first: records::WHOLE,
+        second: records::WHOLE,
+        receiver: receiver,
+    }
+}
+
+// Logs all PDUs, from a receiver that is opened, and counts them. What stopped it before the end, its status says, and errno with that.
+pub fn log_all(task: Task, receiver: Receiver, rows: &mut [u64]) -> Run {
+    let mut carries = [0u8; 12288];
+    let mut first = [0u8; 65535];
+    let mut second = [0u8; 65535];
+    let mut log = [0u32; 8400];
+    let mut block = io::large_buffer();
+    let sink = task.sink;
+    let start = start_of(receiver);
+    if !output::begin(sink, &mut block) {
+        return with_status(start, logging::UNWRITTEN);
+    }
+    let run = all_turns(
+        task,
+        &mut carries,
+        &mut first,
+        &mut second,
+        &mut log,
+        &mut block,
+        rows,
+        start,
+    );
+    ended(sink, &mut block, run)
+}
