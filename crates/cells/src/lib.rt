@@ -1,4 +1,4 @@
-// A PDU in the picture: its cell, its bar, and the tick where packets are missing.
+// A PDU in the picture: its cell, the copies that it is taken from, its bar, and the tick where packets are missing.
 use csv::entry;
 use drive::Pdu;
 use page::Shape;
@@ -45,6 +45,32 @@ fn put_cell(out: &mut [u8], at: usize, pdu: Pdu, x: u64, y: u64) -> usize
             cell,
         ),
         &[x, y, x + 2, y + mark],
+    )
+}
+
+// How far below a cell's top the stroke for its copy lies: that for the second at the lower edge, others at the upper.
+fn edge_of(copy: u32) -> u64
+    ensures { λ r. ⌜ r ≤ 13 ⌝ }
+{
+    if copy == entry::SECOND_COPY {
+        return 13;
+    }
+    1
+}
+
+// The stroke of a PDU that came as two copies: at its cell's upper edge where pieces are taken from the first, at the lower edge where they are from the second,
+// at both, or at none where either would do.
+fn put_copy(out: &mut [u8], at: usize, copy: u32, x: u64, y: u64) -> usize
+    requires { ⌜ (x < 1000000000000) × (y < 1000000000000) ⌝ }
+{
+    text::fill(
+        out,
+        at,
+        text::entry(
+            b"\0<path class=\"a\" stroke=\"#111\" stroke-width=\"2\" d=\"M@ @h9\"/>\n\0<path class=\"a\" stroke=\"#111\" stroke-width=\"2\" d=\"M@ @h9\"/>\n\0<path class=\"a\" stroke=\"#111\" stroke-width=\"2\" d=\"M@ @h9m-9 12h9\"/>\n\0\0",
+            copy,
+        ),
+        &[x, y + edge_of(copy)],
     )
 }
 
@@ -142,6 +168,7 @@ pub fn put_pdu(out: &mut [u8], at: usize, shape: Shape, number: u32, pdu: Pdu) -
     let p = page::place_of(shape, number);
     let mut n = put_row(out, at, shape, number, p.x, p.y);
     n = put_cell(out, n, pdu, p.x, p.y);
+    n = put_copy(out, n, pdu.copy, p.x, p.y);
     n = put_wrong(out, n, pdu.crcs, p.x, p.y);
     n = put_bar(out, n, shape, pdu.packets, p.x, p.y);
     put_tick(

@@ -55,7 +55,9 @@ received, received with a corrected header, lost or refused, with a mark where
 a CRC is wrong; under it a bar for the packets that it delivered, and a tick
 where packets are missing before those, by their numbers; and totals. Where
 PDUs may have come twice or out of turn, it is not known how many packets are
-missing: such gaps are counted apart.
+missing: such gaps are counted apart. In the log of two recordings (log
+--second) a stroke at a cell's upper edge tells that pieces are taken from the
+first copy, one at its lower edge that they are from the second.
 
   --in FILE     the CSV (standard input, also for -); it is read twice, so no
                 pipe

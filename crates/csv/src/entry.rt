@@ -25,8 +25,9 @@ pub const TITLE: u32 = 7;
 
 pub const END: u32 = 8;
 
-// The causes of notes, by their names (document 01, "Receiver").
-const CAUSES: [u8; 61] = *b"\0sequence\0wrong CRC\0nothing held\0not continued\0too long\0lost\0";
+// The causes of notes, by their names (document 01, "Receiver"; document 02, Ask 5).
+const CAUSES: [u8; 75] =
+    *b"\0sequence\0wrong CRC\0nothing held\0not continued\0too long\0lost\0copies differ\0";
 
 pub const SEQUENCE: u32 = 1;
 
@@ -35,6 +36,19 @@ pub const WRONG_CRC: u32 = 2;
 pub const PIECE_TOO_LONG: u32 = 5;
 
 pub const PDU_LOST: u32 = 6;
+
+pub const COPIES_DIFFER: u32 = 7;
+
+// The copies that a PDU's pieces are taken from, by their names (document 02, Ask 5).
+const COPIES: [u8; 48] = *b"\0first copy\0second copy\0both copies\0either copy\0";
+
+pub const FIRST_COPY: u32 = 1;
+
+pub const SECOND_COPY: u32 = 2;
+
+pub const BOTH_COPIES: u32 = 3;
+
+pub const EITHER_COPY: u32 = 4;
 
 // What is wrong with a line, 0 for nothing.
 pub const NO_FIRST: u8 = 1;
@@ -57,7 +71,8 @@ pub const NOT_THE_COUNT: u8 = 9;
 
 pub const AFTER_END: u8 = 10;
 
-// A line: what is wrong with it, its kind, the numbers of its PDU and of what it says, and the cause of a note, 0 for one that is not known.
+// A line: what is wrong with it, its kind, the numbers of its PDU and of what it says, and the cause of a note, or the copy of a
+// received PDU, 0 for one that is not known.
 pub struct Entry {
     pub wrong: u8,
     pub kind: u32,
@@ -106,6 +121,14 @@ fn number_of(kind: u32, text: &[u8]) -> Number {
     optional(text)
 }
 
+// The number of the last field of a line: the copy of a received PDU, else the cause of a note.
+fn cause_of(kind: u32, text: &[u8]) -> u32 {
+    if kind == RECEIVED {
+        return number_in(&COPIES, 4, text);
+    }
+    number_in(&CAUSES, 7, text)
+}
+
 // What is wrong with a line's fields.
 fn fault(whole: bool, kind: u32, numbers: bool, number: u32) -> u8 {
     if !whole {
@@ -143,7 +166,7 @@ fn of_pdu(line: &[u8]) -> Entry {
         kind: kind,
         pdu: pdu.value,
         number: number.value,
-        cause: number_in(&CAUSES, 6, lines::part(line, after(d), line.len())),
+        cause: cause_of(kind, lines::part(line, after(d), line.len())),
     }
 }
 

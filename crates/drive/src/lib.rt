@@ -4,9 +4,10 @@ use csv::entry::Entry;
 use gaps::Before;
 
 // A PDU: what became of it, how many bytes of its header were corrected, how many of its pieces have a wrong CRC, how many packets it delivered,
-// and before those, how many packets are missing and how many gaps are not known.
+// and before those, how many packets are missing and how many gaps are not known; and the copy that its pieces are taken from, 0 where it came as one.
 pub struct Pdu {
     pub kind: u32,
+    pub copy: u32,
     pub corrected: u32,
     pub crcs: u32,
     pub packets: u32,
@@ -28,21 +29,30 @@ pub struct Totals {
     pub most: u32,
 }
 
-// A drive so far: whether its last line is there, how many PDUs there are, the last of them, what is known before the next packet, and the
-// totals.
+// How many PDUs that came as two copies are taken from the first, from the second, from both, and from either.
+pub struct Copies {
+    pub first: u64,
+    pub second: u64,
+    pub both: u64,
+    pub either: u64,
+}
+
+// A drive so far: whether its last line is there, how many PDUs there are, the last of them, what is known before the next packet, the
+// totals, and the copies.
 pub struct Drive {
     pub whole: bool,
     pub count: u32,
     pub pdu: Pdu,
     pub before: Before,
     pub totals: Totals,
+    pub copies: Copies,
 }
 
 pub fn begin() -> Drive {
     Drive {
         whole: false,
         count: 0,
-        pdu: fresh(0, 0),
+        pdu: fresh(0, 0, 0),
         before: Before {
             any: false,
             last: 0,
@@ -60,13 +70,20 @@ pub fn begin() -> Drive {
             unknown: 0,
             most: 0,
         },
+        copies: Copies {
+            first: 0,
+            second: 0,
+            both: 0,
+            either: 0,
+        },
     }
 }
 
 // A PDU that has delivered nothing yet.
-fn fresh(kind: u32, corrected: u32) -> Pdu {
+fn fresh(kind: u32, copy: u32, corrected: u32) -> Pdu {
     Pdu {
         kind: kind,
+        copy: copy,
         corrected: corrected,
         crcs: 0,
         packets: 0,
@@ -148,16 +165,41 @@ pub fn taken(d: Drive, e: Entry) -> Drive {
     }
 }
 
+// The copy of a line that tells what became of a PDU, 0 where it has none.
+fn copy_of(e: Entry) -> u32 {
+    if e.kind == entry::RECEIVED {
+        return e.cause;
+    }
+    0
+}
+
+// The copies with that of one more PDU.
+fn with_copy(c: Copies, copy: u32) -> Copies {
+    Copies {
+        first: add(c.first, one_if(copy == entry::FIRST_COPY)),
+        second: add(c.second, one_if(copy == entry::SECOND_COPY)),
+        both: add(c.both, one_if(copy == entry::BOTH_COPIES)),
+        either: add(c.either, one_if(copy == entry::EITHER_COPY)),
+    }
+}
+
+// Whether PDUs came as two copies.
+pub fn is_of_copies(c: Copies) -> bool {
+    (c.first != 0) | (c.second != 0) | (c.both != 0) | (c.either != 0)
+}
+
 // The drive with one more PDU: one that is lost or refused is missed.
 fn begun(d: Drive, e: Entry) -> Drive {
     let t = d.totals;
     let mut before = d.before;
+    let copies = d.copies;
+    let copy = copy_of(e);
     let received = e.kind == entry::RECEIVED;
     before.missed = before.missed | !received;
     Drive {
         whole: false,
         count: more(d.count, 1),
-        pdu: fresh(e.kind, e.number),
+        pdu: fresh(e.kind, copy, e.number),
         before: before,
         totals: Totals {
             received: add(t.received, one_if(received)),
@@ -170,6 +212,7 @@ fn begun(d: Drive, e: Entry) -> Drive {
             unknown: t.unknown,
             most: t.most,
         },
+        copies: with_copy(copies, copy),
     }
 }
 
@@ -178,6 +221,7 @@ fn delivered(d: Drive, number: u32) -> Drive {
     let t = d.totals;
     let p = d.pdu;
     let before = d.before;
+    let copies = d.copies;
     let packets = more(p.packets, 1);
     let gap = gaps::gap_before(before, number);
     Drive {
@@ -185,6 +229,7 @@ fn delivered(d: Drive, number: u32) -> Drive {
         count: d.count,
         pdu: Pdu {
             kind: p.kind,
+            copy: p.copy,
             corrected: p.corrected,
             crcs: p.crcs,
             packets: packets,
@@ -208,12 +253,18 @@ fn delivered(d: Drive, number: u32) -> Drive {
             unknown: add(t.unknown, gap.unknown),
             most: greatest(t.most, packets),
         },
+        copies: copies,
     }
+}
+
+// Whether a note tells that a piece has a wrong CRC, or is treated as one that has: right in both copies and different.
+fn is_wrong(cause: u32) -> bool {
+    (cause == entry::WRONG_CRC) | (cause == entry::COPIES_DIFFER)
 }
 
 // Whether a note tells that something was missed.
 fn is_missed(cause: u32) -> bool {
-    (cause == entry::WRONG_CRC) | (cause == entry::PIECE_TOO_LONG) | (cause == entry::PDU_LOST)
+    is_wrong(cause) | (cause == entry::PIECE_TOO_LONG) | (cause == entry::PDU_LOST)
 }
 
 // The drive with one more note: one for the sequence breaks it, one for a wrong CRC is counted.
@@ -221,7 +272,8 @@ fn noted(d: Drive, cause: u32) -> Drive {
     let mut p = d.pdu;
     let mut t = d.totals;
     let mut before = d.before;
-    let wrong = one_if(cause == entry::WRONG_CRC);
+    let copies = d.copies;
+    let wrong = one_if(is_wrong(cause));
     p.crcs = more(p.crcs, wrong);
     t.crcs = add(t.crcs, wrong);
     before.broken = before.broken | (cause == entry::SEQUENCE);
@@ -232,6 +284,7 @@ fn noted(d: Drive, cause: u32) -> Drive {
         pdu: p,
         before: before,
         totals: t,
+        copies: copies,
     }
 }
 
@@ -240,11 +293,13 @@ fn ended(d: Drive) -> Drive {
     let p = d.pdu;
     let before = d.before;
     let t = d.totals;
+    let copies = d.copies;
     Drive {
         whole: true,
         count: d.count,
         pdu: p,
         before: before,
         totals: t,
+        copies: copies,
     }
 }

@@ -1,4 +1,5 @@
 // What stands below the rows: what the picture's parts mean, and the totals.
+use drive::Copies;
 use drive::Drive;
 use drive::Totals;
 use page::Shape;
@@ -42,6 +43,22 @@ fn put_meanings(out: &mut [u8], base: u64, width: u64, most: u32) -> usize {
 <text class=\"t\" x=\"114\" y=\"154\">gap before, not known: PDUs may be out of turn</text>
 ",
         &[base, width, most as u64],
+    )
+}
+
+// What the strokes of PDUs mean that came as two copies, and how many have each; nothing where none came so.
+fn put_copies(out: &mut [u8], at: usize, c: Copies) -> usize {
+    if !drive::is_of_copies(c) {
+        return at;
+    }
+    text::fill(
+        out,
+        at,
+        b"<path class=\"r\" d=\"M64 161h9v14h-9zm10 0h9v14h-9zm10 0h9v14h-9z\"/>
+<path class=\"a\" stroke=\"#111\" stroke-width=\"2\" d=\"M64 162h9m1 12h9m1 0h9m-9-12h9\"/>
+<text class=\"t\" x=\"114\" y=\"172\">from the first copy @, second @, both @</text>
+",
+        &[c.first, c.second, c.both],
     )
 }
 
@@ -126,9 +143,11 @@ fn put_end(out: &mut [u8], at: usize, whole: bool) -> usize {
 // All that stands below the rows, from the block's start on.
 pub fn put_legend(out: &mut [u8], shape: Shape, d: Drive) -> usize {
     let t = d.totals;
+    let copies = d.copies;
     let base = page::top_of(page::rows(shape));
     let width = page::width(shape) - page::LEFT - page::RIGHT;
     let mut n = put_meanings(out, base, width, shape.most);
+    n = put_copies(out, n, copies);
     n = put_totals(out, n, shape.pdus as u64, t);
     n = put_shares(out, n, shape.pdus as u64, t);
     put_end(out, n, d.whole)
