@@ -107,9 +107,10 @@ check_batches_files() {
     done
 }
 
-# A batch takes no marks; and it goes with the other options.
+# A batch takes no marks and no pairs; and it goes with the other options.
 check_batches_asked() {
     wrong "barzhilup log: --batch: a batch takes no marks" log --batch 8 --marks empty
+    wrong "barzhilup log: --batch: a batch takes no pairs" log --batch 8 --in sent --second empty
     wrong "barzhilup log: --batch: not a number from 1 to 64: 65
 barzhilup log: --batch: a batch takes no marks" log --batch 65 --marks empty
     wrong "barzhilup log: --batch: given twice" log --batch 8 --batch 8

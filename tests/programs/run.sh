@@ -16,7 +16,7 @@ if [ ! -x "$program" ]; then
 fi
 program=$(readlink -f "$program")
 subs=(generate channel log coverage latency)
-for part in harness usage files generate log marks registers batches coverage latency; do
+for part in harness usage files generate log marks second registers batches coverage latency; do
     # shellcheck source=/dev/null
     . "$here/$part.sh"
 done
@@ -68,6 +68,15 @@ check_marks_other_mode
 check_marks_files
 check_marks_dashes
 check_marks_made
+check_second_same
+check_second_turns
+check_second_drives
+check_second_pieces
+check_second_differ
+check_second_refused
+check_second_lengths
+check_second_asked
+check_second_picture
 check_register_values
 check_register_default
 check_register_refused

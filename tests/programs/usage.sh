@@ -87,7 +87,7 @@ check_help_again() {
 # A value that an option takes.
 right_value() {
     case $2 in
-        in | out | psd | marks | svg | title) echo value ;;
+        in | out | second | psd | marks | svg | title) echo value ;;
         format) echo csv ;;
         counts) echo 3 ;;
         *) range_of "$1" "$2" | cut -d ' ' -f 1 ;;
@@ -102,8 +102,8 @@ check_options() {
         wrong "barzhilup $sub: unknown option $option" "$sub" "$option"
     done
     wrong "barzhilup $sub: unknown option --later" "$sub" --in one --later
-    wrong "barzhilup $sub: unknown option --first
-barzhilup $sub: unknown option --second" "$sub" --first --in one --second
+    wrong "barzhilup $sub: unknown option --sooner
+barzhilup $sub: unknown option --later" "$sub" --sooner --in one --later
     for option in $(options_of "$sub" 'FILE|TEXT|NUMBER'); do
         wrong "barzhilup $sub: --$option: value missing" "$sub" "--$option"
         wrong "barzhilup $sub: --$option: given twice" "$sub" "--$option" "$(right_value "$sub" "$option")" "--$option=$(right_value "$sub" "$option")"

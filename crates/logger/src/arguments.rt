@@ -3,8 +3,8 @@ use text::Number;
 ghost use Prim.Native.Nat.{_≤_};
 
 // The options that are known.
-pub const KNOWN: [u8; 67] =
-    *b"in=\0out=\0marks=\0force\0mode=\0stream=\0crc-start=\0format=\0batch=\0help\0";
+pub const KNOWN: [u8; 75] =
+    *b"in=\0out=\0second=\0marks=\0force\0mode=\0stream=\0crc-start=\0format=\0batch=\0help\0";
 
 // What is asked for; ok where mode, stream, the register that CRCs start with, format and the records of a frame are given as they can be.
 pub struct Job {
@@ -56,8 +56,8 @@ fn batch_asked() -> Number {
     options::number(b"barzhilup log", &KNOWN, b"batch", 0, 1, 64)
 }
 
-// Whether frames can be received in one call with what else is asked for (document 02, Ask 3: only mending and the single receive call take marks); if not,
-// says so.
+// Whether frames can be received in one call with what else is asked for (document 02, Ask 3: only mending and the single receive call take marks;
+// Ask 5: a pair is received by a call of its own); if not, says so.
 fn can_batch() -> bool {
     if !options::given(&KNOWN, b"batch") {
         return true;
@@ -65,6 +65,30 @@ fn can_batch() -> bool {
     if options::given(&KNOWN, b"marks") {
         files::say(b"barzhilup log", b": --batch: a batch takes no marks\n");
         return false;
+    }
+    if options::given(&KNOWN, b"second") {
+        files::say(b"barzhilup log", b": --batch: a batch takes no pairs\n");
+        return false;
+    }
+    true
+}
+
+// Whether the options go together: a second recording is not read from where the first is, and copies have no marks. If they do not, says why.
+pub fn can_pair() -> bool {
+    if !files::check(
+        b"barzhilup log",
+        &KNOWN,
+        b"second",
+        b"in",
+        b": --second: standard input has the PDUs\n",
+    ) {
+        return false;
+    }
+    if options::given(&KNOWN, b"second") {
+        if options::given(&KNOWN, b"marks") {
+            crate::report::no_marks();
+            return false;
+        }
     }
     true
 }

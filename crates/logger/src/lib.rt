@@ -1,6 +1,7 @@
 // Turns a file of PDUs into the packet log (document 01, "Receiver").
 mod arguments;
 mod report;
+mod two;
 
 use arguments::Job;
 use logging::Run;
@@ -24,6 +25,9 @@ pub fn program() -> i32 {
     ) {
         return files::WRONG;
     }
+    if !arguments::can_pair() {
+        return files::WRONG;
+    }
     let job = arguments::asked();
     if !job.ok {
         return files::WRONG;
@@ -42,7 +46,7 @@ fn with_job(job: Job) -> bool {
     with_receiver(job, receiver)
 }
 
-// Opens the file of PDUs.
+// Opens the file of PDUs, and a second one where it is given.
 fn with_receiver(job: Job, receiver: Receiver) -> bool {
     let mut label = files::label_buffer();
     let pdus = opened(b"in", &mut label);
@@ -50,6 +54,9 @@ fn with_receiver(job: Job, receiver: Receiver) -> bool {
         return false;
     }
     let n = pdus.length;
+    if options::given(&arguments::KNOWN, b"second") {
+        return two::with_first(job, receiver, &label[..n], pdus.fd);
+    }
     with_input(job, receiver, &label[..n], pdus.fd)
 }
 
@@ -123,6 +130,12 @@ fn with_marks(
 fn finish(job: Job, run: Run, output: i32, onto: &[u8], counts: &[u64]) -> bool {
     let closed = files::close(output, onto);
     report::summary(run.pdus, counts);
+    ask(job, counts);
+    (run.status == records::END) & closed
+}
+
+// Asks whether mode, stream and register are the file's, where what was received speaks against it.
+fn ask(job: Job, counts: &[u64]) {
     if counts::is_none_received(counts) {
         report::none_received(job.mode, job.stream);
     }
@@ -132,5 +145,4 @@ fn finish(job: Job, run: Run, output: i32, onto: &[u8], counts: &[u64]) -> bool 
     if counts::is_nearly_every_crc_wrong(counts) {
         report::crcs_wrong(b"nearly all", job.register);
     }
-    (run.status == records::END) & closed
 }

@@ -1,6 +1,7 @@
 // What the program says on standard error, a line or more in one write.
 use libc::STDERR_FILENO;
 use logging::marks;
+ghost use Prim.Native.Nat.{_≤_};
 
 fn say(line: &[u8]) {
     io::write_all(STDERR_FILENO, line);
@@ -31,6 +32,79 @@ fn marks_end(status: u8, marking: &[u8], pdus: u64) {
         }
         _ => os::fail(marking),
     }
+}
+
+// What is wrong with one of two files, of which so many records were read and so many PDUs logged; nothing where it has a record for each.
+pub fn side_ends(status: u8, from: &[u8], records: u64, pdus: u64) {
+    match status {
+        records::WHOLE => {}
+        records::END => shorter(from, records, pdus),
+        records::CUT => {
+            files::say_number(from, b": ends inside the record of PDU ", records, b"\n")
+        }
+        _ => os::fail(from),
+    }
+}
+
+// A file that ends before the other one does.
+fn shorter(from: &[u8], records: u64, pdus: u64) {
+    if records == pdus {
+        return;
+    }
+    let mut line = [0u8; 4800];
+    let n = text::put(&mut line, 0, from);
+    let k = text::fill(
+        &mut line,
+        n,
+        b": has @ of @ PDUs: the others count as not come\n",
+        &[records, pdus],
+    );
+    say(&line[..k]);
+}
+
+// The row of counts of one of two files, from a place on; nothing where there is none.
+fn row(rows: &[u64], from: usize) -> &[u64]
+    requires { ⌜ from ≤ 80 ⌝ }
+{
+    if rows.len() < from + 40 {
+        return &rows[0..0];
+    }
+    &rows[from..from + 40]
+}
+
+// What each of two files gives alone, and where the pieces are taken from, by the counts of both.
+pub fn copies(rows: &[u64]) {
+    let mut lines = [0u8; 512];
+    let n = counts::put_alone(&mut lines, 0, b"barzhilup log: first copies", row(rows, 40));
+    let m = counts::put_alone(
+        &mut lines,
+        n,
+        b"barzhilup log: second copies",
+        row(rows, 80),
+    );
+    let k = text::fill(
+        &mut lines,
+        m,
+        b"barzhilup log: pieces taken from the first copy @, from the second @, alike in both @\n",
+        &[
+            counts::at(rows, recordings::FROM_FIRST),
+            counts::at(rows, recordings::FROM_SECOND),
+            counts::at(rows, recordings::ALIKE),
+        ],
+    );
+    say(&lines[..k]);
+}
+
+// More pairs were refused with 20 than PDUs were received: the two files may not have a record for each PDU.
+pub fn out_of_step() {
+    say(
+        b"barzhilup log: most pairs were refused with 20: does each file have a record for each PDU, also for those that did not come?\n",
+    );
+}
+
+// Both a second file and marks are asked for.
+pub fn no_marks() {
+    say(b"barzhilup log: --second: a pair takes no marks\n");
 }
 
 pub fn no_format(name: &[u8]) {
@@ -103,6 +177,7 @@ that is marked lost.
 
   --in FILE       PDUs (standard input, also for -)
   --out FILE      the packet log (standard output, also for -)
+  --second FILE   the same drive by a second receiver (standard input for -)
   --marks FILE    the places of doubtful header bytes (standard input for -)
   --force         an existing FILE of --out is renamed FILE~ first
   --mode N        0, 1, 2, 3, 10 or 13 (0)
@@ -111,7 +186,8 @@ that is marked lost.
                   off the air check with 255)
   --format F      words, text or csv (text)
   --batch N       receives frames of N records, 1 to 64, in one call each; the
-                  log is the same for every N, and without it; no marks
+                  log is the same for every N, and without it; no marks, and
+                  no second recording
   --help          prints this and does nothing else (also -h)
 
 Marks: a record for each record of PDUs, in the same form; each of its bytes is
@@ -119,11 +195,20 @@ a place, 0 to 95. Without marks up to four wrong header bytes are corrected;
 with s marked places, any values there and up to (8 - s) / 2 wrong bytes
 elsewhere. More than eight places, one over 95 or one twice: refused with 19.
 
+Second: a record for each record of PDUs, of length 0 for one that did not come
+there. Of two copies each piece is taken from one in which its CRC is right; a
+copy that came alone, or whose header alone can be corrected, is received by
+itself. Copies that differ up to La are refused with 20; a piece that is right
+in both and differs has a note. A file that is shorter counts as not come from
+there on. Not with --marks.
+
 Formats:
   words           the log's words, each in four bytes, low byte first
   text            a line for each PDU, and one for each packet, PSD and note
   csv             the same, in the columns pdu, kind, number, length and cause;
-                  the last line is \",end,N,,whole\" if all N PDUs are logged
+                  the last line is \",end,N,,whole\" if all N PDUs are logged;
+                  with --second the cause of a received PDU is the copy that it
+                  is taken from: first, second, both or either
 
 A PDU that is refused is marked lost, also one of another mode or stream.
 Standard error has a line for each of the first five and for the first of
