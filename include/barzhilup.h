@@ -177,7 +177,8 @@ extern "C" {
 #define BARZHILUP_REFUSED_MARKS 19
 
 /* A pair of PDUs that can both be corrected: their lengths differ, or their
- * corrected bytes 8 to La do, ignored bits too. Checked after
+ * corrected bytes 8 to La do, ignored bits too. Damage of one copy in
+ * bytes 96 to La, which no parity covers, can give it too. Checked after
  * BARZHILUP_REFUSED_DISPLACEMENT, and before BARZHILUP_REFUSED_LOG_LENGTH.
  * (Document 02, Ask 5.) */
 #define BARZHILUP_REFUSED_PAIR 20
@@ -789,7 +790,7 @@ barzhilup_chosen(const uint8_t *first, size_t first_length,
  *  - 5 to 12, the lowest that applies to a copy that can be corrected: one such
  *    copy refuses the pair, however good the other is;
  *  - 20 where both can be corrected, and lengths or corrected bytes 8 to La
- *    differ;
+ *    differ: they are not of one PDU, or bytes 96 to La of one are damaged;
  *  - 13.
  *
  * If the pair is accepted, the header of each copy that can be corrected is left

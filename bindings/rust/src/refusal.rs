@@ -72,7 +72,8 @@ pub enum Refusal {
     /// 3).
     Marks,
     /// 20: two copies of a PDU, of which both can be corrected, have other lengths
-    /// or other corrected bytes 8 to La (document 02, Ask 5).
+    /// or other corrected bytes 8 to La. Damage of one copy in bytes 96 to La, which
+    /// no parity covers, can give it too. (Document 02, Ask 5.)
     Pair,
     /// 21: a bench for latency settings has no counts, more than 4,096, or one
     /// over 63 (document 02, Ask 7).
