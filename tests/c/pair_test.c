@@ -212,6 +212,22 @@ static void alter_header(uint8_t *pdu, unsigned many)
         pdu[random_below(96)] = (uint8_t)random_below(256);
 }
 
+/* Alters so many bytes of a header, at most four, none twice. */
+static void alter_bytes(uint8_t *pdu, unsigned many)
+{
+    unsigned place = random_below(20);
+    for (; many > 0; many--, place += 19)
+        pdu[place] ^= (uint8_t)(1 + random_below(255));
+}
+
+/* Alters one to four bytes of each header: one that a refusal left corrected would
+ * not be as it was lent. */
+static void alter_both(void)
+{
+    alter_bytes(FIRST, 1 + random_below(4));
+    alter_bytes(SECOND, 1 + random_below(4));
+}
+
 /* Makes a header one that can't be corrected. */
 static void spoil_header(uint8_t *pdu)
 {
@@ -245,14 +261,12 @@ static void chosen(uint32_t number, unsigned long which)
  * that can't be corrected. */
 static void altered_word(uint8_t *pdu, unsigned many)
 {
-    unsigned place = random_below(20);
     random_bytes(pdu, 96);
     barzhilup_write_parity(pdu, 96);
     if (many > 4)
         spoil_header(pdu);
     else
-        for (; many > 0; many--, place += 19)
-            pdu[place] ^= (uint8_t)(1 + random_below(255));
+        alter_bytes(pdu, many);
 }
 
 static void test_choosing(void)
@@ -549,9 +563,9 @@ static void test_numbers(void)
                                                                       : in_second;
                 }
                 if (one != 3 && one != 4)
-                    alter_header(FIRST, turn % 5);
+                    alter_bytes(FIRST, turn % 5);
                 if (other != 3 && other != 4)
-                    alter_header(SECOND, turn / 5);
+                    alter_bytes(SECOND, turn / 5);
                 if (number == 0)
                     accepted(opened(0, 0), taken, length, 0, "accepted", one * 100 + other);
                 else
@@ -584,6 +598,7 @@ static void test_smallest_k(void)
             FIRST[14 + 2 * one] = SECOND[14 + 2 * other] = 200;
             barzhilup_write_parity(FIRST, 96);
             barzhilup_write_parity(SECOND, 96);
+            alter_both();
             refused(opened(0, 0), 11, one < other ? one : other, "smallest k", one * 3 + other);
         }
     report("the smallest k over both copies");
@@ -615,6 +630,7 @@ static void check_bit(unsigned line, const uint8_t *pdu, size_t length, unsigned
         memcpy(FIRST, SECOND, length);
         memcpy(SECOND, copy, length);
     }
+    alter_both();
     if (alone != 0)
         refused(opened(line, 0), alone, k, "a copy that is refused", place * 8 + bit);
     else
@@ -640,6 +656,7 @@ static void test_copies_that_differ(void)
             both(taken, length);
             FIRST[length] = SECOND[length] = 0;
             *(bit == 0 ? &first_length : &second_length) = length + 1;
+            alter_both();
             refused(opened(line, 0), 20, 0, "lengths that differ", line);
             log_length = 0;
             refused(opened(line, 0), 20, 0, "lengths that differ, and no log", line);
@@ -668,7 +685,8 @@ static void test_after_la(void)
     report("bytes after La that differ");
 }
 
-/* 1 and 2 come first, whatever is wrong with the PDUs; 13 comes last. */
+/* 1 and 2 come first, whatever is wrong with the PDUs; 13 comes last. Each copy that
+ * can be corrected has altered bytes. */
 static void test_order(void)
 {
     barzhilup_receiver right = opened(0, 0), wrong = right;
@@ -684,6 +702,7 @@ static void test_order(void)
         both(taken, length);
         random_bytes(FIRST + length, GUARD);
         random_bytes(SECOND + length, GUARD);
+        alter_both();
         if (turn % 4 == 1)
             second_length = 95;
         if (turn % 4 == 2)
@@ -697,8 +716,11 @@ static void test_order(void)
         refused(right, BARZHILUP_REFUSED_LOG_LENGTH, 0, "a word short", turn);
         log_length = 0;
         refused(right, BARZHILUP_REFUSED_LOG_LENGTH, 0, "no log", turn);
-        if (turn % 4 == 3)
+        if (turn % 4 == 3) {
+            memcpy(SECOND, taken, length);
             spoil(SECOND, length, 5 + turn / 4 % 8);
+            alter_bytes(SECOND, 1 + random_below(4));
+        }
         if (turn % 8 == 0)
             first_length = second_length = 95;
         refused(wrong, BARZHILUP_REFUSED_STATE, 0, "state", turn);
@@ -750,6 +772,7 @@ static void test_longest_log(void)
     both(taken, 20480);
     random_bytes(FIRST + 20480, GUARD);
     random_bytes(SECOND + 20480, GUARD);
+    alter_both();
     log_length = 8229;
     refused(receiver, BARZHILUP_REFUSED_LOG_LENGTH, 0, "8,229 words", 0);
     /* The first two pieces are right in one copy alone. */

@@ -70,14 +70,30 @@ fn core() -> Receiver {
     Receiver::open(Mode::M0, Stream::Core).unwrap()
 }
 
-/// Receives the pair, which is refused so; nothing has changed.
+/// The copy with so many bytes of its header altered, if it can be corrected.
+fn altered(random: &mut Random, copy: &[u8], count: usize) -> Vec<u8> {
+    let mut altered = copy.to_vec();
+    if barzhilup::correct_header(&mut copy.to_vec()).is_ok() {
+        random.alter(&mut altered, count);
+    }
+    altered
+}
+
+/// Receives the pair, which is refused so, with one to four bytes altered in each
+/// header that can be corrected; nothing has changed.
 fn refused(first: &[u8], second: &[u8]) -> Refusal {
-    let mut receiver = core();
-    let (mut one, mut other) = (first.to_vec(), second.to_vec());
-    let refusal = receiver.receive_pair(&mut one, &mut other).unwrap_err();
-    assert_eq!((&one[..], &other[..]), (first, second));
-    assert_eq!(receiver, core());
-    refusal
+    let mut random = Random::new(0x9A3);
+    let refusals = [1, 2, 3, 4].map(|count| {
+        let mut receiver = core();
+        let lent = [first, second].map(|copy| altered(&mut random, copy, count));
+        let [mut one, mut other] = lent.clone();
+        let refusal = receiver.receive_pair(&mut one, &mut other).unwrap_err();
+        assert_eq!([one, other], lent);
+        assert_eq!(receiver, core());
+        refusal
+    });
+    assert_eq!(refusals, [refusals[0]; 4]);
+    refusals[0]
 }
 
 #[test]
