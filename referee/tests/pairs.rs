@@ -2,9 +2,10 @@
 //! the reference: pairs in every mode and stream whose pieces are right, wrong or
 //! differing; pairs of which only one copy can be mended, or none; each number on
 //! each copy; copies that differ before the pieces; logs one word short; and whole
-//! drives of pairs, single calls, batches, lost PDUs and refused calls, with damage
-//! in the pieces. What a pair has to answer and to leave is told from how it was
-//! made. Both copies of every pair go through the chooser too.
+//! drives of pairs, single calls with marks and without, batches, lost PDUs and
+//! refused calls of each of these kinds, with damage in the pieces. What a pair has
+//! to answer and to leave is told from how it was made. Both copies of every pair go
+//! through the chooser too.
 
 #[allow(dead_code)]
 mod attempt;
@@ -29,6 +30,7 @@ use attempt::against_product::receiver_for;
 use copies::{compare, Copy, Double, Loan, Tally, Told};
 use drives::{Came, List, STYLES};
 use lent::{Lent, LentLog, LentSizes};
+use noise::Noise;
 use receptions::{some_carry, some_line, spoil_state, spoiled_pdu, Reception};
 use referee::crc;
 use referee::encode::Field;
@@ -437,15 +439,21 @@ fn choosing() {
 struct Roads {
     drives: u64,
     pairs: Tally,
-    /// PDUs by single calls, PDUs in batches, batches, and PDUs marked lost.
+    /// PDUs by single calls, those of them with marks, PDUs in batches, batches,
+    /// those of them that stopped after these PDUs, and PDUs marked lost.
     single: u64,
+    marked: u64,
     in_batches: u64,
     batches: u64,
+    stopped: u64,
     lost: u64,
-    /// Refused calls: of pairs by number, single ones, and batches.
+    /// Refused calls by number: of pairs, single ones without and with marks,
+    /// batches that took nothing, and calls marking lost.
     refused_pairs: BTreeMap<u32, u64>,
-    refused_single: u64,
-    refused_batches: u64,
+    refused_single: BTreeMap<u32, u64>,
+    refused_marked: BTreeMap<u32, u64>,
+    refused_batches: BTreeMap<u32, u64>,
+    refused_lost: BTreeMap<u32, u64>,
     /// Pieces of pairs by how they came: as sent in both copies, in the first alone,
     /// in the second alone, in none.
     pieces: [u64; 4],
@@ -466,10 +474,18 @@ struct Road<'a> {
     joined: Vec<u32>,
 }
 
-/// A copy of a sent PDU on the road: at most four of the first 96 bytes altered,
-/// bytes 96 to La as sent, some pieces damaged so that their CRC is wrong, reserved
-/// bytes from 96 on anything. Of each piece whether it is as sent, once mended.
+/// A copy of a sent PDU on the road: at most four of the first 96 bytes altered, and
+/// from byte 96 on as `behind_the_header` has it. Of each piece whether it is as
+/// sent, once mended.
 fn on_the_road(rng: &mut Rng, sent: &[u8], register: u8) -> (Copy, Vec<bool>) {
+    let (left, as_sent) = behind_the_header(rng, sent, register);
+    (Copy::mendable(rng, &left), as_sent)
+}
+
+/// A sent PDU with bytes 96 to La as sent, some pieces damaged from byte 96 on so
+/// that their CRC is wrong, reserved bytes from 96 on anything. Of each piece whether
+/// it is as sent.
+fn behind_the_header(rng: &mut Rng, sent: &[u8], register: u8) -> (Vec<u8>, Vec<bool>) {
     let reading = reading::read(&mut sent.to_vec()).expect("a PDU of a writer");
     let mut left = sent.to_vec();
     let one_of = [2, 3, 8, 1_000][rng.below(4)];
@@ -487,9 +503,7 @@ fn on_the_road(rng: &mut Rng, sent: &[u8], register: u8) -> (Copy, Vec<bool>) {
     if reserved < left.len() && rng.below(4) == 0 {
         rng.fill(&mut left[reserved..]);
     }
-    let mut copy = Copy::mendable(rng, &left);
-    copy.left = left;
-    (copy, as_sent)
+    (left, as_sent)
 }
 
 /// Damages a piece, with its CRC byte behind it, from byte 96 on, so that its CRC is
@@ -525,8 +539,9 @@ impl Road<'_> {
         self.joined.extend(&log.words()[..answer.words]);
     }
 
-    /// Makes the pair's call by reference and product.
+    /// Makes both calls over a pair by reference and product.
     fn call(&mut self, receiver: Receiver, copies: &[Copy; 2], before: &Loan) -> (Answer, Loan) {
+        copies::check_choice(copies, before);
         let mut loan = before.clone();
         let answer = pairs::receive(
             receiver,
@@ -637,37 +652,46 @@ impl Road<'_> {
         }
     }
 
-    /// Receives a PDU by a call of its own; the number, 0 if it is accepted.
-    fn single(&mut self, copy: &Copy) -> u32 {
+    /// Receives a PDU by a call of its own, by the one that takes marks where there is
+    /// a list; the number, 0 if it is accepted.
+    fn single(&mut self, lent: &[u8], marks: Option<&[u8]>) -> u32 {
         let mut carry = Lent::of(self.rng, &self.carry);
-        let mut pdu = Lent::of(self.rng, &copy.lent);
+        let mut pdu = Lent::of(self.rng, lent);
         let mut log = self.log();
-        let (mut own_carry, mut own_pdu, mut own_log) = (carry.clone(), pdu.clone(), log.clone());
-        let answer = receiver::receive(
+        let before = (carry.clone(), pdu.clone(), log.clone());
+        let (mut own_carry, mut own_pdu, mut own_log) = before.clone();
+        let answer = receiver::receive_marked(
             self.receiver,
             carry.bytes_mut(),
             pdu.bytes_mut(),
+            marks.unwrap_or(&[]),
             log.words_mut(),
         );
-        let is_so = product::receiver::receive(
-            receiver_for(&self.receiver),
-            &mut own_carry,
-            &mut own_pdu,
-            &mut own_log,
-        );
-        assert_eq!(
-            (is_so.refusal, is_so.words as usize, is_so.receiver),
-            (answer.refusal, answer.words, receiver_for(&answer.receiver))
-        );
+        let own = receiver_for(&self.receiver);
+        let is_so = match marks.map(|marks| Lent::of(self.rng, marks)) {
+            Some(marks) => product::receiver::receive_marked(
+                own,
+                &mut own_carry,
+                &mut own_pdu,
+                &marks,
+                &mut own_log,
+            ),
+            None => product::receiver::receive(own, &mut own_carry, &mut own_pdu, &mut own_log),
+        };
+        check_answer(is_so, &answer);
         assert!(own_carry == carry && own_pdu == pdu && own_log == log);
         if answer.refusal == 0 {
             self.go_on(&answer, &carry, &log);
+        } else {
+            assert_eq!(answer.receiver, self.receiver);
+            assert!(before == (carry, pdu, log), "changed by a refused call");
         }
         answer.refusal
     }
 
-    /// Receives PDUs in one call, of which so many have to be taken.
-    fn batch(&mut self, copies: &[Copy], taken: usize) {
+    /// Receives PDUs in one call, of which so many have to be taken; the number, 0 if
+    /// none is refused.
+    fn batch(&mut self, copies: &[Copy], taken: usize) -> u32 {
         let pdus: Vec<u8> = copies.iter().flat_map(|copy| copy.lent.clone()).collect();
         let lengths: Vec<usize> = copies.iter().map(|copy| copy.lent.len()).collect();
         let mut carry = Lent::of(self.rng, &self.carry);
@@ -702,34 +726,66 @@ impl Road<'_> {
         self.receiver = answer.receiver;
         self.carry = carry.bytes().to_vec();
         self.joined.extend(&log.words()[..answer.words]);
+        answer.refusal
     }
 
     /// A call of any kind that is refused.
     fn refused(&mut self, next: &[u8]) {
-        match self.rng.below(4) {
+        match self.rng.below(8) {
             0 => {
                 let copy = Copy::beyond(self.rng, next);
-                assert_ne!(self.single(&copy), 0);
-                self.roads.refused_single += 1;
+                let number = self.single(&copy.lent, None);
+                *self.roads.refused_single.entry(number).or_default() += 1;
             }
             1 => {
-                let copies = [Copy::beyond(self.rng, next), Copy::mendable(self.rng, next)];
-                self.batch(&copies, 0);
-                self.roads.refused_batches += 1;
+                let number = self.refused_marked(next);
+                *self.roads.refused_marked.entry(number).or_default() += 1;
             }
+            2 => {
+                let copies = [Copy::beyond(self.rng, next), Copy::mendable(self.rng, next)];
+                let number = self.batch(&copies, 0);
+                *self.roads.refused_batches.entry(number).or_default() += 1;
+            }
+            3 => self.refused_lost(),
             _ => self.refused_pair(next),
         }
     }
 
+    /// A call with marks that is refused: for the list, or because there are too many
+    /// altered bytes beside it. Its number.
+    fn refused_marked(&mut self, next: &[u8]) -> u32 {
+        let mut noise = Noise::beyond(self.rng);
+        if self.rng.below(2) == 0 {
+            let cause = noise::some_cause(self.rng);
+            noise.spoil(self.rng, cause);
+        }
+        let mut lent = next.to_vec();
+        noise.alter(self.rng, &mut lent);
+        self.single(&lent, Some(noise.list()))
+    }
+
     /// Marks a PDU lost.
     fn lose(&mut self) {
-        let mut log = self.log();
-        let answer = product::receiver::mark_lost(receiver_for(&self.receiver), &mut log);
-        let right = receiver::mark_lost(self.receiver, &mut [0]);
-        assert_eq!(answer.receiver, receiver_for(&right.receiver));
-        self.receiver = right.receiver;
-        self.joined.extend(&log.words()[..answer.words as usize]);
+        let (answer, log) = mark_lost(self.receiver, self.log());
+        assert_eq!(answer.refusal, 0);
+        self.receiver = answer.receiver;
+        self.joined.extend(&log.words()[..answer.words]);
         self.roads.lost += 1;
+    }
+
+    /// A call marking lost that is refused: it changes nothing.
+    fn refused_lost(&mut self) {
+        let mut receiver = self.receiver;
+        let (number, before) = if self.rng.below(2) == 0 {
+            spoil_state(self.rng, &mut receiver);
+            (refusal::STATE, self.log())
+        } else {
+            (refusal::LOG, LentLog::random(self.rng, 0))
+        };
+        let (answer, log) = mark_lost(receiver, before.clone());
+        assert_eq!((answer.refusal, answer.receiver), (number, receiver));
+        assert!(log == before, "changed by a refused call");
+        *self.roads.refused_lost.entry(number).or_default() += 1;
     }
 
     /// Receives the next PDUs of the run, of which so many in a row are not lost, by
@@ -737,27 +793,62 @@ impl Road<'_> {
     fn next(&mut self, list: &List, index: usize, in_a_row: usize) -> Vec<Came> {
         let register = self.receiver.register;
         let sent = &list.pdus[index].pdu;
-        match self.rng.below(8) {
+        match self.rng.below(16) {
             0 => {
                 let (copy, came) = on_the_road(self.rng, sent, register);
-                assert_eq!(self.single(&copy), 0);
+                assert_eq!(self.single(&copy.lent, None), 0);
                 self.roads.single += 1;
                 vec![Some(came)]
             }
             1 => {
+                let (mut lent, came) = behind_the_header(self.rng, sent, register);
+                let noise = Noise::within_bound(self.rng);
+                noise.alter(self.rng, &mut lent);
+                assert_eq!(self.single(&lent, Some(noise.list())), 0);
+                self.roads.marked += 1;
+                vec![Some(came)]
+            }
+            2 | 3 => {
                 let count = self.rng.within(1, in_a_row.min(5));
-                let (copies, came): (Vec<Copy>, Vec<Vec<bool>>) = list.pdus[index..index + count]
+                let (mut copies, came): (Vec<Copy>, Vec<Vec<bool>>) = list.pdus
+                    [index..index + count]
                     .iter()
                     .map(|sent| on_the_road(self.rng, &sent.pdu, register))
                     .unzip();
-                self.batch(&copies, count);
+                // Some stop at a PDU behind those of the run.
+                let stops = self.rng.below(3) == 0;
+                if stops {
+                    copies.push(Copy::beyond(self.rng, sent));
+                    copies.push(Copy::mendable(self.rng, sent));
+                }
+                assert_eq!(self.batch(&copies, count) != 0, stops);
                 self.roads.batches += 1;
+                self.roads.stopped += u64::from(stops);
                 self.roads.in_batches += count as u64;
                 came.into_iter().map(Some).collect()
             }
             _ => vec![Some(self.pair(sent))],
         }
     }
+}
+
+/// Marks a PDU lost by reference and product; the answer and the log.
+fn mark_lost(receiver: Receiver, mut log: LentLog) -> (Answer, LentLog) {
+    let mut own_log = log.clone();
+    let answer = receiver::mark_lost(receiver, log.words_mut());
+    let is_so = product::receiver::mark_lost(receiver_for(&receiver), &mut own_log);
+    check_answer(is_so, &answer);
+    assert!(own_log == log);
+    (answer, log)
+}
+
+/// The product's answer to receiving a PDU or marking one lost against the
+/// reference's.
+fn check_answer(is_so: product::receiver::Received, answer: &Answer) {
+    assert_eq!(
+        (is_so.refusal, is_so.words as usize, is_so.receiver),
+        (answer.refusal, answer.words, receiver_for(&answer.receiver))
+    );
 }
 
 /// Goes through a run of a list's PDUs: the lost ones are marked, the others come as
@@ -822,13 +913,15 @@ fn driving() {
     }
     roads.pairs.report("drives of pairs");
     println!(
-        "drives of pairs: {} drives, {} pairs received, {} single calls, {} batches of {} PDUs, {} \
-         lost, {} of {} packets logged",
+        "drives of pairs: {} drives, {} pairs received, {} single calls, {} with marks, {} batches \
+         that took {} PDUs, of which {} then stopped, {} lost, {} of {} packets logged",
         roads.drives,
         roads.pairs.accepted,
         roads.single,
+        roads.marked,
         roads.batches,
         roads.in_batches,
+        roads.stopped,
         roads.lost,
         roads.logged,
         roads.packets
@@ -839,8 +932,13 @@ fn driving() {
         roads.pieces[0], roads.pieces[1], roads.pieces[2], roads.pieces[3]
     );
     println!(
-        "drives of pairs: refused pairs by number {:?}, single calls {}, batches {}",
-        roads.refused_pairs, roads.refused_single, roads.refused_batches
+        "drives of pairs: refused by number, pairs {:?}, single calls {:?}, with marks {:?}, batches \
+         {:?}, marking lost {:?}",
+        roads.refused_pairs,
+        roads.refused_single,
+        roads.refused_marked,
+        roads.refused_batches,
+        roads.refused_lost
     );
     assert_eq!(roads.lines.len(), TABLE.len());
     // The promise has no place for these notes.
@@ -851,4 +949,14 @@ fn driving() {
     assert!([1, 2, 4, 13, 20]
         .iter()
         .all(|number| roads.refused_pairs[number] >= 500));
+    assert!(roads.marked >= 500 && roads.stopped >= 500);
+    for (refused, numbers) in [
+        (&roads.refused_single, [3, 4]),
+        (&roads.refused_marked, [4, 19]),
+        (&roads.refused_batches, [3, 4]),
+        (&roads.refused_lost, [1, 13]),
+    ] {
+        assert!(refused.keys().copied().eq(numbers));
+        assert!(refused.values().sum::<u64>() >= 500);
+    }
 }
