@@ -133,7 +133,9 @@ fn kept(
     counts: &mut [u64],
 ) -> Run {
     let receiver = run.receiver;
-    let corrected = header::difference(header::header_of(came), header::header_of(pdu));
+    let before = header::header_of(came);
+    let after = header::header_of(pdu);
+    let corrected = header::difference(&before, &after);
     let o = Outcome {
         kind: outcome::RECEIVED,
         number: corrected,

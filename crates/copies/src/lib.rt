@@ -222,7 +222,7 @@ fn of_pair(
         return passed_over(r, length, log);
     }
     let after = header_of(is_second, first, second);
-    let corrected = header::difference(before, after);
+    let corrected = header::difference(&before, &after);
     outcome_of(outcome::RECEIVED, corrected, 0, length, r)
 }
 

@@ -504,11 +504,11 @@ fn refused(header: [u8; 96]) -> Decoded
 }
 
 // A header with its marked bytes set to those of another.
-fn adopted(header: [u8; 96], other: [u8; 96], marks: &[u8]) -> [u8; 96]
+fn adopted(header: &[u8; 96], other: &[u8; 96], marks: &[u8]) -> [u8; 96]
     requires { ⌜ allowedMarks (now marks) ≡ true ⌝ }
-    ensures { λ r. ⌜ r ≡ adoptedFrom (now (marks .entry)) header other ⌝ }
+    ensures { λ r. ⌜ r ≡ adoptedFrom (now (marks .entry)) (now (header .entry)) (now (other .entry)) ⌝ }
 {
-    let mut out = header;
+    let mut out = *header;
     let mut k: usize = 0;
     while k < marks.len() {
         let at = place(marks[k]);
@@ -536,12 +536,13 @@ fn decode(header: [u8; 96], marks: &[u8]) -> Decoded
         };
     }
     let fixed = candidate(&powers, &logarithms, header, s, marks);
-    let unmarked = header::difference(adopted(header, fixed, marks), fixed);
+    let with_marks = adopted(&header, &fixed, marks);
+    let unmarked = header::difference(&with_marks, &fixed);
     if spare(marks) < unmarked as usize {
         return refused(header);
     }
     if header::is_code_word_by(&powers, &logarithms, &fixed) {
-        let n = header::difference(header, fixed);
+        let n = header::difference(&header, &fixed);
         return Decoded {
             header: fixed,
             answer: Correction::Corrected(n),

@@ -319,9 +319,11 @@ pub fn all_zero(s: [u8; 8]) -> bool
     true
 }
 
-// In how many bytes two headers differ.
-pub fn difference(u: [u8; 96], v: [u8; 96]) -> u32
-    ensures { λ n. ⌜ n ≡ distance u v ⌝ }
+// In how many of 96 bytes two words differ.
+fn differing(u: &[u8], v: &[u8]) -> u32
+    requires { ⌜ length (now u) ≡ 96 ⌝ }
+    requires { ⌜ length (now v) ≡ 96 ⌝ }
+    ensures { λ n. ⌜ n ≡ distance (now (u .entry)) (now (v .entry)) ⌝ }
 {
     let mut n: u32 = 0;
     let mut place: usize = 96;
@@ -332,6 +334,13 @@ pub fn difference(u: [u8; 96], v: [u8; 96]) -> u32
         }
     }
     n
+}
+
+// In how many bytes two headers differ.
+pub fn difference(u: &[u8; 96], v: &[u8; 96]) -> u32
+    ensures { λ n. ⌜ n ≡ distance (now (u .entry)) (now (v .entry)) ⌝ }
+{
+    differing(u, v)
 }
 
 // Copies bytes over the first ones of a PDU, as many as it has room for.

@@ -89,7 +89,8 @@ pub fn of_record(
         return outcome_of(REFUSED, r.refusal, r.wrong, pdu.len(), lost);
     }
     let after = header::header_of(pdu);
-    outcome_of(RECEIVED, header::difference(before, after), 0, pdu.len(), r)
+    let corrected = header::difference(&before, &after);
+    outcome_of(RECEIVED, corrected, 0, pdu.len(), r)
 }
 
 // The control word of a PDU whose header is corrected in place, with its marked places; where it cannot be corrected, the PDU is left as it came.

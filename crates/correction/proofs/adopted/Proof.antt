@@ -15,13 +15,13 @@ use Rattle.correction.proofs.adopted.Lts as lts
 use Rattle.correction.proofs.place.Reads as place-reads
 
 abbrev Inv-loop : tie.InvT-loop
-Inv-loop marks other out₀ k₀ out k = (k ≤ length marks) × (length out ≡ 96) × (adoptedFrom (drop k marks) out other ≡ adoptedFrom marks out₀ other)
+Inv-loop header other marks out₀ k₀ out k = (k ≤ length marks) × (adoptedFrom (drop k marks) out other ≡ adoptedFrom marks header other)
 
 abbrev μ-loop : tie.MeasureT-loop
-μ-loop marks other out₀ k₀ out k = length marks - k
+μ-loop header other marks out₀ k₀ out k = length marks - k
 
 loop-holds : tie.Need-loop-holds Inv-loop μ-loop
-loop-holds c = (omega arith, search needs, refl)
+loop-holds c = (omega arith, refl)
 
 shared-slice-read-place : tie.Need-shared-slice-read-place Inv-loop μ-loop
 shared-slice-read-place c = search needs
@@ -34,13 +34,13 @@ inside : (c : tie.After-place Inv-loop μ-loop) → c .place .result < 96
 inside c =
     let l = c .before .before .before in
     subst (λ (at : ℕ). at < 96) (sym (c .place .ensures))
-    (all-getD (λ k. k < 96) (l .before .before .args .marks .now) (allowed-inside (l .before .before .args .marks .now) (l .before .before .pre)) (l .loop .k) (omega arith))
+    (all-getD (λ k. k < 96) (l .before .before .before .args .marks .now) (allowed-inside (l .before .before .before .args .marks .now) (l .before .before .before .pre)) (l .loop .k) (omega arith))
 
-array-read-out : tie.Need-array-read-out Inv-loop μ-loop
-array-read-out c = inside c
+element-copy-out-out : tie.Need-element-copy-out-out Inv-loop μ-loop
+element-copy-out-out c = inside c
 
 array-write-out : tie.Need-array-write-out Inv-loop μ-loop
-array-write-out c = inside c
+array-write-out c = inside (c .before)
 
 add-k : tie.Need-add-k Inv-loop μ-loop
 add-k c = search needs
@@ -50,16 +50,16 @@ loop-less c = search needs
 
 loop-again : tie.Need-loop-again Inv-loop μ-loop
 loop-again c =
-    let l = c .before .before .before in (
+    let p = c .before in
+    let l = p .before .before .before in (
       omega arith,
-      simp length-set (l .loop .inv .1),
-      subst (λ (at : ℕ). adoptedFrom (drop (l .loop .k + 1) (l .before .before .args .marks .now)) (set (l .loop .out) at (getD (l .before .before .args .t2) at 0)) (l .before .before .args .t2)
-          ≡ adoptedFrom (l .before .before .args .marks .now) (l .before .before .args .header) (l .before .before .args .t2)) (sym (c .place .ensures))
-          (adopted-next (l .before .before .args .marks .now) (l .before .before .args .header) (l .before .before .args .t2) (l .loop .k) (l .loop .out) (omega arith) (l .loop .inv .2)),
+      subst (λ (at : ℕ). adoptedFrom (drop (l .loop .k + 1) (l .before .before .before .args .marks .now)) (set (l .loop .out) at (getD (l .before .before .before .args .other .now) at 0)) (l .before .before .before .args .other .now)
+          ≡ adoptedFrom (l .before .before .before .args .marks .now) (l .before .before .before .args .header .now) (l .before .before .before .args .other .now)) (sym (p .place .ensures))
+          (adopted-next (l .before .before .before .args .marks .now) (l .before .before .before .args .header .now) (l .before .before .before .args .other .now) (l .loop .k) (l .loop .out) (omega arith) (l .loop .inv .1)),
     )
 
 returns : tie.Need-returns Inv-loop μ-loop
-returns c = adopted-end _ _ _ (c .before .loop .k) _ (omega arith) (c .before .loop .inv .2)
+returns c = adopted-end _ _ _ (c .before .loop .k) _ (omega arith) (c .before .loop .inv .1)
 
 pub adopted-spec : {M : Type 1} → statement M
 adopted-spec =
@@ -70,7 +70,7 @@ adopted-spec =
     loop-holds
     shared-slice-read-place
     place-requires
-    array-read-out
+    element-copy-out-out
     array-write-out
     add-k
     loop-less

@@ -55,7 +55,7 @@ candidate-requires c κs =
     (begin s .pre .0, (s .syndromes-by .ensures, (begin s .pre .1 .0, (begin s .pre .1 .1, search needs))))
 
 adopted-requires : tie.Need-adopted-requires
-adopted-requires c κs = start c .pre .1 .1
+adopted-requires c κs = start (c .before .before) .pre .1 .1
 
 difference-requires : tie.Need-difference-requires
 difference-requires c κs = search needs
@@ -73,8 +73,9 @@ returns-2 : tie.Need-returns-2
 returns-2 c =
     let p = c .before .before in
     let d = p .before in
-    let k = d .before .before in
-    let r = answer-far _ _ (start k .pre .1 .0) (long k) (start k .pre .0) _ _ (k .candidate .ensures) (d .before .adopted .ensures) _ (d .difference .ensures) _ (p .spare .ensures) (omega (arith, c .before .if2 .taken)) in
+    let a = d .before .before .before in
+    let k = a .before .before .before in
+    let r = answer-far _ _ (start k .pre .1 .0) (long k) (start k .pre .0) _ _ (k .candidate .ensures) (a .adopted .ensures) _ (d .difference .ensures) _ (p .spare .ensures) (omega (arith, c .before .if2 .taken)) in
     (c .refused .ensures .0 ∙ r .0, c .refused .ensures .1 ∙ r .1)
 
 is-code-word-by-requires : tie.Need-is-code-word-by-requires
@@ -85,13 +86,15 @@ difference-requires-2 c κs = search needs
 
 returns-3 : tie.Need-returns-3
 returns-3 c =
-    let w = c .before .before in
+    let t = c .before .before .before in
+    let w = t .before in
     let q = w .before .before .before .before in
     let p = q .before in
     let d = p .before in
-    let k = d .before .before in
-    answer-corrected _ _ (start k .pre .1 .0) (long k) (start k .pre .0) _ _ (k .candidate .ensures) (d .before .adopted .ensures) _ (d .difference .ensures) _ (p .spare .ensures)
-    _ (c .difference2 .ensures) (omega (arith, q .if2 .left)) (sym (w .is-code-word-by .ensures) ∙ c .before .if3 .taken)
+    let a = d .before .before .before in
+    let k = a .before .before .before in
+    answer-corrected _ _ (start k .pre .1 .0) (long k) (start k .pre .0) _ _ (k .candidate .ensures) (a .adopted .ensures) _ (d .difference .ensures) _ (p .spare .ensures)
+    _ (c .difference2 .ensures) (omega (arith, q .if2 .left)) (sym (w .is-code-word-by .ensures) ∙ t .if3 .taken)
 
 refused-requires-2 : tie.Need-refused-requires-2
 refused-requires-2 c κs = search needs
@@ -101,8 +104,9 @@ returns-4 c =
     let w = c .before .before in
     let p = w .before .before .before .before .before in
     let d = p .before in
-    let k = d .before .before in
-    let r = answer-wrong _ _ (start k .pre .1 .0) (long k) (start k .pre .0) _ _ (k .candidate .ensures) (d .before .adopted .ensures) _ (d .difference .ensures) _ (p .spare .ensures)
+    let a = d .before .before .before in
+    let k = a .before .before .before in
+    let r = answer-wrong _ _ (start k .pre .1 .0) (long k) (start k .pre .0) _ _ (k .candidate .ensures) (a .adopted .ensures) _ (d .difference .ensures) _ (p .spare .ensures)
     (sym (w .is-code-word-by .ensures) ∙ c .before .if3 .left) in
     (c .refused2 .ensures .0 ∙ r .0, c .refused2 .ensures .1 ∙ r .1)
 

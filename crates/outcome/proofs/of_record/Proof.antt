@@ -78,7 +78,7 @@ same-length-7 c = search needs
 returns-3 : tie.Need-returns-3
 returns-3 c =
     let d = c .before in
-    let g = d .before in
+    let g = d .before .before .before in
     let i = g .before .before in
     let f = i .before .before .before .before .before .before .before .before in
     let b = f .before .before .before .before in

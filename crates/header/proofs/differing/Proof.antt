@@ -12,8 +12,8 @@ use mathlib.Core.Bool.{cond}
 use native.Mathlib.Numerals.{add-one}
 use borrow.Author.Tests.{eq-eqb, ne-eqb}
 use Rattle.header.specs.Header.{distance}
-use Rattle.header.proofs.difference.Statement.{statement}
-use Rattle.header.proofs.difference.Tie as tie
+use Rattle.header.proofs.differing.Statement.{statement}
+use Rattle.header.proofs.differing.Tie as tie
 
 none-left : (u v : List ℕ) → length u ≤ 96 → 0 ≡ distance (drop 96 u) (drop 96 v)
 unfolding distance
@@ -43,16 +43,16 @@ abbrev μ-loop : tie.MeasureT-loop
 loop-holds : tie.Need-loop-holds Inv-loop μ-loop
 loop-holds c =
     let a = c .args in
-    (omega arith, omega arith, none-left (a .t1) (a .t2) (omega arith))
+    (omega arith, omega arith, none-left (a .u .now) (a .v .now) (omega arith))
 
 sub-place : tie.Need-sub-place Inv-loop μ-loop
 sub-place c = search needs
 
-array-read-if1 : tie.Need-array-read-if1 Inv-loop μ-loop
-array-read-if1 c = search needs
+shared-slice-read-if1 : tie.Need-shared-slice-read-if1 Inv-loop μ-loop
+shared-slice-read-if1 c = search needs
 
-array-read-if1-2 : tie.Need-array-read-if1-2 Inv-loop μ-loop
-array-read-if1-2 c = search needs
+shared-slice-read-if1-2 : tie.Need-shared-slice-read-if1-2 Inv-loop μ-loop
+shared-slice-read-if1-2 c = search needs
 
 add-n : tie.Need-add-n Inv-loop μ-loop
 add-n c = search needs
@@ -62,10 +62,10 @@ loop-less c = search needs
 
 loop-again : tie.Need-loop-again Inv-loop μ-loop
 loop-again c =
-    let p = c .before .before in (
+    let p = c .before .before .before .before in (
       omega arith,
       omega arith,
-      differ (p .before .args .t1) (p .before .args .t2) (p .loop .n) (p .loop .place) (omega arith) (omega arith) (omega arith) (c .if1 .taken) (p .loop .inv .2),
+      differ (p .before .args .u .now) (p .before .args .v .now) (p .loop .n) (p .loop .place) (omega arith) (omega arith) (omega arith) (c .if1 .taken) (p .loop .inv .2),
     )
 
 loop-less-2 : tie.Need-loop-less-2 Inv-loop μ-loop
@@ -73,28 +73,28 @@ loop-less-2 c = search needs
 
 loop-again-2 : tie.Need-loop-again-2 Inv-loop μ-loop
 loop-again-2 c =
-    let p = c .before .before in (
+    let p = c .before .before .before .before in (
       omega arith,
       omega arith,
-      agree (p .before .args .t1) (p .before .args .t2) (p .loop .n) (p .loop .place) (omega arith) (omega arith) (omega arith) (c .if1 .left) (p .loop .inv .2),
+      agree (p .before .args .u .now) (p .before .args .v .now) (p .loop .n) (p .loop .place) (omega arith) (omega arith) (omega arith) (c .if1 .left) (p .loop .inv .2),
     )
 
 returns : tie.Need-returns Inv-loop μ-loop
 returns c =
     let p = c .before in
     let e : p .loop .place ≡ 0 = omega arith in
-    p .loop .inv .2 ∙ ap (λ (k : ℕ). distance (drop k (p .before .args .t1)) (drop k (p .before .args .t2))) e
+    p .loop .inv .2 ∙ ap (λ (k : ℕ). distance (drop k (p .before .args .u .now)) (drop k (p .before .args .v .now))) e
 
-pub difference-spec : {M : Type 1} → statement M
-difference-spec =
+pub differing-spec : {M : Type 1} → statement M
+differing-spec =
     tie.close
     (tie.spec
     Inv-loop
     μ-loop
     loop-holds
     sub-place
-    array-read-if1
-    array-read-if1-2
+    shared-slice-read-if1
+    shared-slice-read-if1-2
     add-n
     loop-less
     loop-again
