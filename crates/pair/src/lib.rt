@@ -122,22 +122,22 @@ fn both_or_restore(
     first: &mut [u8],
     second: &mut [u8],
     log: &mut [u32],
-    before: [u8; 96],
-    other: [u8; 96],
+    before: &[u8; 96],
+    other: &[u8; 96],
 ) -> Received
     requires { ⌜ listing (r .mode) (r .stream) ≡ Listed m ⌝ }
     requires { ⌜ Usable r (now carry) ⌝ }
     requires { ⌜ length (now first) ≤ 20480 ⌝ }
     ensures { λ a. ⌜ Paired m r (now (carry .entry)) (now (first .entry)) (now (second .entry)) (now (log .entry)) a (now (carry .exit)) (now (log .exit)) ⌝ }
-    ensures { λ _. ⌜ now (first .exit) ≡ cond (eqb (bothNumber m r (now (carry .entry)) (now (first .entry)) (now (second .entry)) (now (log .entry))) 0) (now (first .entry)) (frontReplaced (now (first .entry)) before) ⌝ }
-    ensures { λ _. ⌜ now (second .exit) ≡ cond (eqb (bothNumber m r (now (carry .entry)) (now (first .entry)) (now (second .entry)) (now (log .entry))) 0) (now (second .entry)) (frontReplaced (now (second .entry)) other) ⌝ }
+    ensures { λ _. ⌜ now (first .exit) ≡ cond (eqb (bothNumber m r (now (carry .entry)) (now (first .entry)) (now (second .entry)) (now (log .entry))) 0) (now (first .entry)) (frontReplaced (now (first .entry)) (now (before .entry))) ⌝ }
+    ensures { λ _. ⌜ now (second .exit) ≡ cond (eqb (bothNumber m r (now (carry .entry)) (now (first .entry)) (now (second .entry)) (now (log .entry))) 0) (now (second .entry)) (frontReplaced (now (second .entry)) (now (other .entry))) ⌝ }
 {
     let a = receive_both(r, m, &mut *carry, &mut *first, &mut *second, &mut *log);
     if a.refusal == 0 {
         return a;
     }
-    header::put_front(first, &before);
-    header::put_front(second, &other);
+    header::put_front(first, before);
+    header::put_front(second, other);
     a
 }
 
@@ -176,13 +176,13 @@ fn receive_listed(
     let one = is_corrected(correction::correct(&mut *first));
     let two = is_corrected(correction::correct(&mut *second));
     if one & two {
-        return both_or_restore(r, m, carry, first, second, log, before, other);
+        return both_or_restore(r, m, carry, first, second, log, &before, &other);
     }
     if one {
-        return receiver::receive_or_restore(r, m, carry, first, log, before);
+        return receiver::receive_or_restore(r, m, carry, first, log, &before);
     }
     if two {
-        return receiver::receive_or_restore(r, m, carry, second, log, other);
+        return receiver::receive_or_restore(r, m, carry, second, log, &other);
     }
     receiver::refused(r, 4, 0)
 }

@@ -350,15 +350,15 @@ fn read_corrected(y: &[u8]) -> Reading
 }
 
 // Reads a corrected PDU; where it is refused, the header that it had before is put back.
-fn read_or_restore(pdu: &mut [u8], before: [u8; 96]) -> Reading
+fn read_or_restore(pdu: &mut [u8], before: &[u8; 96]) -> Reading
     ensures { λ r. ⌜ r ≡ readingBy (now (pdu .entry)) (judged (now (pdu .entry))) ⌝ }
-    ensures { λ _. ⌜ now (pdu .exit) ≡ cond (eqb (judged (now (pdu .entry))) 0) (now (pdu .entry)) (frontReplaced (now (pdu .entry)) before) ⌝ }
+    ensures { λ _. ⌜ now (pdu .exit) ≡ cond (eqb (judged (now (pdu .entry))) 0) (now (pdu .entry)) (frontReplaced (now (pdu .entry)) (now (before .entry))) ⌝ }
 {
     let r = read_corrected(pdu);
     if r.refusal == 0 {
         return r;
     }
-    header::put_front(pdu, &before);
+    header::put_front(pdu, before);
     r
 }
 
@@ -370,7 +370,7 @@ pub fn read(pdu: &mut [u8]) -> Reading
     let before = header::header_of(pdu);
     let answer = correction::correct(pdu);
     match answer {
-        Correction::Corrected(_) => read_or_restore(pdu, before),
+        Correction::Corrected(_) => read_or_restore(pdu, &before),
         Correction::Refused(n) => refused_reading(n, 0),
     }
 }

@@ -325,19 +325,19 @@ pub fn receive_or_restore(
     carry: &mut [u8],
     pdu: &mut [u8],
     log: &mut [u32],
-    before: [u8; 96],
+    before: &[u8; 96],
 ) -> Received
     requires { ⌜ listing (r .mode) (r .stream) ≡ Listed m ⌝ }
     requires { ⌜ Usable r (now carry) ⌝ }
     requires { ⌜ length (now pdu) ≤ 20480 ⌝ }
     ensures { λ a. ⌜ Answered (m .sequences) (saidBy (r .register) (m .width) (controlAt (now (pdu .entry))) (now (pdu .entry))) r (now (carry .entry)) (now (log .entry)) (correctedNumber m r (now (carry .entry)) (now (pdu .entry)) (now (log .entry))) (wrongOf (now (pdu .entry)) (correctedNumber m r (now (carry .entry)) (now (pdu .entry)) (now (log .entry)))) a (now (carry .exit)) (now (log .exit)) ⌝ }
-    ensures { λ _. ⌜ now (pdu .exit) ≡ cond (eqb (correctedNumber m r (now (carry .entry)) (now (pdu .entry)) (now (log .entry))) 0) (now (pdu .entry)) (frontReplaced (now (pdu .entry)) before) ⌝ }
+    ensures { λ _. ⌜ now (pdu .exit) ≡ cond (eqb (correctedNumber m r (now (carry .entry)) (now (pdu .entry)) (now (log .entry))) 0) (now (pdu .entry)) (frontReplaced (now (pdu .entry)) (now (before .entry))) ⌝ }
 {
     let a = receive_corrected(r, m, &mut *carry, pdu, &mut *log);
     if a.refusal == 0 {
         return a;
     }
-    header::put_front(pdu, &before);
+    header::put_front(pdu, before);
     a
 }
 
@@ -365,7 +365,7 @@ fn receive_listed(
     let before = header::header_of(pdu);
     let answer = correction::correct_marked(pdu, marks);
     match answer {
-        Correction::Corrected(_) => receive_or_restore(r, m, carry, pdu, log, before),
+        Correction::Corrected(_) => receive_or_restore(r, m, carry, pdu, log, &before),
         Correction::Refused(n) => refused(r, n, 0),
     }
 }

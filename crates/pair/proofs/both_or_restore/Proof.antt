@@ -1,9 +1,8 @@
 use denote.Ref.{now}
-use mathlib.Core.Path.{_≡_, sym, ap, _∙_}
+use mathlib.Core.Path.{_≡_, ap, _∙_}
 use mathlib.Core.List.{List}
 use Prim.Native.Nat.{ℕ}
 use native.Mathlib.Omega.{arith}
-use lib.ListN.{length}
 use Rattle.header.specs.Header.{frontReplaced}
 use Rattle.pair.proofs.Judging.{both-kept, both-put-back}
 use borrow.Author.Needs.{needs}
@@ -38,30 +37,13 @@ returns c =
     let z : h .result .refusal ≡ 0 = omega (arith, c .if1 .taken) in (
       h .ensures .0,
       (
-        h .ensures .1 .0 ∙ both-kept (a .m) (a .r) (now (a .carry)) (now (a .first)) (now (a .second)) (now (a .log)) (h .result) (h .last .1 .1 .0) (h .last .1 .1 .1 .1 .1 .0) (h .ensures .0) (now (a .first)) (frontReplaced (now (a .first)) (a .t7)) z,
-        h .ensures .1 .1 ∙ both-kept (a .m) (a .r) (now (a .carry)) (now (a .first)) (now (a .second)) (now (a .log)) (h .result) (h .last .1 .1 .0) (h .last .1 .1 .1 .1 .1 .0) (h .ensures .0) (now (a .second)) (frontReplaced (now (a .second)) (a .t8)) z,
+        h .ensures .1 .0 ∙ both-kept (a .m) (a .r) (now (a .carry)) (now (a .first)) (now (a .second)) (now (a .log)) (h .result) (h .last .1 .1 .0) (h .last .1 .1 .1 .1 .1 .0) (h .ensures .0) (now (a .first)) (frontReplaced (now (a .first)) (now (a .before))) z,
+        h .ensures .1 .1 ∙ both-kept (a .m) (a .r) (now (a .carry)) (now (a .first)) (now (a .second)) (now (a .log)) (h .result) (h .last .1 .1 .0) (h .last .1 .1 .1 .1 .1 .0) (h .ensures .0) (now (a .second)) (frontReplaced (now (a .second)) (now (a .other))) z,
       ),
     )
 
-slice-aggregate-put-front : tie.Need-slice-aggregate-put-front
-slice-aggregate-put-front c =
-    let e = c .before .before in
-    let f = e .before .before .before .before .before .before .before .before .before .before in
-    let s = f .before .before .before .before .before .before .before .before .before in
-    let long : length (s .args .t7) ≡ 96 = omega (arith, s .good .1 .1 .1 .1 .1 .1 .0) in
-    sym long
-
 put-front-requires : tie.Need-put-front-requires
 put-front-requires c κs = search needs
-
-slice-aggregate-put-front-2 : tie.Need-slice-aggregate-put-front-2
-slice-aggregate-put-front-2 c =
-    let d = c .before .before .before .before in
-    let e = d .before .before .before in
-    let f = e .before .before .before .before .before .before .before .before .before .before in
-    let s = f .before .before .before .before .before .before .before .before .before in
-    let long : length (s .args .t8) ≡ 96 = omega (arith, s .good .1 .1 .1 .1 .1 .1 .1 .0) in
-    sym long
 
 put-front-requires-2 : tie.Need-put-front-requires-2
 put-front-requires-2 c κs = search needs
@@ -90,8 +72,8 @@ returns-2 c =
     let n : h .result .refusal ≡ 0 → ⊥ = λ z. e .if1 .left (omega (arith, z)) in (
       h .ensures .0,
       (
-        d .put-front .ensures ∙ ap (λ (l : List ℕ). frontReplaced l (a .t7)) (h .ensures .1 .0) ∙ both-put-back (a .m) (a .r) (now (a .carry)) (now (a .first)) (now (a .second)) (now (a .log)) (h .result) (h .last .1 .1 .0) (h .last .1 .1 .1 .1 .1 .0) (h .ensures .0) (now (a .first)) (frontReplaced (now (a .first)) (a .t7)) n,
-        g .put-front2 .ensures ∙ ap (λ (l : List ℕ). frontReplaced l (a .t8)) (h .ensures .1 .1) ∙ both-put-back (a .m) (a .r) (now (a .carry)) (now (a .first)) (now (a .second)) (now (a .log)) (h .result) (h .last .1 .1 .0) (h .last .1 .1 .1 .1 .1 .0) (h .ensures .0) (now (a .second)) (frontReplaced (now (a .second)) (a .t8)) n,
+        d .put-front .ensures ∙ ap (λ (l : List ℕ). frontReplaced l (now (a .before))) (h .ensures .1 .0) ∙ both-put-back (a .m) (a .r) (now (a .carry)) (now (a .first)) (now (a .second)) (now (a .log)) (h .result) (h .last .1 .1 .0) (h .last .1 .1 .1 .1 .1 .0) (h .ensures .0) (now (a .first)) (frontReplaced (now (a .first)) (now (a .before))) n,
+        g .put-front2 .ensures ∙ ap (λ (l : List ℕ). frontReplaced l (now (a .other))) (h .ensures .1 .1) ∙ both-put-back (a .m) (a .r) (now (a .carry)) (now (a .first)) (now (a .second)) (now (a .log)) (h .result) (h .last .1 .1 .0) (h .last .1 .1 .1 .1 .1 .0) (h .ensures .0) (now (a .second)) (frontReplaced (now (a .second)) (now (a .other))) n,
       ),
     )
 
@@ -105,9 +87,7 @@ both-or-restore-spec =
     same-length-3
     same-length-4
     returns
-    slice-aggregate-put-front
     put-front-requires
-    slice-aggregate-put-front-2
     put-front-requires-2
     same-length-5
     same-length-6

@@ -81,7 +81,7 @@ known x =
 
 both-or-restore-requires : tie.Need-both-or-restore-requires
 both-or-restore-requires c κs =
-    let w = c .before .before .before .before in
+    let w = c .before .before .before .before .before .before in
     let k = known (w .before) in
     (k .listed, (fine k, first-long k (both-true _ _ (w .if2 .taken) .0)))
 
@@ -100,13 +100,13 @@ same-length-4 c = search needs
 returns-2 : tie.Need-returns-2
 returns-2 c =
     let f = c .before .before .before .before .before .before .before .before in
-    let w = f .before .before .before .before .before in
+    let w = f .before .before .before .before .before .before .before in
     let b = f .both-or-restore in
     both-call (known (w .before)) _ (b .result) (b .last .1 .1 .0) (b .last .1 .1 .1 .0) (b .last .1 .1 .1 .1 .0) (b .last .1 .1 .1 .1 .1 .0) (both-true _ _ (w .if2 .taken)) (b .ensures .0) (b .ensures .1 .0) (b .ensures .1 .1)
 
 receive-or-restore-requires : tie.Need-receive-or-restore-requires
 receive-or-restore-requires c κs =
-    let w = c .before .before .before in
+    let w = c .before .before .before .before in
     let k = known (w .before .before) in
     (k .listed, (fine k, first-long k (w .if3 .taken)))
 
@@ -125,13 +125,13 @@ same-length-8 c = search needs
 returns-3 : tie.Need-returns-3
 returns-3 c =
     let f = c .before .before .before .before .before .before in
-    let w = f .before .before .before .before in
+    let w = f .before .before .before .before .before in
     let b = f .receive-or-restore in
     first-call (known (w .before .before)) _ (b .result) (b .last .1 .1 .0) (b .last .1 .1 .1 .0) (b .last .1 .1 .1 .1 .0) (w .if3 .taken) (not-both _ _ (w .before .if2 .left) (w .if3 .taken)) (b .ensures .0) (b .ensures .1)
 
 receive-or-restore-requires-2 : tie.Need-receive-or-restore-requires-2
 receive-or-restore-requires-2 c κs =
-    let w = c .before .before .before in
+    let w = c .before .before .before .before in
     let k = known (w .before .before .before) in
     (k .listed, (fine k, second-long k (w .if4 .taken)))
 
@@ -150,7 +150,7 @@ same-length-12 c = search needs
 returns-4 : tie.Need-returns-4
 returns-4 c =
     let f = c .before .before .before .before .before .before in
-    let w = f .before .before .before .before in
+    let w = f .before .before .before .before .before in
     let b = f .receive-or-restore2 in
     second-call (known (w .before .before .before)) _ (b .result) (b .last .1 .1 .0) (b .last .1 .1 .1 .0) (b .last .1 .1 .1 .1 .0) (w .before .if3 .left) (w .if4 .taken) (b .ensures .0) (b .ensures .1)
 

@@ -39,7 +39,7 @@ same-length c = search needs
 returns : tie.Need-returns
 returns c =
     let f = c .before .before in
-    let g = f .before .before in
+    let g = f .before .before .before in
     let k = g .before .before .before .before in
     let h = k .before .before in
     taken _ _ _ _ _ _ (λ i. h .before .before .slice-known .given i .fits) (sym (k .correct .ensures .0) ∙ g .enum-told .given .1) (h .header-of .ensures) (k .correct .ensures .1)

@@ -24,9 +24,6 @@ returns c =
     let j = c .before .before in
     (j .read-corrected .ensures, kept _ _ _ (j .read-corrected .ensures) (omega (arith, c .if1 .taken)))
 
-slice-aggregate-put-front : tie.Need-slice-aggregate-put-front
-slice-aggregate-put-front c = search needs
-
 put-front-requires : tie.Need-put-front-requires
 put-front-requires c κs = search needs
 
@@ -46,7 +43,6 @@ read-or-restore-spec =
     read-corrected-requires
     same-length
     returns
-    slice-aggregate-put-front
     put-front-requires
     same-length-2
     returns-2)

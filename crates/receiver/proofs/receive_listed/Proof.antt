@@ -51,7 +51,7 @@ enum-told c = search needs
 
 receive-or-restore-requires : tie.Need-receive-or-restore-requires
 receive-or-restore-requires c κs =
-    let g = c .before .before .before in
+    let g = c .before .before .before .before in
     let k = g .before .before .before .before in
     let e = k .before .before .before .before in
     let w = e .before .before in
@@ -78,7 +78,7 @@ same-length-3 c = search needs
 returns-3 : tie.Need-returns-3
 returns-3 c =
     let f = c .before .before .before .before .before .before in
-    let g = f .before .before .before .before in
+    let g = f .before .before .before .before .before in
     let k = g .before .before .before .before in
     let h = k .before .before in
     let e = h .before .before in

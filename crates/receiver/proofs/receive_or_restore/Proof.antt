@@ -2,8 +2,7 @@ use Rattle.receiver.proofs.Calling.{kept, put-back}
 use Rattle.header.specs.Header.{frontReplaced}
 use denote.Ref.{now}
 use native.Mathlib.Omega.{arith}
-use mathlib.Core.Path.{_≡_, sym, _∙_}
-use lib.ListN.{length}
+use mathlib.Core.Path.{_∙_}
 use borrow.Author.Needs.{needs}
 use Rattle.receiver.proofs.receive_or_restore.Statement.{statement}
 use Rattle.receiver.proofs.receive_or_restore.Tie as tie
@@ -30,14 +29,7 @@ returns c =
     let s = f .before .before .before .before .before .before .before in
     let a = s .args in
     let h = f .receive-corrected in
-    (h .ensures, kept (a .m) (a .r) (now (a .carry)) (now (a .pdu)) (now (a .log)) (h .result) (h .last .1 .1 .0) (h .last .1 .1 .1 .1 .0) (h .ensures) (frontReplaced (now (a .pdu)) (a .t6)) (omega (arith, c .if1 .taken)))
-
-slice-aggregate-put-front : tie.Need-slice-aggregate-put-front
-slice-aggregate-put-front c =
-    let f = c .before .before .before .before .before .before .before .before in
-    let s = f .before .before .before .before .before .before .before in
-    let long : length (s .args .t6) ≡ 96 = omega (arith, s .good .1 .1 .1 .1 .1 .0) in
-    sym long
+    (h .ensures, kept (a .m) (a .r) (now (a .carry)) (now (a .pdu)) (now (a .log)) (h .result) (h .last .1 .1 .0) (h .last .1 .1 .1 .1 .0) (h .ensures) (frontReplaced (now (a .pdu)) (now (a .before))) (omega (arith, c .if1 .taken)))
 
 put-front-requires : tie.Need-put-front-requires
 put-front-requires c κs = search needs
@@ -59,7 +51,7 @@ returns-2 c =
     let s = f .before .before .before .before .before .before .before in
     let a = s .args in
     let h = f .receive-corrected in
-    (h .ensures, p .put-front .ensures ∙ put-back (a .m) (a .r) (now (a .carry)) (now (a .pdu)) (now (a .log)) (h .result) (h .last .1 .1 .0) (h .last .1 .1 .1 .1 .0) (h .ensures) (frontReplaced (now (a .pdu)) (a .t6)) (omega (arith, e .if1 .left)))
+    (h .ensures, p .put-front .ensures ∙ put-back (a .m) (a .r) (now (a .carry)) (now (a .pdu)) (now (a .log)) (h .result) (h .last .1 .1 .0) (h .last .1 .1 .1 .1 .0) (h .ensures) (frontReplaced (now (a .pdu)) (now (a .before))) (omega (arith, e .if1 .left)))
 
 pub receive-or-restore-spec : {M : Type 1} → statement M
 receive-or-restore-spec =
@@ -70,7 +62,6 @@ receive-or-restore-spec =
     same-length-2
     same-length-3
     returns
-    slice-aggregate-put-front
     put-front-requires
     same-length-4
     same-length-5
