@@ -23,6 +23,11 @@ in-first [] b i h = absurd (not-suc-le-zero h)
 in-first (x ∷ a) b zero h = refl
 in-first (x ∷ a) b (suc i) h = in-first a b i (omega arith)
 
+-- bytes of which the first slice has none
+pub only-second : (a b : List ℕ) → length a ≡ 0 → b ++ a ≡ a ++ b
+only-second [] b h = append-nil b
+only-second (x ∷ a) b h = absurd (not-suc-le-zero (let e : suc (length a) ≤ 0 = omega (arith, h) in e))
+
 -- three bytes of the first of two lists
 pub word-in-first : (a b : List ℕ) (i : ℕ) → i + 3 ≤ length a → dataWord 3 (getD a i 0) (getD a (i + 1) 0) (getD a (i + 2) 0) ≡ dataWordAt (a ++ b) i
 word-in-first a b i h =

@@ -200,6 +200,19 @@ fn put_data(log: &mut [u32], at: usize, first: &[u8], second: &[u8]) -> usize
     c + put_one(&mut *log, at + c, first, second, 3 * c)
 }
 
+// The same; where the first has no bytes, those of the second are all in one slice.
+fn put_bytes(log: &mut [u32], at: usize, first: &[u8], second: &[u8]) -> usize
+    requires { ⌜ length (now first) + length (now second) ≤ 65535 ⌝ }
+    requires { ⌜ at + length (dataWords (now first ++ now second)) ≤ length (now log) ⌝ }
+    ensures { λ r. ⌜ r ≡ length (dataWords (now (first .entry) ++ now (second .entry))) ⌝ }
+    ensures { λ _. ⌜ now (log .exit) ≡ putAt (now (log .entry)) at (dataWords (now (first .entry) ++ now (second .entry))) ⌝ }
+{
+    if first.len() == 0 {
+        return put_data(log, at, second, first);
+    }
+    put_data(log, at, first, second)
+}
+
 // Writes a packet's entry from a place on; its bytes are those of two slices, one after the other. Answers how many words.
 pub fn put_packet(log: &mut [u32], at: usize, number: u8, first: &[u8], second: &[u8]) -> usize
     requires { ⌜ length (now first) + length (now second) ≤ 65535 ⌝ }
@@ -209,7 +222,7 @@ pub fn put_packet(log: &mut [u32], at: usize, number: u8, first: &[u8], second: 
 {
     let length = first.len() + second.len();
     log[at] = word_of(0, wide(number), length as u32);
-    let n = put_data(&mut *log, at + 1, first, second);
+    let n = put_bytes(&mut *log, at + 1, first, second);
     n + 1
 }
 
@@ -221,7 +234,7 @@ pub fn put_psd(log: &mut [u32], at: usize, bytes: &[u8]) -> usize
     ensures { λ _. ⌜ now (log .exit) ≡ putAt (now (log .entry)) at (entryWords (psd (now (bytes .entry)))) ⌝ }
 {
     log[at] = word_of(2, 0, bytes.len() as u32);
-    let n = put_data(&mut *log, at + 1, &bytes[..0], bytes);
+    let n = put_bytes(&mut *log, at + 1, &bytes[..0], bytes);
     n + 1
 }
 
