@@ -172,19 +172,18 @@ folded-lt n q′ q p′ p cuts h l bh bl =
     xor-lt n l (bitXor (bitXor g (g % 2 ^ q′ * 2 ^ q)) (g % 2 ^ p′ * 2 ^ p)) bl
     (xor-lt n (bitXor g (g % 2 ^ q′ * 2 ^ q)) (g % 2 ^ p′ * 2 ^ p) (xor-lt n g (g % 2 ^ q′ * 2 ^ q) bg (cuts g .0)) (cuts g .1))
 
--- ---- from 128 bits to a byte
+-- ---- from 64 bits to a byte
 
 halves : (n w : ℕ) → w / 2 ^ n * 2 ^ n + w % 2 ^ n ≡ w → red (n + n) w ≡ bitXor (shifts n (red n (w / 2 ^ n))) (red n (w % 2 ^ n))
 halves n w e = ap (red (n + n)) (sym e) ∙ red-join n n (w / 2 ^ n) (w % 2 ^ n) (mod-lt w (pow-pos n))
 
-pub reduced-val : (h l w d s r : ℕ) → h < 18446744073709551616
-    → w ≡ folded 32 32 24 40 h l → w < 18446744073709551616
+pub reduced-red : (w d s r : ℕ) → w < 18446744073709551616
     → d ≡ folded 16 16 12 20 (w / 4294967296) (w % 4294967296) → d < 4294967296
     → s ≡ folded 8 8 6 10 (d / 65536) (d % 65536) → s < 65536
     → r ≡ folded 4 4 3 5 (s / 256) (s % 256) → r < 256
-    → r ≡ val h l
-reduced-val h l w d s r bh ew bw ed bd es bs er br =
-    sym (fold-64 h l bh ∙ ap (red 64) (sym ew) ∙ halves 32 w (omega arith)
+    → r ≡ red 64 w
+reduced-red w d s r bw ed bd es bs er br =
+    sym (halves 32 w (omega arith)
     ∙ fold-32 (w / 4294967296) (w % 4294967296) (omega arith) ∙ ap (red 32) (sym ed) ∙ halves 16 d (omega arith)
     ∙ fold-16 (d / 65536) (d % 65536) (omega arith) ∙ ap (red 16) (sym es) ∙ halves 8 s (omega arith)
     ∙ fold-8 (s / 256) (s % 256) (omega arith) ∙ ap (red 8) (sym er) ∙ red-byte r br)

@@ -2,10 +2,12 @@
 use mathlib.Core.Path.{_≡_, refl, sym, ap, ap₂, _∙_, subst}
 use mathlib.Core.List.{List, [], _∷_}
 use Prim.Native.Nat.{ℕ, zero, suc, _+_, _-_, _*_, _/_, _%_, _^_, _<_, _≤_}
-use native.Mathlib.Nat.{zero-add, suc-add, add-suc, add-comm, pow-suc, mod-lt}
+use native.Mathlib.Nat.{zero-add, suc-add, add-suc, add-comm, pow-suc, pow-le-pow-right, mod-lt, lt-of-lt-of-le, not-suc-le-zero}
 use native.Mathlib.Omega.{arith}
 use lib.Bits.{bitXor, bitOr, or-shifted-r, xor-comm, xor-lt, xor-shr, xor-mod, xor-zero-l, xor-zero-r, xor-shifted, shifted-half, shifted-even}
-use lib.Dec.{lit<, lit≤}
+use mathlib.Core.Bool.{cond}
+use lib.Dec.{lit<, lit≤, eqb}
+use lib.Pow.{shl-lt}
 use lib.ListN.{length, getD, drop, drop-of-length-le}
 use lib.Seq.{drop-cons}
 use Rattle.bits.proofs.Xor.{by-bit, xor-assoc, xor-swap, bit-times, double}
@@ -233,7 +235,7 @@ module _ (k j : ℕ) (s : k + j ≡ 64) (t u c v : ℕ) (ht : t < 2 ^ k) (hu : u
       ∙ turned (shifts 64 (shifts k (red j u))) (shifts 64 (red k c)) (shiftOne (red k t)) (red 64 b) (shifts k (red j v))
       ∙ ap (λ (x : ℕ). bitXor x (red 64 b)) (sym before)
 
-red-wide : (b : ℕ) → b < 256 → red 64 b ≡ b
+pub red-wide : (b : ℕ) → b < 256 → red 64 b ≡ b
 red-wide b h = red-more 56 8 b h ∙ red-byte b h
 
 -- a byte more
@@ -279,6 +281,14 @@ next h l a b hh hl =
     ∙ ap (λ (x : ℕ). bitXor x (red 64 b)) (ap₂ (λ (x y : ℕ). shifts 1 (val x y)) eh el ∙ once (val h l) (val-lt h l)))
     ∙ sym (xor-assoc (shifts 64 (red 64 a)) (shifts 64 (shifts 64 (val h l))) (red 64 b))
     ∙ ap (λ (x : ℕ). bitXor x (red 64 b)) (xor-comm (shifts 64 (red 64 a)) (shifts 64 (shifts 64 (val h l))) ∙ sym (shifts-xor 64 (shifts 64 (val h l)) (red 64 a)))
+
+-- eight bytes below the upper half
+above : (h l : ℕ) → bitXor (shifts 64 (val 0 h)) (red 64 l) ≡ val h l
+unfolding val
+above h l =
+    ap (λ (x : ℕ). bitXor (shifts 64 (bitXor (shifts 64 x) (red 64 h))) (red 64 l)) (red-zero 64)
+    ∙ ap (λ (x : ℕ). bitXor (shifts 64 (bitXor x (red 64 h))) (red 64 l)) (shifts-zero 64)
+    ∙ ap (λ (x : ℕ). bitXor (shifts 64 x) (red 64 l)) (xor-zero-l (red 64 h))
 
 -- 32 bytes more, as 128 bits
 far : (h l p q : ℕ) → h < 18446744073709551616 → l < 18446744073709551616 → val (farHigh h l p) (farLow h l q) ≡ bitXor (shifts 2 (val h l)) (val p q)
@@ -496,6 +506,13 @@ module _ (g : ℕ) (b : List ℕ) (h l i : ℕ) (hh : h < 18446744073709551616) 
       ∙ word-step b (i + 8) (bitXor (shifts 64 (val h l)) (red 64 (wordAt b i))) (omega arith) hb))
       ∙ inv
 
+  -- eight bytes below 128 bits are sixteen below the upper half of these, of which the lower half is eight
+  pub word-again : i + 8 ≤ length b → shifts 8 (horner (val (nextHigh 0 h l) (nextLow 0 h (wordAt b i))) (drop (i + 8) b)) ≡ g
+  word-again n =
+      ap (λ (x : ℕ). shifts 8 (horner x (drop (i + 8) b)))
+      (next 0 h l (wordAt b i) (lit< tt) hh ∙ ap (λ (x : ℕ). bitXor (shifts 64 x) (red 64 (wordAt b i))) (above h l))
+      ∙ ap (shifts 8) (sym (word-step b i (val h l) n hb)) ∙ inv
+
   pub far-again : i + 32 ≤ length b
       → shifts 8 (horner (val (farHigh h l (nextHigh (wordAt b i) (wordAt b (i + 8)) (wordAt b (i + 16)))) (farLow h l (nextLow (wordAt b i) (wordAt b (i + 8)) (wordAt b (i + 24))))) (drop (i + 32) b)) ≡ g
   far-again n =
@@ -518,6 +535,13 @@ module _ (g : ℕ) (b : List ℕ) (h l i : ℕ) (hh : h < 18446744073709551616) 
   pub done : length b ≤ i → shifts 8 (val h l) ≡ g
   unfolding horner
   done n = sym (ap (λ (x : List ℕ). shifts 8 (horner (val h l) x)) (drop-of-length-le b n)) ∙ inv
+
+-- the first eight bytes at once, or none
+pub first-taken : (g h : ℕ) (b : List ℕ) → h < 18446744073709551616 → Bytes b → shifts 8 (horner (val h 0) b) ≡ g → 8 ≤ length b → (k : ℕ) → k ≤ 1
+    → shifts 8 (horner (val (cond (eqb (k * 8) 0) h (nextHigh 0 h 0)) (cond (eqb (k * 8) 0) 0 (nextLow 0 h (wordAt b 0)))) (drop (k * 8) b)) ≡ g
+first-taken g h b hh hb inv n zero z = inv
+first-taken g h b hh hb inv n (suc zero) z = word-again g b h 0 0 hh (lit< tt) hb inv n
+first-taken g h b hh hb inv n (suc (suc k)) z = (let e : suc k ≤ 0 = omega arith in absurd (not-suc-le-zero e))
 
 pub low-fits : (l b : ℕ) → b < 256 → l % 72057594037927936 * 256 + b < 18446744073709551616
 low-fits l b h = (let p : l % 72057594037927936 < 72057594037927936 = mod-lt l (lit< tt) in go (l % 72057594037927936) p)
@@ -554,3 +578,34 @@ next-low-fits l = (let p : l % 9223372036854775808 < 9223372036854775808 = mod-l
 
 pub bit-fits : (h : ℕ) → h < 18446744073709551616 → h / 9223372036854775808 * 2 < 18446744073709551616
 bit-fits h hh = (let q : h / 9223372036854775808 < 2 = omega arith in omega arith)
+
+-- ---- fewer than eight bytes, in 64 bits
+
+-- where there is room for a byte, it is added and the bits move up by eight
+byte-in : (w b : ℕ) → w < 72057594037927936 → b < 256 → red 64 (bitXor w b * 256) ≡ crcByte (red 64 w) b
+byte-in w b hw hb =
+    red-shift 56 8 (bitXor w b)
+    ∙ ap (shifts 8) (red-xor 56 w b ∙ ap₂ bitXor (sym (red-more 8 56 w hw)) (red-more 48 8 b hb ∙ red-byte b hb))
+    ∙ sym (byte-shifts (red 64 w) b)
+
+-- after i bytes there are 8 + 8 i bits
+pub room : (i w b : ℕ) → i ≤ 6 → w < 2 ^ (8 + 8 * i) → b < 256
+    → (w < 72057594037927936) × (bitXor w b < 72057594037927936) × (bitXor w b * 256 < 2 ^ (8 + 8 * (i + 1)))
+room i w b hi hw hb =
+    let n : ℕ = 8 + 8 * i in
+    let least : 2 ^ 8 ≤ 2 ^ n = pow-le-pow-right {n = 2} (lit< tt) {i = 8} {j = n} (omega arith) in
+    let most : 2 ^ n ≤ 2 ^ 56 = pow-le-pow-right {n = 2} (lit< tt) {i = n} {j = 56} (omega arith) in
+    let e : n + 8 ≡ 8 + 8 * (i + 1) = omega arith in
+    let x : bitXor w b < 2 ^ n = xor-lt n w b hw (lt-of-lt-of-le hb least) in
+    (lt-of-lt-of-le hw most, lt-of-lt-of-le x most, subst (λ (k : ℕ). bitXor w b * 256 < 2 ^ k) e (shl-lt n 8 x))
+
+module _ (g : ℕ) (b : List ℕ) (w i : ℕ) (inv : crcFrom (red 64 w) (drop i b) ≡ g) where
+  pub few-again : w < 72057594037927936 → Bytes b → i < length b → crcFrom (red 64 (bitXor w (getD b i 0) * 256)) (drop (i + 1) b) ≡ g
+  unfolding crcFrom
+  few-again hw hb n =
+      ap (λ (r : ℕ). crcFrom r (drop (i + 1) b)) (byte-in w (getD b i 0) hw (hb i))
+      ∙ ap (crcFrom (red 64 w)) (sym (drop-more b i n)) ∙ inv
+
+  pub few-done : length b ≤ i → red 64 w ≡ g
+  unfolding crcFrom
+  few-done n = sym (ap (crcFrom (red 64 w)) (drop-of-length-le b n)) ∙ inv

@@ -1,9 +1,11 @@
 // CRC-8 with the divisor x^8 + x^5 + x^4 + 1, top bit of each byte first (document 01, "Expansion, PSD, pieces").
 ghost use mathlib.Core.Path.{_≡_};
+ghost use mathlib.Core.Bool.{cond};
 ghost use Prim.Native.Nat.{_+_, _-_, _%_, _<_, _≤_};
+ghost use lib.Dec.{eqb};
 ghost use lib.ListN.{length, drop};
 ghost use Rattle.crc.specs.Crc.{crcFrom};
-ghost use Rattle.crc.specs.Ring.{wordAt, pushHigh, pushLow, nextHigh, nextLow, farHigh, farLow, shifts, val, horner, folded};
+ghost use Rattle.crc.specs.Ring.{wordAt, pushHigh, pushLow, nextHigh, nextLow, farHigh, farLow, shifts, red, val, horner, folded};
 
 fn wide(b: u8) -> u64
     ensures { λ r. ⌜ (r ≡ b) × (r < 256) ⌝ }
@@ -104,14 +106,20 @@ fn fold8(h: u64, l: u64) -> u64
     l ^ (g ^ (g % 16 * 16) ^ (g % 8 * 32))
 }
 
+// 64 bits modulo the divisor.
+fn reduced64(w: u64) -> u8
+    ensures { λ r. ⌜ r ≡ red 64 w ⌝ }
+{
+    let d = fold32(w / 4294967296, w % 4294967296);
+    let s = fold16(d / 65536, d % 65536);
+    fold8(s / 256, s % 256) as u8
+}
+
 // 128 bits modulo the divisor.
 fn reduced(h: u64, l: u64) -> u8
     ensures { λ r. ⌜ r ≡ val h l ⌝ }
 {
-    let w = fold64(h, l);
-    let d = fold32(w / 4294967296, w % 4294967296);
-    let s = fold16(d / 65536, d % 65536);
-    fold8(s / 256, s % 256) as u8
+    reduced64(fold64(h, l))
 }
 
 // The CRC of the sixteen bytes of 128 bits: those times x^8, modulo the divisor.
@@ -155,14 +163,15 @@ fn by_16(h: u64, l: u64, bytes: &[u8], from: usize) -> u8
     by_32(next_high(h, l, a), next_low(h, l, b), bytes, from + 16)
 }
 
-// The register after all bytes, from any start: bits that stand for x^119 times the start have it as their CRC, as x^127 is 1.
-pub fn crc8_from(start: u8, bytes: &[u8]) -> u8
-    ensures { λ r. ⌜ r ≡ crcFrom start (now (bytes .entry)) ⌝ }
+// The same where the bytes up to a multiple of 16, taken one by one, are any number.
+fn by_1(h: u64, l: u64, bytes: &[u8], from: usize) -> u8
+    requires { ⌜ from ≤ length (now bytes) % 16 ⌝ }
+    ensures { λ r. ⌜ r ≡ shifts 8 (horner (val h l) (drop from (now (bytes .entry)))) ⌝ }
 {
     let head = bytes.len() % 16;
-    let mut h: u64 = wide(start) * 36028797018963968;
-    let mut l: u64 = 0;
-    let mut i: usize = 0;
+    let mut h: u64 = h;
+    let mut l: u64 = l;
+    let mut i: usize = from;
     while i < head {
         let x = push_high(h, l);
         l = push_low(h, l, bytes[i]);
@@ -170,6 +179,55 @@ pub fn crc8_from(start: u8, bytes: &[u8]) -> u8
         i += 1;
     }
     by_16(h, l, bytes, i)
+}
+
+// The register after fewer than eight bytes, from any start: both fit in 64 bits.
+fn few(start: u8, bytes: &[u8]) -> u8
+    requires { ⌜ length (now bytes) < 8 ⌝ }
+    ensures { λ r. ⌜ r ≡ crcFrom start (now (bytes .entry)) ⌝ }
+{
+    let mut w: u64 = wide(start);
+    let mut i: usize = 0;
+    while i < bytes.len() {
+        w = (w ^ wide(bytes[i])) * 256;
+        i += 1;
+    }
+    reduced64(w)
+}
+
+// The upper half of 128 bits that begin with h, and with the first eight bytes where the others are taken from place 8 on. Eight bytes below 128 bits are
+// sixteen below the upper half of these, of which the lower half is eight.
+fn first_high(h: u64, from: usize) -> u64
+    ensures { λ r. ⌜ r ≡ cond (eqb from 0) h (nextHigh 0 h 0) ⌝ }
+{
+    if from == 0 {
+        return h;
+    }
+    next_high(0, h, 0)
+}
+
+// The lower half.
+fn first_low(h: u64, bytes: &[u8], from: usize) -> u64
+    requires { ⌜ 8 ≤ length (now bytes) ⌝ }
+    ensures { λ r. ⌜ r ≡ cond (eqb from 0) 0 (nextLow 0 h (wordAt (now (bytes .entry)) 0)) ⌝ }
+{
+    if from == 0 {
+        return 0;
+    }
+    next_low(0, h, word(bytes, 0))
+}
+
+// The register after all bytes, from any start: bits that stand for x^119 times the start have it as their CRC, as x^127 is 1. Of the bytes up to a multiple
+// of 16, the first eight are taken at once.
+pub fn crc8_from(start: u8, bytes: &[u8]) -> u8
+    ensures { λ r. ⌜ r ≡ crcFrom start (now (bytes .entry)) ⌝ }
+{
+    if bytes.len() < 8 {
+        return few(start, bytes);
+    }
+    let h = wide(start) * 36028797018963968;
+    let from = bytes.len() % 16 / 8 * 8;
+    by_1(first_high(h, from), first_low(h, bytes, from), bytes, from)
 }
 
 // The CRC-8 of the bytes: the register starts at 0.

@@ -1,45 +1,21 @@
 -- `crc::reduced` meets its contract.
-use native.Mathlib.Omega.{arith}
-use mathlib.Core.Path.{_≡_, refl, ap, sym, _∙_}
-use Prim.Native.Nat.{ℕ, _+_, _-_, _*_, _≤_, _<_}
-use lib.ListN.{length, take, drop, getD, set, length-set}
-use mathlib.Core.List.{List, [], _∷_, _++_}
+use mathlib.Core.Path.{ap, sym, _∙_}
 use borrow.Author.Needs.{needs}
-use Rattle.crc.proofs.Folding.{reduced-val}
+use Rattle.crc.specs.Ring.{red}
+use Rattle.crc.proofs.Folding.{fold-64}
 use Rattle.crc.proofs.reduced.Statement.{statement}
 use Rattle.crc.proofs.reduced.Tie as tie
-use Rattle.crc.proofs.reduced.Reads as reads
-use Rattle.crc.proofs.reduced.Lts as lts
-use Rattle.crc.proofs.fold16.Reads as fold16-reads
-use Rattle.crc.proofs.fold32.Reads as fold32-reads
-use Rattle.crc.proofs.fold64.Reads as fold64-reads
-use Rattle.crc.proofs.fold8.Reads as fold8-reads
 
 fold64-requires : tie.Need-fold64-requires
 fold64-requires c κs = search needs
 
-fold32-requires : tie.Need-fold32-requires
-fold32-requires c κs = search needs
-
-fold16-requires : tie.Need-fold16-requires
-fold16-requires c κs = search needs
-
-fold8-requires : tie.Need-fold8-requires
-fold8-requires c κs = search needs
-
-cast-result : tie.Need-cast-result
-cast-result c = search needs
+reduced64-requires : tie.Need-reduced64-requires
+reduced64-requires c κs = search needs
 
 returns : tie.Need-returns
 returns c =
-    let a = c .before .before .before .before in
-    let w = c .before .before .before .fold64 in
-    let d = c .before .before .fold32 in
-    let s = c .before .fold16 in
-    reduced-val (a .args .h) (a .args .l) (w .result) (d .result) (s .result) (c .fold8 .result) (a .fits .h .fits)
-    (w .ensures .0) (w .ensures .1) (d .ensures .0) (d .ensures .1) (s .ensures .0) (s .ensures .1) (c .fold8 .ensures .0) (c .fold8 .ensures .1)
+    let a = c .before .before in
+    c .reduced64 .ensures ∙ ap (red 64) (c .before .fold64 .ensures .0) ∙ sym (fold-64 (a .args .h) (a .args .l) (a .fits .h .fits))
 
 pub reduced-spec : {M : Type 1} → statement M
-reduced-spec =
-    tie.close
-    (tie.spec fold64-requires fold32-requires fold16-requires fold8-requires cast-result returns)
+reduced-spec = tie.close (tie.spec fold64-requires reduced64-requires returns)

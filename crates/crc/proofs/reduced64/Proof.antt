@@ -1,0 +1,40 @@
+-- `crc::reduced64` meets its contract.
+use native.Mathlib.Omega.{arith}
+use mathlib.Core.Path.{_≡_, refl, ap, sym, _∙_}
+use Prim.Native.Nat.{ℕ, _+_, _-_, _*_, _≤_, _<_}
+use lib.ListN.{length, take, drop, getD, set, length-set}
+use mathlib.Core.List.{List, [], _∷_, _++_}
+use borrow.Author.Needs.{needs}
+use Rattle.crc.proofs.Folding.{reduced-red}
+use Rattle.crc.proofs.reduced64.Statement.{statement}
+use Rattle.crc.proofs.reduced64.Tie as tie
+use Rattle.crc.proofs.reduced64.Reads as reads
+use Rattle.crc.proofs.reduced64.Lts as lts
+use Rattle.crc.proofs.fold16.Reads as fold16-reads
+use Rattle.crc.proofs.fold32.Reads as fold32-reads
+use Rattle.crc.proofs.fold8.Reads as fold8-reads
+
+fold32-requires : tie.Need-fold32-requires
+fold32-requires c κs = search needs
+
+fold16-requires : tie.Need-fold16-requires
+fold16-requires c κs = search needs
+
+fold8-requires : tie.Need-fold8-requires
+fold8-requires c κs = search needs
+
+cast-result : tie.Need-cast-result
+cast-result c = search needs
+
+returns : tie.Need-returns
+returns c =
+    let a = c .before .before .before in
+    let d = c .before .before .fold32 in
+    let s = c .before .fold16 in
+    reduced-red (a .args .w) (d .result) (s .result) (c .fold8 .result) (a .fits .w .fits)
+    (d .ensures .0) (d .ensures .1) (s .ensures .0) (s .ensures .1) (c .fold8 .ensures .0) (c .fold8 .ensures .1)
+
+pub reduced64-spec : {M : Type 1} → statement M
+reduced64-spec =
+    tie.close
+    (tie.spec fold32-requires fold16-requires fold8-requires cast-result returns)
