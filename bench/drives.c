@@ -45,14 +45,15 @@ static void fill(struct drive *drive)
     random_bytes(drive->psd, drive->psd_length);
 }
 
-/* The offer that begins with a packet: as many as have this many bytes. */
+/* The offer that begins with a packet: as many as have this many bytes, or the most. */
 static struct offer offer_from(const struct drive *drive, size_t packet, size_t byte, size_t enough)
 {
     struct offer offer;
     memset(&offer, 0, sizeof offer);
     offer.lengths = drive->lengths + packet;
     offer.bytes = drive->bytes + byte;
-    while (offer.bytes_length < enough && packet + offer.count < drive->packets)
+    while (offer.bytes_length < enough && offer.count < drive->most
+           && packet + offer.count < drive->packets)
         offer.bytes_length += drive->lengths[packet + offer.count++];
     return offer;
 }
@@ -111,6 +112,7 @@ void make_drive(struct drive *drive, size_t pdu_length, size_t psd_length, uint1
     drive->pdu_length = pdu_length;
     drive->psd_length = psd_length;
     drive->packets = (PDUS + 1) * pdu_length / least + 2;
+    drive->most = drive->packets;
     drive->lengths = reserve(drive->packets, sizeof drive->lengths[0]);
     for (i = 0; i < drive->packets; i++)
         drive->lengths[i] = (uint16_t)(least + random_below((uint32_t)(most - least) + 1));
@@ -119,20 +121,40 @@ void make_drive(struct drive *drive, size_t pdu_length, size_t psd_length, uint1
     damage(drive, wrong);
 }
 
+/* Writes the PDUs of a drive of whole packets, so many in each. */
+static void write_whole(struct drive *drive, size_t pieces)
+{
+    fill(drive);
+    write_pdus(drive);
+    damage(drive, 0);
+    if (drive->pieces != PDUS * pieces) {
+        fprintf(stderr, "bench: not %u pieces in each PDU\n", (unsigned)pieces);
+        exit(1);
+    }
+}
+
 void make_even_drive(struct drive *drive, size_t pdu_length, size_t pieces)
 {
     size_t room = pdu_length - 14 - 3 * pieces, i; /* without locators and CRC bytes */
     memset(drive, 0, sizeof *drive);
     drive->pdu_length = pdu_length;
     drive->packets = PDUS * pieces;
+    drive->most = drive->packets;
     drive->lengths = reserve(drive->packets, sizeof drive->lengths[0]);
     for (i = 0; i < drive->packets; i++)
         drive->lengths[i] = (uint16_t)(room / pieces + (i % pieces < room % pieces));
-    fill(drive);
-    write_pdus(drive);
-    damage(drive, 0);
-    if (drive->pieces != drive->packets) {
-        fprintf(stderr, "bench: not %u pieces in each PDU\n", (unsigned)pieces);
-        exit(1);
-    }
+    write_whole(drive, pieces);
+}
+
+void make_short_drive(struct drive *drive, size_t pieces, uint16_t most)
+{
+    size_t i;
+    memset(drive, 0, sizeof *drive);
+    drive->pdu_length = 14 + pieces * (most + 3u); /* with locators and CRC bytes */
+    drive->packets = PDUS * pieces;
+    drive->most = pieces;
+    drive->lengths = reserve(drive->packets, sizeof drive->lengths[0]);
+    for (i = 0; i < drive->packets; i++)
+        drive->lengths[i] = (uint16_t)(1 + random_below(most));
+    write_whole(drive, pieces);
 }

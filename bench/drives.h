@@ -24,6 +24,7 @@ struct drive {
     uint16_t *lengths; /* of all packets */
     uint8_t *bytes;    /* of all packets, joined */
     size_t packets, total;
+    size_t most; /* packets that a call is offered */
     struct offer offers[PDUS];
     uint8_t *pdus;               /* as they were written, joined */
     size_t pieces;               /* in all PDUs */
@@ -41,5 +42,9 @@ void make_drive(struct drive *drive, size_t pdu_length, size_t psd_length, uint1
 
 /* A drive of PDUs without PSD that are each filled by so many whole packets. */
 void make_even_drive(struct drive *drive, size_t pdu_length, size_t pieces);
+
+/* A drive of PDUs without PSD that each have so many whole packets of 1 to `most`
+ * bytes, and are as long as these are at most. */
+void make_short_drive(struct drive *drive, size_t pieces, uint16_t most);
 
 #endif

@@ -391,7 +391,7 @@ static void peer_bit_crc(const void *inputs, size_t passes)
 #define SHARE_ROWS 1
 #define HEADER_ROWS 6
 #define MARKED_ROWS 4
-#define CRC_ROWS 3
+#define CRC_ROWS 6
 #define FIRST_SHARE SUM_ROWS
 #define FIRST_HEADER (FIRST_SHARE + SHARE_ROWS)
 #define FIRST_MARKED (FIRST_HEADER + HEADER_ROWS)
@@ -454,9 +454,12 @@ static void make_rows(const uint8_t *bytes)
     marked_row(1, "2 marks, 3 others wrong", 2);
     marked_row(2, "4 marks, 2 others wrong", 4);
     marked_row(3, "8 marks, no other wrong", 8);
-    crc_row(0, "CRC-8, 64 bytes", bytes, 64);
-    crc_row(1, "CRC-8, 1,024 bytes", bytes, 1024);
-    crc_row(2, "CRC-8, 4,096 bytes", bytes, 4096);
+    crc_row(0, "CRC-8, 15 bytes", bytes, 15);
+    crc_row(1, "CRC-8, 63 bytes", bytes, 63);
+    crc_row(2, "CRC-8, 64 bytes", bytes, 64);
+    crc_row(3, "CRC-8, 1,023 bytes", bytes, 1023);
+    crc_row(4, "CRC-8, 1,024 bytes", bytes, 1024);
+    crc_row(5, "CRC-8, 4,096 bytes", bytes, 4096);
 }
 
 static void print_row(const struct row *row)

@@ -134,17 +134,22 @@ static void packs(const void *drive, size_t passes)
 #define MAIN_ROWS (3 * LENGTHS)
 #define LENGTH_POINTS 10
 #define PIECE_POINTS 9
+#define SHORT_POINTS 4
 #define PIECES 8          /* in each PDU, where the length grows */
 #define FIXED_LENGTH 4096 /* of each PDU, where the pieces grow */
+#define SHORT_PIECES 41   /* in each PDU, where they are short */
 #define FIRST_LENGTH MAIN_ROWS
 #define FIRST_PIECE (FIRST_LENGTH + 2 * LENGTH_POINTS)
-#define ROWS (FIRST_PIECE + 2 * PIECE_POINTS)
+#define FIRST_SHORT (FIRST_PIECE + 2 * PIECE_POINTS)
+#define ROWS (FIRST_SHORT + 2 * SHORT_POINTS)
 
 static const size_t length_points[LENGTH_POINTS] = {96,   256,  512,   1024,  2048,
                                                     4096, 8192, 12288, 16384, 20480};
 static const size_t piece_points[PIECE_POINTS] = {1, 2, 4, 8, 16, 24, 32, 41, 63};
+static const uint16_t short_points[SHORT_POINTS] = {5, 10, 20, 40};
 
-static struct drive clean[LENGTHS], damaged[LENGTHS], longer[LENGTH_POINTS], more[PIECE_POINTS];
+static struct drive clean[LENGTHS], damaged[LENGTHS], longer[LENGTH_POINTS], more[PIECE_POINTS],
+    shorter[SHORT_POINTS];
 static struct row rows[ROWS];
 static struct row pairs[MAIN_ROWS];  /* the first rows, without the referee in the rounds */
 static struct row limits[MAIN_ROWS]; /* the least that each of them has to do */
@@ -210,6 +215,10 @@ static void make_all(void)
     for (i = 0; i < PIECE_POINTS; i++) {
         make_even_drive(&more[i], FIXED_LENGTH, piece_points[i]);
         make_rows(FIRST_PIECE + i, PIECE_POINTS, piece_points[i], "piece(s)", &more[i]);
+    }
+    for (i = 0; i < SHORT_POINTS; i++) {
+        make_short_drive(&shorter[i], SHORT_PIECES, short_points[i]);
+        make_rows(FIRST_SHORT + i, SHORT_POINTS, short_points[i], "bytes", &shorter[i]);
     }
 }
 
@@ -334,6 +343,8 @@ static void print_tables(void)
     snprintf(title, sizeof title, "PDUs of %d bytes, whole packets", FIXED_LENGTH);
     print_table(title, FIRST_PIECE, 2 * PIECE_POINTS);
     print_fits("piece", FIRST_PIECE, PIECE_POINTS, piece_points);
+    snprintf(title, sizeof title, "PDUs of %d whole packets of 1 byte up to so many", SHORT_PIECES);
+    print_table(title, FIRST_SHORT, 2 * SHORT_POINTS);
 }
 
 static void print_ratio(double ours, const struct row *row, size_t rival)

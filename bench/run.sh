@@ -2,8 +2,8 @@
 # How fast the library is, and how much stack it uses; docs/PERFORMANCE.md says what came of it.
 # - the eight sums beside the same with a power of a for each byte, the parity by shares beside that by division, the header code with marked
 #   places and without beside libfec, the CRC-8 beside plain C (header.c);
-# - writing and receiving PDUs beside the same job in plain C with libfec (plain.c) and beside the referee, as times and as counts of
-#   instructions, with how they grow (pdus.c), how far each is from copying and packing its bytes, and which functions have how much of it;
+# - writing and receiving PDUs, of short packets too, beside the same job in plain C with libfec (plain.c) and beside the referee, as times and as
+#   counts of instructions, with how they grow (pdus.c), how far each is from copying and packing its bytes, and which functions have how much of it;
 # - eight PDUs received in one call beside eight calls (batch.c);
 # - a pair of PDUs received, and the better one chosen, beside plain C and beside two calls (pair.c);
 # - the stack of each exported function (stack.c).

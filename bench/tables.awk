@@ -50,7 +50,7 @@ function growth_row(job, number,    costs) {
     if (part == "main")
         head("job|bytes|pieces|library|plain C|ratio|referee|ratio" (unit == "ns" ? "|library, by byte|plain C, by byte|referee, by byte" : ""))
     if (part == "growth")
-        head((/ bytes, / ? "pieces" : "bytes") "|write, library|plain C|ratio|receive, library|plain C|ratio")
+        head((/ up to / ? "bytes of a packet, at most" : / bytes, / ? "pieces" : "bytes") "|write, library|plain C|ratio|receive, library|plain C|ratio")
     next
 }
 /^Least squares/ {
