@@ -11,6 +11,12 @@ use lib.Seq.{take-all}
 use borrow.Author.Tests.{eq-eqb, eqb-true}
 use Rattle.diversity.specs.Diversity.{sameBytes}
 
+pub and-comm : (a b : Bool) → (a && b) ≡ (b && a)
+and-comm true true = refl
+and-comm true false = refl
+and-comm false true = refl
+and-comm false false = refl
+
 and-assoc : (a b c : Bool) → (a && (b && c)) ≡ ((a && b) && c)
 and-assoc true b c = refl
 and-assoc false b c = refl

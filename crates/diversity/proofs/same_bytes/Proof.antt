@@ -2,9 +2,10 @@ use denote.Ref.{now}
 use mathlib.Core.Path.{_≡_}
 use Prim.Native.Nat.{_-_, _≤_}
 use native.Mathlib.Omega.{arith}
-use lib.ListN.{length, take}
+use lib.Dec.{eqb}
+use lib.ListN.{length, getD, take}
 use Rattle.diversity.specs.Diversity.{sameBytes}
-use Rattle.diversity.proofs.Bytes.{same-lengths, same-start, same-turn, same-end}
+use Rattle.diversity.proofs.Bytes.{and-comm, same-lengths, same-start, same-turn, same-end}
 use borrow.Author.Needs.{needs}
 use Rattle.diversity.proofs.same_bytes.Statement.{statement}
 use Rattle.diversity.proofs.same_bytes.Tie as tie
@@ -39,7 +40,10 @@ loop-again : tie.Need-loop-again Inv-loop μ-loop
 loop-again c =
     let p = c .before .before .before in
     let t = c .before .before .loop-test .taken in
-    ((omega arith, p .loop .inv .0 .1), same-turn (p .loop .i) _ _ (p .loop .same) t (p .loop .inv .0 .1) (p .loop .inv .1))
+    let a = p .before .before .args in
+    let e = same-turn (p .loop .i) (now (a .a)) (now (a .b)) (p .loop .same) t (p .loop .inv .0 .1) (p .loop .inv .1) in
+    let s = and-comm (p .loop .same) (eqb (getD (now (a .a)) (p .loop .i) 0) (getD (now (a .b)) (p .loop .i) 0)) in
+    ((omega arith, p .loop .inv .0 .1), cc (e, s))
 
 returns-2 : tie.Need-returns-2 Inv-loop μ-loop
 returns-2 c =
