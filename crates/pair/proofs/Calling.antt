@@ -32,13 +32,14 @@ use Rattle.pair.specs.Steps.{bothNumber, Paired}
 
 -- ---- which can be corrected
 
-pub both-true : (s t : Bool) → (s && t) ≡ true → (s ≡ true) × (t ≡ true)
-both-true true t e = (refl, e)
-both-true false t e = absurd (true≢false (sym e))
+-- b says whether both are
+pub both-true : (s t b : Bool) → b ≡ true → b ≡ (s && t) → (s ≡ true) × (t ≡ true)
+both-true true t b h e = (refl, sym e ∙ h)
+both-true false t b h e = absurd (true≢false (sym h ∙ e))
 
-pub not-both : (s t : Bool) → (s && t) ≡ false → s ≡ true → t ≡ false
-not-both true t e h = e
-not-both false t e h = absurd (true≢false (sym h))
+pub not-both : (s t b : Bool) → b ≡ false → b ≡ (s && t) → s ≡ true → t ≡ false
+not-both true t b h e q = sym e ∙ h
+not-both false t b h e q = absurd (true≢false (sym q))
 
 pub corrected-is : (x : Correction) → correctable x ≡ true → (n : ℕ) × (x ≡ Corrected n)
 corrected-is (Corrected n) e = (n, refl)

@@ -139,9 +139,6 @@ lower-none a b e f = let t : eqb a 0 ≡ false = ne-eqb a 0 e in rw (t, f)
 pub lower-first : (a b : ℕ) → ¬ (a ≡ 0) → ¬ (b ≡ 0) → a ≤ b → lower a b ≡ a
 lower-first a b e f h = let t : eqb a 0 ≡ false = ne-eqb a 0 e in let u : eqb b 0 ≡ false = ne-eqb b 0 f in let v : leb a b ≡ true = le-leb a b h in rw (t, u, v)
 
-pub lower-less : (a b : ℕ) → ¬ (a ≡ 0) → ¬ (b ≡ 0) → a < b → lower a b ≡ a
-lower-less a b e f h = lower-first a b e f (omega (arith, h))
-
 pub lower-second : (a b : ℕ) → ¬ (a ≡ 0) → ¬ (b ≡ 0) → b < a → lower a b ≡ b
 lower-second a b e f h = let t : eqb a 0 ≡ false = ne-eqb a 0 e in let u : eqb b 0 ≡ false = ne-eqb b 0 f in let v : leb a b ≡ false = lt-leb a b h in rw (t, u, v)
 

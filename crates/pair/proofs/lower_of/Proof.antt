@@ -2,7 +2,7 @@ use mathlib.Core.Path.{ap}
 use Prim.Native.Nat.{ℕ}
 use native.Mathlib.Omega.{arith}
 use Rattle.diversity.specs.Diversity.{lower}
-use Rattle.pair.proofs.Lowest.{lower-none, lower-less, lower-second, same-first, same-second, is-first, is-second}
+use Rattle.pair.proofs.Lowest.{lower-none, lower-first, lower-second, same-first, same-second, is-first, is-second}
 use borrow.Author.Needs.{needs}
 use Rattle.pair.proofs.lower_of.Statement.{statement}
 use Rattle.pair.proofs.lower_of.Tie as tie
@@ -31,7 +31,7 @@ returns-5 c =
     let f = c .before .before .before in
     let e = f .before .before in
     let a = e .before .before .before .before .before .args in
-    is-first (a .a) (a .b) (e .before .before .if1 .left) (lower-less (a .a .number) (a .b .number) (e .if3 .left) (f .if4 .left) (c .if5 .taken))
+    is-first (a .a) (a .b) (e .before .before .if1 .left) (lower-first (a .a .number) (a .b .number) (e .if3 .left) (f .if4 .left) (omega (arith, c .if5 .taken)))
 
 returns-6 : tie.Need-returns-6
 returns-6 c =

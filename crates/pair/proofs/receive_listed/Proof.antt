@@ -1,6 +1,8 @@
 use denote.Ref.{now}
-use mathlib.Core.Path.{sym, _∙_}
+use mathlib.Core.Path.{_≡_, sym, _∙_}
+use mathlib.Core.Bool.{Bool, _&&_}
 use native.Mathlib.Omega.{arith}
+use Rattle.diversity.proofs.Bytes.{and-comm}
 use Rattle.pair.proofs.Calling.{both-true, not-both, early-call, Known, fine, first-long, second-long, both-call, first-call, second-call, neither-call}
 use borrow.Author.Needs.{needs}
 use Rattle.pair.proofs.receive_listed.Statement.{statement}
@@ -79,11 +81,22 @@ known x =
       bytes′ = λ j. n .before .before .slice-known3 .given j .fits;
     }
 
+-- whether each can be corrected
+abbrev one : tie.After-is-corrected2 → Bool
+one x = x .before .before .before .before .before .is-corrected .result
+
+abbrev two : tie.After-is-corrected2 → Bool
+two x = x .is-corrected2 .result
+
+-- in whichever order it is asked
+either-way : (x : tie.After-is-corrected2) → (one x && two x) ≡ (two x && one x)
+either-way x = and-comm (one x) (two x)
+
 both-or-restore-requires : tie.Need-both-or-restore-requires
 both-or-restore-requires c κs =
     let w = c .before .before .before .before .before .before in
     let k = known (w .before) in
-    (k .listed, (fine k, first-long k (both-true _ _ (w .if2 .taken) .0)))
+    (k .listed, (fine k, first-long k (both-true (one (w .before)) (two (w .before)) _ (w .if2 .taken) (simp (either-way (w .before))) .0)))
 
 same-length : tie.Need-same-length
 same-length c = search needs
@@ -102,7 +115,7 @@ returns-2 c =
     let f = c .before .before .before .before .before .before .before .before in
     let w = f .before .before .before .before .before .before .before in
     let b = f .both-or-restore in
-    both-call (known (w .before)) _ (b .result) (b .last .1 .1 .0) (b .last .1 .1 .1 .0) (b .last .1 .1 .1 .1 .0) (b .last .1 .1 .1 .1 .1 .0) (both-true _ _ (w .if2 .taken)) (b .ensures .0) (b .ensures .1 .0) (b .ensures .1 .1)
+    both-call (known (w .before)) _ (b .result) (b .last .1 .1 .0) (b .last .1 .1 .1 .0) (b .last .1 .1 .1 .1 .0) (b .last .1 .1 .1 .1 .1 .0) (both-true (one (w .before)) (two (w .before)) _ (w .if2 .taken) (simp (either-way (w .before)))) (b .ensures .0) (b .ensures .1 .0) (b .ensures .1 .1)
 
 receive-or-restore-requires : tie.Need-receive-or-restore-requires
 receive-or-restore-requires c κs =
@@ -127,7 +140,7 @@ returns-3 c =
     let f = c .before .before .before .before .before .before in
     let w = f .before .before .before .before .before in
     let b = f .receive-or-restore in
-    first-call (known (w .before .before)) _ (b .result) (b .last .1 .1 .0) (b .last .1 .1 .1 .0) (b .last .1 .1 .1 .1 .0) (w .if3 .taken) (not-both _ _ (w .before .if2 .left) (w .if3 .taken)) (b .ensures .0) (b .ensures .1)
+    first-call (known (w .before .before)) _ (b .result) (b .last .1 .1 .0) (b .last .1 .1 .1 .0) (b .last .1 .1 .1 .1 .0) (w .if3 .taken) (not-both (one (w .before .before)) (two (w .before .before)) _ (w .before .if2 .left) (simp (either-way (w .before .before))) (w .if3 .taken)) (b .ensures .0) (b .ensures .1)
 
 receive-or-restore-requires-2 : tie.Need-receive-or-restore-requires-2
 receive-or-restore-requires-2 c κs =
