@@ -27,7 +27,7 @@ fn place(mark: u8) -> usize
 }
 
 // Whether place i is marked.
-fn is_marked(marks: &[u8], i: usize) -> bool
+pub fn is_marked(marks: &[u8], i: usize) -> bool
     ensures { λ r. ⌜ r ≡ isMarked (now (marks .entry)) i ⌝ }
 {
     let mut k: usize = 0;

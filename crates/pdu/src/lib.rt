@@ -69,12 +69,25 @@ fn expansion_of(y: &[u8], width: u8, c: ControlWord) -> Expansion
     }
 }
 
-// The place where PSD begins: after the locators and the expansion bytes.
-pub fn psd_start(y: &[u8], width: u8, c: ControlWord) -> usize
-    ensures { λ r. ⌜ r ≡ afterLocators width c + expansionBytes width c (now (y .entry)) ⌝ }
+// What stands before the pieces: the place where PSD begins, after the locators and the expansion bytes; and the program and the applied services, each 0
+// where not sent or not interpreted.
+pub struct Front {
+    pub psd: usize,
+    pub program: u8,
+    pub services: u8,
+}
+
+pub fn read_front(y: &[u8], width: u8, c: ControlWord) -> Front
+    ensures { λ r. ⌜ r .psd ≡ afterLocators width c + expansionBytes width c (now (y .entry)) ⌝ }
+    ensures { λ r. ⌜ (r .program ≡ fieldsOf width c (now (y .entry)) .program) × (r .services ≡ fieldsOf width c (now (y .entry)) .services) ⌝ }
 {
     let x = expansion_of(y, width, c);
-    after_locators(width, c.nop) as usize + x.length
+    let fields = x.values;
+    Front {
+        psd: after_locators(width, c.nop) as usize + x.length,
+        program: fields.program,
+        services: fields.services,
+    }
 }
 
 // The place before piece k: La, or the previous locator.
