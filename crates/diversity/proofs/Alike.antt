@@ -21,12 +21,12 @@ use Rattle.pdu.proofs.Sizes.{sized}
 use Rattle.reassembly.specs.Reassembly.{Piece, Said}
 use Rattle.reassembly.specs.Run.{placeAt, lengthAt, pieceAt, pieceOf, piecesFrom, Marked, psdOf, Parsed, saidOf}
 use Rattle.reassembly.specs.declared.Head.{Head}
-use Rattle.receiver.specs.Receiving.{pieceIn, saidBy}
-use Rattle.receiver.specs.Steps.{MarksOf, causeAt, CausesOf, headOf}
+use Rattle.receiver.specs.Receiving.{pieceIn, saidBy, labelIn}
+use Rattle.receiver.specs.Steps.{MarksOf, causeAt, CausesOf, headOf, comeOf}
 use Rattle.receiver.proofs.Parsing.{all-marked, parsed}
 use Rattle.receiver.proofs.Rows.{both-on}
 use Rattle.receiver.proofs.Saying.{piece-here, same-said}
-use Rattle.diversity.specs.Diversity.{sameBytes, pairPiece, pairPieces, pairSaid, frontOf, differ}
+use Rattle.diversity.specs.Diversity.{sameBytes, pairPiece, pairPieces, pairSaid, pairCome, frontOf, differ}
 use Rattle.diversity.specs.Steps.{pieceBy, pairCauseAt, PairCausesOf, mixed, exchanged}
 use Rattle.diversity.proofs.Bytes.{same-true}
 use Rattle.diversity.proofs.Mixing.{part-first, part-second}
@@ -136,6 +136,10 @@ module _ (register width : ℕ) (c : ControlWord) (y z marks causes both : List 
       let q = psd-mixed ∙ ap (λ (d : Said). d .psdBytes) (same-said register width c y marks causes em ec) in
       λ i. record { sequence = c .sequence; pfirst = c .pfirst; plast = c .plast; start = c .start; psdBytes = q i; pieces = p i; withheld = false }
 
+  come-pair : comeOf (headOf width c y) marks both mix ≡ pairCome register width c y z
+  unfolding pairCome
+  come-pair = λ i. record { said = said-pair i; label = labelIn width c y }
+
 -- ---- a corrected PDU y that no row from 7 to 12 turns down, and another that is alike
 
 module _ (m : Mode) (c : ControlWord) (y z : List ℕ) (ec : c ≡ controlAt y) (right : firstOf (readerTests m (controlAt y) y) ≡ 0) (e : differ y z ≡ false) where
@@ -159,9 +163,9 @@ module _ (m : Mode) (c : ControlWord) (y z : List ℕ) (ec : c ≡ controlAt y) 
       pub parsed-first : length y ≤ 20480 → Parsed head y marks
       parsed-first size = rw eh (parsed m c y few right-here marks em size)
 
-      pub said-here : (register : ℕ) (causes both : List ℕ) → CausesOf register y marks (c .nop) causes → PairCausesOf register y z marks (c .nop) both
-          → saidOf head marks both (mixed (exchanged marks causes (head .nop)) y z) ≡ pairSaid register (m .width) (controlAt y) y z
-      said-here register causes both es eb =
-          ap (λ (h : Head). saidOf h marks both (mixed (exchanged marks causes (h .nop)) y z)) eh
-          ∙ said-pair register (m .width) c y z marks causes both em marks-second marked-first es eb (alike-length y z e)
-          ∙ ap (λ (d : ControlWord). pairSaid register (m .width) d y z) ec
+      pub come-here : (register : ℕ) (causes both : List ℕ) → CausesOf register y marks (c .nop) causes → PairCausesOf register y z marks (c .nop) both
+          → comeOf head marks both (mixed (exchanged marks causes (head .nop)) y z) ≡ pairCome register (m .width) (controlAt y) y z
+      come-here register causes both es eb =
+          ap (λ (h : Head). comeOf h marks both (mixed (exchanged marks causes (h .nop)) y z)) eh
+          ∙ come-pair register (m .width) c y z marks causes both em marks-second marked-first es eb (alike-length y z e)
+          ∙ ap (λ (d : ControlWord). pairCome register (m .width) d y z) ec

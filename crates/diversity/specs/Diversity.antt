@@ -3,6 +3,7 @@
 use mathlib.Core.Path.{_≡_}
 use mathlib.Core.Bool.{Bool, true, false, not, _&&_, _||_, cond}
 use mathlib.Core.List.{List, [], _∷_, _++_}
+use mathlib.Core.Option.{Option}
 use Prim.Native.Nat.{ℕ, zero, suc, _+_, _-_}
 use lib.Dec.{eqb, ltb, leb}
 use lib.ListN.{length, take, drop}
@@ -17,8 +18,9 @@ use Rattle.correction.specs.declared.Correction.{Correction}
 use Rattle.correction.specs.declared.Correction.the-variants.{Corrected, Refused}
 use Rattle.pdu.specs.Reading.{wrongLocator, lowestBelow, readerTests, modeIn, listingOf, widthOf}
 use Rattle.reassembly.specs.Reassembly.{Piece, Said, Memory, Outcome, received, remembered}
+use Rattle.reassembly.specs.Holder.{Come}
 use Rattle.reassembly.specs.Run.{bytesOf}
-use Rattle.receiver.specs.Receiving.{pieceIn, saidBy, memoryOf, remembering, modeOf, refusedAnswer, receiveAnswer, carryAfter, pduAfter, logAfter}
+use Rattle.receiver.specs.Receiving.{pieceIn, saidBy, labelIn, memoryOf, shown, keptBy, remembering, modeOf, refusedAnswer, receiveAnswer, carryAfter, pduAfter, logAfter}
 use Rattle.receiver.specs.Steps.{stateTests, streamTests}
 use Rattle.receiver.specs.declared.Receiver.{Receiver}
 use Rattle.receiver.specs.declared.Received.{Received}
@@ -81,6 +83,10 @@ pairSaid register width c y z =
     let d = saidBy register width c y in
     record { sequence = d .sequence; pfirst = d .pfirst; plast = d .plast; start = d .start; psdBytes = d .psdBytes; pieces = pairPieces register width c y z 0 (c .nop); withheld = d .withheld }
 
+-- the pair as it comes, with its program and applied services
+unfoldable pub pairCome : ℕ → ℕ → ControlWord → List ℕ → List ℕ → Come
+pairCome register width c y z = record { said = pairSaid register width c y z; label = labelIn width c y }
+
 -- ---- what is turned down, of two corrected copies
 
 -- the lowest number from 5 to 12 that applies to a copy, 0 for none
@@ -142,9 +148,12 @@ module _ (carry first second log : List ℕ) (r : Receiver) where
     log = logAfter [] carry second log r;
   }
 
-  -- what both say together, what is logged and held, and what is remembered
+  -- both together as they come, what they say to the receiver, what is logged and held, and what is remembered
+  abbrev pub come : Come
+  come = let y = correctedPdu first in pairCome (r .register) (modeOf r .width) (controlAt y) y (correctedPdu second)
+
   abbrev pub said : Said
-  said = let y = correctedPdu first in pairSaid (r .register) (modeOf r .width) (controlAt y) y (correctedPdu second)
+  said = shown (modeOf r .sequences) r carry come
 
   abbrev pub outcome : Outcome
   outcome = received (modeOf r .sequences) (memoryOf r carry) said
@@ -154,6 +163,9 @@ module _ (carry first second log : List ℕ) (r : Receiver) where
 
   abbrev pub memoryAfter : Memory
   memoryAfter = remembered (modeOf r .sequences) (memoryOf r carry) said
+
+  abbrev pub keptServices : Option ℕ
+  keptServices = keptBy (modeOf r .sequences) r carry come
 
   -- rows 1 and 2, then 5 to 12, the lowest over both, then 20, then 13
   abbrev pub pairTests : List (Bool × ℕ)
@@ -177,7 +189,7 @@ module _ (carry first second log : List ℕ) (r : Receiver) where
       let z = correctedPdu second in
       cond (eqb pairNumber 0)
       (record {
-        answer = record { refusal = 0; wrong = 0; words = length pairWords; receiver = remembering r memoryAfter };
+        answer = record { refusal = 0; wrong = 0; words = length pairWords; receiver = remembering r memoryAfter keptServices };
         carry = putAt carry 0 (bytesOf (outcome .partial));
         first = y;
         second = z;

@@ -12,9 +12,9 @@ ghost use Rattle.refusal.specs.Refusal.{firstOf};
 ghost use Rattle.correction.specs.Correction.{correctionOf};
 ghost use Rattle.layout.specs.Control.{controlAt};
 ghost use Rattle.pdu.specs.Reading.{readerTests};
-ghost use Rattle.reassembly.specs.Run.{placeAt, pieceAt, Marked, Parsed, saidOf};
-ghost use Rattle.receiver.specs.Steps.{causeAt, CausesOf, Usable, Takes};
-ghost use Rattle.diversity.specs.Diversity.{better, choiceOf, numberOf, Chosen, sameBytes, pairSaid, differ};
+ghost use Rattle.reassembly.specs.Run.{placeAt, pieceAt, Marked, Parsed};
+ghost use Rattle.receiver.specs.Steps.{causeAt, CausesOf, comeOf, Usable, Takes};
+ghost use Rattle.diversity.specs.Diversity.{better, choiceOf, numberOf, Chosen, sameBytes, pairCome, differ};
 ghost use Rattle.diversity.specs.Steps.{pairCauseAt, PairCausesOf, mixed, within, pieceTo, exchanged};
 
 // What correction of a PDU answers; the PDU itself is not changed.
@@ -223,7 +223,7 @@ fn receive_exchanged(
 ) -> Received
     requires { ⌜ Usable r (now carry) ⌝ }
     requires { ⌜ Parsed head (now first) marks × (length (now first) ≡ length (now second)) ⌝ }
-    ensures { λ a. ⌜ Takes range (saidOf head marks both (mixed (exchanged marks causes (head .nop)) (now (first .entry)) (now (second .entry)))) r (now (carry .entry)) (now (log .entry)) a (now (carry .exit)) (now (log .exit)) ⌝ }
+    ensures { λ a. ⌜ Takes range (comeOf head marks both (mixed (exchanged marks causes (head .nop)) (now (first .entry)) (now (second .entry)))) r (now (carry .entry)) (now (log .entry)) a (now (carry .exit)) (now (log .exit)) ⌝ }
     ensures { λ _. ⌜ (now (first .exit) ≡ now (first .entry)) × (now (second .exit) ≡ now (second .entry)) ⌝ }
 {
     let nop = head.nop;
@@ -246,7 +246,7 @@ pub fn receive_alike(
     requires { ⌜ length (now first) ≤ 20480 ⌝ }
     requires { ⌜ firstOf (readerTests m (controlAt (now first)) (now first)) ≡ 0 ⌝ }
     requires { ⌜ differ (now first) (now second) ≡ false ⌝ }
-    ensures { λ a. ⌜ Takes (m .sequences) (pairSaid (r .register) (m .width) (controlAt (now (first .entry))) (now (first .entry)) (now (second .entry))) r (now (carry .entry)) (now (log .entry)) a (now (carry .exit)) (now (log .exit)) ⌝ }
+    ensures { λ a. ⌜ Takes (m .sequences) (pairCome (r .register) (m .width) (controlAt (now (first .entry))) (now (first .entry)) (now (second .entry))) r (now (carry .entry)) (now (log .entry)) a (now (carry .exit)) (now (log .exit)) ⌝ }
     ensures { λ _. ⌜ (now (first .exit) ≡ now (first .entry)) × (now (second .exit) ≡ now (second .entry)) ⌝ }
 {
     let c = layout::control_word(first);

@@ -23,6 +23,7 @@ use Rattle.pdu.specs.Reading.{markAt, startAt, lengthAt, psdOf, readerTests, mo
 use Rattle.pdu.proofs.Assembling.{nop-small}
 use Rattle.pdu.proofs.Sizes.{lengthsFrom, sized}
 use Rattle.reassembly.specs.Reassembly.{received}
+use Rattle.reassembly.specs.Rights.{under}
 use Rattle.reassembly.specs.Run.{bytesOf}
 use Rattle.reassembly.proofs.Bound.{pieceBytes, bound}
 use Rattle.receiver.specs.Receiving.{pieceIn, saidBy, memoryOf, remembering, modeOf, wrongState}
@@ -30,7 +31,7 @@ use Rattle.receiver.specs.Steps.{stateTests, streamTests}
 use Rattle.receiver.specs.declared.Receiver.{Receiver}
 use Rattle.receiver.proofs.Enough.{taken-few, held-few, corrected-length}
 use Rattle.receiver.proofs.Rows.{same-listing}
-use Rattle.diversity.specs.Diversity.{correctable, pairPiece, pairPieces, pairSaid, copyNumber, differ, Result, outcome, pairWords, memoryAfter, pairTests, pairNumber, together, receivedBy, pairReceived}
+use Rattle.diversity.specs.Diversity.{correctable, pairPiece, pairPieces, pairSaid, pairCome, copyNumber, differ, Result, said, outcome, pairWords, memoryAfter, keptServices, keptServices, pairTests, pairNumber, together, receivedBy, pairReceived}
 use Rattle.diversity.proofs.Alike.{locators-same, pair-bytes}
 use Rattle.pair.proofs.Calling.{corrected-is}
 
@@ -60,10 +61,10 @@ module _ (register width : ℕ) (c : ControlWord) (y z : List ℕ) (same : (k : 
       (ap suc (i .0), omega (arith, i .1, t))
 
 -- of which none of the rows 7 to 12, and not 20, applies
-pub words-most : (range : ℕ) (m : Mode) (r : Receiver) (carry y z : List ℕ) → r .held ≤ 4096 → length y ≤ 20480 → firstOf (readerTests m (controlAt y) y) ≡ 0 → differ y z ≡ false
-    → length (logWords (received range (memoryOf r carry) (pairSaid (r .register) (m .width) (controlAt y) y z) .entries)) ≤ 8400
+pub words-most : (w : Bool) (range : ℕ) (m : Mode) (r : Receiver) (carry y z : List ℕ) → r .held ≤ 4096 → length y ≤ 20480 → firstOf (readerTests m (controlAt y) y) ≡ 0 → differ y z ≡ false
+    → length (logWords (received range (memoryOf r carry) (under w (pairSaid (r .register) (m .width) (controlAt y) y z)) .entries)) ≤ 8400
 unfolding saidBy pairSaid memoryOf
-words-most range m r carry y z held size right e =
+words-most w range m r carry y z held size right e =
     let c = controlAt y in
     let s = sized m c y right in
     let p = pieces-few (r .register) (m .width) c y z (locators-same y z e (m .width) c refl (s .la) (s .after)) (c .nop) 0 (omega arith) in
@@ -87,7 +88,7 @@ module _ (carry p q log : List ℕ) (r : Receiver) where
   -- what is answered and left, both received
   abbrev pub taken : Result
   taken = record {
-    answer = record { refusal = 0; wrong = 0; words = length (pairWords carry p q log r); receiver = remembering r (memoryAfter carry p q log r) };
+    answer = record { refusal = 0; wrong = 0; words = length (pairWords carry p q log r); receiver = remembering r (memoryAfter carry p q log r) (keptServices carry p q log r) };
     carry = putAt carry 0 (bytesOf (outcome carry p q log r .partial));
     first = correctedPdu p;
     second = correctedPdu q;
@@ -131,4 +132,5 @@ module _ (carry p q log : List ℕ) (r : Receiver) where
 
     -- a log of 8,400 words suffices
     pub passes-most : ((i : ℕ) → getD p i 0 < 256) → length (pairWords carry p q log r) ≤ 8400
-    passes-most bytes = words-most (modeOf r .sequences) (modeOf r) r carry (correctedPdu p) (correctedPdu q) held-most (first-long bytes) first-right (h .same)
+    unfolding pairCome
+    passes-most bytes = words-most (said carry p q log r .withheld) (modeOf r .sequences) (modeOf r) r carry (correctedPdu p) (correctedPdu q) held-most (first-long bytes) first-right (h .same)

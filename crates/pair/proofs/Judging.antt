@@ -26,7 +26,7 @@ use Rattle.receiver.specs.declared.Received.{Received}
 use Rattle.receiver.proofs.Answering.{answered-refused, answered-number}
 use Rattle.receiver.proofs.Rows.{first-on, same-listing}
 use Rattle.diversity.specs.Diversity.{sameBytes, copyNumber, lower, wrongInPair, frontOf, differ}
-use Rattle.pair.specs.Steps.{saidByBoth, bothNumber, Paired}
+use Rattle.pair.specs.Steps.{comeAsBoth, bothNumber, Paired}
 
 -- ---- rows 5 to 12, of a copy
 
@@ -90,7 +90,7 @@ module _ (m : Mode) (r : Receiver) (carry y z log : List ℕ) where
 
   refused-with : (n k : ℕ) (a : Received) → bothNumber m r carry y z log ≡ n → ¬ (n ≡ 0) → k ≡ wrongInPair y z n → a ≡ refusedAnswer r n k → Paired m r carry y z log a carry log
   refused-with n k a e d ek q =
-      rw e (answered-refused (m .sequences) (saidByBoth m r carry y z log) r carry log n (wrongInPair y z n) a d (q ∙ ap (refusedAnswer r n) ek))
+      rw e (answered-refused (m .sequences) (comeAsBoth m r carry y z log) r carry log n (wrongInPair y z n) a d (q ∙ ap (refusedAnswer r n) ek))
 
   -- 5 to 12
   pub judged-call : (v : Verdict) (a : Received) → (v .number ≡ lowest) × (v .wrong ≡ wrongInPair y z (v .number)) → ¬ (v .number ≡ 0) → a ≡ refusedAnswer r (v .number) (v .wrong) → Paired m r carry y z log a carry log
@@ -109,19 +109,19 @@ module _ (m : Mode) (r : Receiver) (carry y z log : List ℕ) where
     differs-call b a eb h q = let u : differ y z ≡ true = sym eb ∙ h in refused-with 20 0 a (rw (t, u)) (λ e. absurd (omega arith)) refl q
 
     -- 13, or accepted
-    pub alike-call : (b : Bool) (a : Received) (carryEnd logEnd : List ℕ) → b ≡ differ y z → b ≡ false → Takes (m .sequences) (saidByBoth m r carry y z log) r carry log a carryEnd logEnd
+    pub alike-call : (b : Bool) (a : Received) (carryEnd logEnd : List ℕ) → b ≡ differ y z → b ≡ false → Takes (m .sequences) (comeAsBoth m r carry y z log) r carry log a carryEnd logEnd
         → Paired m r carry y z log a carryEnd logEnd
     unfolding bothNumber wrongInPair
     alike-call b a carryEnd logEnd eb h q =
         let u : differ y z ≡ false = sym eb ∙ h in
-        let full : Bool = noRoom (m .sequences) (saidByBoth m r carry y z log) r carry log in
+        let full : Bool = noRoom (m .sequences) (comeAsBoth m r carry y z log) r carry log in
         let number : bothNumber m r carry y z log ≡ cond full 13 0 = rw (t, u) in
         rw number (go full q)
       where
         abbreviated : Bool → Type 0
-        abbreviated x = Answered (m .sequences) (saidByBoth m r carry y z log) r carry log (cond x 13 0) (wrongInPair y z (cond x 13 0)) a carryEnd logEnd
+        abbreviated x = Answered (m .sequences) (comeAsBoth m r carry y z log) r carry log (cond x 13 0) (wrongInPair y z (cond x 13 0)) a carryEnd logEnd
 
-        go : (x : Bool) → Answered (m .sequences) (saidByBoth m r carry y z log) r carry log (cond x 13 0) 0 a carryEnd logEnd → abbreviated x
+        go : (x : Bool) → Answered (m .sequences) (comeAsBoth m r carry y z log) r carry log (cond x 13 0) 0 a carryEnd logEnd → abbreviated x
         go true p = p
         go false p = p
 
@@ -129,7 +129,7 @@ module _ (m : Mode) (r : Receiver) (carry y z log : List ℕ) where
 
   module _ (a : Received) (carryEnd logEnd : List ℕ) (h : Paired m r carry y z log a carryEnd logEnd) where
     number : a .refusal ≡ bothNumber m r carry y z log
-    number = answered-number (m .sequences) (saidByBoth m r carry y z log) r carry log (bothNumber m r carry y z log) (wrongInPair y z (bothNumber m r carry y z log)) a carryEnd logEnd h
+    number = answered-number (m .sequences) (comeAsBoth m r carry y z log) r carry log (bothNumber m r carry y z log) (wrongInPair y z (bothNumber m r carry y z log)) a carryEnd logEnd h
 
     pub both-kept : (x v : List ℕ) → a .refusal ≡ 0 → x ≡ cond (eqb (bothNumber m r carry y z log) 0) x v
     both-kept x v e = let s : eqb (bothNumber m r carry y z log) 0 ≡ true = eq-eqb (bothNumber m r carry y z log) 0 (sym number ∙ e) in rw s

@@ -7,11 +7,11 @@ use Rattle.refusal.specs.Refusal.{firstOf}
 use Rattle.modes.specs.declared.Mode.{Mode}
 use Rattle.layout.specs.Control.{controlAt}
 use Rattle.pdu.specs.declared.Verdict.{Verdict}
-use Rattle.reassembly.specs.Reassembly.{Said}
+use Rattle.reassembly.specs.Holder.{Come}
 use Rattle.receiver.specs.Steps.{noRoom, Answered}
 use Rattle.receiver.specs.declared.Receiver.{Receiver}
 use Rattle.receiver.specs.declared.Received.{Received}
-use Rattle.diversity.specs.Diversity.{pairSaid, copyNumber, lower, wrongInPair, differ}
+use Rattle.diversity.specs.Diversity.{pairCome, copyNumber, lower, wrongInPair, differ}
 
 -- ---- rows 5 to 12, 20 and 13, of two corrected copies
 
@@ -21,14 +21,14 @@ lowerWrong a b = cond (eqb (a .number) (b .number)) (min (a .wrong) (b .wrong)) 
 
 -- for a receiver of a mode, the lent carry and log, and two corrected copies
 module _ (m : Mode) (r : Receiver) (carry y z log : List ℕ) where
-  abbrev pub saidByBoth : Said
-  saidByBoth = pairSaid (r .register) (m .width) (controlAt y) y z
+  abbrev pub comeAsBoth : Come
+  comeAsBoth = pairCome (r .register) (m .width) (controlAt y) y z
 
   -- the number of the first row from 5 on that applies
   unfoldable pub bothNumber : ℕ
   bothNumber =
       let n = lower (copyNumber r y) (copyNumber r z) in
-      firstOf ((not (eqb n 0), n) ∷ (differ y z, 20) ∷ (noRoom (m .sequences) saidByBoth r carry log, 13) ∷ [])
+      firstOf ((not (eqb n 0), n) ∷ (differ y z, 20) ∷ (noRoom (m .sequences) comeAsBoth r carry log, 13) ∷ [])
 
   abbrev pub Paired : Received → List ℕ → List ℕ → Type 0
-  Paired a carryAfter logAfter = Answered (m .sequences) saidByBoth r carry log bothNumber (wrongInPair y z bothNumber) a carryAfter logAfter
+  Paired a carryAfter logAfter = Answered (m .sequences) comeAsBoth r carry log bothNumber (wrongInPair y z bothNumber) a carryAfter logAfter

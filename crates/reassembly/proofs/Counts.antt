@@ -11,15 +11,16 @@ use lib.ListN.{length, getD, length-append}
 use lib.Seq.{length-take-le}
 use Rattle.log.specs.Log.{packet, psd, note, logWords}
 use Rattle.log.proofs.Words.{entry-length}
-use Rattle.reassembly.specs.Reassembly.{Piece, Partial, nothing, beginning, Outcome, dropped, kept, psdEntries, finished, joined, pieceStep, piecesStep, numberAt, received}
+use Rattle.reassembly.specs.Reassembly.{Piece, Partial, nothing, beginning, Outcome, dropped, kept, psdEntries, finished, joined, pieceStep, piecesStep, numberAt, endsHere, continuingStep, contentsStep, received}
+use Rattle.reassembly.specs.Rights.{under}
 use Rattle.reassembly.specs.Run.{bytesOf, partialOf, placeAt, lengthAt, pieceAt, pieceOf, piecesFrom, endsAt, Marked, psdOf, Parsed, saidOf, memoryOf, firstCause, begun}
-use Rattle.reassembly.specs.Count.{noted, countFinish, countPiece, countFrom, countPsd, countAll}
+use Rattle.reassembly.specs.Count.{noted, countFinish, countPiece, countFrom, countPsd, countContinuing, countContents, countAll}
 use Rattle.reassembly.specs.declared.Head.{Head}
 use Rattle.reassembly.specs.declared.State.{State}
 use Rattle.reassembly.specs.declared.Tally.{Tally}
 use Rattle.reassembly.proofs.Laws.{delivered, one-entry}
-use Rattle.reassembly.proofs.Runs.{andThen, both-words, Fine, fine-partial, this, rest, rest-is, all-cons, all-none, fine-this, piece-length, piece-some}
-use Rattle.reassembly.proofs.Whole.{begins, extras, tail, total-is, fine-begun, psd-length}
+use Rattle.reassembly.proofs.Runs.{andThen, both-words, Fine, fine-partial, this, rest, rest-is, all-cons, all-none, fine-this, ends-same, piece-length, piece-some}
+use Rattle.reassembly.proofs.Whole.{contents-is, withheld-is, begins, total-is, fine-begun, psd-length}
 
 -- what an outcome comes to: how many words, and how many bytes held
 abbrev pub tallyOf : Outcome → Tally
@@ -88,17 +89,47 @@ pub count-none : (m g : List ℕ) (plast : Bool) (k nop : ℕ) (cont : Bool) (he
 unfolding countFrom
 count-none m g plast k nop cont held h = let e : nop - k ≡ 0 = omega arith in rw e refl
 
--- a whole PDU, from the first mark la: no note at its beginning, or one
-module _ (s : State) (range : ℕ) (head : Head) (m g : List ℕ) (cause la extra rest : ℕ) (c : cause ≡ firstCause s range head) (l : la ≡ getD m 0 0) (x : extra ≡ countPsd (la + 1 - head .psd)) where
-  pub all-kept : cause ≡ 0 → rest ≡ countFrom m g (head .plast) 0 (head .nop) (head .pfirst) (s .held) → extra + rest ≡ countAll s range head m g
-  unfolding countAll
-  all-kept z r = let e : firstCause s range head ≡ 0 = sym c ∙ z in rw (e, x, l, r, zero-add) refl
+-- the piece that continues, if there is one
+module _ (head : Head) (m g : List ℕ) (held : ℕ) where
+  pub none-counted : held ≡ 0 → 0 ≡ countContinuing head m g held
+  unfolding countContinuing
+  none-counted e = rw e refl
 
-  pub all-noted : (cause ≡ 0 → ⊥) → rest ≡ countFrom m g (head .plast) 0 (head .nop) (head .pfirst) 0 → 1 + extra + rest ≡ countAll s range head m g
+  module _ (h : held ≡ 0 → ⊥) where
+    pub no-piece-counted : head .nop ≡ 0 → 0 ≡ countContinuing head m g held
+    unfolding countContinuing
+    no-piece-counted e = rw (ne-eqb held 0 h, e) refl
+
+    -- from its marks a and e
+    pub piece-counted : (head .nop ≡ 0 → ⊥) → (a e : ℕ) (ends : Bool) → a ≡ getD m 0 0 → e ≡ getD m 1 0 → ends ≡ endsAt (head .plast) (head .nop - 1) → (t : Tally)
+        → t ≡ countPiece held true ends (getD g 0 0) (e - (a + 1)) → (t .words ≡ countContinuing head m g held) × (t .words ≤ 1400)
+    unfolding countContinuing
+    piece-counted n a e ends p q x t f =
+        let y : t ≡ countPiece held true (endsAt (head .plast) (head .nop - 1)) (getD g 0 0) (lengthAt m 0) = f ∙ rw (p, q, x) refl in
+        (rw (ne-eqb held 0 h, ne-eqb (head .nop) 0 n) (ap (λ (u : Tally). u .words) y), rw y (count-small held true (endsAt (head .plast) (head .nop - 1)) (getD g 0 0) (lengthAt m 0) .0))
+
+-- steps 3 and 4, withheld or not
+module _ (w : Bool) (head : Head) (m g : List ℕ) (held rest : ℕ) where
+  pub all-withheld : w ≡ true → rest ≡ countContinuing head m g held → 1 + rest ≡ countContents w head m g held
+  unfolding countContents
+  all-withheld e r = rw (e, r) refl
+
+  -- from the first mark la
+  pub all-shown : (la extra : ℕ) → w ≡ false → la ≡ getD m 0 0 → extra ≡ countPsd (la + 1 - head .psd) → rest ≡ countFrom m g (head .plast) 0 (head .nop) (head .pfirst) held → extra + rest ≡ countContents w head m g held
+  unfolding countContents
+  all-shown la extra e l x r = rw (e, x, l, r) refl
+
+-- a whole PDU: no note at its beginning, or one
+module _ (w : Bool) (s : State) (range : ℕ) (head : Head) (m g : List ℕ) (cause rest : ℕ) (c : cause ≡ firstCause s range head) where
+  pub all-kept : cause ≡ 0 → rest ≡ countContents w head m g (s .held) → rest ≡ countAll w s range head m g
+  unfolding countAll
+  all-kept z r = let e : firstCause s range head ≡ 0 = sym c ∙ z in rw e r
+
+  pub all-noted : (cause ≡ 0 → ⊥) → rest ≡ countContents w head m g 0 → 1 + rest ≡ countAll w s range head m g
   unfolding countAll
   all-noted z r =
       let e : eqb (firstCause s range head) 0 ≡ false = ne-eqb (firstCause s range head) 0 (λ q. z (c ∙ q)) in
-      rw (e, x, l, r) refl
+      rw (e, r) refl
 
 -- ---- all pieces, and a whole PDU
 
@@ -138,22 +169,65 @@ partial-length : (held number : ℕ) (c : List ℕ) → held ≤ length c → le
 partial-length zero number c h = refl
 partial-length (suc x) number c h = length-take-le (suc x) c h
 
+module _ (head : Head) (m g d : List ℕ) (w : Parsed head d m) where
+  abbrev number : ℕ → ℕ
+  number = numberAt (head .pfirst) (head .start)
+
+  continuing-words : (h : Partial) → (length (bytesOf h) ≡ 0 → h ≡ nothing)
+      → countContinuing head m g (length (bytesOf h)) ≡ length (logWords (continuingStep (number 0) (head .plast) h (piecesFrom d m g 0 (head .nop)) .entries))
+  unfolding countContinuing continuingStep piecesFrom logWords
+  continuing-words nothing z = refl
+  continuing-words (beginning k []) z = absurd (never (z refl))
+    where
+      never : beginning k [] ≡ nothing → ⊥
+      never q = let t : _≡_ {A = ℕ} 0 1 = cc in omega arith
+  continuing-words (beginning k (x ∷ b)) z = rw (eqb·suc-zero (length b)) (go (head .nop) refl)
+    where
+      go : (n : ℕ) → n ≡ head .nop
+          → cond (eqb n 0) 0 (countPiece (suc (length b)) true (endsAt (head .plast) (n - 1)) (getD g 0 0) (lengthAt m 0) .words) ≡ length (logWords (continuingStep (number 0) (head .plast) (beginning k (x ∷ b)) (piecesFrom d m g 0 n) .entries))
+      go zero e = refl
+      go (suc n) e =
+          let left : suc n - 1 ≡ n = omega arith in
+          let long : length (pieceAt d m 0) ≡ lengthAt m 0 = piece-length d m (head .nop) 0 (w .marked) (omega (arith, e)) in
+          let one = ap (λ (y : Tally). y .words) (count-piece-is (number 0) 0 true (endsAt (head .plast) n) (beginning k (x ∷ b)) (pieceOf (getD g 0 0) (pieceAt d m 0)) z) in
+          rw (eqb·suc-zero n, left, ← long, ends-same (head .plast) d m g (0 + 1) n) one
+
+  -- what steps 3 and 4 log, with something or nothing held
+  contents-words : (v : Bool) (h : Partial) → (length (bytesOf h) ≡ 0 → h ≡ nothing) → countContents v head m g (length (bytesOf h)) ≡ length (logWords (contentsStep v (saidOf head m g d) h .entries))
+  unfolding countContents
+  contents-words false h z =
+      let x : Outcome = record { entries = psdEntries (psdOf head m d); partial = h } in
+      let t : Outcome = piecesStep number 0 (head .pfirst) (head .plast) h (piecesFrom d m g 0 (head .nop)) in
+      let e₁ : length (logWords (x .entries)) ≡ countPsd (placeAt m 0 - head .psd) = psd-words (psdOf head m d) ∙ ap countPsd (psd-length head m d w) in
+      let e₂ : countFrom m g (head .plast) 0 (head .nop) (head .pfirst) (length (bytesOf h)) ≡ length (logWords (t .entries)) = count-pieces-are number (head .plast) d m g (head .nop) (w .marked) 0 (head .nop) (head .pfirst) h z (omega arith) in
+      let both : length (logWords (andThen x t .entries)) ≡ length (logWords (x .entries)) + length (logWords (t .entries)) = both-words x t in
+      rw (contents-is head m g d h) (omega (arith, e₁, e₂, both))
+  contents-words true h z =
+      let x : Outcome = record { entries = note 8 0 ∷ []; partial = h } in
+      let t : Outcome = continuingStep (number 0) (head .plast) h (piecesFrom d m g 0 (head .nop)) in
+      let e₁ : length (logWords (x .entries)) ≡ 1 = rw (one-entry (note 8 0)) (entry-length (note 8 0)) in
+      let e₂ : countContinuing head m g (length (bytesOf h)) ≡ length (logWords (t .entries)) = continuing-words h z in
+      let both : length (logWords (andThen x t .entries)) ≡ length (logWords (x .entries)) + length (logWords (t .entries)) = both-words x t in
+      rw (withheld-is head m g d h) (omega (arith, e₁, e₂, both))
+
+noted-or-not : (t : Bool) (f : ℕ → ℕ) (h : ℕ) → cond t (f h) (1 + f 0) ≡ cond t 0 1 + f (cond t h 0)
+noted-or-not true f h = sym (zero-add (f h))
+noted-or-not false f h = refl
+
 -- the words counted for a PDU are those that receiving it logs
-pub count-received : (s : State) (range : ℕ) (head : Head) (m g d c : List ℕ) → s .held ≤ 4096 → 4096 ≤ length c → Parsed head d m
-    → countAll s range head m g ≡ length (logWords (received range (memoryOf s c) (saidOf head m g d) .entries))
-unfolding countAll begins extras tail
-count-received s range head m g d c small big w =
+pub count-received : (v : Bool) (s : State) (range : ℕ) (head : Head) (m g d c : List ℕ) → s .held ≤ 4096 → 4096 ≤ length c → Parsed head d m
+    → countAll v s range head m g ≡ length (logWords (received range (memoryOf s c) (under v (saidOf head m g d)) .entries))
+unfolding countAll begins
+count-received v s range head m g d c small big w =
     let n : ℕ = firstCause s range head in
     let h : Partial = partialOf (s .held) (s .number) c in
-    let b : Outcome = begins s range head m g d c in
-    let x : Outcome = extras s range head m g d c (b .partial) in
-    let t : Outcome = tail s range head m g d c (b .partial) in
+    let b : Outcome = begins s range head c in
+    let t : Outcome = contentsStep v (saidOf head m g d) (b .partial) in
     let fine : Fine (b .partial) = fine-begun n h (fine-partial (s .held) (s .number) c small (omega arith)) in
     let held : length (bytesOf (b .partial)) ≡ cond (eqb n 0) (s .held) 0 = begun-held n h ∙ ap (λ (z : ℕ). cond (eqb n 0) z 0) (partial-length (s .held) (s .number) c (omega arith)) in
     let e₀ : length (logWords (b .entries)) ≡ cond (eqb n 0) 0 1 = begun-words n h in
-    let e₁ : length (logWords (x .entries)) ≡ countPsd (placeAt m 0 - head .psd) = psd-words (psdOf head m d) ∙ ap countPsd (psd-length head m d w) in
-    let e₂ : countFrom m g (head .plast) 0 (head .nop) (head .pfirst) (length (bytesOf (b .partial))) ≡ length (logWords (t .entries)) = count-pieces-are (numberAt (head .pfirst) (head .start)) (head .plast) d m g (head .nop) (w .marked) 0 (head .nop) (head .pfirst) (b .partial) (fine .1) (omega arith) in
-    let e₃ : countFrom m g (head .plast) 0 (head .nop) (head .pfirst) (cond (eqb n 0) (s .held) 0) ≡ length (logWords (t .entries)) = rw held at e₂ in
-    let all : length (logWords (received range (memoryOf s c) (saidOf head m g d) .entries)) ≡ length (logWords (b .entries)) + length (logWords (andThen x t .entries)) = ap (λ (o : Outcome). length (logWords (o .entries))) (total-is s range head m g d c) ∙ both-words b (andThen x t) in
-    let two : length (logWords (andThen x t .entries)) ≡ length (logWords (x .entries)) + length (logWords (t .entries)) = both-words x t in
-    omega (arith, e₀, e₁, e₃, all, two)
+    let e₁ : countContents v head m g (length (bytesOf (b .partial))) ≡ length (logWords (t .entries)) = contents-words head m g d w v (b .partial) (fine .1) in
+    let e₂ : countContents v head m g (cond (eqb n 0) (s .held) 0) ≡ length (logWords (t .entries)) = ap (countContents v head m g) (sym held) ∙ e₁ in
+    let all : length (logWords (received range (memoryOf s c) (under v (saidOf head m g d)) .entries)) ≡ length (logWords (b .entries)) + length (logWords (t .entries)) = ap (λ (o : Outcome). length (logWords (o .entries))) (total-is s range head c v m g d) ∙ both-words b t in
+    let split = noted-or-not (eqb n 0) (countContents v head m g) (s .held) in
+    omega (arith, e₀, e₂, all, split)

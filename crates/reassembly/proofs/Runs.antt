@@ -118,7 +118,7 @@ keeps-same c o u e =
 
 -- ---- the pieces, one by one
 
-ends-same : (plast : Bool) (d m g : List ℕ) (k n : ℕ) → endsHere plast (piecesFrom d m g k n) ≡ endsAt plast n
+pub ends-same : (plast : Bool) (d m g : List ℕ) (k n : ℕ) → endsHere plast (piecesFrom d m g k n) ≡ endsAt plast n
 unfolding piecesFrom endsAt
 ends-same plast d m g k zero = refl
 ends-same plast d m g k (suc n) = refl

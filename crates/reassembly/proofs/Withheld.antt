@@ -107,7 +107,7 @@ uncovered d = record {
   withheld = false;
 }
 
-begun-held : (pfirst : Bool) (start : ℕ) (h : Partial) → pfirst ≡ false → beginningStep pfirst start h .partial ≡ nothing
+pub begun-held : (pfirst : Bool) (start : ℕ) (h : Partial) → pfirst ≡ false → beginningStep pfirst start h .partial ≡ nothing
 unfolding beginningStep
 begun-held pfirst start nothing e = refl
 begun-held pfirst start (beginning n b) e = rw e

@@ -1,5 +1,5 @@
 -- How many log words the steps of document 01, "Receiver", write and how many bytes they leave held, by lengths alone.
-use mathlib.Core.Bool.{Bool, false, cond}
+use mathlib.Core.Bool.{Bool, true, false, cond}
 use mathlib.Core.List.{List}
 use Prim.Native.Nat.{ℕ, zero, suc, _+_, _-_, _/_}
 use lib.Dec.{eqb, ltb}
@@ -33,8 +33,16 @@ countFrom marks causes plast k (suc n) continues held =
 abbrev pub countPsd : ℕ → ℕ
 countPsd n = cond (eqb n 0) 0 (1 + (n + 2) / 3)
 
--- a whole PDU: the note with which it begins drops what is held
-unfoldable pub countAll : State → ℕ → Head → List ℕ → List ℕ → ℕ
-countAll s range h marks causes =
-    let none = eqb (firstCause s range h) 0 in
-    cond none 0 1 + countPsd (placeAt marks 0 - h .psd) + countFrom marks causes (h .plast) 0 (h .nop) (h .pfirst) (cond none (s .held) 0)
+-- the piece of a withheld PDU that continues so many held bytes, if there is one
+unfoldable pub countContinuing : Head → List ℕ → List ℕ → ℕ → ℕ
+countContinuing h marks causes held =
+    cond (eqb held 0) 0 (cond (eqb (h .nop) 0) 0 (countPiece held true (endsAt (h .plast) (h .nop - 1)) (getD causes 0 0) (lengthAt marks 0) .words))
+
+-- steps 3 and 4, with so many bytes held: a withheld PDU has note 8 in place of PSD
+unfoldable pub countContents : Bool → Head → List ℕ → List ℕ → ℕ → ℕ
+countContents false h marks causes held = countPsd (placeAt marks 0 - h .psd) + countFrom marks causes (h .plast) 0 (h .nop) (h .pfirst) held
+countContents true h marks causes held = 1 + countContinuing h marks causes held
+
+-- a whole PDU, withheld or not: the note with which it begins drops what is held
+unfoldable pub countAll : Bool → State → ℕ → Head → List ℕ → List ℕ → ℕ
+countAll withheld s range h marks causes = cond (eqb (firstCause s range h) 0) (countContents withheld h marks causes (s .held)) (1 + countContents withheld h marks causes 0)

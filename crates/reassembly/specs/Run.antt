@@ -91,6 +91,7 @@ pub record Parsed (h : Head) (pdu marks : List ℕ) : Type 0 where
   pub psd : h .psd ≤ placeAt marks 0
   pub size : length pdu ≤ 20480
 
+-- what it says; whether it is withheld is the receiver's to say
 unfoldable pub saidOf : Head → List ℕ → List ℕ → List ℕ → Said
 saidOf h marks causes pdu =
     record { sequence = h .sequence; pfirst = h .pfirst; plast = h .plast; start = h .start; psdBytes = psdOf h marks pdu; pieces = piecesFrom pdu marks causes 0 (h .nop); withheld = false }

@@ -1,13 +1,15 @@
-// Reassembly of packets from the pieces of PDUs (document 01, "Receiver").
+// Reassembly of packets from the pieces of PDUs (document 01, "Receiver"), withheld ones too (document 02, Ask 10).
 ghost use mathlib.Core.Path.{_≡_};
+ghost use mathlib.Core.Bool.{true, false};
 ghost use mathlib.Core.List.{List, _++_};
 ghost use Prim.Native.Nat.{ℕ, _+_, _-_, _*_, _≤_, _<_};
 ghost use lib.ListN.{length, take, getD};
 ghost use Rattle.buffer.specs.Buffer.{putAt};
 ghost use Rattle.log.specs.Log.{logWords};
-ghost use Rattle.reassembly.specs.Reassembly.{following, inSequence, nothing, dropped, numberAt, finished, pieceStep, piecesStep, psdEntries, received};
+ghost use Rattle.reassembly.specs.Reassembly.{following, inSequence, nothing, dropped, numberAt, finished, pieceStep, piecesStep, psdEntries, continuingStep, contentsStep, received};
+ghost use Rattle.reassembly.specs.Rights.{under};
 ghost use Rattle.reassembly.specs.Run.{lastOf, continuedBy, firstCause, endsAt, begun, partialOf, pieceOf, Did, Room, Marked, placeAt, pieceAt, piecesFrom, Parsed, saidOf, memoryOf};
-ghost use Rattle.reassembly.specs.Count.{countFinish, countPiece, countFrom, countPsd, countAll};
+ghost use Rattle.reassembly.specs.Count.{countFinish, countPiece, countFrom, countPsd, countContinuing, countContents, countAll};
 
 // What is held and where the log stands, in the course of a step. The bytes are the first ones of the carry buffer; held length 0 means nothing
 // held, with number 0.
@@ -25,7 +27,7 @@ pub struct State {
     pub number: u8,
 }
 
-// What a PDU's header says. PSD runs from `psd` to La.
+// What a PDU's header says. PSD runs from `psd` to La. Program and applied services are 0 where not sent or not interpreted.
 pub struct Head {
     pub sequence: u8,
     pub pfirst: bool,
@@ -33,6 +35,8 @@ pub struct Head {
     pub start: u8,
     pub psd: usize,
     pub nop: usize,
+    pub program: u8,
+    pub services: u8,
 }
 
 // Log words counted before they are written, and bytes held after them.
@@ -66,7 +70,7 @@ fn next_sequence(range: u8, last: u8) -> u8
 }
 
 // Step 1: is the sequence not known, or the next?
-fn in_sequence(known: bool, last: u8, range: u8, sequence: u8) -> bool
+pub fn in_sequence(known: bool, last: u8, range: u8, sequence: u8) -> bool
     requires { ⌜ last < 255 ⌝ }
     ensures { λ b. ⌜ b ≡ inSequence range (lastOf known last) sequence ⌝ }
 {
@@ -343,11 +347,102 @@ fn put_extra(log: &mut [u32], at: usize, bytes: &[u8]) -> usize
     log::put_psd(&mut *log, at, bytes)
 }
 
-// Steps 1 to 4 on an accepted PDU. The log is written from its first word on.
+// Steps 3 and 4 of a PDU that is not withheld.
+fn contents(
+    run: Run,
+    head: Head,
+    marks: [u16; 64],
+    causes: [u8; 64],
+    pdu: &[u8],
+    carry: &mut [u8],
+    log: &mut [u32],
+) -> Run
+    requires { ⌜ (run .held ≤ 4096) × (run .held ≡ 0 → run .number ≡ 0) ⌝ }
+    requires { ⌜ 4096 ≤ length (now carry) ⌝ }
+    requires { ⌜ Parsed head (now pdu) marks ⌝ }
+    requires { ⌜ Room (contentsStep false (saidOf head marks causes (now pdu)) (partialOf (run .held) (run .number) (now carry))) (run .at) (now log) ⌝ }
+    ensures { λ r. ⌜ Did (contentsStep false (saidOf head marks causes (now (pdu .entry))) (partialOf (run .held) (run .number) (now (carry .entry)))) (run .at) (now (carry .entry)) (now (log .entry)) (now (carry .exit)) (now (log .exit)) r ⌝ }
+{
+    let at = run.at;
+    let psd = head.psd;
+    let end = place(marks[0]) + 1;
+    let m = put_extra(&mut *log, at, &pdu[psd..end]);
+    let next = Run {
+        held: run.held,
+        number: run.number,
+        at: at + m,
+    };
+    pieces(next, head, marks, causes, pdu, &mut *carry, &mut *log)
+}
+
+// The piece that continues what is held, if there is one. No other is looked at.
+fn continuing(
+    run: Run,
+    head: Head,
+    marks: [u16; 64],
+    causes: [u8; 64],
+    pdu: &[u8],
+    carry: &mut [u8],
+    log: &mut [u32],
+) -> Run
+    requires { ⌜ (run .held ≤ 4096) × (run .held ≡ 0 → run .number ≡ 0) ⌝ }
+    requires { ⌜ 4096 ≤ length (now carry) ⌝ }
+    requires { ⌜ length (now pdu) ≤ 20480 ⌝ }
+    requires { ⌜ Marked (now pdu) marks (head .nop) ⌝ }
+    requires { ⌜ Room (continuingStep (numberAt (head .pfirst) (head .start) 0) (head .plast) (partialOf (run .held) (run .number) (now carry)) (piecesFrom (now pdu) marks causes 0 (head .nop))) (run .at) (now log) ⌝ }
+    ensures { λ r. ⌜ Did (continuingStep (numberAt (head .pfirst) (head .start) 0) (head .plast) (partialOf (run .held) (run .number) (now (carry .entry))) (piecesFrom (now (pdu .entry)) marks causes 0 (head .nop))) (run .at) (now (carry .entry)) (now (log .entry)) (now (carry .exit)) (now (log .exit)) r ⌝ }
+{
+    if run.held == 0 {
+        return run;
+    }
+    if head.nop == 0 {
+        return run;
+    }
+    piece_at(
+        run,
+        head,
+        marks,
+        0,
+        true,
+        causes[0],
+        pdu,
+        &mut *carry,
+        &mut *log,
+    )
+}
+
+// Steps 3 and 4 of a withheld PDU: note 8 in place of its PSD, and the piece that continues what is held.
+fn withhold(
+    run: Run,
+    head: Head,
+    marks: [u16; 64],
+    causes: [u8; 64],
+    pdu: &[u8],
+    carry: &mut [u8],
+    log: &mut [u32],
+) -> Run
+    requires { ⌜ (run .held ≤ 4096) × (run .held ≡ 0 → run .number ≡ 0) ⌝ }
+    requires { ⌜ 4096 ≤ length (now carry) ⌝ }
+    requires { ⌜ Parsed head (now pdu) marks ⌝ }
+    requires { ⌜ Room (contentsStep true (saidOf head marks causes (now pdu)) (partialOf (run .held) (run .number) (now carry))) (run .at) (now log) ⌝ }
+    ensures { λ r. ⌜ Did (contentsStep true (saidOf head marks causes (now (pdu .entry))) (partialOf (run .held) (run .number) (now (carry .entry)))) (run .at) (now (carry .entry)) (now (log .entry)) (now (carry .exit)) (now (log .exit)) r ⌝ }
+{
+    let at = run.at;
+    let m = log::put_note(&mut *log, at, 8, 0);
+    let next = Run {
+        held: run.held,
+        number: run.number,
+        at: at + m,
+    };
+    continuing(next, head, marks, causes, pdu, &mut *carry, &mut *log)
+}
+
+// Steps 1 to 4 on an accepted PDU, withheld or not. The log is written from its first word on.
 pub fn accept(
     state: State,
     range: u8,
     head: Head,
+    withheld: bool,
     marks: [u16; 64],
     causes: [u8; 64],
     pdu: &[u8],
@@ -358,20 +453,14 @@ pub fn accept(
     requires { ⌜ (state .held ≤ 4096) × (state .held ≡ 0 → state .number ≡ 0) ⌝ }
     requires { ⌜ 4096 ≤ length (now carry) ⌝ }
     requires { ⌜ Parsed head (now pdu) marks ⌝ }
-    requires { ⌜ Room (received range (memoryOf state (now carry)) (saidOf head marks causes (now pdu))) 0 (now log) ⌝ }
-    ensures { λ r. ⌜ Did (received range (memoryOf state (now (carry .entry))) (saidOf head marks causes (now (pdu .entry)))) 0 (now (carry .entry)) (now (log .entry)) (now (carry .exit)) (now (log .exit)) r ⌝ }
+    requires { ⌜ Room (received range (memoryOf state (now carry)) (under withheld (saidOf head marks causes (now pdu)))) 0 (now log) ⌝ }
+    ensures { λ r. ⌜ Did (received range (memoryOf state (now (carry .entry))) (under withheld (saidOf head marks causes (now (pdu .entry))))) 0 (now (carry .entry)) (now (log .entry)) (now (carry .exit)) (now (log .exit)) r ⌝ }
 {
     let first = begin(state, range, head, &mut *log);
-    let at = first.at;
-    let psd = head.psd;
-    let end = place(marks[0]) + 1;
-    let m = put_extra(&mut *log, at, &pdu[psd..end]);
-    let next = Run {
-        held: first.held,
-        number: first.number,
-        at: at + m,
-    };
-    pieces(next, head, marks, causes, pdu, &mut *carry, &mut *log)
+    if withheld {
+        return withhold(first, head, marks, causes, pdu, &mut *carry, &mut *log);
+    }
+    contents(first, head, marks, causes, pdu, &mut *carry, &mut *log)
 }
 
 // The words of all pieces.
@@ -408,22 +497,60 @@ fn count_psd(n: usize) -> usize
     1 + (n + 2) / 3
 }
 
+// The words of the piece that continues so many held bytes, if there is one.
+fn count_continuing(held: usize, head: Head, marks: [u16; 64], causes: [u8; 64]) -> usize
+    requires { ⌜ (held ≤ 4096) × (head .nop ≤ 63) ⌝ }
+    requires { ⌜ ((k : ℕ) → k < head .nop → placeAt marks k < getD marks (k + 1) 0) ⌝ }
+    ensures { λ r. ⌜ (r ≡ countContinuing head marks causes held) × (r ≤ 88200) ⌝ }
+{
+    if held == 0 {
+        return 0;
+    }
+    if head.nop == 0 {
+        return 0;
+    }
+    let a = place(marks[0]) + 1;
+    let e = place(marks[1]);
+    let ends = ends_here(head.plast, head.nop - 1);
+    let t = count_piece(held, true, ends, causes[0], e - a);
+    t.words
+}
+
+// The words of steps 3 and 4, of a PDU that is withheld or not, with so many bytes held.
+fn count_contents(
+    held: usize,
+    head: Head,
+    withheld: bool,
+    marks: [u16; 64],
+    causes: [u8; 64],
+) -> usize
+    requires { ⌜ (held ≤ 4096) × (head .nop ≤ 63) × (head .psd ≤ placeAt marks 0) ⌝ }
+    requires { ⌜ ((k : ℕ) → k < head .nop → placeAt marks k < getD marks (k + 1) 0) ⌝ }
+    ensures { λ r. ⌜ (r ≡ countContents withheld head marks causes held) × (r ≤ 120000) ⌝ }
+{
+    if withheld {
+        return 1 + count_continuing(held, head, marks, causes);
+    }
+    let extra = count_psd(place(marks[0]) + 1 - head.psd);
+    extra + count_pieces(held, head, marks, causes)
+}
+
 // The words that an accepted PDU writes, counted before any is written.
 pub fn words_needed(
     state: State,
     range: u8,
     head: Head,
+    withheld: bool,
     marks: [u16; 64],
     causes: [u8; 64],
 ) -> usize
     requires { ⌜ (state .last < 255) × (state .held ≤ 4096) ⌝ }
     requires { ⌜ (head .nop ≤ 63) × (head .psd ≤ placeAt marks 0) ⌝ }
     requires { ⌜ ((k : ℕ) → k < head .nop → placeAt marks k < getD marks (k + 1) 0) ⌝ }
-    ensures { λ r. ⌜ r ≡ countAll state range head marks causes ⌝ }
+    ensures { λ r. ⌜ r ≡ countAll withheld state range head marks causes ⌝ }
 {
-    let extra = count_psd(place(marks[0]) + 1 - head.psd);
     if first_cause(state, range, head) == 0 {
-        return extra + count_pieces(state.held, head, marks, causes);
+        return count_contents(state.held, head, withheld, marks, causes);
     }
-    1 + extra + count_pieces(0, head, marks, causes)
+    1 + count_contents(0, head, withheld, marks, causes)
 }

@@ -21,7 +21,7 @@ use Rattle.layout.specs.Control.{controlAt}
 use Rattle.layout.specs.declared.ControlWord.{ControlWord}
 use Rattle.pdu.specs.Reading.{readerTests, modeIn, wrongWith, wrongOf}
 use Rattle.pdu.proofs.Lowest.{without-eleven}
-use Rattle.receiver.specs.Receiving.{saidBy, modeOf, wrongFields, wrongState, refusedAnswer, receiveNumber, receiveAnswer, carryAfter, pduAfter, logAfter}
+use Rattle.receiver.specs.Receiving.{comeBy, modeOf, wrongFields, wrongState, refusedAnswer, receiveNumber, receiveAnswer, carryAfter, pduAfter, logAfter}
 use Rattle.receiver.specs.Steps.{noRoom, Takes, streamTests, correctedNumber, Answered}
 use Rattle.receiver.specs.declared.Receiver.{Receiver}
 use Rattle.receiver.specs.declared.Received.{Received}
@@ -36,10 +36,10 @@ module _ (m : Mode) (r : Receiver) (carry y log : List ℕ) where
 
   -- what is promised of the answer a, and of the carry buffer and the log after the call
   abbrev pub Corrects : Received → List ℕ → List ℕ → Type 0
-  Corrects a carryEnd logEnd = Answered (m .sequences) (saidBy (r .register) (m .width) (controlAt y) y) r carry log applying (wrongOf y applying) a carryEnd logEnd
+  Corrects a carryEnd logEnd = Answered (m .sequences) (comeBy (r .register) (m .width) (controlAt y) y) r carry log applying (wrongOf y applying) a carryEnd logEnd
 
   refused-with : (n k : ℕ) (a : Received) → applying ≡ n → (n ≡ 0 → ⊥) → k ≡ wrongOf y n → a ≡ refusedAnswer r n k → Corrects a carry log
-  refused-with n k a e z w q = rw e (answered-refused (m .sequences) (saidBy (r .register) (m .width) (controlAt y) y) r carry log n (wrongOf y n) a z (q ∙ ap (refusedAnswer r n) w))
+  refused-with n k a e z w q = rw e (answered-refused (m .sequences) (comeBy (r .register) (m .width) (controlAt y) y) r carry log n (wrongOf y n) a z (q ∙ ap (refusedAnswer r n) w))
 
   module _ (c : ControlWord) (ec : c ≡ controlAt y) where
     -- 5 and 6
@@ -61,22 +61,22 @@ module _ (m : Mode) (r : Receiver) (carry y log : List ℕ) where
 
       -- 13, or accepted
       pub log-call : (v : ℕ) (a : Received) (carryEnd logEnd : List ℕ) → v ≡ firstOf (readerTests m c y) → v ≡ 0
-          → Takes (m .sequences) (saidBy (r .register) (m .width) c y) r carry log a carryEnd logEnd
+          → Takes (m .sequences) (comeBy (r .register) (m .width) c y) r carry log a carryEnd logEnd
           → Corrects a carryEnd logEnd
       log-call v a carryEnd logEnd e z q =
-          let n : ℕ = cond (noRoom (m .sequences) (saidBy (r .register) (m .width) c y) r carry log) 13 0 in
+          let n : ℕ = cond (noRoom (m .sequences) (comeBy (r .register) (m .width) c y) r carry log) 13 0 in
           let number : applying ≡ n = at-log m r carry y log c ec l none (sym e ∙ z) in
-          let k : 0 ≡ wrongOf y n = sym (without-eleven y n (never 11 ((noRoom (m .sequences) (saidBy (r .register) (m .width) c y) r carry log, 13) ∷ []) refl refl)) in
-          let first : Answered (m .sequences) (saidBy (r .register) (m .width) c y) r carry log n (wrongOf y n) a carryEnd logEnd =
-          subst (λ (j : ℕ). Answered (m .sequences) (saidBy (r .register) (m .width) c y) r carry log n j a carryEnd logEnd) k q in
-          let second : Answered (m .sequences) (saidBy (r .register) (m .width) c y) r carry log applying (wrongOf y applying) a carryEnd logEnd = rw number first in
-          subst (λ (d : ControlWord). Answered (m .sequences) (saidBy (r .register) (m .width) d y) r carry log applying (wrongOf y applying) a carryEnd logEnd) ec second
+          let k : 0 ≡ wrongOf y n = sym (without-eleven y n (never 11 ((noRoom (m .sequences) (comeBy (r .register) (m .width) c y) r carry log, 13) ∷ []) refl refl)) in
+          let first : Answered (m .sequences) (comeBy (r .register) (m .width) c y) r carry log n (wrongOf y n) a carryEnd logEnd =
+          subst (λ (j : ℕ). Answered (m .sequences) (comeBy (r .register) (m .width) c y) r carry log n j a carryEnd logEnd) k q in
+          let second : Answered (m .sequences) (comeBy (r .register) (m .width) c y) r carry log applying (wrongOf y applying) a carryEnd logEnd = rw number first in
+          subst (λ (d : ControlWord). Answered (m .sequences) (comeBy (r .register) (m .width) d y) r carry log applying (wrongOf y applying) a carryEnd logEnd) ec second
 
   -- ---- the header put back
 
   module _ (a : Received) (carryEnd logEnd : List ℕ) (h : Corrects a carryEnd logEnd) (v : List ℕ) where
     number : a .refusal ≡ applying
-    number = answered-number (m .sequences) (saidBy (r .register) (m .width) (controlAt y) y) r carry log applying (wrongOf y applying) a carryEnd logEnd h
+    number = answered-number (m .sequences) (comeBy (r .register) (m .width) (controlAt y) y) r carry log applying (wrongOf y applying) a carryEnd logEnd h
 
     pub kept : a .refusal ≡ 0 → y ≡ cond (eqb applying 0) y v
     kept z = let t : eqb applying 0 ≡ true = eq-eqb applying 0 (sym number ∙ z) in rw t
@@ -97,7 +97,7 @@ module _ (marks carry pdu log : List ℕ) (r : Receiver) where
   abbrev Given : Mode → ℕ → Received → List ℕ → List ℕ → Type 0
   Given m n a carryEnd logEnd =
       let y = correctedPduWith marks pdu in
-      Answered (m .sequences) (saidBy (r .register) (m .width) (controlAt y) y) r carry log n (wrongOf y n) a carryEnd logEnd
+      Answered (m .sequences) (comeBy (r .register) (m .width) (controlAt y) y) r carry log n (wrongOf y n) a carryEnd logEnd
 
   pub turned-down : (n : ℕ) (a : Received) → receiveNumber marks carry pdu log r ≡ n → (n ≡ 0 → ⊥) → (n ≡ 11 → ⊥) → a ≡ refusedAnswer r n 0 → Promised a carry pdu log
   unfolding receiveAnswer carryAfter pduAfter logAfter

@@ -7,6 +7,8 @@ pub mod Lowest
 pub mod Marks
 pub mod Opening
 pub mod Parsing
+pub mod Programs
 pub mod Rows
 pub mod Saying
 pub mod Taking
+pub mod Withholding

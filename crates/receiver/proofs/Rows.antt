@@ -24,7 +24,7 @@ use Rattle.correction.specs.declared.Correction.the-variants.{Corrected, Refuse
 use Rattle.layout.specs.Control.{controlAt}
 use Rattle.layout.specs.declared.ControlWord.{ControlWord}
 use Rattle.pdu.specs.Reading.{readerTests, modeIn, listingOf, uncorrectable, widthOf}
-use Rattle.receiver.specs.Receiving.{saidBy, modeOf, wrongFields, wrongState, receiveNumber}
+use Rattle.receiver.specs.Receiving.{comeBy, modeOf, wrongFields, wrongState, receiveNumber}
 use Rattle.receiver.specs.Steps.{Usable, noRoom, streamTests, correctedNumber}
 use Rattle.receiver.specs.declared.Receiver.{Receiver}
 
@@ -66,7 +66,7 @@ module _ (r : Receiver) (c : ControlWord) where
 module _ (m : Mode) (r : Receiver) (carry y log : List ℕ) (c : ControlWord) (ec : c ≡ controlAt y) where
   -- row 13
   abbrev room : List (Bool × ℕ)
-  room = (noRoom (m .sequences) (saidBy (r .register) (m .width) c y) r carry log, 13) ∷ []
+  room = (noRoom (m .sequences) (comeBy (r .register) (m .width) c y) r carry log, 13) ∷ []
 
   -- rows 7 to 13, for a line of the table
   abbrev later : Listing → List (Bool × ℕ)
@@ -93,7 +93,7 @@ module _ (m : Mode) (r : Receiver) (carry y log : List ℕ) (c : ControlWord) (e
     pub at-reader : (n : ℕ) → n ≡ firstOf (readerTests m c y) → (n ≡ 0 → ⊥) → correctedNumber m r carry y log ≡ n
     at-reader n e z = later-rows ∙ first-on (readerTests m c y) room (λ q. z (e ∙ q)) ∙ sym e
 
-    pub at-log : firstOf (readerTests m c y) ≡ 0 → correctedNumber m r carry y log ≡ cond (noRoom (m .sequences) (saidBy (r .register) (m .width) c y) r carry log) 13 0
+    pub at-log : firstOf (readerTests m c y) ≡ 0 → correctedNumber m r carry y log ≡ cond (noRoom (m .sequences) (comeBy (r .register) (m .width) c y) r carry log) 13 0
     at-log e = later-rows ∙ past (readerTests m c y) room refl e
 
 -- ---- rows 3, 19 and 4 are correction's numbers
@@ -149,6 +149,13 @@ module _ (r : Receiver) where
       go true h = refl
       go false h = absurd (true≢false h)
 
+  none-known : (known : Bool) (value : ℕ) → (not known && not (eqb value 0)) ≡ false → known ≡ false → value ≡ 0
+  none-known known value e z = eqb-true value 0 (go (eqb value 0) (rw z at e))
+    where
+      go : (b : Bool) → (true && not b) ≡ false → b ≡ true
+      go true h = refl
+      go false h = absurd (true≢false h)
+
   -- a receiver that is not refused
   pub usable : (m : Mode) (carry : List ℕ) → listing (r .mode) (r .stream) ≡ Listed m → anyOf (wrongFields m r) ≡ false → 4096 ≤ length carry → Usable r carry
   usable m carry l e h =
@@ -157,6 +164,7 @@ module _ (r : Receiver) where
         sequence = omega (arith, leb-false (m .sequences) (r .sequence) (off 0), listable (r .mode) (r .stream) m l .most);
         held = ltb-false 4096 (r .held) (off 2);
         number = number-held (r .held) (r .number) (off 4);
+        services = none-known (r .serviced) (r .services) (off 6);
         room = h;
       }
 

@@ -11,9 +11,9 @@ use Rattle.crc.specs.Crc.{crcFrom}
 use Rattle.layout.specs.declared.ControlWord.{ControlWord}
 use Rattle.pdu.specs.Reading.{afterLocators, expansionBytes, psdOf}
 use Rattle.reassembly.specs.Run.{pieceAt, pieceOf, piecesFrom, psdOf as psdBy, saidOf, memoryOf as memoryBy}
-use Rattle.receiver.specs.Receiving.{pieceIn, piecesIn, saidBy, memoryOf}
+use Rattle.receiver.specs.Receiving.{pieceIn, piecesIn, saidBy, labelIn, comeBy, memoryOf}
 use Rattle.receiver.specs.declared.Receiver.{Receiver}
-use Rattle.receiver.specs.Steps.{MarksOf, causeAt, CausesOf, headOf, stateOf}
+use Rattle.receiver.specs.Steps.{MarksOf, causeAt, CausesOf, headOf, comeOf, stateOf}
 use Rattle.receiver.proofs.Marks.{next-mark}
 
 pub same-memory : (r : Receiver) (carry : List ℕ) → memoryBy (stateOf r) carry ≡ memoryOf r carry
@@ -47,3 +47,7 @@ module _ (register width : ℕ) (c : ControlWord) (y marks causes : List ℕ) (e
   same-said =
       let p : piecesFrom y marks causes 0 (c .nop) ≡ piecesIn register width c y 0 (c .nop) = pieces-same 0 (c .nop) (omega arith) in
       λ i. record { sequence = c .sequence; pfirst = c .pfirst; plast = c .plast; start = c .start; psdBytes = psd-same i; pieces = p i; withheld = false }
+
+  pub same-come : comeOf (headOf width c y) marks causes y ≡ comeBy register width c y
+  unfolding comeBy
+  same-come = λ i. record { said = same-said i; label = labelIn width c y }

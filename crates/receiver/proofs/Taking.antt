@@ -1,29 +1,51 @@
--- A PDU by what its header says, its marks and causes: its words counted, and put down where the log has room.
+-- A PDU by what its header says, its marks and causes: withheld or not, its words counted, and put down where the log has room.
 use mathlib.Core.Path.{_≡_, refl, sym, ap, _∙_}
-use mathlib.Core.Bool.{true, false}
+use mathlib.Core.Bool.{Bool, true, false, cond}
 use mathlib.Core.List.{List}
+use mathlib.Core.Option.{Option, none, some}
 use Prim.Native.Nat.{ℕ, _+_, _<_, _≤_}
 use native.Mathlib.Nat.{zero-add}
 use native.Mathlib.Omega.{arith}
 use lib.ListN.{length, getD}
 use borrow.Author.Tests.{lt-ltb, le-ltb}
 use Rattle.log.specs.Log.{logWords}
-use Rattle.reassembly.specs.Reassembly.{Memory, Outcome, received, remembered}
-use Rattle.reassembly.specs.Run.{bytesOf, numberOf, runAfter, keeps, writes, Did, Room, placeAt, Parsed, saidOf, memoryOf as memoryBy}
+use Rattle.reassembly.specs.Reassembly.{Outcome, received, remembered}
+use Rattle.reassembly.specs.Rights.{forgetting, inForce, keptAfter, withheldBy, under}
+use Rattle.reassembly.specs.Run.{bytesOf, numberOf, runAfter, keeps, writes, Did, Room, placeAt, Parsed, saidOf, lastOf, memoryOf as memoryBy}
 use Rattle.reassembly.specs.Count.{countAll}
 use Rattle.reassembly.specs.declared.Head.{Head}
 use Rattle.reassembly.specs.declared.Run.{Run}
 use Rattle.reassembly.specs.declared.State.{State}
 use Rattle.reassembly.proofs.Counts.{count-received}
-use Rattle.receiver.specs.Receiving.{remembering, refusedAnswer}
-use Rattle.receiver.specs.Steps.{stateOf, Usable, acceptedAfter, outcomeOf, noRoom, acceptedAnswer, Takes}
+use Rattle.receiver.specs.Entitling.{entitles}
+use Rattle.receiver.specs.Receiving.{memoryOf, keptOf, isKnown, orZero, keepsServices, valueAt, shown, keptBy, remembering, refusedAnswer}
+use Rattle.receiver.specs.Steps.{stateOf, servicesOf, comeOf, Usable, acceptedAfter, outcomeOf, noRoom, acceptedAnswer, Takes}
 use Rattle.receiver.specs.declared.Receiver.{Receiver}
 use Rattle.receiver.specs.declared.Received.{Received}
+use Rattle.receiver.specs.declared.Services.{Services}
 use Rattle.receiver.proofs.Answering.{answered-refused, answered-accepted}
 use Rattle.receiver.proofs.Bounds.{held-bounded, words-bounded}
 use Rattle.receiver.proofs.Saying.{same-memory}
 
--- what is known before the words are counted
+-- ---- applied services, known or not
+
+known-again : (v : Option ℕ) → lastOf (isKnown v) (orZero v) ≡ v
+known-again none = refl
+known-again (some q) = refl
+
+kept-services : (b : Bool) (v : Option ℕ) → cond b (servicesOf v) (servicesOf none) ≡ servicesOf (keptAfter b v)
+kept-services true v = refl
+kept-services false v = refl
+
+-- the applied services in force at a PDU with this header
+abbrev pub forceAt : ℕ → Receiver → Head → Option ℕ
+forceAt range r head = inForce (keepsServices range r) (head .sequence) (head .services) (forgetting range (lastOf (r .known) (r .sequence)) (head .sequence) (keptOf r))
+
+value-is : (range : ℕ) (r : Receiver) (head : Head) (marks causes y carry : List ℕ) → forceAt range r head ≡ valueAt range r carry (comeOf head marks causes y)
+unfolding saidOf memoryOf
+value-is range r head marks causes y carry = refl
+
+-- ---- what is known before the words are counted
 pub record Ready (r : Receiver) (head : Head) (y marks carry : List ℕ) (state : State) : Type 0 where
   pub fine : Usable r carry
   pub whole : Parsed head y marks
@@ -48,26 +70,33 @@ module _ {r : Receiver} {head : Head} {y marks carry : List ℕ} {state : State}
   pub needed : ((state .last < 255) × (state .held ≤ 4096)) × (((head .nop ≤ 63) × (head .psd ≤ placeAt marks 0)) × ((k : ℕ) → k < head .nop → placeAt marks k < getD marks (k + 1) 0))
   needed = ((last, small), ((whole .marked .few, whole .psd), whole .marked .rising))
 
-  module _ (range : ℕ) (causes log : List ℕ) where
+  module _ (range : ℕ) (causes log : List ℕ) (services : Services) (es : services ≡ servicesOf (forceAt range r head)) (w : Bool)
+      (ew : w ≡ withheldBy (entitles (r .entitled)) (head .program) (lastOf (services .known) (services .value))) where
     abbrev pub Accepts : Outcome
-    Accepts = received range (memoryBy state carry) (saidOf head marks causes y)
+    Accepts = received range (memoryBy state carry) (under w (saidOf head marks causes y))
 
-    same : Accepts ≡ outcomeOf range (saidOf head marks causes y) r carry log
-    same = ap (λ (x : Memory). received range x (saidOf head marks causes y)) (ap (λ (s : State). memoryBy s carry) (ready .stated) ∙ same-memory r carry)
+    withheld-as : w ≡ withheldBy (entitles (r .entitled)) (head .program) (valueAt range r carry (comeOf head marks causes y))
+    withheld-as = ew ∙ ap (λ (s : Services). withheldBy (entitles (r .entitled)) (head .program) (lastOf (s .known) (s .value))) es ∙ ap (withheldBy (entitles (r .entitled)) (head .program)) (known-again (forceAt range r head) ∙ value-is range r head marks causes y carry)
 
-    module _ (words : ℕ) (ew : words ≡ countAll state range head marks causes) where
+    said-as : under w (saidOf head marks causes y) ≡ shown range r carry (comeOf head marks causes y)
+    said-as = ap (λ (b : Bool). under b (saidOf head marks causes y)) withheld-as
+
+    same : Accepts ≡ outcomeOf range (comeOf head marks causes y) r carry log
+    same = λ i. received range ((ap (λ (s : State). memoryBy s carry) (ready .stated) ∙ same-memory r carry) i) (said-as i)
+
+    module _ (words : ℕ) (en : words ≡ countAll w state range head marks causes) where
       counted : words ≡ length (logWords (Accepts .entries))
-      counted = ew ∙ count-received state range head marks causes y carry small (fine .room) whole
+      counted = en ∙ count-received w state range head marks causes y carry small (fine .room) whole
 
-      counted-here : words ≡ length (logWords (outcomeOf range (saidOf head marks causes y) r carry log .entries))
+      counted-here : words ≡ length (logWords (outcomeOf range (comeOf head marks causes y) r carry log .entries))
       counted-here = counted ∙ ap (λ (o : Outcome). length (logWords (o .entries))) same
 
       -- the log is too short
-      pub too-short : (a : Received) → length log < words → a ≡ refusedAnswer r 13 0 → Takes range (saidOf head marks causes y) r carry log a carry log
+      pub too-short : (a : Received) → length log < words → a ≡ refusedAnswer r 13 0 → Takes range (comeOf head marks causes y) r carry log a carry log
       too-short a h q =
-          let t : noRoom range (saidOf head marks causes y) r carry log ≡ true =
-          lt-ltb (length log) (length (logWords (outcomeOf range (saidOf head marks causes y) r carry log .entries))) (omega (arith, counted-here)) in
-          rw t (answered-refused range (saidOf head marks causes y) r carry log 13 0 a (λ z. omega arith) q)
+          let t : noRoom range (comeOf head marks causes y) r carry log ≡ true =
+          lt-ltb (length log) (length (logWords (outcomeOf range (comeOf head marks causes y) r carry log .entries))) (omega (arith, counted-here)) in
+          rw t (answered-refused range (comeOf head marks causes y) r carry log 13 0 a (λ z. omega arith) q)
 
       module _ (h : words ≤ length log) where
         pub accepts : (state .last < 255) × (((state .held ≤ 4096) × (state .held ≡ 0 → state .number ≡ 0)) × ((4096 ≤ length carry) × (Parsed head y marks × Room Accepts 0 log)))
@@ -85,28 +114,45 @@ module _ {r : Receiver} {head : Head} {y marks carry : List ℕ} {state : State}
 
           pub run-fits : (run .held ≤ 65535) × (run .at ≤ 4294967295)
           run-fits = (
-            omega (arith, run-held, held-bounded state range head marks causes y carry small (fine .room) whole),
-            omega (arith, run-at, counted, words-bounded state range head marks causes y carry small (fine .room) whole),
+            omega (arith, run-held, held-bounded w state range head marks causes y carry small (fine .room) whole),
+            omega (arith, run-at, counted, words-bounded w state range head marks causes y carry small (fine .room) whole),
           )
 
-          run-answer : acceptedAfter r (head .sequence) run ≡ acceptedAnswer range (saidOf head marks causes y) r carry log
-          unfolding runAfter remembering remembered saidOf
-          run-answer =
-              let at : run .at ≡ length (logWords (outcomeOf range (saidOf head marks causes y) r carry log .entries)) = run-at ∙ counted-here in
-              let held : run .held ≡ length (bytesOf (outcomeOf range (saidOf head marks causes y) r carry log .partial)) = run-held ∙ ap (λ (o : Outcome). length (bytesOf (o .partial))) same in
-              let number : run .number ≡ numberOf (outcomeOf range (saidOf head marks causes y) r carry log .partial) = ap (λ (x : Run). x .number) (did .run) ∙ ap (λ (o : Outcome). numberOf (o .partial)) same in
-              λ i. record {
-                refusal = 0;
-                wrong = 0;
-                words = at i;
-                receiver = record { mode = r .mode; stream = r .stream; register = r .register; known = true; sequence = head .sequence; held = held i; number = number i };
-              }
+          module _ (kept : Services) (ek : kept ≡ cond (keepsServices range r) services (servicesOf none)) where
+            kept-as : kept ≡ servicesOf (keptBy range r carry (comeOf head marks causes y))
+            kept-as =
+                ek ∙ ap (λ (s : Services). cond (keepsServices range r) s (servicesOf none)) es ∙ kept-services (keepsServices range r) (forceAt range r head)
+                ∙ ap (λ (v : Option ℕ). servicesOf (keptAfter (keepsServices range r) v)) (value-is range r head marks causes y carry)
 
-          pub taken : (a : Received) → a ≡ acceptedAfter r (head .sequence) run → Takes range (saidOf head marks causes y) r carry log a carryAfter logAfter
-          unfolding keeps writes
-          taken a q =
-              let t : noRoom range (saidOf head marks causes y) r carry log ≡ false =
-              le-ltb (length log) (length (logWords (outcomeOf range (saidOf head marks causes y) r carry log .entries))) (omega (arith, counted-here)) in
-              let k = did .carry in
-              let l = did .log in
-              rw t (answered-accepted range (saidOf head marks causes y) r carry log 0 0 a carryAfter logAfter refl (q ∙ run-answer) (rw same at k) (rw same at l))
+            run-answer : acceptedAfter r (head .sequence) kept run ≡ acceptedAnswer range (comeOf head marks causes y) r carry log
+            unfolding runAfter remembering remembered saidOf
+            run-answer =
+                let at : run .at ≡ length (logWords (outcomeOf range (comeOf head marks causes y) r carry log .entries)) = run-at ∙ counted-here in
+                let held : run .held ≡ length (bytesOf (outcomeOf range (comeOf head marks causes y) r carry log .partial)) = run-held ∙ ap (λ (o : Outcome). length (bytesOf (o .partial))) same in
+                let number : run .number ≡ numberOf (outcomeOf range (comeOf head marks causes y) r carry log .partial) = ap (λ (x : Run). x .number) (did .run) ∙ ap (λ (o : Outcome). numberOf (o .partial)) same in
+                λ i. record {
+                  refusal = 0;
+                  wrong = 0;
+                  words = at i;
+                  receiver = record {
+                    mode = r .mode;
+                    stream = r .stream;
+                    register = r .register;
+                    entitled = r .entitled;
+                    known = true;
+                    sequence = head .sequence;
+                    held = held i;
+                    number = number i;
+                    serviced = kept-as i .known;
+                    services = kept-as i .value;
+                  };
+                }
+
+            pub taken : (a : Received) → a ≡ acceptedAfter r (head .sequence) kept run → Takes range (comeOf head marks causes y) r carry log a carryAfter logAfter
+            unfolding keeps writes
+            taken a q =
+                let t : noRoom range (comeOf head marks causes y) r carry log ≡ false =
+                le-ltb (length log) (length (logWords (outcomeOf range (comeOf head marks causes y) r carry log .entries))) (omega (arith, counted-here)) in
+                let k = did .carry in
+                let l = did .log in
+                rw t (answered-accepted range (comeOf head marks causes y) r carry log 0 0 a carryAfter logAfter refl (q ∙ run-answer) (rw same at k) (rw same at l))

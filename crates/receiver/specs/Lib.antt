@@ -1,2 +1,3 @@
+pub mod Entitling
 pub mod Receiving
 pub mod Steps

@@ -1,4 +1,4 @@
--- Document 01, "Receiver": opening, receiving a PDU, and marking one lost.
+-- Document 01, "Receiver": opening, receiving a PDU, and marking one lost; document 02, Ask 10: with entitled programs.
 use mathlib.Core.Bool.{Bool, true, false, not, _&&_, cond}
 use mathlib.Core.List.{List, [], _∷_, _++_}
 use mathlib.Core.Option.{Option, none, some}
@@ -17,9 +17,13 @@ use Rattle.layout.specs.declared.ControlWord.{ControlWord}
 use Rattle.layout.specs.Locators.{locatorAt}
 use Rattle.log.specs.Log.{logWords}
 use Rattle.correction.specs.Marks.{marksRefusal, correctedWith, correctedPduWith}
-use Rattle.pdu.specs.Reading.{startAt, lengthAt, psdOf, readerTests, listingOf, modeIn, uncorrectable, wrongOf}
+use Rattle.pdu.specs.Reading.{startAt, lengthAt, fieldsOf, psdOf, readerTests, listingOf, modeIn, uncorrectable, wrongOf}
 use Rattle.reassembly.specs.Reassembly.{Piece, Said, Memory, Outcome, received, remembered, lostEntries, forgotten}
+use Rattle.reassembly.specs.Rights.{Rights, Label, keptAfter}
+use Rattle.reassembly.specs.Tally.{noTally}
+use Rattle.reassembly.specs.Holder.{Come, Holder, valueFor, saidTo}
 use Rattle.reassembly.specs.Run.{bytesOf, numberOf as partialNumber, partialOf, lastOf}
+use Rattle.receiver.specs.Entitling.{allowedPrograms, maskOf, allPrograms, entitles}
 use Rattle.receiver.specs.declared.Receiver.{Receiver}
 use Rattle.receiver.specs.declared.Opened.{Opened}
 use Rattle.receiver.specs.declared.Received.{Received}
@@ -28,15 +32,30 @@ use Rattle.receiver.specs.declared.Received.{Received}
 
 -- what a refused opening hands back: a mode that the table has not, so that number 1 turns it down
 abbrev pub noReceiver : Receiver
-noReceiver = record { mode = 255; stream = 0; register = 0; known = false; sequence = 0; held = 0; number = 0 }
+noReceiver = record { mode = 255; stream = 0; register = 0; entitled = 0; known = false; sequence = 0; held = 0; number = 0; serviced = false; services = 0 }
 
-abbrev pub openedAs : Listing → ℕ → ℕ → ℕ → Opened
-openedAs (Refused n) mode stream register = record { refusal = n; receiver = noReceiver }
-openedAs (Listed m) mode stream register = record { refusal = 0; receiver = record { mode = mode; stream = stream; register = register; known = false; sequence = 0; held = 0; number = 0 } }
+-- a receiver that knows no sequence, holds nothing and knows of no applied services; the entitled programs are a mask
+abbrev pub fresh : ℕ → ℕ → ℕ → ℕ → Receiver
+fresh mode stream register entitled =
+    record { mode = mode; stream = stream; register = register; entitled = entitled; known = false; sequence = 0; held = 0; number = 0; serviced = false; services = 0 }
 
--- for a mode, a stream and the register that CRCs start with (document 02, Ask 2): refusal 5, or a receiver that knows no sequence and holds nothing
+-- 5, mode and stream not in the table; then 22, a program number over 7 or repeated
+abbrev pub openingTests : ℕ → ℕ → List ℕ → List (Bool × ℕ)
+openingTests mode stream programs = (not (eqb (numberOf (listing mode stream)) 0), 5) ∷ (not (allowedPrograms programs), 22) ∷ []
+
+unfoldable pub openingNumber : ℕ → ℕ → List ℕ → ℕ
+openingNumber mode stream programs = firstOf (openingTests mode stream programs)
+
+abbrev pub openedBy : ℕ → Receiver → Opened
+openedBy number r = record { refusal = number; receiver = cond (eqb number 0) r noReceiver }
+
+-- for a mode, a stream, the register that CRCs start with (document 02, Ask 2) and the entitled programs (Ask 10)
+unfoldable pub openedFor : ℕ → ℕ → ℕ → List ℕ → Opened
+openedFor mode stream register programs = openedBy (openingNumber mode stream programs) (fresh mode stream register (maskOf programs))
+
+-- a receiver that is told no programs is entitled to all
 unfoldable pub opened : ℕ → ℕ → ℕ → Opened
-opened mode stream register = openedAs (listing mode stream) mode stream register
+opened mode stream register = openedFor mode stream register allPrograms
 
 -- ---- what a corrected PDU y says, by the register that CRCs start with, its control word c and locators of a width
 
@@ -62,30 +81,69 @@ saidBy register width c y = record {
   withheld = false;
 }
 
+-- its program and applied services, each 0 where not sent or not interpreted
+abbrev pub labelIn : ℕ → ControlWord → List ℕ → Label
+labelIn width c y = record { program = fieldsOf width c y .program; services = fieldsOf width c y .services }
+
+-- the PDU as it comes: whether it is withheld is the receiver's to say
+unfoldable pub comeBy : ℕ → ℕ → ControlWord → List ℕ → Come
+comeBy register width c y = record { said = saidBy register width c y; label = labelIn width c y }
+
 -- ---- what a receiver remembers; the held bytes are the first ones of the carry
 
 unfoldable pub memoryOf : Receiver → List ℕ → Memory
 memoryOf r carry = record { last = lastOf (r .known) (r .sequence); partial = partialOf (r .held) (r .number) carry }
 
+-- the applied services in force, if known
+abbrev pub keptOf : Receiver → Option ℕ
+keptOf r = lastOf (r .serviced) (r .services)
+
+-- as reassembly/specs/Holder.antt has it, without counts
+abbrev pub holderOf : Receiver → List ℕ → Holder
+holderOf r carry = record { memory = memoryOf r carry; kept = keptOf r; tally = noTally }
+
 abbrev pub isKnown : Option ℕ → Bool
 isKnown none = false
 isKnown (some q) = true
 
-abbrev pub sequenceOf : Option ℕ → ℕ
-sequenceOf none = 0
-sequenceOf (some q) = q
+abbrev pub orZero : Option ℕ → ℕ
+orZero none = 0
+orZero (some q) = q
 
 -- a field not known or not held is set to 0; held length 0 means nothing held
-unfoldable pub remembering : Receiver → Memory → Receiver
-remembering r x = record {
+unfoldable pub remembering : Receiver → Memory → Option ℕ → Receiver
+remembering r x kept = record {
   mode = r .mode;
   stream = r .stream;
   register = r .register;
+  entitled = r .entitled;
   known = isKnown (x .last);
-  sequence = sequenceOf (x .last);
+  sequence = orZero (x .last);
   held = length (bytesOf (x .partial));
   number = partialNumber (x .partial);
+  serviced = isKnown kept;
+  services = orZero kept;
 }
+
+-- ---- document 02, Ask 10: what is withheld from a receiver (reassembly/specs/Rights.antt)
+
+-- core of so many sequences keeps the value sent with sequence 0, if these are 0-7
+abbrev pub keepsServices : ℕ → Receiver → Bool
+keepsServices range r = eqb (r .stream) 0 && eqb range 8
+
+-- its programs, and whether it keeps a value
+abbrev pub rightsOf : ℕ → Receiver → Rights
+rightsOf range r = record { entitled = entitles (r .entitled); keeps = keepsServices range r }
+
+-- the applied services in force at a PDU, what it says to this receiver, and what is kept after it
+abbrev pub valueAt : ℕ → Receiver → List ℕ → Come → Option ℕ
+valueAt range r carry d = valueFor (rightsOf range r) range (holderOf r carry) d
+
+abbrev pub shown : ℕ → Receiver → List ℕ → Come → Said
+shown range r carry d = saidTo (rightsOf range r) range (holderOf r carry) d
+
+abbrev pub keptBy : ℕ → Receiver → List ℕ → Come → Option ℕ
+keptBy range r carry d = keptAfter (keepsServices range r) (valueAt range r carry d)
 
 -- ---- what is turned down
 
@@ -93,7 +151,15 @@ remembering r x = record {
 abbrev pub modeOf : Receiver → Mode
 modeOf r = modeIn (listing (r .mode) (r .stream))
 
--- sequence, held and number outside their ranges for a mode; not 0 where not known or not held
+-- applied services over 7, not 0 while unknown, or known for any mode and stream that keeps none
+abbrev pub wrongServices : Mode → Receiver → List Bool
+wrongServices m r =
+    ltb 7 (r .services)
+    ∷ (not (r .serviced) && not (eqb (r .services) 0))
+    ∷ (r .serviced && not (keepsServices (m .sequences) r))
+    ∷ []
+
+-- sequence, held, number and applied services outside their ranges for a mode; not 0 where not known or not held
 abbrev pub wrongFields : Mode → Receiver → List Bool
 wrongFields m r =
     leb (m .sequences) (r .sequence)
@@ -101,7 +167,7 @@ wrongFields m r =
     ∷ ltb 4096 (r .held)
     ∷ ltb 63 (r .number)
     ∷ (eqb (r .held) 0 && not (eqb (r .number) 0))
-    ∷ []
+    ∷ wrongServices m r
 
 -- 1: mode and stream not in the table, or a field outside its range
 abbrev pub wrongState : Receiver → List Bool
@@ -115,9 +181,12 @@ refusedAnswer r number k = record { refusal = number; wrong = k; words = 0; rece
 
 -- the PDU's marked places, the lent carry, PDU and log before the call, and the receiver
 module _ (marks carry pdu log : List ℕ) (r : Receiver) where
-  -- what the corrected PDU says, what is logged and held, and what is remembered
+  -- the corrected PDU as it comes, what it says to the receiver, what is logged and held, and what is remembered
+  abbrev pub come : Come
+  come = comeBy (r .register) (modeOf r .width) (controlAt (correctedPduWith marks pdu)) (correctedPduWith marks pdu)
+
   abbrev pub said : Said
-  said = saidBy (r .register) (modeOf r .width) (controlAt (correctedPduWith marks pdu)) (correctedPduWith marks pdu)
+  said = shown (modeOf r .sequences) r carry come
 
   abbrev pub outcome : Outcome
   outcome = received (modeOf r .sequences) (memoryOf r carry) said
@@ -127,6 +196,9 @@ module _ (marks carry pdu log : List ℕ) (r : Receiver) where
 
   abbrev pub memoryAfter : Memory
   memoryAfter = remembered (modeOf r .sequences) (memoryOf r carry) said
+
+  abbrev pub keptServices : Option ℕ
+  keptServices = keptBy (modeOf r .sequences) r carry come
 
   -- rows 1 to 13, in the table's order, 19 directly after 3
   abbrev pub receiveTests : List (Bool × ℕ)
@@ -149,7 +221,7 @@ module _ (marks carry pdu log : List ℕ) (r : Receiver) where
   -- the answer
   unfoldable pub receiveAnswer : Received
   receiveAnswer =
-      cond (eqb receiveNumber 0) (record { refusal = 0; wrong = 0; words = length receivedWords; receiver = remembering r memoryAfter })
+      cond (eqb receiveNumber 0) (record { refusal = 0; wrong = 0; words = length receivedWords; receiver = remembering r memoryAfter keptServices })
       (refusedAnswer r receiveNumber (wrongOf (correctedPduWith marks pdu) receiveNumber))
 
   -- the buffers after the call: what is held stands first in the carry, the PDU is corrected, the words stand in the log from its first
@@ -163,7 +235,7 @@ module _ (marks carry pdu log : List ℕ) (r : Receiver) where
   unfoldable pub logAfter : List ℕ
   logAfter = cond (eqb receiveNumber 0) (putAt log 0 receivedWords) log
 
--- ---- marking a PDU lost, which takes no PDU and no carry
+-- ---- marking a PDU lost, which takes no PDU and no carry: all that is remembered is forgotten
 
 module _ (log : List ℕ) (r : Receiver) where
   abbrev pub lostTests : List (Bool × ℕ)
@@ -174,7 +246,7 @@ module _ (log : List ℕ) (r : Receiver) where
 
   unfoldable pub lostAnswer : Received
   lostAnswer =
-      cond (eqb lostNumber 0) (record { refusal = 0; wrong = 0; words = length (logWords lostEntries); receiver = remembering r forgotten }) (refusedAnswer r lostNumber 0)
+      cond (eqb lostNumber 0) (record { refusal = 0; wrong = 0; words = length (logWords lostEntries); receiver = remembering r forgotten none }) (refusedAnswer r lostNumber 0)
 
   unfoldable pub logAfterLost : List ℕ
   logAfterLost = cond (eqb lostNumber 0) (putAt log 0 (logWords lostEntries)) log

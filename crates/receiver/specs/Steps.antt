@@ -1,6 +1,7 @@
 -- What the parts of a receiving call promise.
 use mathlib.Core.Bool.{Bool, true, false, not, _&&_, cond}
 use mathlib.Core.List.{List, [], _∷_, _++_}
+use mathlib.Core.Option.{Option}
 use mathlib.Core.Path.{_≡_}
 use Prim.Native.Nat.{ℕ, _+_, _≤_, _<_}
 use lib.Dec.{eqb, ltb}
@@ -13,15 +14,17 @@ use Rattle.modes.specs.declared.Mode.{Mode}
 use Rattle.layout.specs.Control.{controlAt}
 use Rattle.layout.specs.declared.ControlWord.{ControlWord}
 use Rattle.log.specs.Log.{logWords}
-use Rattle.pdu.specs.Reading.{afterLocators, expansionBytes, markAt, modeIn, listingOf, readerTests}
-use Rattle.reassembly.specs.Reassembly.{Said, Outcome, received, remembered}
-use Rattle.reassembly.specs.Run.{bytesOf, pieceAt}
+use Rattle.pdu.specs.Reading.{afterLocators, expansionBytes, fieldsOf, markAt, modeIn, listingOf, readerTests}
+use Rattle.reassembly.specs.Reassembly.{Outcome, received, remembered}
+use Rattle.reassembly.specs.Holder.{Come}
+use Rattle.reassembly.specs.Run.{bytesOf, pieceAt, saidOf}
 use Rattle.reassembly.specs.declared.Head.{Head}
 use Rattle.reassembly.specs.declared.Run.{Run}
 use Rattle.reassembly.specs.declared.State.{State}
-use Rattle.receiver.specs.Receiving.{saidBy, memoryOf, remembering, wrongState, refusedAnswer}
+use Rattle.receiver.specs.Receiving.{comeBy, fresh, memoryOf, isKnown, orZero, shown, keptBy, remembering, wrongState, refusedAnswer}
 use Rattle.receiver.specs.declared.Receiver.{Receiver}
 use Rattle.receiver.specs.declared.Received.{Received}
+use Rattle.receiver.specs.declared.Services.{Services}
 
 -- ---- what reassembly takes
 
@@ -37,7 +40,11 @@ abbrev pub CausesOf : ℕ → List ℕ → List ℕ → ℕ → List ℕ → Typ
 CausesOf register y marks nop causes = (k : ℕ) → k < nop → getD causes k 0 ≡ causeAt register y marks k
 
 abbrev pub headOf : ℕ → ControlWord → List ℕ → Head
-headOf width c y = record { sequence = c .sequence; pfirst = c .pfirst; plast = c .plast; start = c .start; psd = afterLocators width c + expansionBytes width c y; nop = c .nop }
+headOf width c y = record { sequence = c .sequence; pfirst = c .pfirst; plast = c .plast; start = c .start; psd = afterLocators width c + expansionBytes width c y; nop = c .nop; program = fieldsOf width c y .program; services = fieldsOf width c y .services }
+
+-- a PDU as it comes, by its header, marks and causes
+abbrev pub comeOf : Head → List ℕ → List ℕ → List ℕ → Come
+comeOf head marks causes y = record { said = saidOf head marks causes y; label = record { program = head .program; services = head .services } }
 
 abbrev pub stateOf : Receiver → State
 stateOf r = record { known = r .known; last = r .sequence; held = r .held; number = r .number }
@@ -51,29 +58,49 @@ pub record Usable (r : Receiver) (carry : List ℕ) : Type 0 where
   pub sequence : r .sequence < 255
   pub held : r .held ≤ 4096
   pub number : r .held ≡ 0 → r .number ≡ 0
+  pub services : r .serviced ≡ false → r .services ≡ 0
   pub room : 4096 ≤ length carry
 
--- the answer after a run
-abbrev pub acceptedAfter : Receiver → ℕ → Run → Received
-acceptedAfter r sequence run =
-    record { refusal = 0; wrong = 0; words = run .at; receiver = record { mode = r .mode; stream = r .stream; register = r .register; known = true; sequence = sequence; held = run .held; number = run .number } }
+-- applied services in force, 0 where not known
+abbrev pub servicesOf : Option ℕ → Services
+servicesOf kept = record { known = isKnown kept; value = orZero kept }
+
+-- the answer after a run, with these applied services kept
+abbrev pub acceptedAfter : Receiver → ℕ → Services → Run → Received
+acceptedAfter r sequence kept run = record {
+  refusal = 0;
+  wrong = 0;
+  words = run .at;
+  receiver = record {
+    mode = r .mode;
+    stream = r .stream;
+    register = r .register;
+    entitled = r .entitled;
+    known = true;
+    sequence = sequence;
+    held = run .held;
+    number = run .number;
+    serviced = kept .known;
+    services = kept .value;
+  };
+}
 
 -- the answer after marking a PDU lost
 abbrev pub forgetful : Receiver → ℕ → Received
 forgetful r words =
-    record { refusal = 0; wrong = 0; words = words; receiver = record { mode = r .mode; stream = r .stream; register = r .register; known = false; sequence = 0; held = 0; number = 0 } }
+    record { refusal = 0; wrong = 0; words = words; receiver = fresh (r .mode) (r .stream) (r .register) (r .entitled) }
 
 -- ---- the answer and the buffers after a step, by the lowest number that applies, 0 where there is none, and the k that comes with it
 
-module _ (range : ℕ) (said : Said) (r : Receiver) (carry log : List ℕ) where
+module _ (range : ℕ) (come : Come) (r : Receiver) (carry log : List ℕ) where
   abbrev pub outcomeOf : Outcome
-  outcomeOf = received range (memoryOf r carry) said
+  outcomeOf = received range (memoryOf r carry) (shown range r carry come)
 
   abbrev pub noRoom : Bool
   noRoom = ltb (length log) (length (logWords (outcomeOf .entries)))
 
   abbrev pub acceptedAnswer : Received
-  acceptedAnswer = record { refusal = 0; wrong = 0; words = length (logWords (outcomeOf .entries)); receiver = remembering r (remembered range (memoryOf r carry) said) }
+  acceptedAnswer = record { refusal = 0; wrong = 0; words = length (logWords (outcomeOf .entries)); receiver = remembering r (remembered range (memoryOf r carry) (shown range r carry come)) (keptBy range r carry come) }
 
   pub record Answered (n k : ℕ) (a : Received) (carryAfter logAfter : List ℕ) : Type 0 where
     pub answer : a ≡ cond (eqb n 0) acceptedAnswer (refusedAnswer r n k)
@@ -81,8 +108,8 @@ module _ (range : ℕ) (said : Said) (r : Receiver) (carry log : List ℕ) where
     pub logged : logAfter ≡ cond (eqb n 0) (putAt log 0 (logWords (outcomeOf .entries))) log
 
 -- 13, or accepted
-abbrev pub Takes : ℕ → Said → Receiver → List ℕ → List ℕ → Received → List ℕ → List ℕ → Type 0
-Takes range said r carry log a carryAfter logAfter = Answered range said r carry log (cond (noRoom range said r carry log) 13 0) 0 a carryAfter logAfter
+abbrev pub Takes : ℕ → Come → Receiver → List ℕ → List ℕ → Received → List ℕ → List ℕ → Type 0
+Takes range come r carry log a carryAfter logAfter = Answered range come r carry log (cond (noRoom range come r carry log) 13 0) 0 a carryAfter logAfter
 
 -- ---- rows 5 to 13, of a corrected PDU
 
@@ -94,4 +121,4 @@ streamTests r c = (not (eqb (numberOf (listingOf c)) 0), 5) ∷ (not (eqb (c .mo
 unfoldable pub correctedNumber : Mode → Receiver → List ℕ → List ℕ → List ℕ → ℕ
 correctedNumber m r carry y log =
     let c = controlAt y in
-    firstOf (streamTests r c ++ (readerTests (modeIn (listingOf c)) c y ++ (noRoom (m .sequences) (saidBy (r .register) (m .width) c y) r carry log, 13) ∷ []))
+    firstOf (streamTests r c ++ (readerTests (modeIn (listingOf c)) c y ++ (noRoom (m .sequences) (comeBy (r .register) (m .width) c y) r carry log, 13) ∷ []))

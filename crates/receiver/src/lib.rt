@@ -1,4 +1,4 @@
-// Opening a receiver, receiving PDUs, and marking them lost (document 01, "Receiver").
+// Opening a receiver, receiving PDUs, and marking them lost (document 01, "Receiver"); with entitled programs (document 02, Ask 10).
 use correction::Correction;
 use layout::ControlWord;
 use modes::Listing;
@@ -7,8 +7,9 @@ use reassembly::Head;
 use reassembly::Run;
 use reassembly::State;
 ghost use mathlib.Core.Path.{_≡_};
-ghost use mathlib.Core.Bool.{not, _&&_, cond};
+ghost use mathlib.Core.Bool.{false, not, _&&_, cond};
 ghost use mathlib.Core.List.{[]};
+ghost use mathlib.Core.Option.{none, some};
 ghost use Prim.Native.Nat.{_+_, _≤_, _<_};
 ghost use lib.Dec.{eqb};
 ghost use lib.ListN.{length, getD};
@@ -18,9 +19,11 @@ ghost use Rattle.modes.specs.declared.Listing.the-variants.{Listed};
 ghost use Rattle.header.specs.Header.{frontReplaced};
 ghost use Rattle.layout.specs.Control.{controlAt};
 ghost use Rattle.pdu.specs.Reading.{readerTests, wrongOf};
-ghost use Rattle.reassembly.specs.Run.{placeAt, Marked, Parsed, saidOf};
-ghost use Rattle.receiver.specs.Receiving.{saidBy, opened, wrongFields, refusedAnswer, receiveAnswer, carryAfter, pduAfter, logAfter, lostAnswer, logAfterLost};
-ghost use Rattle.receiver.specs.Steps.{MarksOf, causeAt, CausesOf, headOf, stateOf, stateTests, Usable, acceptedAfter, Answered, Takes, streamTests, correctedNumber, forgetful};
+ghost use Rattle.reassembly.specs.Run.{placeAt, Marked, Parsed, lastOf};
+ghost use Rattle.reassembly.specs.Rights.{forgetting, inForce, withheldBy};
+ghost use Rattle.receiver.specs.Entitling.{isListed, allowedPrograms, maskOf, entitles};
+ghost use Rattle.receiver.specs.Receiving.{comeBy, fresh as freshFor, noReceiver, openedFor, opened, keptOf, keepsServices, wrongServices, wrongFields, refusedAnswer, receiveAnswer, carryAfter, pduAfter, logAfter, lostAnswer, logAfterLost};
+ghost use Rattle.receiver.specs.Steps.{MarksOf, causeAt, CausesOf, headOf, comeOf, stateOf, servicesOf, stateTests, Usable, acceptedAfter, Answered, Takes, streamTests, correctedNumber, forgetful};
 
 // What a receiver was opened with, and what it remembers. A field not known or not held is 0; held length 0 means nothing held.
 #[repr(C)]
@@ -29,12 +32,17 @@ pub struct Receiver {
     pub stream: u8,
     // The register that the CRC of each piece starts with.
     pub register: u8,
+    // The entitled programs (document 02, Ask 10): bit p for program p.
+    pub entitled: u8,
     // The last PDU sequence, if known.
     pub known: bool,
     pub sequence: u8,
     // The length and number of the held beginning.
     pub held: u16,
     pub number: u8,
+    // The applied services in force, if known; only for core of sequence range 0-7 (document 02, Ask 10).
+    pub serviced: bool,
+    pub services: u8,
 }
 
 // The refusal number, 0 where there is none, and the receiver: if refused, one that every call turns down with 1.
@@ -57,45 +65,141 @@ pub struct Received {
 // A mode that the table has not.
 const NO_MODE: u8 = 255;
 
-// Opens a receiver for a mode and stream, with the register that CRCs start with, any byte; or refuses with 5.
+// A receiver that knows no sequence, holds nothing and knows of no applied services.
+fn fresh(mode: u8, stream: u8, register: u8, entitled: u8) -> Receiver
+    ensures { λ r. ⌜ r ≡ freshFor mode stream register entitled ⌝ }
+{
+    Receiver {
+        mode: mode,
+        stream: stream,
+        register: register,
+        entitled: entitled,
+        known: false,
+        sequence: 0,
+        held: 0,
+        number: 0,
+        serviced: false,
+        services: 0,
+    }
+}
+
+// A refused opening.
+fn not_opened(number: u32) -> Opened
+    ensures { λ r. ⌜ r ≡ record { refusal = number; receiver = noReceiver } ⌝ }
+{
+    Opened {
+        refusal: number,
+        receiver: fresh(NO_MODE, 0, 0, 0),
+    }
+}
+
+fn wide(x: u8) -> usize
+    ensures { λ r. ⌜ r ≡ x ⌝ }
+{
+    x as usize
+}
+
+// Whether a program is listed.
+fn is_listed(programs: &[u8], p: u8) -> bool
+    ensures { λ r. ⌜ r ≡ isListed (now (programs .entry)) p ⌝ }
+{
+    correction::is_marked(programs, wide(p))
+}
+
+// Whether each program number is at most 7, and none repeated.
+fn allowed(programs: &[u8]) -> bool
+    ensures { λ r. ⌜ r ≡ allowedPrograms (now (programs .entry)) ⌝ }
+{
+    let mut i: usize = 0;
+    while i < programs.len() {
+        let p = programs[i];
+        if 7 < p {
+            return false;
+        }
+        let next = i + 1;
+        if is_listed(&programs[next..], p) {
+            return false;
+        }
+        i = next;
+    }
+    true
+}
+
+// The bit of a program, if it is listed.
+fn bit_of(programs: &[u8], p: u8, bit: u8) -> u8
+    ensures { λ r. ⌜ (r ≡ cond (isListed (now (programs .entry)) p) bit 0) × (r ≤ bit) ⌝ }
+{
+    if is_listed(programs, p) {
+        return bit;
+    }
+    0
+}
+
+// The listed programs as a mask: bit p for program p.
+fn mask_of(programs: &[u8]) -> u8
+    ensures { λ r. ⌜ r ≡ maskOf (now (programs .entry)) ⌝ }
+{
+    let low = bit_of(programs, 0, 1)
+        + bit_of(programs, 1, 2)
+        + bit_of(programs, 2, 4)
+        + bit_of(programs, 3, 8);
+    let high = bit_of(programs, 4, 16)
+        + bit_of(programs, 5, 32)
+        + bit_of(programs, 6, 64)
+        + bit_of(programs, 7, 128);
+    low + high
+}
+
+// Opens a receiver for a mode and stream, with the register that CRCs start with, any byte, and the entitled programs; or refuses with 5, or 22.
+pub fn open_entitled(mode: u8, stream: u8, register: u8, programs: &[u8]) -> Opened
+    ensures { λ r. ⌜ r ≡ openedFor mode stream register (now (programs .entry)) ⌝ }
+{
+    match modes::look_up(mode, stream) {
+        Listing::Listed(_) => {
+            if allowed(programs) {
+                return Opened {
+                    refusal: 0,
+                    receiver: fresh(mode, stream, register, mask_of(programs)),
+                };
+            }
+            not_opened(22)
+        }
+        Listing::Refused(n) => not_opened(n),
+    }
+}
+
+// Opens a receiver that is entitled to all programs, 0 to 7; or refuses with 5.
 pub fn open(mode: u8, stream: u8, register: u8) -> Opened
     ensures { λ r. ⌜ r ≡ opened mode stream register ⌝ }
 {
-    match modes::look_up(mode, stream) {
-        Listing::Listed(_) => Opened {
-            refusal: 0,
-            receiver: Receiver {
-                mode: mode,
-                stream: stream,
-                register: register,
-                known: false,
-                sequence: 0,
-                held: 0,
-                number: 0,
-            },
-        },
-        Listing::Refused(n) => Opened {
-            refusal: n,
-            receiver: Receiver {
-                mode: NO_MODE,
-                stream: 0,
-                register: 0,
-                known: false,
-                sequence: 0,
-                held: 0,
-                number: 0,
-            },
-        },
-    }
+    let programs = [0u8, 1, 2, 3, 4, 5, 6, 7];
+    open_entitled(mode, stream, register, &programs)
+}
+
+// Whether applied services are kept from one PDU to the next: core of sequence range 0-7.
+fn keeps_services(r: Receiver, range: u8) -> bool
+    ensures { λ b. ⌜ b ≡ keepsServices range r ⌝ }
+{
+    (r.stream == 0) & (range == 8)
+}
+
+// Refusal 1, the applied services: over 7, not 0 while unknown, or known where none are kept.
+fn wrong_services(r: Receiver, m: Mode) -> bool
+    ensures { λ b. ⌜ b ≡ anyOf (wrongServices m r) ⌝ }
+{
+    let keeps = keeps_services(r, m.sequences);
+    (7 < r.services) | ((!r.serviced & (r.services != 0)) | (r.serviced & !keeps))
 }
 
 // Refusal 1, for a mode and stream that the table has.
 fn wrong_state(r: Receiver, m: Mode) -> bool
     ensures { λ b. ⌜ b ≡ anyOf (wrongFields m r) ⌝ }
 {
+    let services = wrong_services(r, m);
     (m.sequences <= r.sequence)
         | ((!r.known & (r.sequence != 0))
-            | ((4096 < r.held) | ((63 < r.number) | ((r.held == 0) & (r.number != 0)))))
+            | ((4096 < r.held)
+                | ((63 < r.number) | (((r.held == 0) & (r.number != 0)) | services))))
 }
 
 // Refusal 1 or 2, for a mode and stream that the table has and a carry of so many bytes, or 0.
@@ -167,14 +271,16 @@ pub fn causes_of(register: u8, y: &[u8], marks: [u16; 64], nop: usize) -> [u8; 6
 pub fn head_of(y: &[u8], width: u8, c: ControlWord) -> Head
     ensures { λ r. ⌜ r ≡ headOf width c (now (y .entry)) ⌝ }
 {
-    let psd = pdu::psd_start(y, width, c);
+    let front = pdu::read_front(y, width, c);
     Head {
         sequence: c.sequence,
         pfirst: c.pfirst,
         plast: c.plast,
         start: c.start,
-        psd: psd,
+        psd: front.psd,
         nop: c.nop as usize,
+        program: front.program,
+        services: front.services,
     }
 }
 
@@ -190,6 +296,91 @@ fn state_of(r: Receiver) -> State
     }
 }
 
+// The applied services in force at a PDU, if known; 0 where not known.
+pub struct Services {
+    pub known: bool,
+    pub value: u8,
+}
+
+fn known_services(value: u8) -> Services
+    ensures { λ s. ⌜ s ≡ servicesOf (some value) ⌝ }
+{
+    Services {
+        known: true,
+        value: value,
+    }
+}
+
+fn unknown_services() -> Services
+    ensures { λ s. ⌜ s ≡ servicesOf none ⌝ }
+{
+    Services {
+        known: false,
+        value: 0,
+    }
+}
+
+// The applied services in force at a PDU: those that it sends, but core of sequence range 0-7 has those sent with sequence 0 until the next such. A PDU out
+// of sequence forgets them, before its own are taken.
+fn services_at(r: Receiver, range: u8, head: Head) -> Services
+    requires { ⌜ (r .sequence < 255) × (r .serviced ≡ false → r .services ≡ 0) ⌝ }
+    ensures { λ s. ⌜ s ≡ servicesOf (inForce (keepsServices range r) (head .sequence) (head .services) (forgetting range (lastOf (r .known) (r .sequence)) (head .sequence) (keptOf r))) ⌝ }
+{
+    if !keeps_services(r, range) {
+        return known_services(head.services);
+    }
+    if head.sequence == 0 {
+        return known_services(head.services);
+    }
+    if reassembly::in_sequence(r.known, r.sequence, range, head.sequence) {
+        return Services {
+            known: r.serviced,
+            value: r.services,
+        };
+    }
+    unknown_services()
+}
+
+// What is kept of them after it.
+fn services_after(r: Receiver, range: u8, services: Services) -> Services
+    ensures { λ s. ⌜ s ≡ cond (keepsServices range r) services (servicesOf none) ⌝ }
+{
+    if keeps_services(r, range) {
+        return services;
+    }
+    unknown_services()
+}
+
+// Whether a mask of entitled programs has a program.
+fn is_entitled(mask: u8, program: u8) -> bool
+    ensures { λ b. ⌜ b ≡ entitles mask program ⌝ }
+{
+    match program {
+        0 => mask % 2 == 1,
+        1 => mask / 2 % 2 == 1,
+        2 => mask / 4 % 2 == 1,
+        3 => mask / 8 % 2 == 1,
+        4 => mask / 16 % 2 == 1,
+        5 => mask / 32 % 2 == 1,
+        6 => mask / 64 % 2 == 1,
+        7 => mask / 128 % 2 == 1,
+        _ => false,
+    }
+}
+
+// Whether a PDU of a program is withheld, where these services are in force: they are 1 or unknown, and the program is not entitled.
+fn is_withheld(r: Receiver, program: u8, services: Services) -> bool
+    ensures { λ b. ⌜ b ≡ withheldBy (entitles (r .entitled)) program (lastOf (services .known) (services .value)) ⌝ }
+{
+    if is_entitled(r.entitled, program) {
+        return false;
+    }
+    if services.known {
+        return services.value == 1;
+    }
+    true
+}
+
 // A refusal: nothing is changed. k comes with 11.
 pub fn refused(r: Receiver, number: u32, k: u32) -> Received
     ensures { λ a. ⌜ a ≡ refusedAnswer r number k ⌝ }
@@ -202,10 +393,10 @@ pub fn refused(r: Receiver, number: u32, k: u32) -> Received
     }
 }
 
-// The answer for an accepted PDU of a sequence, after its run.
-fn accepted(r: Receiver, sequence: u8, run: Run) -> Received
+// The answer for an accepted PDU of a sequence, after its run, with these applied services kept.
+fn accepted(r: Receiver, sequence: u8, kept: Services, run: Run) -> Received
     requires { ⌜ (run .held ≤ 65535) × (run .at ≤ 4294967295) ⌝ }
-    ensures { λ a. ⌜ a ≡ acceptedAfter r sequence run ⌝ }
+    ensures { λ a. ⌜ a ≡ acceptedAfter r sequence kept run ⌝ }
 {
     Received {
         refusal: 0,
@@ -215,10 +406,13 @@ fn accepted(r: Receiver, sequence: u8, run: Run) -> Received
             mode: r.mode,
             stream: r.stream,
             register: r.register,
+            entitled: r.entitled,
             known: true,
             sequence: sequence,
             held: run.held as u16,
             number: run.number,
+            serviced: kept.known,
+            services: kept.value,
         },
     }
 }
@@ -236,15 +430,28 @@ pub fn receive_parsed(
 ) -> Received
     requires { ⌜ Usable r (now carry) ⌝ }
     requires { ⌜ Parsed head (now y) marks ⌝ }
-    ensures { λ a. ⌜ Takes range (saidOf head marks causes (now (y .entry))) r (now (carry .entry)) (now (log .entry)) a (now (carry .exit)) (now (log .exit)) ⌝ }
+    ensures { λ a. ⌜ Takes range (comeOf head marks causes (now (y .entry))) r (now (carry .entry)) (now (log .entry)) a (now (carry .exit)) (now (log .exit)) ⌝ }
 {
     let state = state_of(r);
-    let words = reassembly::words_needed(state, range, head, marks, causes);
+    let services = services_at(r, range, head);
+    let withheld = is_withheld(r, head.program, services);
+    let words = reassembly::words_needed(state, range, head, withheld, marks, causes);
     if log.len() < words {
         return refused(r, 13, 0);
     }
-    let run = reassembly::accept(state, range, head, marks, causes, y, &mut *carry, &mut *log);
-    accepted(r, head.sequence, run)
+    let run = reassembly::accept(
+        state,
+        range,
+        head,
+        withheld,
+        marks,
+        causes,
+        y,
+        &mut *carry,
+        &mut *log,
+    );
+    let kept = services_after(r, range, services);
+    accepted(r, head.sequence, kept, run)
 }
 
 // Receives a corrected PDU that no row from 1 to 12 turns down, or refuses with 13.
@@ -259,7 +466,7 @@ fn receive_read(
     requires { ⌜ Usable r (now carry) ⌝ }
     requires { ⌜ (length (now y) ≤ 20480) × (c .nop < 64) ⌝ }
     requires { ⌜ firstOf (readerTests m c (now y)) ≡ 0 ⌝ }
-    ensures { λ a. ⌜ Takes (m .sequences) (saidBy (r .register) (m .width) c (now (y .entry))) r (now (carry .entry)) (now (log .entry)) a (now (carry .exit)) (now (log .exit)) ⌝ }
+    ensures { λ a. ⌜ Takes (m .sequences) (comeBy (r .register) (m .width) c (now (y .entry))) r (now (carry .entry)) (now (log .entry)) a (now (carry .exit)) (now (log .exit)) ⌝ }
 {
     let marks = marks_of(y, m.width, c);
     let causes = causes_of(r.register, y, marks, c.nop as usize);
@@ -304,7 +511,7 @@ fn receive_corrected(r: Receiver, m: Mode, carry: &mut [u8], y: &[u8], log: &mut
     requires { ⌜ listing (r .mode) (r .stream) ≡ Listed m ⌝ }
     requires { ⌜ Usable r (now carry) ⌝ }
     requires { ⌜ length (now y) ≤ 20480 ⌝ }
-    ensures { λ a. ⌜ Answered (m .sequences) (saidBy (r .register) (m .width) (controlAt (now (y .entry))) (now (y .entry))) r (now (carry .entry)) (now (log .entry)) (correctedNumber m r (now (carry .entry)) (now (y .entry)) (now (log .entry))) (wrongOf (now (y .entry)) (correctedNumber m r (now (carry .entry)) (now (y .entry)) (now (log .entry)))) a (now (carry .exit)) (now (log .exit)) ⌝ }
+    ensures { λ a. ⌜ Answered (m .sequences) (comeBy (r .register) (m .width) (controlAt (now (y .entry))) (now (y .entry))) r (now (carry .entry)) (now (log .entry)) (correctedNumber m r (now (carry .entry)) (now (y .entry)) (now (log .entry))) (wrongOf (now (y .entry)) (correctedNumber m r (now (carry .entry)) (now (y .entry)) (now (log .entry)))) a (now (carry .exit)) (now (log .exit)) ⌝ }
 {
     let c = layout::control_word(y);
     let n = wrong_stream(r, c);
@@ -330,7 +537,7 @@ pub fn receive_or_restore(
     requires { ⌜ listing (r .mode) (r .stream) ≡ Listed m ⌝ }
     requires { ⌜ Usable r (now carry) ⌝ }
     requires { ⌜ length (now pdu) ≤ 20480 ⌝ }
-    ensures { λ a. ⌜ Answered (m .sequences) (saidBy (r .register) (m .width) (controlAt (now (pdu .entry))) (now (pdu .entry))) r (now (carry .entry)) (now (log .entry)) (correctedNumber m r (now (carry .entry)) (now (pdu .entry)) (now (log .entry))) (wrongOf (now (pdu .entry)) (correctedNumber m r (now (carry .entry)) (now (pdu .entry)) (now (log .entry)))) a (now (carry .exit)) (now (log .exit)) ⌝ }
+    ensures { λ a. ⌜ Answered (m .sequences) (comeBy (r .register) (m .width) (controlAt (now (pdu .entry))) (now (pdu .entry))) r (now (carry .entry)) (now (log .entry)) (correctedNumber m r (now (carry .entry)) (now (pdu .entry)) (now (log .entry))) (wrongOf (now (pdu .entry)) (correctedNumber m r (now (carry .entry)) (now (pdu .entry)) (now (log .entry)))) a (now (carry .exit)) (now (log .exit)) ⌝ }
     ensures { λ _. ⌜ now (pdu .exit) ≡ cond (eqb (correctedNumber m r (now (carry .entry)) (now (pdu .entry)) (now (log .entry))) 0) (now (pdu .entry)) (frontReplaced (now (pdu .entry)) (now (before .entry))) ⌝ }
 {
     let a = receive_corrected(r, m, &mut *carry, pdu, &mut *log);
@@ -380,6 +587,8 @@ fn forgotten(r: Receiver, words: usize) -> Received
     next.sequence = 0;
     next.held = 0;
     next.number = 0;
+    next.serviced = false;
+    next.services = 0;
     Received {
         refusal: 0,
         wrong: 0,
@@ -447,8 +656,8 @@ impl Receiver {
         self.receive_marked(carry, pdu, &marks[..0], log)
     }
 
-    // Marks a PDU lost: note 6 is logged, and the held beginning and the last sequence are dropped; or it is refused with 1 or 13, and
-    // nothing is changed.
+    // Marks a PDU lost: note 6 is logged, and the held beginning, the last sequence and the applied services in force are dropped; or it is refused with 1 or
+    // 13, and nothing is changed.
     pub fn mark_lost(self, log: &mut [u32]) -> Received
         ensures { λ a. ⌜ a ≡ lostAnswer (now (log .entry)) self ⌝ }
         ensures { λ _. ⌜ now (log .exit) ≡ logAfterLost (now (log .entry)) self ⌝ }

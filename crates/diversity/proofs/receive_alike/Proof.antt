@@ -1,8 +1,8 @@
 use denote.Ref.{now}
 use mathlib.Core.Path.{subst}
-use Rattle.reassembly.specs.Reassembly.{Said}
+use Rattle.reassembly.specs.Holder.{Come}
 use Rattle.receiver.specs.Steps.{Takes}
-use Rattle.diversity.proofs.Alike.{alike-length, few, marked-first, marked-second, parsed-first, said-here}
+use Rattle.diversity.proofs.Alike.{alike-length, few, marked-first, marked-second, parsed-first, come-here}
 use borrow.Author.Needs.{needs}
 use Rattle.diversity.proofs.receive_alike.Statement.{statement}
 use Rattle.diversity.proofs.receive_alike.Tie as tie
@@ -87,8 +87,8 @@ returns c =
     let s = w .before .before .before .before .before .before in
     let a = s .args in
     let d = f .receive-exchanged in
-    let said = said-here (a .m) (w .control-word .result) (now (a .first)) (now (a .second)) (w .control-word .ensures) (s .pre .1 .1 .0) (s .pre .1 .1 .1) (k .marks-of .result) (k .marks-of .ensures) (h .head-of .result) (h .head-of .ensures) (a .r .register) (g .causes-of .result) (p .pair-causes .result) (g .causes-of .ensures) (p .pair-causes .ensures) in
-    (subst (λ (x : Said). Takes (a .m .sequences) x (a .r) (now (a .carry)) (now (a .log)) (d .result) (d .last .1 .1 .1 .1 .1 .1 .0) (d .last .1 .1 .1 .1 .1 .1 .1 .1 .1 .0)) said (d .ensures .0), d .ensures .1)
+    let come = come-here (a .m) (w .control-word .result) (now (a .first)) (now (a .second)) (w .control-word .ensures) (s .pre .1 .1 .0) (s .pre .1 .1 .1) (k .marks-of .result) (k .marks-of .ensures) (h .head-of .result) (h .head-of .ensures) (a .r .register) (g .causes-of .result) (p .pair-causes .result) (g .causes-of .ensures) (p .pair-causes .ensures) in
+    (subst (λ (x : Come). Takes (a .m .sequences) x (a .r) (now (a .carry)) (now (a .log)) (d .result) (d .last .1 .1 .1 .1 .1 .1 .0) (d .last .1 .1 .1 .1 .1 .1 .1 .1 .1 .0)) come (d .ensures .0), d .ensures .1)
 
 pub receive-alike-spec : {M : Type 1} → statement M
 receive-alike-spec =

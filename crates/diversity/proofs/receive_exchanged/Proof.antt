@@ -2,8 +2,7 @@ use denote.Ref.{now}
 use mathlib.Core.Path.{sym, ap₂, subst, _∙_}
 use mathlib.Core.List.{List}
 use Prim.Native.Nat.{ℕ}
-use Rattle.reassembly.specs.Run.{saidOf}
-use Rattle.receiver.specs.Steps.{Takes}
+use Rattle.receiver.specs.Steps.{comeOf, Takes}
 use Rattle.diversity.specs.Steps.{mixed, exchanged}
 use Rattle.diversity.proofs.Alike.{parsed-long}
 use Rattle.diversity.proofs.Mixing.{mixed-long, mixed-back}
@@ -59,7 +58,7 @@ returns c =
     let t = exchanged (a .marks) (a .causes) (a .head .nop) in
     let d = f .receive-parsed in
     let e = x .exchange-pieces .ensures in (
-      subst (λ (l : List ℕ). Takes (a .range) (saidOf (a .head) (a .marks) (a .both) l) (a .r) (now (a .carry)) (now (a .log)) (d .result) (d .last .1 .1 .1 .1 .1 .0) (d .last .1 .1 .1 .1 .1 .1 .1 .0)) (e .0) (d .ensures),
+      subst (λ (l : List ℕ). Takes (a .range) (comeOf (a .head) (a .marks) (a .both) l) (a .r) (now (a .carry)) (now (a .log)) (d .result) (d .last .1 .1 .1 .1 .1 .0) (d .last .1 .1 .1 .1 .1 .1 .1 .0)) (e .0) (d .ensures),
       (g .exchange-pieces2 .ensures .0 ∙ ap₂ (mixed t) (e .0) (e .1) ∙ mixed-back t y z, g .exchange-pieces2 .ensures .1 ∙ ap₂ (mixed t) (e .1) (e .0) ∙ mixed-back t z y),
     )
 

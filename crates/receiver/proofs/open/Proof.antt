@@ -1,25 +1,25 @@
-use Rattle.receiver.proofs.Opening.{opened-by}
+use Rattle.receiver.specs.Receiving.{opened}
 use borrow.Author.Needs.{needs}
 use Rattle.receiver.proofs.open.Statement.{statement}
 use Rattle.receiver.proofs.open.Tie as tie
 use Rattle.receiver.proofs.open.Reads as reads
 use Rattle.receiver.proofs.open.Lts as lts
-use Rattle.modes.proofs.look_up.Reads as look-up-reads
+use Rattle.receiver.proofs.open_entitled.Reads as open-entitled-reads
 
-look-up-requires : tie.Need-look-up-requires
-look-up-requires c κs = search needs
+slice-aggregate-open-entitled : tie.Need-slice-aggregate-open-entitled
+slice-aggregate-open-entitled c = search needs
 
-enum-told : tie.Need-enum-told
-enum-told c = search needs
-
-enum-known-n : tie.Need-enum-known-n
-enum-known-n c = search needs
+open-entitled-requires : tie.Need-open-entitled-requires
+open-entitled-requires c κs = search needs
 
 returns : tie.Need-returns
-returns c = opened-by _ _ (c .before .before .before .args .mode) (c .before .before .before .args .stream) (c .before .before .before .args .register) (c .before .before .look-up .ensures) (c .enum-told .given .1)
-
-returns-2 : tie.Need-returns-2
-returns-2 c = opened-by _ _ (c .before .before .before .before .args .mode) (c .before .before .before .before .args .stream) (c .before .before .before .before .args .register) (c .before .before .before .look-up .ensures) (c .before .n .given .1)
+unfolding opened
+returns c = c .open-entitled .ensures
 
 pub open-spec : {M : Type 1} → statement M
-open-spec = tie.close (tie.spec look-up-requires enum-told enum-known-n returns returns-2)
+open-spec =
+    tie.close
+    (tie.spec
+    slice-aggregate-open-entitled
+    open-entitled-requires
+    returns)

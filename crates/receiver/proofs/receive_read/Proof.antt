@@ -1,11 +1,11 @@
 use denote.Ref.{now}
 use mathlib.Core.Path.{sym, ap, subst, _∙_}
-use Rattle.reassembly.specs.Reassembly.{Said}
-use Rattle.reassembly.specs.Run.{Parsed, saidOf}
+use Rattle.reassembly.specs.Holder.{Come}
+use Rattle.reassembly.specs.Run.{Parsed}
 use Rattle.reassembly.specs.declared.Head.{Head}
 use Rattle.receiver.proofs.Parsing.{all-marked, parsed}
-use Rattle.receiver.specs.Steps.{Takes}
-use Rattle.receiver.proofs.Saying.{same-said}
+use Rattle.receiver.specs.Steps.{comeOf, Takes}
+use Rattle.receiver.proofs.Saying.{same-come}
 use borrow.Author.Needs.{needs}
 use Rattle.receiver.proofs.receive_read.Statement.{statement}
 use Rattle.receiver.proofs.receive_read.Tie as tie
@@ -52,8 +52,8 @@ returns c =
     let g = h .before in
     let k = g .before .before in
     let a = k .before .before .before .before .args in
-    let said = ap (λ (x : Head). saidOf x (k .marks-of .result) (g .causes-of .result) (now (a .y))) (h .head-of .ensures) ∙ same-said (a .r .register) (a .m .width) (a .c) (now (a .y)) (k .marks-of .result) (g .causes-of .result) (k .marks-of .ensures) (g .causes-of .ensures) in
-    subst (λ (d : Said). Takes (a .m .sequences) d (a .r) (now (a .carry)) (now (a .log)) (f .receive-parsed .result) (f .receive-parsed .last .1 .1 .1 .1 .1 .0) (f .receive-parsed .last .1 .1 .1 .1 .1 .1 .1 .0)) said (f .receive-parsed .ensures)
+    let come = ap (λ (x : Head). comeOf x (k .marks-of .result) (g .causes-of .result) (now (a .y))) (h .head-of .ensures) ∙ same-come (a .r .register) (a .m .width) (a .c) (now (a .y)) (k .marks-of .result) (g .causes-of .result) (k .marks-of .ensures) (g .causes-of .ensures) in
+    subst (λ (d : Come). Takes (a .m .sequences) d (a .r) (now (a .carry)) (now (a .log)) (f .receive-parsed .result) (f .receive-parsed .last .1 .1 .1 .1 .1 .0) (f .receive-parsed .last .1 .1 .1 .1 .1 .1 .1 .0)) come (f .receive-parsed .ensures)
 
 pub receive-read-spec : {M : Type 1} → statement M
 receive-read-spec =

@@ -1,0 +1,51 @@
+use denote.Ref.{now}
+use Rattle.reassembly.specs.Reassembly.{numberAt}
+use Rattle.reassembly.specs.Run.{Marked}
+use Rattle.reassembly.proofs.Laws.{did-nothing, same-outcome, same-room}
+use Rattle.reassembly.proofs.Whole.{none-held, no-piece, one-piece}
+use native.Mathlib.Omega.{arith}
+use borrow.Author.Needs.{needs}
+use Rattle.reassembly.proofs.continuing.Statement.{statement}
+use Rattle.reassembly.proofs.continuing.Tie as tie
+use Rattle.reassembly.proofs.continuing.Reads as reads
+use Rattle.reassembly.proofs.continuing.Lts as lts
+use Rattle.reassembly.proofs.piece_at.Reads as piece-at-reads
+
+returns : tie.Need-returns
+returns c =
+    let p = c .before .before .before .before .before in
+    let a = p .args in
+    same-outcome (none-held (numberAt (a .head .pfirst) (a .head .start) 0) (a .head .plast) (a .run .held) (a .run .number) (a .head .nop) (now (a .carry)) (now (a .pdu)) (a .marks) (a .t4) (c .if1 .taken)) (did-nothing (a .run) (now (a .carry)) (now (a .log)) (omega (arith, p .pre .0 .0, p .pre .1 .0)) (p .pre .0 .1))
+
+returns-2 : tie.Need-returns-2
+returns-2 c =
+    let p = c .before .before .before .before .before .before .before in
+    let a = p .args in
+    same-outcome (no-piece (numberAt (a .head .pfirst) (a .head .start) 0) (a .head .plast) (a .run .held) (a .run .number) (a .head .nop) (now (a .carry)) (now (a .pdu)) (a .marks) (a .t4) (c .if2 .taken)) (did-nothing (a .run) (now (a .carry)) (now (a .log)) (omega (arith, p .pre .0 .0, p .pre .1 .0)) (p .pre .0 .1))
+
+array-read-piece-at : tie.Need-array-read-piece-at
+array-read-piece-at c = omega arith
+
+piece-at-requires : tie.Need-piece-at-requires
+piece-at-requires c κs =
+    let p = c .before .before .before .before .before .before .before .before .before in
+    let a = p .args in
+    let some = c .before .before .if2 .left in
+    (p .pre .0 .0, (p .pre .1 .0, (p .pre .1 .1 .0, ((omega (arith, some), p .pre .1 .1 .1 .0), same-room (a .run .at) (now (a .log)) (one-piece (numberAt (a .head .pfirst) (a .head .start) 0) (a .head .plast) (a .run .held) (a .run .number) (a .head .nop) (now (a .carry)) (now (a .pdu)) (a .marks) (a .t4) (c .before .before .before .before .if1 .left) some) (p .pre .1 .1 .1 .1)))))
+
+same-length : tie.Need-same-length
+same-length c = search needs
+
+same-length-2 : tie.Need-same-length-2
+same-length-2 c = search needs
+
+returns-3 : tie.Need-returns-3
+returns-3 c =
+    let p = c .before .before .before .before .before .before .before .before .before .before .before .before .before .before in
+    let a = p .args in
+    same-outcome (one-piece (numberAt (a .head .pfirst) (a .head .start) 0) (a .head .plast) (a .run .held) (a .run .number) (a .head .nop) (now (a .carry)) (now (a .pdu)) (a .marks) (a .t4) (c .before .before .before .before .before .before .before .before .before .if1 .left) (c .before .before .before .before .before .before .before .if2 .left)) (c .before .before .before .before .piece-at .ensures)
+
+pub continuing-spec : {M : Type 1} → statement M
+continuing-spec =
+    tie.close
+    (tie.spec returns returns-2 array-read-piece-at piece-at-requires same-length same-length-2 returns-3)

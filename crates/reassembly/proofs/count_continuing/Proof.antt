@@ -1,0 +1,86 @@
+use borrow.Author.Tests.{eq-eqb, ne-eqb}
+use lib.Dec.{eqb}
+use mathlib.Core.Bool.{true, false}
+use mathlib.Core.Path.{_≡_, refl}
+use Prim.Native.Nat.{ℕ, _+_, _-_}
+use native.Mathlib.Omega.{arith}
+use Rattle.reassembly.proofs.Counts.{none-counted, no-piece-counted, piece-counted, count-small}
+use borrow.Author.Needs.{needs}
+use Rattle.reassembly.proofs.count_continuing.Statement.{statement}
+use Rattle.reassembly.proofs.count_continuing.Tie as tie
+use Rattle.reassembly.proofs.count_continuing.Reads as reads
+use Rattle.reassembly.proofs.count_continuing.Lts as lts
+use Rattle.reassembly.proofs.count_piece.Reads as count-piece-reads
+use Rattle.reassembly.proofs.ends_here.Reads as ends-here-reads
+use Rattle.reassembly.proofs.place.Reads as place-reads
+
+returns : tie.Need-returns
+returns c =
+    let a = c .before .args in
+    (none-counted (a .head) (a .t3) (a .t4) (a .held) (c .if1 .taken), omega arith)
+
+returns-2 : tie.Need-returns-2
+returns-2 c =
+    let a = c .before .before .before .args in
+    (no-piece-counted (a .head) (a .t3) (a .t4) (a .held) (c .before .before .if1 .left) (c .if2 .taken), omega arith)
+
+array-read-place : tie.Need-array-read-place
+array-read-place c = omega arith
+
+place-requires : tie.Need-place-requires
+place-requires c κs = search needs
+
+add-a : tie.Need-add-a
+add-a c = omega (arith, c .place .ensures .1)
+
+array-read-place-2 : tie.Need-array-read-place-2
+array-read-place-2 c = omega arith
+
+place-requires-2 : tie.Need-place-requires-2
+place-requires-2 c κs = search needs
+
+sub-ends-here : tie.Need-sub-ends-here
+sub-ends-here c = search needs
+
+ends-here-requires : tie.Need-ends-here-requires
+ends-here-requires c κs = search needs
+
+array-read-count-piece : tie.Need-array-read-count-piece
+array-read-count-piece c = omega arith
+
+sub-count-piece : tie.Need-sub-count-piece
+sub-count-piece c =
+    let p = c .before .before .before .before .before .before .before in
+    let some = c .before .before .before .before .if2 .left in
+    omega (arith, p .pre .1 0 (omega (arith, some)), c .before .before .before .place .ensures .0, c .before .before .place2 .ensures .0)
+
+count-piece-requires : tie.Need-count-piece-requires
+count-piece-requires c κs =
+    let p = c .before .before .before .before .before .before .before in
+    (omega (arith, c .before .before .place2 .ensures .1), p .pre .0 .0)
+
+returns-3 : tie.Need-returns-3
+returns-3 c =
+    let p = c .before .before .before .before .before .before .before .before in
+    let a = p .args in
+    let t = c .count-piece in
+    let e = piece-counted (a .head) (a .t3) (a .t4) (a .held) (c .before .before .before .before .before .before .before .if1 .left) (c .before .before .before .before .before .if2 .left) (c .before .before .before .before .place .result) (c .before .before .before .place2 .result) (c .before .ends-here .result) (c .before .before .before .before .place .ensures .0) (c .before .before .before .place2 .ensures .0) (c .before .ends-here .ensures) (t .result) (t .ensures) in
+    (e .0, omega (arith, e .1))
+
+pub count-continuing-spec : {M : Type 1} → statement M
+count-continuing-spec =
+    tie.close
+    (tie.spec
+    returns
+    returns-2
+    array-read-place
+    place-requires
+    add-a
+    array-read-place-2
+    place-requires-2
+    sub-ends-here
+    ends-here-requires
+    array-read-count-piece
+    sub-count-piece
+    count-piece-requires
+    returns-3)

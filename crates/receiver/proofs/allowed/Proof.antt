@@ -1,0 +1,81 @@
+use native.Mathlib.Omega.{arith}
+use mathlib.Core.Path.{_≡_, refl, ap, sym, _∙_}
+use Prim.Native.Nat.{ℕ, _+_, _-_, _≤_}
+use lib.ListN.{length, drop, getD}
+use mathlib.Core.List.{List}
+use Rattle.correction.proofs.MarkLists.{marks-from}
+use Rattle.receiver.specs.Entitling.{isListed, allowedPrograms}
+use Rattle.receiver.proofs.Programs.{over-seven, repeated, allowed-past, all-allowed}
+use borrow.Author.Needs.{needs}
+use Rattle.receiver.proofs.allowed.Statement.{statement}
+use Rattle.receiver.proofs.allowed.Tie as tie
+use Rattle.receiver.proofs.allowed.Reads as reads
+use Rattle.receiver.proofs.allowed.Lts as lts
+use Rattle.receiver.proofs.is_listed.Reads as is-listed-reads
+
+abbrev Inv-loop : tie.InvT-loop
+Inv-loop programs i₀ i = (i ≤ length programs) × (allowedPrograms programs ≡ allowedPrograms (drop i programs))
+
+abbrev μ-loop : tie.MeasureT-loop
+μ-loop programs i₀ i = length programs - i
+
+loop-holds : tie.Need-loop-holds Inv-loop μ-loop
+loop-holds c = (omega arith, refl)
+
+shared-slice-read-p : tie.Need-shared-slice-read-p Inv-loop μ-loop
+shared-slice-read-p c = search needs
+
+returns : tie.Need-returns Inv-loop μ-loop
+returns c =
+    let l = c .before .before .before in
+    over-seven (l .before .before .args .programs .now) (l .loop .i) (l .loop .inv .1) (omega arith) (omega (arith, c .if1 .taken))
+
+add-next : tie.Need-add-next Inv-loop μ-loop
+add-next c = search needs
+
+sub-is-listed : tie.Need-sub-is-listed Inv-loop μ-loop
+sub-is-listed c = search needs
+
+part-is-listed-start : tie.Need-part-is-listed-start Inv-loop μ-loop
+part-is-listed-start c = search needs
+
+part-is-listed-end : tie.Need-part-is-listed-end Inv-loop μ-loop
+part-is-listed-end c = search needs
+
+is-listed-requires : tie.Need-is-listed-requires Inv-loop μ-loop
+is-listed-requires c κs = search needs
+
+returns-2 : tie.Need-returns-2 Inv-loop μ-loop
+returns-2 c =
+    let l = c .before .before .before .before .before .before in
+    repeated (l .before .before .args .programs .now) (l .loop .i) (l .loop .inv .1) (omega arith) (omega (arith, c .before .before .before .if1 .left)) (sym (sym (c .if2 .taken) ∙ c .before .is-listed .ensures ∙ ap (λ (ms : List ℕ). isListed ms (getD (l .before .before .args .programs .now) (l .loop .i) 0)) (marks-from (l .before .before .args .programs .now) (l .loop .i + 1))))
+
+loop-less : tie.Need-loop-less Inv-loop μ-loop
+loop-less c = search needs
+
+loop-again : tie.Need-loop-again Inv-loop μ-loop
+loop-again c =
+    let l = c .before .before .before .before .before .before in
+    (omega arith, allowed-past (l .before .before .args .programs .now) (l .loop .i) (l .loop .inv .1) (omega arith) (omega (arith, c .before .before .before .if1 .left)) (sym (sym (c .if2 .left) ∙ c .before .is-listed .ensures ∙ ap (λ (ms : List ℕ). isListed ms (getD (l .before .before .args .programs .now) (l .loop .i) 0)) (marks-from (l .before .before .args .programs .now) (l .loop .i + 1)))))
+
+returns-3 : tie.Need-returns-3 Inv-loop μ-loop
+returns-3 c = all-allowed _ (c .before .loop .i) (c .before .loop .inv .1) (omega arith)
+
+pub allowed-spec : {M : Type 1} → statement M
+allowed-spec =
+    tie.close
+    (tie.spec
+    Inv-loop
+    μ-loop
+    loop-holds
+    shared-slice-read-p
+    returns
+    add-next
+    sub-is-listed
+    part-is-listed-start
+    part-is-listed-end
+    is-listed-requires
+    returns-2
+    loop-less
+    loop-again
+    returns-3)

@@ -1,0 +1,27 @@
+use denote.Ref.{now}
+use mathlib.Core.Path.{ap, _∙_}
+use Rattle.receiver.specs.Entitling.{isListed}
+use borrow.Author.Needs.{needs}
+use Rattle.receiver.proofs.is_listed.Statement.{statement}
+use Rattle.receiver.proofs.is_listed.Tie as tie
+use Rattle.receiver.proofs.is_listed.Reads as reads
+use Rattle.receiver.proofs.is_listed.Lts as lts
+use Rattle.correction.proofs.is_marked.Reads as is-marked-reads
+use Rattle.receiver.proofs.wide.Reads as wide-reads
+
+wide-requires : tie.Need-wide-requires
+wide-requires c κs = search needs
+
+is-marked-requires : tie.Need-is-marked-requires
+is-marked-requires c κs = search needs
+
+returns : tie.Need-returns
+returns c = c .is-marked .ensures ∙ ap (isListed (now (c .before .before .before .args .programs))) (c .before .wide .ensures)
+
+pub is-listed-spec : {M : Type 1} → statement M
+is-listed-spec =
+    tie.close
+    (tie.spec
+    wide-requires
+    is-marked-requires
+    returns)
