@@ -20,7 +20,7 @@ ghost use Rattle.header.specs.Header.{syndromes, parityOf, lengthRefusal, withP
 ghost use Rattle.parity_share.specs.Shares.{shareRefusal, withShare};
 ghost use Rattle.pdu.specs.Reading.{readingOf, readPdu};
 ghost use Rattle.writer.specs.Writing.{opened, writeAnswer, writtenPdu};
-ghost use Rattle.receiver.specs.Receiving.{opened as receiverOpened, receiveAnswer, carryAfter, pduAfter, logAfter, lostAnswer, logAfterLost};
+ghost use Rattle.receiver.specs.Receiving.{opened as receiverOpened, openedFor, receiveAnswer, carryAfter, pduAfter, logAfter, lostAnswer, logAfterLost};
 ghost use Rattle.batch.specs.Batches.{received};
 ghost use Rattle.diversity.specs.Diversity.{choiceOf, numberOf as choiceNumber, pairReceived};
 ghost use Rattle.correction.specs.Marks.{correctionWith, correctedPduWith};
@@ -205,7 +205,7 @@ pub extern "C" fn barzhilup_write(
     writer.write(settings, psd, lengths, bytes, pdu)
 }
 
-// Opens a receiver for a mode and stream, whose CRCs start with a register of 0; or refuses with 5.
+// Opens a receiver for a mode and stream, whose CRCs start with a register of 0, entitled to all programs; or refuses with 5.
 #[no_mangle]
 pub extern "C" fn barzhilup_open_receiver(mode: u8, stream: u8) -> receiver::Opened
     ensures { λ r. ⌜ r ≡ receiverOpened mode stream 0 ⌝ }
@@ -213,7 +213,7 @@ pub extern "C" fn barzhilup_open_receiver(mode: u8, stream: u8) -> receiver::Ope
     receiver::open(mode, stream, 0)
 }
 
-// Opens a receiver for a mode and stream, with the register that CRCs start with, any byte; or refuses with 5.
+// Opens a receiver for a mode and stream, with the register that CRCs start with, any byte, entitled to all programs; or refuses with 5.
 #[no_mangle]
 pub extern "C" fn barzhilup_open_receiver_with(
     mode: u8,
@@ -223,6 +223,19 @@ pub extern "C" fn barzhilup_open_receiver_with(
     ensures { λ r. ⌜ r ≡ receiverOpened mode stream register ⌝ }
 {
     receiver::open(mode, stream, register)
+}
+
+// Opens a receiver with the programs that it is entitled to, by a list of their numbers, none over 7 or repeated; or refuses with 5, or 22.
+#[no_mangle]
+pub extern "C" fn barzhilup_open_receiver_entitled(
+    mode: u8,
+    stream: u8,
+    register: u8,
+    programs: &[u8],
+) -> receiver::Opened
+    ensures { λ r. ⌜ r ≡ openedFor mode stream register (now (programs .entry)) ⌝ }
+{
+    receiver::open_entitled(mode, stream, register, programs)
 }
 
 // Receives a PDU: its header is corrected in place, what is held stands first in the carry, and the log is written from its first word on; or
