@@ -2,6 +2,8 @@ pub mod Answering
 pub mod Bounds
 pub mod Calling
 pub mod Enough
+pub mod Entitled
+pub mod Front
 pub mod Losing
 pub mod Lowest
 pub mod Marks
@@ -10,5 +12,6 @@ pub mod Parsing
 pub mod Programs
 pub mod Rows
 pub mod Saying
+pub mod Secret
 pub mod Taking
 pub mod Withholding

@@ -1,3 +1,4 @@
 pub mod Entitling
 pub mod Receiving
+pub mod Secrecy
 pub mod Steps
