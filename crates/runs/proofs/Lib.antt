@@ -3,6 +3,7 @@ pub mod Complete
 pub mod Counts
 pub mod Entitled
 pub mod General
+pub mod Looking
 pub mod Pieces
 pub mod Promised
 pub mod Secret

@@ -14,13 +14,14 @@ use Rattle.runs.specs.Calls.{Load, spansFrom, labelsOf, Machine, Bridge,
 use Rattle.runs.specs.Promise.{Promise}
 use Rattle.runs.proofs.General.{Asked, Delivered, general}
 use Rattle.runs.proofs.Bridges.{fates-along}
+use Rattle.runs.proofs.Looking.{told-is}
 
 module _ (rights : Rights) (range : ℕ) (M : Machine) (B : Bridge rights range M) (ps : List (List ℕ)) (loads : List Load) (made : List (B .Pdu)) (first count : ℕ) (x : M .State) (ss : List (Step B)) where
   pub promised : (d : Asked rights range M B ps loads made first count x ss)
       → Promise rights range first ps (spansFrom 0 0 ps loads) (labelsOf loads) (waysOf B ss) (logsFrom B x ss) (general rights range M B ps loads made first count x ss d .last .tally)
   promised d =
       let g = general rights range M B ps loads made first count x ss d in
-      let e = fates-along rights range loads (replicate first gone ++ waysOf B ss) 0 none in
+      let e = fates-along rights range loads (replicate first gone ++ waysOf B ss) 0 none ∙ sym (told-is rights range (labelsOf loads) (replicate first gone ++ waysOf B ss)) in
       record {
         holds = g .log ∙ ap (λ (w : List Fate). logWords (wholePackets (lies ps (spansFrom 0 0 ps loads) w) 0 0 ps)) e;
         counted = g .tally ∙ ap (λ (w : List Fate). tallied noTally (wholePackets (lies ps (spansFrom 0 0 ps loads) w) 0 0 ps)) e;

@@ -1,7 +1,7 @@
 -- Small runs, computed, at which a wrong definition is refused first; and wrong receivers, each with a run on which it does not log the packets that arrived whole.
 use mathlib.Core.Path.{_≡_, refl, ap}
 use mathlib.Core.Bool.{Bool, true, false, cond}
-use mathlib.Core.List.{List, [], _∷_, _++_}
+use mathlib.Core.List.{List, [], _∷_, _++_, map}
 use mathlib.Core.Option.{Option, none, some}
 use Prim.Native.Nat.{ℕ, zero, suc}
 use native.Mathlib.Omega.{arith}
@@ -10,9 +10,10 @@ use lib.ListN.{length}
 use Rattle.log.specs.Log.{Entry, packet, psd, note, packetsOf}
 use Rattle.reassembly.specs.Reassembly.{Memory, sequenceStep, beginningStep, psdEntries, finished, joined, pieceStep, piecesStep, continuingStep, contentsStep, received, remembered}
 use Rattle.reassembly.specs.Rights.{Rights, Label}
-use Rattle.runs.specs.Transmissions.{gone, here}
+use Rattle.runs.specs.Transmissions.{Way, gone, here}
 use Rattle.runs.specs.Spans.{Span, lies, wholePackets}
 use Rattle.runs.specs.Calls.{fatesAlong}
+use Rattle.runs.specs.Withheld.{sentFrom, toldOf, fatesTold}
 use Rattle.runs.specs.Model.{Event, lost, came, entriesFor, memoryFor, logged, fresh, cut, Fate, lose, read, Plan, readPieces, events, marks, arrived, wanted}
 
 abbrev taken : Fate
@@ -127,6 +128,36 @@ value-forgotten = refl
 pub value-stays : fatesAlong noRights 8 0 none (here (λ k. 0) ∷ here (λ k. 0) ∷ []) (with-services 0 ∷ with-services 1 ∷ []) ≡ taken ∷ taken ∷ []
 unfolding fatesAlong
 value-stays = refl
+
+-- ---- the same, looking back from each PDU
+
+abbrev seen : Way
+seen = here (λ k. 0)
+
+-- the PDUs from sequence q on, with these applied services
+abbrev lookingBack : Bool → ℕ → List Way → List ℕ → List Fate
+lookingBack keeps q ws vs = fatesTold (record { entitled = λ p. false; keeps = keeps }) [] (toldOf ws (sentFrom 8 q (map with-services vs)))
+
+-- a lost PDU leaves the value unknown, until the next of sequence 0
+pub lost-unknown : lookingBack true 0 (seen ∷ gone ∷ seen ∷ seen ∷ seen ∷ seen ∷ seen ∷ seen ∷ seen ∷ seen ∷ []) (0 ∷ 0 ∷ 0 ∷ 0 ∷ 0 ∷ 0 ∷ 0 ∷ 0 ∷ 0 ∷ 1 ∷ [])
+    ≡ taken ∷ lose ∷ kept-back ∷ kept-back ∷ kept-back ∷ kept-back ∷ kept-back ∷ kept-back ∷ taken ∷ taken ∷ []
+lost-unknown = refl
+
+-- a value sent with another sequence is not taken: neither 0 nor 1
+pub others-left : lookingBack true 0 (seen ∷ seen ∷ seen ∷ []) (1 ∷ 0 ∷ 0 ∷ []) ≡ kept-back ∷ kept-back ∷ kept-back ∷ []
+others-left = refl
+
+-- at opening nothing is known
+pub unknown-withheld : lookingBack true 3 (seen ∷ []) (0 ∷ []) ≡ kept-back ∷ []
+unknown-withheld = refl
+
+-- applied services 2 to 7 withhold nothing
+pub two-given : lookingBack true 0 (seen ∷ seen ∷ []) (2 ∷ 1 ∷ []) ≡ taken ∷ taken ∷ []
+two-given = refl
+
+-- other modes and streams go by the PDU's own value
+pub own-value : lookingBack false 1 (seen ∷ gone ∷ seen ∷ []) (1 ∷ 0 ∷ 0 ∷ []) ≡ kept-back ∷ lose ∷ taken ∷ []
+own-value = refl
 
 -- ---- wrong receivers
 

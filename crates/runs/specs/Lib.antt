@@ -3,3 +3,4 @@ pub mod Model
 pub mod Promise
 pub mod Spans
 pub mod Transmissions
+pub mod Withheld

@@ -2,7 +2,6 @@
 -- each PDU of the run came.
 use mathlib.Core.Path.{_≡_}
 use mathlib.Core.List.{List, [], _∷_, _++_}
-use mathlib.Core.Option.{none}
 use Prim.Native.Nat.{ℕ}
 use lib.ListN.{replicate}
 use Rattle.log.specs.Log.{Entry, logWords, packetWords}
@@ -11,13 +10,13 @@ use Rattle.reassembly.specs.Tally.{Tally, noTally, tallied}
 use Rattle.runs.specs.Model.{Fate}
 use Rattle.runs.specs.Transmissions.{Way, gone, Close, AddsUp}
 use Rattle.runs.specs.Spans.{Span, lies, wholePackets, wholeIndices}
-use Rattle.runs.specs.Calls.{fatesAlong}
+use Rattle.runs.specs.Withheld.{sentFrom, toldOf, fatesTold}
 
 -- the run begins at PDU `first`; labels: program and applied services of each of the writer's PDUs, 0 where not sent
 module _ (rights : Rights) (range first : ℕ) (packets : List (List ℕ)) (spans : List Span) (labels : List Label) (ways : List Way) where
   -- what came of each PDU; those before the run count as lost
   abbrev pub fates : List Fate
-  fates = fatesAlong rights range 0 none (replicate first gone ++ ways) labels
+  fates = fatesTold rights [] (toldOf (replicate first gone ++ ways) (sentFrom range 0 labels))
 
   -- the packets with every byte in a piece that is taken, of a PDU of the run, and that begin in a PDU not withheld
   abbrev pub arrived : List Entry
