@@ -1,3 +1,4 @@
+pub mod Blind
 pub mod Bridges
 pub mod Complete
 pub mod Counts
