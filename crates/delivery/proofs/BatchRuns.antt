@@ -11,6 +11,7 @@ use lib.Seq.{take-add}
 use Rattle.algebra.specs.Places.{All}
 use Rattle.pieces.specs.Pieces.{total}
 use Rattle.log.specs.Log.{Entry, packet, dataWords, entryWords, logWords, packetWords}
+use Rattle.receiver.specs.Entitling.{allPrograms}
 use Rattle.receiver.specs.Receiving.{receiveAnswer}
 use Rattle.receiver.specs.declared.Receiver.{Receiver}
 use Rattle.batch.specs.Batches.{Result, oneByOne, received}
@@ -29,7 +30,7 @@ use Rattle.delivery.proofs.SmallRuns.{three, six, opens, packets-right,
 -- ---- a batch of two with a third that is refused, and a batch of the other three
 
 abbrev fresh : Station
-fresh = freshStation defined 0 0 0 carry
+fresh = freshStation defined 0 0 0 allPrograms carry
 
 -- 8,400 words for each of five PDUs
 abbrev long : List ℕ
@@ -56,7 +57,7 @@ five-are = take-add 2 3 (made 0 0 0 six)
 usable : (first count : ℕ) → All Usable (runOf first count (made 0 0 0 six))
 usable first count = run-usable 0 0 0 three six opens packets-right in-order first count
 
-asked-of : (first count : ℕ) (steps : List Step) → Through defined fresh (runOf first count (made 0 0 0 six)) steps → Asked defined 0 0 0 three six first count carry steps
+asked-of : (first count : ℕ) (steps : List Step) → Through defined fresh (runOf first count (made 0 0 0 six)) steps → Asked defined 0 0 0 allPrograms three six first count carry steps
 asked-of first count steps t = record { opens = opens; sized = packets-right; offered = in-order; room = carry-room; through = t }
 
 -- the two are taken
@@ -124,9 +125,9 @@ both-usable = subst (All Usable) two-made (made-right 0 0 0 short twice opens sh
 
 -- the claim for these PDUs, from any carry
 module _ (b : Behaviour) (claim : Demand3For b) (first count : ℕ) (c : List ℕ) (steps : List Step) where
-  claimed : 4096 ≤ length c → Through b (freshStation b 0 0 0 c) (runOf first count both) steps → packetWords (logsFrom b (freshStation b 0 0 0 c) steps) ≡ logWords (wholePackets (inReceived (runOf first count shortSpans) (receptions steps)) 0 0 short)
+  claimed : 4096 ≤ length c → Through b (freshStation b 0 0 0 allPrograms c) (runOf first count both) steps → packetWords (logsFrom b (freshStation b 0 0 0 allPrograms c) steps) ≡ logWords (wholePackets (inReceived (runOf first count shortSpans) (receptions steps)) 0 0 short)
   claimed room t =
-      claim 0 0 0 short twice first count c steps (record { opens = opens; sized = short-right; offered = short-order; room = room; through = subst (λ (ps : List (List ℕ)). Through b (freshStation b 0 0 0 c) (runOf first count ps) steps) (sym two-made) t }) .log
+      claim 0 0 0 short twice first count c steps (record { opens = opens; sized = short-right; offered = short-order; room = room; through = subst (λ (ps : List (List ℕ)). Through b (freshStation b 0 0 0 allPrograms c) (runOf first count ps) steps) (sym two-made) t }) .log
       ∙ ap (λ (l : List Span). logWords (wholePackets (inReceived (runOf first count l) (receptions steps)) 0 0 short)) short-spans
 
 -- what the batch leaves in the carry
@@ -141,7 +142,7 @@ abbrev batchLog : List ℕ
 batchLog = loggedBy defined fresh (callOf (batches (begins ∷ []) words))
 
 abbrev endLog : List ℕ
-endLog = loggedBy defined (freshStation defined 0 0 0 carried) (receive [] ends words)
+endLog = loggedBy defined (freshStation defined 0 0 0 allPrograms carried) (receive [] ends words)
 
 batch-none : packetWords (batchLog ++ []) ≡ []
 unfolding wholePackets logWords

@@ -17,6 +17,7 @@ use Rattle.modes.specs.declared.Listing.the-variants.{Listed}
 use Rattle.pieces.specs.Pieces.{total}
 use Rattle.log.specs.Log.{logWords}
 use Rattle.log.proofs.Packets.{FitAll}
+use Rattle.reassembly.specs.Rights.{Rights}
 use Rattle.reassembly.specs.Holder.{Event, Holder, logged, after}
 use Rattle.refusal.specs.Refusal.{anyOf}
 use Rattle.receiver.specs.Receiving.{wrongState, pduAfter}
@@ -30,9 +31,9 @@ use Rattle.runs.specs.Calls.{Speech, heard, Matching, Machine, Serves, Bridge, 
 use Rattle.runs.proofs.General.{Served, serve}
 use Rattle.delivery.specs.Delivery.{joined, Station, Call, receive, batch, pair, markLost, answerOf, logOf, defined, stationAfter, RefusedAfter, logCounts, loggedBy}
 use Rattle.delivery.specs.Copies.{Copy, causesFor}
-use Rattle.delivery.specs.Channel.{Came, pdusIn, Step, receives, pairs, batches, stops, loses, refuses, callOf, NotRefused}
-use Rattle.delivery.proofs.Serving.{Shows}
-use Rattle.delivery.proofs.Bridge.{stations, everything, copied, paired, losing, refusing, Speaks, StandsFor, bridge}
+use Rattle.delivery.specs.Channel.{Came, pdusIn, Step, receives, pairs, batches, stops, loses, refuses, callOf, waysIn, NotRefused}
+use Rattle.delivery.proofs.Serving.{rightsBy, Shows}
+use Rattle.delivery.proofs.Bridge.{stations, copied, paired, losing, refusing, Speaks, StandsFor, bridge}
 
 -- these PDUs come as these
 abbrev pub EachCopy : (register width : ℕ) → List (List ℕ) → List Came → Type 0
@@ -40,10 +41,6 @@ EachCopy register width [] [] = Unit {0}
 EachCopy register width (p ∷ ps) [] = ⊥
 EachCopy register width [] (c ∷ cs) = ⊥
 EachCopy register width (p ∷ ps) (c ∷ cs) = Copy register width p [] (c .pdu) (c .sound) × EachCopy register width ps cs
-
-abbrev pub waysIn : List Came → List Way
-waysIn [] = []
-waysIn (c ∷ cs) = here (causesFor (c .sound)) ∷ waysIn cs
 
 -- ---- a batch that has taken n PDUs, and written these words
 
@@ -75,10 +72,13 @@ unfolding total
 lengths-sum [] = refl
 lengths-sum (q ∷ qs) = ap (λ (n : ℕ). length q + n) (lengths-sum qs) ∙ sym (length-append q (joined qs))
 
-module _ (mode stream register : ℕ) (m : Mode) (l : listing mode stream ≡ Listed m) (range : 0 < m .sequences) where
+module _ (mode stream register entitled : ℕ) (m : Mode) (l : listing mode stream ≡ Listed m) (range : 0 < m .sequences) where
+  abbrev rights : Rights
+  rights = rightsBy entitled stream m
+
   -- the calls for one PDU, or for none
-  abbrev one : Bridge everything (m .sequences) stations
-  one = bridge mode stream register m l range
+  abbrev one : Bridge rights (m .sequences) stations
+  one = bridge mode stream register entitled m l range
 
   -- ---- the calls of a batch's PDUs
 
@@ -292,28 +292,28 @@ module _ (mode stream register : ℕ) (m : Mode) (l : listing mode stream ≡ Li
   steps = record { State = Station; Call = Step; next = λ x s. stationAfter defined x (callOf s); words = λ x s. loggedBy defined x (callOf s) }
 
   abbrev Stands : Station → Holder → Type 0
-  Stands = StandsFor mode stream register m l range
+  Stands = StandsFor mode stream register entitled m l range
 
   abbrev Spoken : List (List ℕ) → List Speech → Type 0
-  Spoken = Matching (Speaks mode stream register m l range)
+  Spoken = Matching (Speaks mode stream register entitled m l range)
 
   -- the calls of a batch's PDUs serve their part of the run
   module _ (x : Station) (y : Holder) (cs : List Came) (ps : List (List ℕ)) (ds : List Speech) (log : List ℕ) (s : Stands x y) (each : EachCopy register (m .width) ps cs) (big : 8400 * length cs ≤ length log) (g : Spoken ps ds) where
-    alone : Served everything (m .sequences) stations one x y (singles x log cs ps) (heard (waysIn cs) ds)
+    alone : Served rights (m .sequences) stations one x y (singles x log cs ps) (heard (waysIn cs) ds)
     alone =
-        subst (λ (ws : List Way). Served everything (m .sequences) stations one x y (singles x log cs ps) (heard ws ds)) (ways-are cs ps x log each)
-        (serve everything (m .sequences) stations one (singles x log cs ps) x y ds s (goes cs ps x log each big) (subst (λ (k : List (List ℕ)). Spoken k ds) (sym (handed-are cs ps x log each)) g) tt)
+        subst (λ (ws : List Way). Served rights (m .sequences) stations one x y (singles x log cs ps) (heard ws ds)) (ways-are cs ps x log each)
+        (serve rights (m .sequences) stations one (singles x log cs ps) x y ds s (goes cs ps x log each big) (subst (λ (k : List (List ℕ)). Spoken k ds) (sym (handed-are cs ps x log each)) g) tt)
 
     together : (s : Step) (lengths pdus : List ℕ) → callOf s ≡ batch lengths pdus log → Does x lengths pdus log (finally one x (singles x log cs ps)) (logsOf one x (singles x log cs ps))
-        → Serves everything (m .sequences) steps Stands x y s (heard (waysIn cs) ds)
+        → Serves rights (m .sequences) steps Stands x y s (heard (waysIn cs) ds)
     together s lengths pdus e d = record {
       log = ap (loggedBy defined x) e ∙ d .logs ∙ alone .log;
       fit = alone .fit;
-      stands = subst (λ (z : Station). Stands z (after everything (m .sequences) y (heard (waysIn cs) ds))) (sym (ap (stationAfter defined x) e ∙ d .station)) (alone .stands);
+      stands = subst (λ (z : Station). Stands z (after rights (m .sequences) y (heard (waysIn cs) ds))) (sym (ap (stationAfter defined x) e ∙ d .station)) (alone .stands);
     }
 
   pub serves : (x : Station) (y : Holder) (s : Step) (ps : List (List ℕ)) (ws : List Way) (ds : List Speech) → Stands x y → Handing x s ps ws → Spoken ps ds
-      → NotRefused x s × Serves everything (m .sequences) steps Stands x y s (heard ws ds)
+      → NotRefused x s × Serves rights (m .sequences) steps Stands x y s (heard ws ds)
   serves x y s ps ws ds t (receiving {marks = n} {p = p} {q = q} {log = log} {sound = v} a b) g =
       let r = one .serves x y (receive n q log) (p ∷ []) (here (causesFor v) ∷ []) ds t (copied a b) g tt in
       (r .0, record { log = r .1 .log; fit = r .1 .fit; stands = r .1 .stands })
@@ -333,10 +333,10 @@ module _ (mode stream register : ℕ) (m : Mode) (l : listing mode stream ≡ Li
       let r = one .serves x y c [] [] ds t (refusing h) g tt in
       (tt, record { log = r .1 .log; fit = r .1 .fit; stands = r .1 .stands })
 
-  abbrev pub stepping : Bridge everything (m .sequences) steps
+  abbrev pub stepping : Bridge rights (m .sequences) steps
   stepping = record {
     Pdu = List ℕ;
-    Says = Speaks mode stream register m l range;
+    Says = Speaks mode stream register entitled m l range;
     Stands = Stands;
     Hands = Handing;
     Good = λ x s ps. NotRefused x s;

@@ -20,12 +20,13 @@ use Rattle.correction.proofs.Answers.{no-marks-pdu}
 use Rattle.pdu.specs.Reading.{modeIn, widthOf}
 use Rattle.log.specs.Log.{Entry, logWords}
 use Rattle.log.proofs.Packets.{FitAll}
-use Rattle.reassembly.specs.Reassembly.{Said, Memory, Outcome, received, remembered, lostEntries, forgotten}
-use Rattle.reassembly.specs.Rights.{Rights, under}
-use Rattle.reassembly.specs.Holder.{Come, Event, lost, came, Holder, after}
+use Rattle.reassembly.specs.Reassembly.{Said, Outcome, received}
+use Rattle.reassembly.specs.Rights.{Rights, Label, under}
+use Rattle.reassembly.specs.Holder.{Come, lost, came, Holder, saidTo, holderFor}
 use Rattle.reassembly.proofs.Fitting.{SaneSaid, fit-received}
-use Rattle.reassembly.proofs.Blind.{blankSaid, received-blind, remembered-blind}
-use Rattle.receiver.specs.Receiving.{saidBy, refusedAnswer, lostNumber, lostAnswer}
+use Rattle.reassembly.proofs.Blind.{blankSaid}
+use Rattle.runs.proofs.Blind.{received-same, holder-same}
+use Rattle.receiver.specs.Receiving.{saidBy, labelIn, comeBy, refusedAnswer, lostNumber, lostAnswer}
 use Rattle.receiver.specs.declared.Receiver.{Receiver}
 use Rattle.receiver.specs.declared.Received.{Received}
 use Rattle.runs.specs.Transmissions.{Way, gone, here}
@@ -35,13 +36,13 @@ use Rattle.batch.proofs.Single.{kept}
 use Rattle.batch.proofs.OneByOne.{none-taken}
 use Rattle.delivery.specs.Delivery.{Station, Call, receive, batch, pair, markLost, answerOf, stationAfter, takenBy, RefusedAfter, loggedBy, defined, HeaderAltered}
 use Rattle.delivery.specs.Copies.{frontLength, restored, bytesAt, crcAt, Copy, causesFor}
-use Rattle.diversity.specs.Diversity.{pairSaid}
+use Rattle.diversity.specs.Diversity.{pairSaid, pairCome}
 use Rattle.pair.proofs.Enough.{Passes}
-use Rattle.delivery.proofs.Diversity.{pair-kept, pair-passes, pair-accepted, pair-logged, pair-shows}
+use Rattle.delivery.proofs.Diversity.{pair-kept, pair-said-in, pair-label-in, pair-passes, pair-accepted, pair-logged, pair-shows}
 use Rattle.delivery.proofs.Pairs.{pair-heard, pair-sane, pair-agrees}
-use Rattle.delivery.proofs.Copies.{stricken, Plain, copy-long, copy-size, copy-correctable, copy-reads, copy-control, copy-says, copy-sane}
-use Rattle.delivery.proofs.Made.{Heard, Says}
-use Rattle.delivery.proofs.Serving.{Shows, receive-accepted, receive-logged, receive-shows, lost-accepted, lost-logged, lost-shows}
+use Rattle.delivery.proofs.Copies.{stricken, Plain, copy-long, copy-size, copy-correctable, copy-reads, copy-control, copy-label, copy-says, copy-sane}
+use Rattle.delivery.proofs.Made.{Heard, SaneLabel, Says, said-in, label-in}
+use Rattle.delivery.proofs.Serving.{rightsBy, sane-shown, Shows, receive-accepted, receive-logged, receive-shows, lost-accepted, lost-logged, lost-shows}
 
 -- ---- a call that is refused and takes no PDU leaves receiver and carry
 
@@ -74,10 +75,6 @@ nothing-logged x c h =
 
 abbrev pub stations : Machine
 stations = record { State = Station; Call = Call; next = stationAfter defined; words = loggedBy defined }
-
--- a receiver of document 01 withholds nothing
-abbrev pub everything : Rights
-everything = record { entitled = λ p. true; keeps = false }
 
 abbrev pub asSent : ℕ → ℕ
 asSent k = 0
@@ -112,12 +109,16 @@ altered-copy register width marks p q a =
       found = λ k h s. absurd (let z : _≡_ {A = ℕ} 0 1 = cc in omega arith);
     }
 
-module _ (mode stream register : ℕ) (m : Mode) (l : listing mode stream ≡ Listed m) (range : 0 < m .sequences) where
-  -- a PDU as it was written, and what it says by the causes of its pieces
+module _ (mode stream register entitled : ℕ) (m : Mode) (l : listing mode stream ≡ Listed m) (range : 0 < m .sequences) where
+  abbrev pub rights : Rights
+  rights = rightsBy entitled stream m
+
+  -- a PDU as it was written, and what it says by the causes of its pieces, with one label
   pub record Speaks (p : List ℕ) (d : Speech) : Type 0 where
-    pub says : Says mode stream register (m .width) p (under false (d asSent .said))
+    pub says : Says mode stream register (m .width) p (record { said = under false (d asSent .said); label = d asSent .label })
     pub below : d asSent .said .sequence < m .sequences
     pub struck : (s : ℕ → Bool) → stricken s (under false (d asSent .said)) ≡ under false (d (causesFor s) .said)
+    pub labels : (f : ℕ → ℕ) → d f .label ≡ d asSent .label
 
   module _ (p : List ℕ) (d : Speech) (g : Speaks p d) where
     plain : Plain register (m .width) p
@@ -131,13 +132,37 @@ module _ (mode stream register : ℕ) (m : Mode) (l : listing mode stream ≡ Li
       right = g .says .crcs;
     }
 
+    said-is : saidBy register (m .width) (controlAt p) p ≡ under false (d asSent .said)
+    said-is = sym (said-in register (m .width) (controlAt p) p) ∙ ap (λ (c : Come). c .said) (g .says .comes)
+
+    label-is : labelIn (m .width) (controlAt p) p ≡ d asSent .label
+    label-is = sym (label-in register (m .width) (controlAt p) p) ∙ ap (λ (c : Come). c .label) (g .says .comes)
+
+    said-sane : SaneSaid (saidBy register (m .width) (controlAt p) p)
+    said-sane = subst SaneSaid (sym said-is) (g .says .sane)
+
+    narrow-label : (k : Label) → k ≡ d asSent .label → k .services < 8
+    narrow-label k e = subst SaneLabel (sym e) (g .says .labelled) .1
+
     module _ (n q : List ℕ) (sound : ℕ → Bool) (x : Copy register (m .width) p n q sound) where
       -- what the receiver reads
-      abbrev pub read : Said
-      read = saidBy register (m .width) (controlAt (correctedPduWith n q)) (correctedPduWith n q)
+      abbrev pub read : Come
+      read = comeBy register (m .width) (controlAt (correctedPduWith n q)) (correctedPduWith n q)
 
-      alike : blankSaid read ≡ blankSaid (under false (d (causesFor sound) .said))
-      alike = copy-says register (m .width) p n q sound plain x ∙ ap (λ (t : Said). blankSaid (stricken sound t)) (g .says .says) ∙ ap blankSaid (g .struck sound)
+      read-said : read .said ≡ saidBy register (m .width) (controlAt (correctedPduWith n q)) (correctedPduWith n q)
+      read-said = said-in register (m .width) (controlAt (correctedPduWith n q)) (correctedPduWith n q)
+
+      read-label : read .label ≡ d asSent .label
+      read-label = label-in register (m .width) (controlAt (correctedPduWith n q)) (correctedPduWith n q) ∙ copy-label register (m .width) p n q sound plain x ∙ label-is
+
+      read-blank : blankSaid (read .said) ≡ blankSaid (stricken sound (under false (d asSent .said)))
+      read-blank = ap blankSaid read-said ∙ copy-says register (m .width) p n q sound plain x ∙ ap (λ (t : Said). blankSaid (stricken sound t)) said-is
+
+      alike : blankSaid (read .said) ≡ blankSaid (under false (d (causesFor sound) .said))
+      alike = read-blank ∙ ap blankSaid (g .struck sound)
+
+      same-label : read .label ≡ d (causesFor sound) .label
+      same-label = read-label ∙ sym (g .labels (causesFor sound))
 
       pub heard-copy : Heard mode stream register (m .width) n q read
       heard-copy = record {
@@ -147,23 +172,26 @@ module _ (mode stream register : ℕ) (m : Mode) (l : listing mode stream ≡ Li
         reads = copy-reads register (m .width) p n q sound plain x;
         sameMode = ap (λ (c : ControlWord). c .mode) (copy-control register (m .width) p n q sound plain x) ∙ g .says .sameMode;
         sameStream = ap (λ (c : ControlWord). c .stream) (copy-control register (m .width) p n q sound plain x) ∙ g .says .sameStream;
-        says = refl;
+        comes = refl;
       }
 
-      pub sane-copy : SaneSaid read
-      sane-copy = copy-sane register (m .width) p n q sound plain x (subst SaneSaid (sym (g .says .says)) (g .says .sane))
+      pub sane-copy : SaneSaid (read .said)
+      sane-copy = subst SaneSaid (sym read-said) (copy-sane register (m .width) p n q sound plain x said-sane)
 
-      pub copy-below : read .sequence < m .sequences
+      pub copy-below : read .said .sequence < m .sequences
       copy-below =
-          let e : read .sequence ≡ d asSent .said .sequence = ap (λ (t : Said). t .sequence) (copy-says register (m .width) p n q sound plain x) ∙ ap (λ (t : Said). t .sequence) (g .says .says) in
+          let e : read .said .sequence ≡ d asSent .said .sequence = ap (λ (t : Said). t .sequence) read-blank in
           let b = g .below in
           omega (arith, e, b)
 
-      pub copy-received : (z : Memory) → received (m .sequences) z read ≡ received (m .sequences) z (under false (d (causesFor sound) .said))
-      copy-received z = received-blind (m .sequences) z read (under false (d (causesFor sound) .said)) alike
+      pub copy-narrow : read .label .services < 8
+      copy-narrow = narrow-label (read .label) read-label
 
-      pub copy-remembered : (z : Memory) → remembered (m .sequences) z read ≡ remembered (m .sequences) z (under false (d (causesFor sound) .said))
-      copy-remembered z = remembered-blind (m .sequences) z read (under false (d (causesFor sound) .said)) alike
+      pub copy-received : (y : Holder) → received (m .sequences) (y .memory) (saidTo rights (m .sequences) y read) ≡ received (m .sequences) (y .memory) (saidTo rights (m .sequences) y (d (causesFor sound)))
+      copy-received y = received-same rights (m .sequences) y read (d (causesFor sound)) alike same-label
+
+      pub copy-holder : (y : Holder) → holderFor rights (m .sequences) y (came read) ≡ holderFor rights (m .sequences) y (came (d (causesFor sound)))
+      copy-holder y = holder-same rights (m .sequences) y read (d (causesFor sound)) alike same-label
 
     -- document 02, Ask 5: two copies
     module _ (q r : List ℕ) (s t : ℕ → Bool) (x : Copy register (m .width) p [] q s) (v : Copy register (m .width) p [] r t) where
@@ -172,92 +200,107 @@ module _ (mode stream register : ℕ) (m : Mode) (l : listing mode stream ≡ Li
       either k = s k || t k
 
       -- what the receiver reads of the pair
-      abbrev pub readPair : Said
-      readPair = pairSaid register (m .width) (controlAt (correctedPdu q)) (correctedPdu q) (correctedPdu r)
+      abbrev pub readPair : Come
+      readPair = pairCome register (m .width) (controlAt (correctedPdu q)) (correctedPdu q) (correctedPdu r)
 
-      read-is : pairSaid register (m .width) (controlAt (correctedPduWith [] q)) (correctedPduWith [] q) (correctedPduWith [] r) ≡ readPair
-      read-is = λ i. pairSaid register (m .width) (controlAt (no-marks-pdu q i)) (no-marks-pdu q i) (no-marks-pdu r i)
+      pair-said : pairSaid register (m .width) (controlAt (correctedPduWith [] q)) (correctedPduWith [] q) (correctedPduWith [] r) ≡ readPair .said
+      pair-said = (λ i. pairSaid register (m .width) (controlAt (no-marks-pdu q i)) (no-marks-pdu q i) (no-marks-pdu r i)) ∙ sym (pair-said-in register (m .width) (controlAt (correctedPdu q)) (correctedPdu q) (correctedPdu r))
 
-      heard-pair : blankSaid readPair ≡ blankSaid (stricken either (under false (d asSent .said)))
-      heard-pair = ap blankSaid (sym read-is) ∙ pair-heard register (m .width) p [] q [] r s t plain x v ∙ ap (λ (u : Said). blankSaid (stricken either u)) (g .says .says)
+      pair-label : readPair .label ≡ d asSent .label
+      pair-label =
+          pair-label-in register (m .width) (controlAt (correctedPdu q)) (correctedPdu q) (correctedPdu r)
+          ∙ ap (λ (y : List ℕ). labelIn (m .width) (controlAt y) y) (sym (no-marks-pdu q))
+          ∙ copy-label register (m .width) p [] q s plain x
+          ∙ label-is
 
-      together : blankSaid readPair ≡ blankSaid (under false (d (causesFor either) .said))
+      heard-pair : blankSaid (readPair .said) ≡ blankSaid (stricken either (under false (d asSent .said)))
+      heard-pair = ap blankSaid (sym pair-said) ∙ pair-heard register (m .width) p [] q [] r s t plain x v ∙ ap (λ (u : Said). blankSaid (stricken either u)) said-is
+
+      together : blankSaid (readPair .said) ≡ blankSaid (under false (d (causesFor either) .said))
       together = heard-pair ∙ ap blankSaid (g .struck either)
 
-      pub sane-readPair : SaneSaid readPair
-      sane-readPair = subst SaneSaid read-is (pair-sane register (m .width) p [] q [] r s t plain x v (subst SaneSaid (sym (g .says .says)) (g .says .sane)))
+      same-labels : readPair .label ≡ d (causesFor either) .label
+      same-labels = pair-label ∙ sym (g .labels (causesFor either))
 
-      pub pair-below : readPair .sequence < m .sequences
+      pub sane-readPair : SaneSaid (readPair .said)
+      sane-readPair = subst SaneSaid pair-said (pair-sane register (m .width) p [] q [] r s t plain x v said-sane)
+
+      pub pair-below : readPair .said .sequence < m .sequences
       pair-below =
-          let e : readPair .sequence ≡ d asSent .said .sequence = ap (λ (u : Said). u .sequence) heard-pair in
+          let e : readPair .said .sequence ≡ d asSent .said .sequence = ap (λ (u : Said). u .sequence) heard-pair in
           let b = g .below in
           omega (arith, e, b)
 
-      pub pair-received : (z : Memory) → received (m .sequences) z readPair ≡ received (m .sequences) z (under false (d (causesFor either) .said))
-      pair-received z = received-blind (m .sequences) z readPair (under false (d (causesFor either) .said)) together
+      pub pair-narrow : readPair .label .services < 8
+      pair-narrow = narrow-label (readPair .label) pair-label
 
-      pub pair-remembered : (z : Memory) → remembered (m .sequences) z readPair ≡ remembered (m .sequences) z (under false (d (causesFor either) .said))
-      pair-remembered z = remembered-blind (m .sequences) z readPair (under false (d (causesFor either) .said)) together
+      pub pair-received : (y : Holder) → received (m .sequences) (y .memory) (saidTo rights (m .sequences) y readPair) ≡ received (m .sequences) (y .memory) (saidTo rights (m .sequences) y (d (causesFor either)))
+      pair-received y = received-same rights (m .sequences) y readPair (d (causesFor either)) together same-labels
+
+      pub pair-holder : (y : Holder) → holderFor rights (m .sequences) y (came readPair) ≡ holderFor rights (m .sequences) y (came (d (causesFor either)))
+      pair-holder y = holder-same rights (m .sequences) y readPair (d (causesFor either)) together same-labels
 
       -- no row turns the pair down
-      pub copies-pass : (y : Station) (z : Memory) (log : List ℕ) → Shows mode stream register m l range y z → Passes (y .carry) q r log (y .receiver)
+      pub copies-pass : (y : Station) (z : Holder) (log : List ℕ) → Shows mode stream register entitled m l range y z → Passes (y .carry) q r log (y .receiver)
       copies-pass y z log u =
           let eq = no-marks-pdu q in
           let er = no-marks-pdu r in
-          pair-passes mode stream register m l range y z u (controlAt p) q r log _ _ (heard-copy [] q s x) (heard-copy [] r t v)
+          pair-passes mode stream register entitled m l range y z u (controlAt p) q r log _ _ (heard-copy [] q s x) (heard-copy [] r t v)
           (ap controlAt (sym eq) ∙ copy-control register (m .width) p [] q s plain x) (ap controlAt (sym er) ∙ copy-control register (m .width) p [] r t plain v)
           (ap length (sym eq) ∙ copy-long register (m .width) p [] q s plain x ∙ sym (ap length (sym er) ∙ copy-long register (m .width) p [] r t plain v))
           (ap (take (controlAt p .la + 1)) (sym eq) ∙ pair-agrees register (m .width) p [] q [] r s t plain x v ∙ ap (take (controlAt p .la + 1)) er)
 
   abbrev pub StandsFor : Station → Holder → Type 0
-  StandsFor x y = Shows mode stream register m l range x (y .memory)
+  StandsFor = Shows mode stream register entitled m l range
 
   pub serves : (x : Station) (y : Holder) (c : Call) (ps : List (List ℕ)) (ws : List Way) (ds : List Speech) → StandsFor x y → Handing register (m .width) x c ps ws → Matching Speaks ps ds
-      → Accepted x c ps × Serves everything (m .sequences) stations StandsFor x y c (heard ws ds)
+      → Accepted x c ps × Serves rights (m .sequences) stations StandsFor x y c (heard ws ds)
   unfolding heard
   serves x y c ps ws [] s (copied a b) g = absurd g
   serves x y c ps ws (d ∷ e ∷ ds) s (copied a b) g = absurd (g .1)
   serves x y c ps ws (d ∷ []) s (copied {marks = n} {p = p} {q = q} {log = log} {sound = sound} a big) g =
-      let u : Said = read p d (g .0) n q sound a in
+      let u : Come = read p d (g .0) n q sound a in
       let b = all-bytes q (a .header .bytes) in
       let hq = heard-copy p d (g .0) n q sound a in
       let sn = sane-copy p d (g .0) n q sound a in
       let lo = copy-below p d (g .0) n q sound a in
-      let er = copy-received p d (g .0) n q sound a (y .memory) in (
-        receive-accepted mode stream register m l range x (y .memory) s n q log u hq sn lo b big,
-        serves-one everything (m .sequences) stations StandsFor x y (receive n q log) (came (d (causesFor sound)))
-            (receive-logged mode stream register m l range x (y .memory) s n q log u hq sn lo b big ∙ ap (λ (o : Outcome). logWords (o .entries)) er)
-            (subst (λ (o : Outcome). FitAll (o .entries)) er (fit-received (m .sequences) (y .memory) u (s .sane) sn .0))
-            (subst (λ (z : Memory). Shows mode stream register m l range (stationAfter defined x (receive n q log)) z) (copy-remembered p d (g .0) n q sound a (y .memory)) (receive-shows mode stream register m l range x (y .memory) s n q log u hq sn lo b big)),
+      let na = copy-narrow p d (g .0) n q sound a in
+      let er = copy-received p d (g .0) n q sound a y in (
+        receive-accepted mode stream register entitled m l range x y s n q log u hq sn lo na b big,
+        serves-one rights (m .sequences) stations StandsFor x y (receive n q log) (came (d (causesFor sound)))
+            (receive-logged mode stream register entitled m l range x y s n q log u hq sn lo na b big ∙ ap (λ (o : Outcome). logWords (o .entries)) er)
+            (subst (λ (o : Outcome). FitAll (o .entries)) er (fit-received (m .sequences) (y .memory) (saidTo rights (m .sequences) y u) (s .sane) (sane-shown rights (m .sequences) y u sn) .0))
+            (subst (λ (z : Holder). Shows mode stream register entitled m l range (stationAfter defined x (receive n q log)) z) (copy-holder p d (g .0) n q sound a y) (receive-shows mode stream register entitled m l range x y s n q log u hq sn lo na b big)),
       )
   serves x y c ps ws [] s (paired a b h) g = absurd g
   serves x y c ps ws (d ∷ e ∷ ds) s (paired a b h) g = absurd (g .1)
   serves x y c ps ws (d ∷ []) s (paired {p = p} {q = q} {r = r} {log = log} {sound = i} {other = j} a b big) g =
-      let u : Said = readPair p d (g .0) q r i j a b in
+      let u : Come = readPair p d (g .0) q r i j a b in
       let k = all-bytes q (a .header .bytes) in
-      let h = copies-pass p d (g .0) q r i j a b x (y .memory) log s in
+      let h = copies-pass p d (g .0) q r i j a b x y log s in
       let sn = sane-readPair p d (g .0) q r i j a b in
       let lo = pair-below p d (g .0) q r i j a b in
-      let er = pair-received p d (g .0) q r i j a b (y .memory) in (
-        pair-accepted mode stream register m l range x (y .memory) s q r log u h refl sn lo k big,
-        serves-one everything (m .sequences) stations StandsFor x y (pair q r log) (came (d (causesFor (λ n. i n || j n))))
-            (pair-logged mode stream register m l range x (y .memory) s q r log u h refl sn lo k big ∙ ap (λ (o : Outcome). logWords (o .entries)) er)
-            (subst (λ (o : Outcome). FitAll (o .entries)) er (fit-received (m .sequences) (y .memory) u (s .sane) sn .0))
-            (subst (λ (z : Memory). Shows mode stream register m l range (stationAfter defined x (pair q r log)) z) (pair-remembered p d (g .0) q r i j a b (y .memory)) (pair-shows mode stream register m l range x (y .memory) s q r log u h refl sn lo k big)),
+      let na = pair-narrow p d (g .0) q r i j a b in
+      let er = pair-received p d (g .0) q r i j a b y in (
+        pair-accepted mode stream register entitled m l range x y s q r log u h refl sn lo na k big,
+        serves-one rights (m .sequences) stations StandsFor x y (pair q r log) (came (d (causesFor (λ n. i n || j n))))
+            (pair-logged mode stream register entitled m l range x y s q r log u h refl sn lo na k big ∙ ap (λ (o : Outcome). logWords (o .entries)) er)
+            (subst (λ (o : Outcome). FitAll (o .entries)) er (fit-received (m .sequences) (y .memory) (saidTo rights (m .sequences) y u) (s .sane) (sane-shown rights (m .sequences) y u sn) .0))
+            (subst (λ (z : Holder). Shows mode stream register entitled m l range (stationAfter defined x (pair q r log)) z) (pair-holder p d (g .0) q r i j a b y) (pair-shows mode stream register entitled m l range x y s q r log u h refl sn lo na k big)),
       )
   serves x y c ps ws [] s (losing b) g = absurd g
   serves x y c ps ws (d ∷ e ∷ ds) s (losing b) g = absurd (g .1)
   serves x y c ps ws (d ∷ []) s (losing {log = log} big) g = (
-    lost-accepted mode stream register m l range x (y .memory) s log big,
-    serves-one everything (m .sequences) stations StandsFor x y (markLost log) lost
-        (lost-logged mode stream register m l range x (y .memory) s log big)
+    lost-accepted mode stream register entitled m l range x y s log big,
+    serves-one rights (m .sequences) stations StandsFor x y (markLost log) lost
+        (lost-logged mode stream register entitled m l range x y s log big)
         ((omega arith, omega arith), tt)
-        (lost-shows mode stream register m l range x (y .memory) s log big),
+        (lost-shows mode stream register entitled m l range x y s log big),
   )
   serves x y c ps ws ds s (refusing h) g =
-      (tt, serves-none everything (m .sequences) stations StandsFor x y c (nothing-logged x c h) (subst (λ (t : Station). StandsFor t y) (sym (station-kept x c h)) s))
+      (tt, serves-none rights (m .sequences) stations StandsFor x y c (nothing-logged x c h) (subst (λ (t : Station). StandsFor t y) (sym (station-kept x c h)) s))
 
-  abbrev pub bridge : Bridge everything (m .sequences) stations
+  abbrev pub bridge : Bridge rights (m .sequences) stations
   bridge = record {
     Pdu = List ℕ;
     Says = Speaks;

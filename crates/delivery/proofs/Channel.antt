@@ -26,23 +26,28 @@ use Rattle.reassembly.specs.Holder.{opened}
 use Rattle.writer.specs.Writing.{opened as writerOpened, openedAs as writerOpenedAs}
 use Rattle.writer.specs.RoundTrip.{Bytes}
 use Rattle.writer.specs.declared.Writer.{Writer}
-use Rattle.receiver.specs.Receiving.{opened as receiverOpened, openedAs as receiverOpenedAs, memoryOf, wrongState}
+use Rattle.receiver.specs.Entitling.{allowedPrograms, maskOf}
+use Rattle.receiver.specs.Receiving.{fresh as freshFor, openingNumber, openedFor, memoryOf, wrongState}
 use Rattle.receiver.specs.declared.Receiver.{Receiver}
-use Rattle.runs.specs.Model.{cut, sentAfter, Fate, lose, read, Mark, verdicts, Sized, fresh}
-use Rattle.runs.specs.Transmissions.{Way, gone, here, keptOf, plansFrom}
-use Rattle.runs.specs.Spans.{packetAt, Span, within, lies, bytesIn, fatesOf, wholePackets as wholeByMarks}
-use Rattle.runs.specs.Calls.{Load, transmissionsOf, LoadsFit, spansFrom as spansOfLoads, speechesFrom, fatesFrom, Matching, Bridge, Step as Part, handed, waysOf, Through as Goes, logsFrom as logsOf, AllGood}
-use Rattle.runs.proofs.General.{Delivered as RunDelivered, general}
+use Rattle.runs.specs.Model.{cut, sentAfter, Sized}
+use Rattle.runs.specs.Transmissions.{Way, gone, here}
+use Rattle.runs.specs.Spans.{Span, bytesIn}
+use Rattle.runs.specs.Promise.{arrived}
+use Rattle.runs.specs.Calls.{Load, labelsOf, LoadsFit, spansFrom as spansOfLoads, speechesFrom, Matching, Bridge, Step as Part, handed, waysOf, Through as Goes, logsFrom as logsOf, AllGood}
+use Rattle.runs.proofs.General.{Asked as RunAsked, general}
+use Rattle.runs.proofs.Promised.{promised}
 use Rattle.delivery.specs.Delivery.{Packets, Writing, pdusFrom, spansFrom, InOrder, Station, Call, receive, pair, markLost, answerOf, defined, freshStation, stationAfter, loggedBy, runOf, made as madeBy, spans as spansOf}
 use Rattle.delivery.specs.Copies.{causesFor}
-use Rattle.delivery.specs.Channel.{Came, Step, receives, pairs, batches, stops, loses, refuses, callOf, AllCopies, Through, fatesIn, fates, logsFrom, NoneRefused, Asked, Delivered, ChannelDelivery}
+use Rattle.delivery.specs.Channel.{Came, Step, receives, pairs, batches, stops, loses, refuses, callOf, AllCopies, Through, waysIn, ways, logsFrom, NoneRefused, Asked, Delivered, ChannelDelivery}
+use Rattle.delivery.specs.Entitlement.{labelsFrom, rightsFor, due}
 use Rattle.delivery.proofs.Counting.{stands-first}
 use Rattle.delivery.proofs.Calling.{stateAt, next-in-range}
-use Rattle.delivery.proofs.Made.{sized-of}
+use Rattle.delivery.proofs.Made.{SaneLabel, sized-of}
+use Rattle.delivery.proofs.Entitling.{mask-lists}
 use Rattle.delivery.proofs.Course.{Course, done, next, Runs, course}
-use Rattle.delivery.proofs.Serving.{Shows}
-use Rattle.delivery.proofs.Bridge.{everything, Speaks}
-use Rattle.delivery.proofs.Batching.{EachCopy, waysIn, Handing, receiving, pairing, batching, stopping, missing, declining, steps as stepMachine, stepping}
+use Rattle.delivery.proofs.Serving.{rightsBy, Shows}
+use Rattle.delivery.proofs.Bridge.{Speaks}
+use Rattle.delivery.proofs.Batching.{EachCopy, Handing, receiving, pairing, batching, stopping, missing, declining, steps as stepMachine, stepping}
 use Rattle.delivery.proofs.Copies.{struck-read}
 use Rattle.delivery.proofs.Lies.{Following}
 use Rattle.delivery.proofs.Examples.{second-missing}
@@ -69,69 +74,19 @@ module _ (mode stream register : ℕ) (m : Mode) (ps : List (List ℕ)) where
   spans-follow done = tt
   spans-follow (next f h r) = (refl, spans-follow r)
 
-  speaking : (l : listing mode stream ≡ Listed m) (range : 0 < m .sequences) {q g i s : ℕ} {pdus : List (List ℕ)} {spans : List Span} {cs : List Load} → q < m .sequences → Course mode stream register m ps q g i s pdus spans cs
-      → Matching (Speaks mode stream register m l range) pdus (speechesFrom (m .sequences) q i s (drop i ps) cs)
+  speaking : (entitled : ℕ) (l : listing mode stream ≡ Listed m) (range : 0 < m .sequences) {q g i s : ℕ} {pdus : List (List ℕ)} {spans : List Span} {cs : List Load} → q < m .sequences → Course mode stream register m ps q g i s pdus spans cs
+      → Matching (Speaks mode stream register entitled m l range) pdus (speechesFrom (m .sequences) q i s (drop i ps) cs)
   unfolding speechesFrom
-  speaking l range h done = tt
-  speaking l range h (next {q = q} {i = i} {s = s} {e = e} {t = t} {psd = psd} {pdus = pdus} {loads = cs} f d r) = (
+  speaking entitled l range h done = tt
+  speaking entitled l range h (next {q = q} {i = i} {s = s} {e = e} {t = t} {psd = psd} {pdus = pdus} {loads = cs} f d r) = (
     record {
       says = d;
       below = h;
       struck = λ v. ap (λ (b : List Piece). record { sequence = q; pfirst = ltb 0 s; plast = ltb 0 t; start = (i + cond (ltb 0 s) 1 0) % 64; psdBytes = psd; pieces = b; withheld = false }) (struck-read v (cut s e t (drop i ps)));
+      labels = λ f. refl;
     },
-    subst (λ (rest : List (List ℕ)). Matching (Speaks mode stream register m l range) pdus (speechesFrom (m .sequences) (following (m .sequences) q) (i + e) (sentAfter s e t) rest cs)) (sym (drop-drop e i ps)) (speaking l range (next-in-range (m .sequences) q h) r),
+    subst (λ (rest : List (List ℕ)). Matching (Speaks mode stream register entitled m l range) pdus (speechesFrom (m .sequences) (following (m .sequences) q) (i + e) (sentAfter s e t) rest cs)) (sym (drop-drop e i ps)) (speaking entitled l range (next-in-range (m .sequences) q h) r),
   )
-
--- ---- a receiver that withholds nothing
-
-abbrev plainFate : Way → Fate
-plainFate gone = lose
-plainFate (here f) = read false f
-
-abbrev plainFates : List Way → List Fate
-plainFates [] = []
-plainFates (w ∷ ws) = plainFate w ∷ plainFates ws
-
-plain-lies : (range : ℕ) (cs : List Load) (ws : List Way) (q g s : ℕ) (kept : Option ℕ) (ps rest : List (List ℕ)) (j : ℕ)
-    → lies ps (spansOfLoads g s rest cs) (fatesOf (plansFrom everything range q kept (transmissionsOf ws cs))) j ≡ lies ps (spansOfLoads g s rest cs) (plainFates ws) j
-unfolding spansOfLoads plansFrom transmissionsOf
-plain-lies range [] ws q g s kept ps rest j = refl
-plain-lies range (c ∷ cs) [] q g s kept ps rest j = refl
-plain-lies range (c ∷ cs) (gone ∷ ws) q g s kept ps rest j =
-    let n : ℕ = bytesIn (cut s (c .whole) (c .over) rest) in
-    ap (λ (x : Mark). cond (within (record { from = g; count = n }) j) (verdicts lose (packetAt ps j - packetAt ps g)) x)
-    (plain-lies range cs ws (following range q) (g + n) (sentAfter s (c .whole) (c .over)) (keptOf everything range q kept (c .label) gone) ps (drop (c .whole) rest) j)
-plain-lies range (c ∷ cs) (here f ∷ ws) q g s kept ps rest j =
-    let n : ℕ = bytesIn (cut s (c .whole) (c .over) rest) in
-    ap (λ (x : Mark). cond (within (record { from = g; count = n }) j) (verdicts (read false f) (packetAt ps j - packetAt ps g)) x)
-    (plain-lies range cs ws (following range q) (g + n) (sentAfter s (c .whole) (c .over)) (keptOf everything range q kept (c .label) (here f)) ps (drop (c .whole) rest) j)
-
--- the ways of a list of calls
-abbrev waysBy : List Step → List Way
-waysBy [] = []
-waysBy (receives n q log v ∷ ss) = here (causesFor v) ∷ waysBy ss
-waysBy (pairs q r log u v ∷ ss) = here (causesFor (λ k. u k || v k)) ∷ waysBy ss
-waysBy (batches cs log ∷ ss) = waysIn cs ++ waysBy ss
-waysBy (stops cs ls bytes log ∷ ss) = waysIn cs ++ waysBy ss
-waysBy (loses log ∷ ss) = gone ∷ waysBy ss
-waysBy (refuses c ∷ ss) = waysBy ss
-
-fates-in : (cs : List Came) (ws : List Way) → plainFates (waysIn cs ++ ws) ≡ fatesIn cs ++ plainFates ws
-fates-in [] ws = refl
-fates-in (c ∷ cs) ws = ap (λ (l : List Fate). read false (causesFor (c .sound)) ∷ l) (fates-in cs ws)
-
-fates-are : (ss : List Step) → plainFates (waysBy ss) ≡ fates ss
-fates-are [] = refl
-fates-are (receives n q log v ∷ ss) = ap (λ (l : List Fate). read false (causesFor v) ∷ l) (fates-are ss)
-fates-are (pairs q r log u v ∷ ss) = ap (λ (l : List Fate). read false (causesFor (λ k. u k || v k)) ∷ l) (fates-are ss)
-fates-are (batches cs log ∷ ss) = fates-in cs (waysBy ss) ∙ ap (λ (l : List Fate). fatesIn cs ++ l) (fates-are ss)
-fates-are (stops cs ls bytes log ∷ ss) = fates-in cs (waysBy ss) ∙ ap (λ (l : List Fate). fatesIn cs ++ l) (fates-are ss)
-fates-are (loses log ∷ ss) = ap (λ (l : List Fate). lose ∷ l) (fates-are ss)
-fates-are (refuses c ∷ ss) = fates-are ss
-
-fates-by : (first : ℕ) (ss : List Step) → plainFates (replicate first gone ++ waysBy ss) ≡ replicate first lose ++ fates ss
-fates-by zero ss = fates-are ss
-fates-by (suc first) ss = ap (λ (l : List Fate). lose ∷ l) (fates-by first ss)
 
 -- ---- the calls, with the PDUs that they are for
 
@@ -145,9 +100,9 @@ first-copies register width (c ∷ cs) (p ∷ ps) h = (h .0, first-copies regist
 batch-room : (register width : ℕ) (x : Station) (ps : List (List ℕ)) (cs : List Came) (log : List ℕ) (ss : List Step) → Through register width x ps (batches cs log ∷ ss) → 8400 * length cs ≤ length log
 batch-room register width x ps cs log ss t = let r = t .1 in omega (arith, r)
 
-module _ (mode stream register : ℕ) (m : Mode) (l : listing mode stream ≡ Listed m) (range : 0 < m .sequences) where
-  abbrev all : Bridge everything (m .sequences) (stepMachine mode stream register m l range)
-  all = stepping mode stream register m l range
+module _ (mode stream register entitled : ℕ) (m : Mode) (l : listing mode stream ≡ Listed m) (range : 0 < m .sequences) where
+  abbrev all : Bridge (rightsBy entitled stream m) (m .sequences) (stepMachine mode stream register entitled m l range)
+  all = stepping mode stream register entitled m l range
 
   parts : List Step → List (List ℕ) → List (Part all)
   parts [] pdus = []
@@ -161,13 +116,13 @@ module _ (mode stream register : ℕ) (m : Mode) (l : listing mode stream ≡ Li
   record Parted (x : Station) (ss : List Step) (pdus : List (List ℕ)) (gs : List (Part all)) : Type 0 where
     through : Goes all x gs
     pdus′ : handed all gs ≡ pdus
-    ways : waysOf all gs ≡ waysBy ss
+    ways : waysOf all gs ≡ ways ss
     logs : logsOf all x gs ≡ logsFrom x ss
     good : AllGood all x gs → NoneRefused x ss
 
   -- a call, and those after it
-  module _ (s : Step) (ss : List Step) (x : Station) (ps qs : List (List ℕ)) (ws : List Way) (hands : Handing mode stream register m l range x s ps ws) (gs : List (Part all)) (r : Parted (stationAfter defined x (callOf s)) ss qs gs) where
-    with-call : (pdus : List (List ℕ)) → ps ++ qs ≡ pdus → waysBy (s ∷ ss) ≡ ws ++ waysBy ss → Parted x (s ∷ ss) pdus (record { call = s; pdus = ps; ways = ws } ∷ gs)
+  module _ (s : Step) (ss : List Step) (x : Station) (ps qs : List (List ℕ)) (ws : List Way) (hands : Handing mode stream register entitled m l range x s ps ws) (gs : List (Part all)) (r : Parted (stationAfter defined x (callOf s)) ss qs gs) where
+    with-call : (pdus : List (List ℕ)) → ps ++ qs ≡ pdus → ways (s ∷ ss) ≡ ws ++ ways ss → Parted x (s ∷ ss) pdus (record { call = s; pdus = ps; ways = ws } ∷ gs)
     with-call pdus e f = record {
       through = (hands, r .through);
       pdus′ = ap (λ (k : List (List ℕ)). ps ++ k) (r .pdus′) ∙ e;
@@ -204,37 +159,40 @@ pub record Fresh (mode stream register : ℕ) : Type 0 where
   pub line : Mode
   pub listed : listing mode stream ≡ Listed line
   pub writer : writerOpened mode stream register .writer ≡ stateAt mode stream register 0 0 0
-  pub receiver : receiverOpened mode stream register .receiver ≡ record { mode = mode; stream = stream; register = register; known = false; sequence = 0; held = 0; number = 0 }
 
 pub some-range : (mode stream register : ℕ) (x : Fresh mode stream register) → 0 < x .line .sequences
 some-range mode stream register x = let h = listable mode stream (x .line) (x .listed) .least in omega (arith, h)
 
-pub fresh-both : (mode stream register : ℕ) → writerOpened mode stream register .refusal ≡ 0 → Fresh mode stream register
-unfolding writerOpened receiverOpened
-fresh-both mode stream register e = go (listing mode stream) refl e
+pub fresh-writer : (mode stream register : ℕ) → writerOpened mode stream register .refusal ≡ 0 → Fresh mode stream register
+unfolding writerOpened
+fresh-writer mode stream register e = go (listing mode stream) refl e
   where
     go : (k : Listing) → listing mode stream ≡ k → writerOpenedAs k mode stream register .refusal ≡ 0 → Fresh mode stream register
     go (Refused n) h z = absurd (omega (arith, refusal-five mode stream n h, z))
-    go (Listed m) h z = record {
-      line = m;
-      listed = h;
-      writer = ap (λ (k : Listing). writerOpenedAs k mode stream register .writer) h;
-      receiver = ap (λ (k : Listing). receiverOpenedAs k mode stream register .receiver) h;
-    }
+    go (Listed m) h z = record { line = m; listed = h; writer = ap (λ (k : Listing). writerOpenedAs k mode stream register .writer) h }
 
-shows-fresh : (mode stream register : ℕ) (m : Mode) (l : listing mode stream ≡ Listed m) (range : 0 < m .sequences) (carry : List ℕ) → 4096 ≤ length carry
-    → Shows mode stream register m l range (record { receiver = record { mode = mode; stream = stream; register = register; known = false; sequence = 0; held = 0; number = 0 }; carry = carry }) fresh
+-- where neither 5 nor 22 applies
+pub fresh-receiver : (mode stream register : ℕ) (programs : List ℕ) (m : Mode) → listing mode stream ≡ Listed m → allowedPrograms programs ≡ true
+    → openedFor mode stream register programs .receiver ≡ freshFor mode stream register (maskOf programs)
+unfolding openedFor openingNumber
+fresh-receiver mode stream register programs m l a = rw (l, a)
+
+pub shows-fresh : (mode stream register entitled : ℕ) (m : Mode) (l : listing mode stream ≡ Listed m) (range : 0 < m .sequences) (carry : List ℕ) → 4096 ≤ length carry
+    → Shows mode stream register entitled m l range (record { receiver = freshFor mode stream register entitled; carry = carry }) opened
 unfolding memoryOf
-shows-fresh mode stream register m l range carry big =
+shows-fresh mode stream register entitled m l range carry big =
     let q : leb (m .sequences) 0 ≡ false = lt-leb (m .sequences) 0 range in
-    record { sameMode = refl; sameStream = refl; sameRegister = refl; right = rw (l, q); room = big; memory = refl; sane = tt }
+    record { sameMode = refl; sameStream = refl; sameRegister = refl; sameEntitled = refl; right = rw (l, q); room = big; memory = refl; kept = refl; sane = tt; fair = tt }
 
 -- ---- the calls of a run
 
-module _ (mode stream register : ℕ) (packets : List (List ℕ)) (writings : List Writing) (first count : ℕ) (carry : List ℕ) (steps : List Step)
-    (d : Asked mode stream register packets writings first count carry steps) (x : Fresh mode stream register) where
+module _ (mode stream register : ℕ) (programs : List ℕ) (packets : List (List ℕ)) (writings : List Writing) (first count : ℕ) (carry : List ℕ) (steps : List Step)
+    (d : Asked mode stream register programs packets writings first count carry steps) (x : Fresh mode stream register) where
   abbrev m : Mode
   m = x .line
+
+  abbrev mask : ℕ
+  mask = maskOf programs
 
   range : 0 < m .sequences
   range = some-range mode stream register x
@@ -245,62 +203,68 @@ module _ (mode stream register : ℕ) (packets : List (List ℕ)) (writings : Li
   abbrev made : List (List ℕ)
   made = pdusFrom (stateAt mode stream register 0 0 0) writings
 
-  abbrev spans : List Span
-  spans = spansFrom mode stream packets 0 writings
-
-  whole : Runs mode stream register m (x .listed) packets (d .sized) 0 0 0 0 made spans
+  whole : Runs mode stream register m (x .listed) packets (d .sized) 0 0 0 0 made (spansFrom mode stream packets 0 writings) (labelsFrom mode stream packets 0 writings)
   whole = course mode stream register m (x .listed) packets (d .sized) writings 0 0 0 0 range (stands-first packets sized) (d .offered)
 
   abbrev cs : List Load
-  cs = whole .0
+  cs = whole .loads
 
   abbrev station : Station
-  station = record { receiver = record { mode = mode; stream = stream; register = register; known = false; sequence = 0; held = 0; number = 0 }; carry = carry }
+  station = record { receiver = freshFor mode stream register mask; carry = carry }
 
-  station-is : freshStation defined mode stream register carry ≡ station
-  station-is = ap (λ (r : Receiver). record { receiver = r; carry = carry }) (x .receiver)
+  station-is : freshStation defined mode stream register programs carry ≡ station
+  station-is = ap (λ (r : Receiver). record { receiver = r; carry = carry }) (fresh-receiver mode stream register programs m (x .listed) (d .allowed))
 
   through : Through register (m .width) station (runOf first count made) steps
   through =
       subst (λ (k : Listing). Through register (modeIn k .width) station (runOf first count made) steps) (x .listed)
       (subst (λ (s : Station). Through register (modeIn (listing mode stream) .width) s (runOf first count made) steps) station-is
-      (subst (λ (ps : List (List ℕ)). Through register (modeIn (listing mode stream) .width) (freshStation defined mode stream register carry) (runOf first count ps) steps) (ap (λ (w : Writer). pdusFrom w writings) (x .writer)) (d .through)))
+      (subst (λ (ps : List (List ℕ)). Through register (modeIn (listing mode stream) .width) (freshStation defined mode stream register programs carry) (runOf first count ps) steps) (ap (λ (w : Writer). pdusFrom w writings) (x .writer)) (d .through)))
 
-  abbrev gs : List (Part (all mode stream register m (x .listed) range))
-  gs = parts mode stream register m (x .listed) range steps (runOf first count made)
+  abbrev bridge : Bridge (rightsBy mask stream m) (m .sequences) (stepMachine mode stream register mask m (x .listed) range)
+  bridge = all mode stream register mask m (x .listed) range
 
-  split : Parted mode stream register m (x .listed) range station steps (runOf first count made) gs
-  split = parted mode stream register m (x .listed) range steps station (runOf first count made) through
+  abbrev gs : List (Part bridge)
+  gs = parts mode stream register mask m (x .listed) range steps (runOf first count made)
 
-  run : RunDelivered everything (m .sequences) (stepMachine mode stream register m (x .listed) range) (all mode stream register m (x .listed) range) packets cs made first count station gs
-  run = general everything (m .sequences) (stepMachine mode stream register m (x .listed) range) (all mode stream register m (x .listed) range) packets cs made first count station gs (record {
+  split : Parted mode stream register mask m (x .listed) range station steps (runOf first count made) gs
+  split = parted mode stream register mask m (x .listed) range steps station (runOf first count made) through
+
+  asked : RunAsked (rightsBy mask stream m) (m .sequences) (stepMachine mode stream register mask m (x .listed) range) bridge packets cs made first count station gs
+  asked = record {
     sized = sized;
-    fits = loads-fit mode stream register m packets (whole .1);
-    says = speaking mode stream register m packets (x .listed) range range (whole .1);
+    fits = loads-fit mode stream register m packets (whole .course);
+    says = speaking mode stream register m packets mask (x .listed) range range (whole .course);
     run = split .pdus′;
-    fresh = shows-fresh mode stream register m (x .listed) range carry (d .room);
+    fresh = shows-fresh mode stream register mask m (x .listed) range carry (d .room);
     through = split .through;
     countable = tt;
-  })
-
-  marks-are : lies packets (spansOfLoads 0 0 packets cs) (fatesFrom everything (m .sequences) first (waysOf (all mode stream register m (x .listed) range) gs) cs) ≡ lies packets spans (replicate first lose ++ fates steps)
-  marks-are = fun-ext (λ j.
-      ap (λ (ws : List Way). lies packets (spansOfLoads 0 0 packets cs) (fatesFrom everything (m .sequences) first ws cs) j) (split .ways)
-      ∙ plain-lies (m .sequences) cs (replicate first gone ++ waysBy steps) 0 0 0 none packets packets j
-      ∙ ap₂ (λ (ss : List Span) (ws : List Fate). lies packets ss ws j) (sym (spans-are mode stream register m packets (whole .1))) (fates-by first steps))
-
-  delivered : Delivered mode stream register packets writings first count carry steps
-  delivered = record {
-    accepted = subst (λ (s : Station). NoneRefused s steps) (sym station-is) (split .good (run .good));
-    log = ap (λ (s : Station). packetWords (logsFrom s steps)) station-is
-        ∙ ap packetWords (sym (split .logs))
-        ∙ run .log
-        ∙ ap logWords (ap (λ (f : ℕ → Mark). wholeByMarks f 0 0 packets) marks-are);
   }
 
--- no call for a PDU of the run is refused, and the packet log holds exactly the packets that arrived whole in sound pieces
+  -- the rights by the mask are those by the list
+  rights-are : rightsBy mask stream m ≡ rightsFor mode stream programs
+  rights-are =
+      let e : Listed m ≡ listing mode stream = sym (x .listed) in
+      λ i. record { entitled = mask-lists programs (d .allowed) i; keeps = eqb stream 0 && eqb (modeIn (e i) .sequences) 8 }
+
+  due-are : arrived (rightsBy mask stream m) (m .sequences) first packets (spansOfLoads 0 0 packets cs) (labelsOf cs) (waysOf bridge gs) ≡ due mode stream programs packets writings first (ways steps)
+  due-are =
+      let e : Listed m ≡ listing mode stream = sym (x .listed) in
+      let f : spansOfLoads 0 0 packets cs ≡ spansFrom mode stream packets 0 writings = sym (spans-are mode stream register m packets (whole .course)) in
+      λ i. arrived (rights-are i) (modeIn (e i) .sequences) first packets (f i) (whole .labelled i) (split .ways i)
+
+  delivered : Delivered mode stream register programs packets writings first count carry steps
+  delivered = record {
+    accepted = subst (λ (s : Station). NoneRefused s steps) (sym station-is) (split .good (general (rightsBy mask stream m) (m .sequences) (stepMachine mode stream register mask m (x .listed) range) bridge packets cs made first count station gs asked .good));
+    log = ap (λ (s : Station). packetWords (logsFrom s steps)) station-is
+        ∙ ap packetWords (sym (split .logs))
+        ∙ promised (rightsBy mask stream m) (m .sequences) (stepMachine mode stream register mask m (x .listed) range) bridge packets cs made first count station gs asked .holds
+        ∙ ap logWords due-are;
+  }
+
+-- no call for a PDU of the run is refused, and the packet log holds exactly the packets that arrived whole in sound pieces and begin in a PDU not withheld
 pub channel-delivers : ChannelDelivery
-channel-delivers mode stream register packets writings first count carry steps d = delivered mode stream register packets writings first count carry steps d (fresh-both mode stream register (d .opens))
+channel-delivers mode stream register programs packets writings first count carry steps d = delivered mode stream register programs packets writings first count carry steps d (fresh-writer mode stream register (d .opens))
 
 -- ---- the PDUs that a fresh writer makes
 
@@ -313,18 +277,31 @@ module _ (mode stream register : ℕ) (m : Mode) (ps : List (List ℕ)) where
   course-count done = refl
   course-count (next f h r) = ap suc (course-count r)
 
--- they are bytes, at least 96; each has its span, and the spans follow one another
+  course-labels : {q g i s : ℕ} {pdus : List (List ℕ)} {spans : List Span} {cs : List Load} → Course mode stream register m ps q g i s pdus spans cs → All SaneLabel (labelsOf cs)
+  course-labels done = tt
+  course-labels (next f h r) = (h .labelled, course-labels r)
+
+  course-labelled : {q g i s : ℕ} {pdus : List (List ℕ)} {spans : List Span} {cs : List Load} → Course mode stream register m ps q g i s pdus spans cs → length (labelsOf cs) ≡ length spans
+  course-labelled done = refl
+  course-labelled (next f h r) = ap suc (course-labelled r)
+
+-- they are bytes, at least 96; each has its span and its label, and the spans follow one another
 pub record MadeRight (mode stream register : ℕ) (packets : List (List ℕ)) (writings : List Writing) : Type 0 where
   pub usable : All Usable (madeBy mode stream register writings)
   pub as-many : length (spansOf mode stream packets writings) ≡ length (madeBy mode stream register writings)
   pub follow : Following 0 (spansOf mode stream packets writings)
+  pub labels : All SaneLabel (labelsFrom mode stream packets 0 writings)
+  pub labelled : length (labelsFrom mode stream packets 0 writings) ≡ length (spansOf mode stream packets writings)
 
 pub made-right : (mode stream register : ℕ) (packets : List (List ℕ)) (writings : List Writing) → writerOpened mode stream register .refusal ≡ 0 → Packets packets → InOrder mode stream packets 0 writings → MadeRight mode stream register packets writings
 made-right mode stream register packets writings o z h =
-    let x = fresh-both mode stream register o in
-    let c = course mode stream register (x .line) (x .listed) packets z writings 0 0 0 0 (some-range mode stream register x) (stands-first packets (sized-of packets z)) h .1 in
+    let x = fresh-writer mode stream register o in
+    let w = course mode stream register (x .line) (x .listed) packets z writings 0 0 0 0 (some-range mode stream register x) (stands-first packets (sized-of packets z)) h in
+    let c = w .course in
     record {
       usable = subst (λ (w : Writer). All Usable (pdusFrom w writings)) (sym (x .writer)) (course-usable mode stream register (x .line) packets c);
       as-many = subst (λ (w : Writer). length (spansFrom mode stream packets 0 writings) ≡ length (pdusFrom w writings)) (sym (x .writer)) (course-count mode stream register (x .line) packets c);
       follow = spans-follow mode stream register (x .line) packets c;
+      labels = subst (All SaneLabel) (w .labelled) (course-labels mode stream register (x .line) packets c);
+      labelled = ap length (sym (w .labelled)) ∙ course-labelled mode stream register (x .line) packets c;
     }

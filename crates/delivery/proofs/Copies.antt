@@ -30,12 +30,13 @@ use Rattle.correction.proofs.Marking.{with-some}
 use Rattle.correction.proofs.Theorem.{corrects-with}
 use Rattle.expansion.specs.Expansion.{chainLength, expansionLength}
 use Rattle.pdu.specs.Reading.{afterLocators, expansionBytes, markAt, startAt, lengthAt, psdOf, wrongLa, fieldsOf, correctedTests, listingOf, modeIn, answered, accepted, judged, widthOf, uncorrectable}
+use Rattle.pdu.specs.declared.ExpansionFields.{ExpansionFields}
 use Rattle.pdu.specs.declared.Reading.{Reading}
 use Rattle.pdu.proofs.Ignored.{control-same, locator-same, reserved-ignored}
 use Rattle.reassembly.specs.Reassembly.{Piece, Said}
 use Rattle.reassembly.proofs.Fitting.{SanePiece, SanePieces, SaneSaid}
 use Rattle.reassembly.proofs.Blind.{blank, blanks, blankSaid}
-use Rattle.receiver.specs.Receiving.{pieceIn, piecesIn, saidBy}
+use Rattle.receiver.specs.Receiving.{pieceIn, piecesIn, saidBy, labelIn}
 use Rattle.runs.specs.Model.{later, readPieces}
 use Rattle.writer.specs.RoundTrip.{Bytes}
 use Rattle.delivery.proofs.Made.{bytes-of, bytes-drop, bytes-take}
@@ -277,9 +278,9 @@ module _ (register width : ℕ) (p marks q : List ℕ) (sound : ℕ → Bool) (w
   own-right k h = let e : eqb (crcFrom register (bytesAt width p p k)) (crcAt width p p k) ≡ true = eq-eqb _ _ (w .right k h) in ap (λ (b : Bool). cond b 0 2) e
 
   -- document 02, Ask 10: the copy's expansion fields, program and applied services among them, are those of p
-  pub copy-fields : answered (fieldsOf width (controlAt y) y) ≡ answered (fieldsOf width c p)
+  fields-is : answered (fieldsOf width (controlAt y) y) ≡ answered (fieldsOf width c p)
   unfolding accepted widthOf
-  copy-fields =
+  fields-is =
       let a : accepted (widthOf p) c p ≡ accepted (widthOf y) (controlAt y) y = reserved-ignored p y (sym lengths-same) (sym (front)) row-nine .1 in
       let e : widthOf y ≡ width = ap (λ (k : ControlWord). modeIn (listingOf k) .width) control-is ∙ w .wide in
       ap (λ (n : ℕ). answered (fieldsOf n (controlAt y) y)) (sym e) ∙ sym (ap (λ (r : Reading). r .fields) a) ∙ ap (λ (n : ℕ). answered (fieldsOf n c p)) (w .wide)
@@ -311,6 +312,9 @@ module _ (register width : ℕ) (p marks q : List ℕ) (sound : ℕ → Bool) (w
 
   pub copy-control : controlAt (correctedPduWith marks q) ≡ controlAt p
   copy-control = ap controlAt back ∙ control-is
+
+  pub copy-label : labelIn width (controlAt (correctedPduWith marks q)) (correctedPduWith marks q) ≡ labelIn width (controlAt p) p
+  copy-label = ap (λ (z : List ℕ). labelIn width (controlAt z) z) back ∙ ap (λ (x : ExpansionFields). record { program = x .program; services = x .services }) fields-is
 
   pub copy-says : blankSaid (saidBy register width (controlAt (correctedPduWith marks q)) (correctedPduWith marks q)) ≡ blankSaid (stricken sound (saidBy register width (controlAt p) p))
   copy-says = ap (λ (z : List ℕ). blankSaid (saidBy register width (controlAt z) z)) back ∙ said-blank

@@ -15,12 +15,14 @@ use Rattle.modes.specs.declared.Listing.the-variants.{Listed}
 use Rattle.pdu.specs.Reading.{modeIn}
 use Rattle.pieces.specs.Pieces.{total}
 use Rattle.reassembly.specs.Reassembly.{following}
+use Rattle.reassembly.specs.Rights.{Label}
 use Rattle.writer.specs.Writing.{writerTests, placed, endedOf, partOf, pduOf, nextOf}
 use Rattle.writer.specs.declared.Writer.{Writer}
 use Rattle.runs.specs.Model.{cut, Fits, sentAfter, saidOf, Sized}
 use Rattle.runs.specs.Spans.{Span, bytesIn}
-use Rattle.runs.specs.Calls.{Load}
+use Rattle.runs.specs.Calls.{Load, labelsOf}
 use Rattle.delivery.specs.Delivery.{Packets, joined, Writing, answerTo, bufferAfter, pdusFrom, unfinished, alreadySent, Offers, either, told, refusedAt, placedAt, spansFrom, InOrder}
+use Rattle.delivery.specs.Entitlement.{labelOf, labelsFrom}
 use Rattle.delivery.proofs.Counting.{Stands, stands-index, stands-sent, stands-next}
 use Rattle.delivery.proofs.Calling.{stateAt, next-in-range, numberAt, same-number, refusal-is, refused-writer, accepted-writer, accepted-pdu}
 use Rattle.delivery.proofs.Made.{Says, sized-of, loadOf, planFor, Made, made}
@@ -28,16 +30,18 @@ use Rattle.delivery.proofs.Made.{Says, sized-of, loadOf, planFor, Made,
 -- the PDUs, their bytes and their loads, from PDU sequence q and G at g on, with packet i unfinished and s of its bytes sent
 pub data Course (mode stream register : ℕ) (m : Mode) (ps : List (List ℕ)) : ℕ → ℕ → ℕ → ℕ → List (List ℕ) → List Span → List Load → Type 0 where
   done : {q g i s : ℕ} → Course mode stream register m ps q g i s [] [] []
-  next : {q g i s e t : ℕ} {psd p : List ℕ} {pdus : List (List ℕ)} {spans : List Span} {loads : List Load}
+  next : {q g i s e t : ℕ} {psd p : List ℕ} {label : Label} {pdus : List (List ℕ)} {spans : List Span} {loads : List Load}
       → Fits s e t (drop i ps)
-      → Says mode stream register (m .width) p (saidOf q i s (planFor (loadOf e t psd)) false (λ k. 0) (drop i ps))
+      → Says mode stream register (m .width) p (record { said = saidOf q i s (planFor (loadOf e t psd label)) false (λ k. 0) (drop i ps); label = label })
       → Course mode stream register m ps (following (m .sequences) q) (g + bytesIn (cut s e t (drop i ps))) (i + e) (sentAfter s e t) pdus spans loads
-      → Course mode stream register m ps q g i s (p ∷ pdus) (record { from = g; count = bytesIn (cut s e t (drop i ps)) } ∷ spans) (loadOf e t psd ∷ loads)
+      → Course mode stream register m ps q g i s (p ∷ pdus) (record { from = g; count = bytesIn (cut s e t (drop i ps)) } ∷ spans) (loadOf e t psd label ∷ loads)
 
 module _ (mode stream register : ℕ) (m : Mode) (l : listing mode stream ≡ Listed m) (ps : List (List ℕ)) (y : Packets ps) where
-  -- a course with some loads
-  abbrev pub Runs : ℕ → ℕ → ℕ → ℕ → List (List ℕ) → List Span → Type 0
-  Runs q g i s pdus spans = (loads : List Load) × Course mode stream register m ps q g i s pdus spans loads
+  -- a course with some loads, which have these labels
+  pub record Runs (q g i s : ℕ) (pdus : List (List ℕ)) (spans : List Span) (labels : List Label) : Type 0 where
+    pub loads : List Load
+    pub course : Course mode stream register m ps q g i s pdus spans loads
+    pub labelled : labelsOf loads ≡ labels
 
   module _ (q g i s : ℕ) (a : Writing) (al : List Writing) (hq : q < m .sequences) (v : Stands ps g i s) where
     abbrev w : Writer
@@ -73,8 +77,17 @@ module _ (mode stream register : ℕ) (m : Mode) (l : listing mode stream ≡ Li
     refused-spans e =
         ap (λ (b : Bool). cond b (spansFrom mode stream ps g al) (record { from = g; count = placedAt mode stream ps g a } ∷ spansFrom mode stream ps (g + placedAt mode stream ps g a) al)) (table-is ∙ ap not e)
 
-    refused-case : eqb n 0 ≡ false → Runs q g i s (pdusFrom w al) (spansFrom mode stream ps g al) → Runs q g i s (pdusFrom w (a ∷ al)) (spansFrom mode stream ps g (a ∷ al))
-    refused-case e r = subst (λ (d : List (List ℕ)). Runs q g i s d (spansFrom mode stream ps g (a ∷ al))) (sym (refused-pdus e)) (subst (Runs q g i s (pdusFrom w al)) (sym (refused-spans e)) r)
+    refused-labels : eqb n 0 ≡ false → labelsFrom mode stream ps g (a ∷ al) ≡ labelsFrom mode stream ps g al
+    unfolding labelsFrom
+    refused-labels e = ap (λ (b : Bool). cond b (labelsFrom mode stream ps g al) (labelOf (a .settings) ∷ labelsFrom mode stream ps (g + placedAt mode stream ps g a) al)) (table-is ∙ ap not e)
+
+    refused-case : eqb n 0 ≡ false → Runs q g i s (pdusFrom w al) (spansFrom mode stream ps g al) (labelsFrom mode stream ps g al)
+        → Runs q g i s (pdusFrom w (a ∷ al)) (spansFrom mode stream ps g (a ∷ al)) (labelsFrom mode stream ps g (a ∷ al))
+    refused-case e r = record {
+      loads = r .loads;
+      course = subst (λ (d : List (List ℕ)). Course mode stream register m ps q g i s d (spansFrom mode stream ps g (a ∷ al)) (r .loads)) (sym (refused-pdus e)) (subst (λ (k : List Span). Course mode stream register m ps q g i s (pdusFrom w al) k (r .loads)) (sym (refused-spans e)) (r .course));
+      labelled = r .labelled ∙ sym (refused-labels e);
+    }
 
     -- an accepted one makes a PDU
     module _ (x : Made mode stream register m l ps q i s (a .settings) (a .psd) (a .lengths) (a .bytes) (length (a .buffer))) where
@@ -104,11 +117,23 @@ module _ (mode stream register : ℕ) (m : Mode) (l : listing mode stream ≡ Li
       made-spans z =
           ap₂ (λ (b : Bool) (c : ℕ). cond b (spansFrom mode stream ps g al) (record { from = g; count = c } ∷ spansFrom mode stream ps (g + c) al)) (table-is ∙ ap not z) g-grows
 
-      made-case : eqb n 0 ≡ true → Runs (following (m .sequences) q) grown (i + e) (sentAfter s e t) (pdusFrom after al) (spansFrom mode stream ps grown al)
-          → Runs q g i s (pdusFrom w (a ∷ al)) (spansFrom mode stream ps g (a ∷ al))
+      made-labels : eqb n 0 ≡ true → labelsFrom mode stream ps g (a ∷ al) ≡ labelOf (a .settings) ∷ labelsFrom mode stream ps grown al
+      unfolding labelsFrom
+      made-labels z =
+          ap₂ (λ (b : Bool) (c : ℕ). cond b (labelsFrom mode stream ps g al) (labelOf (a .settings) ∷ labelsFrom mode stream ps (g + c) al)) (table-is ∙ ap not z) g-grows
+
+      made-case : eqb n 0 ≡ true → Runs (following (m .sequences) q) grown (i + e) (sentAfter s e t) (pdusFrom after al) (spansFrom mode stream ps grown al) (labelsFrom mode stream ps grown al)
+          → Runs q g i s (pdusFrom w (a ∷ al)) (spansFrom mode stream ps g (a ∷ al)) (labelsFrom mode stream ps g (a ∷ al))
       made-case z r =
-          let c : Runs q g i s (pduOf (a .settings) (a .psd) (a .lengths) (a .bytes) (length (a .buffer)) m w ∷ pdusFrom after al) (record { from = g; count = bytesIn (cut s e t (drop i ps)) } ∷ spansFrom mode stream ps grown al) = (loadOf e t (a .psd) ∷ r .0, next (x .fits) (x .says) (r .1)) in
-          subst (λ (d : List (List ℕ)). Runs q g i s d (spansFrom mode stream ps g (a ∷ al))) (sym (made-pdus z)) (subst (Runs q g i s _) (sym (made-spans z)) c)
+          let ls : List Load = loadOf e t (a .psd) (labelOf (a .settings)) ∷ r .loads in
+          let pdus : List (List ℕ) = pduOf (a .settings) (a .psd) (a .lengths) (a .bytes) (length (a .buffer)) m w ∷ pdusFrom after al in
+          let c : Course mode stream register m ps q g i s pdus (record { from = g; count = bytesIn (cut s e t (drop i ps)) } ∷ spansFrom mode stream ps grown al) ls =
+          next {psd = a .psd} {label = labelOf (a .settings)} (x .fits) (x .says) (r .course) in
+          record {
+            loads = ls;
+            course = subst (λ (d : List (List ℕ)). Course mode stream register m ps q g i s d (spansFrom mode stream ps g (a ∷ al)) ls) (sym (made-pdus z)) (subst (λ (k : List Span). Course mode stream register m ps q g i s pdus k ls) (sym (made-spans z)) c);
+            labelled = ap (λ (k : List Label). labelOf (a .settings) ∷ k) (r .labelled) ∙ sym (made-labels z);
+          }
 
     -- of the packets offered
     made-of : n ≡ 0 → Offers (drop (unfinished ps g) ps) a → Made mode stream register m l ps q i s (a .settings) (a .psd) (a .lengths) (a .bytes) (length (a .buffer))
@@ -123,16 +148,17 @@ module _ (mode stream register : ℕ) (m : Mode) (l : listing mode stream ≡ Li
         subst (λ (ns : List ℕ). Made mode stream register m l ps q i s (a .settings) (a .psd) ns (a .bytes) (length (a .buffer))) (sym el)
         (subst (λ (bs : List ℕ). Made mode stream register m l ps q i s (a .settings) (a .psd) (map length (take k (drop i ps))) bs (length (a .buffer))) (sym eb) x)
 
-  pub course : (al : List Writing) (q g i s : ℕ) → q < m .sequences → Stands ps g i s → InOrder mode stream ps g al → Runs q g i s (pdusFrom (stateAt mode stream register q i s) al) (spansFrom mode stream ps g al)
-  course [] q g i s hq v h = unfold pdusFrom spansFrom in ([], done)
+  pub course : (al : List Writing) (q g i s : ℕ) → q < m .sequences → Stands ps g i s → InOrder mode stream ps g al
+      → Runs q g i s (pdusFrom (stateAt mode stream register q i s) al) (spansFrom mode stream ps g al) (labelsFrom mode stream ps g al)
+  course [] q g i s hq v h = unfold pdusFrom spansFrom labelsFrom in record { loads = []; course = done; labelled = refl }
   course (a ∷ al) q g i s hq v h =
       go (eqb (numberAt mode stream register m l q i s a) 0) refl (subst (λ (b : Bool). either b (InOrder mode stream ps g al) (Offers (drop (unfinished ps g) ps) a × InOrder mode stream ps (g + placedAt mode stream ps g a) al)) (table-is q g i s a al hq v) h)
       (λ h′. course al q g i s hq v h′) (λ q′ g′ i′ s′ hq′ v′ h′. course al q′ g′ i′ s′ hq′ v′ h′)
     where
       go : (b : Bool) → eqb (numberAt mode stream register m l q i s a) 0 ≡ b → either (not b) (InOrder mode stream ps g al) (Offers (drop (unfinished ps g) ps) a × InOrder mode stream ps (g + placedAt mode stream ps g a) al)
-          → (InOrder mode stream ps g al → Runs q g i s (pdusFrom (stateAt mode stream register q i s) al) (spansFrom mode stream ps g al))
-          → ((q′ g′ i′ s′ : ℕ) → q′ < m .sequences → Stands ps g′ i′ s′ → InOrder mode stream ps g′ al → Runs q′ g′ i′ s′ (pdusFrom (stateAt mode stream register q′ i′ s′) al) (spansFrom mode stream ps g′ al))
-          → Runs q g i s (pdusFrom (stateAt mode stream register q i s) (a ∷ al)) (spansFrom mode stream ps g (a ∷ al))
+          → (InOrder mode stream ps g al → Runs q g i s (pdusFrom (stateAt mode stream register q i s) al) (spansFrom mode stream ps g al) (labelsFrom mode stream ps g al))
+          → ((q′ g′ i′ s′ : ℕ) → q′ < m .sequences → Stands ps g′ i′ s′ → InOrder mode stream ps g′ al → Runs q′ g′ i′ s′ (pdusFrom (stateAt mode stream register q′ i′ s′) al) (spansFrom mode stream ps g′ al) (labelsFrom mode stream ps g′ al))
+          → Runs q g i s (pdusFrom (stateAt mode stream register q i s) (a ∷ al)) (spansFrom mode stream ps g (a ∷ al)) (labelsFrom mode stream ps g (a ∷ al))
       go false e o same later = refused-case q g i s a al hq v e (same o)
       go true e o same later =
           let x = made-of q g i s a al hq v (eqb-true (numberAt mode stream register m l q i s a) 0 e) (o .0) in

@@ -26,21 +26,24 @@ use Rattle.correction.specs.Marks.{correctedWith, correctedPduWith}
 use Rattle.correction.proofs.Decoding.{no-marks}
 use Rattle.correction.proofs.Answers.{no-marks-pdu}
 use Rattle.pdu.specs.Reading.{modeIn, listingOf, correctedTests, readerTests, judged, uncorrectable}
-use Rattle.reassembly.specs.Reassembly.{Said, Memory, Outcome, received, remembered}
+use Rattle.reassembly.specs.Reassembly.{Outcome, received, remembered}
+use Rattle.reassembly.specs.Rights.{keptAfter}
+use Rattle.reassembly.specs.Tally.{noTally}
+use Rattle.reassembly.specs.Holder.{Come, came, Holder, valueFor, saidTo, holderFor}
 use Rattle.reassembly.specs.Run.{bytesOf}
 use Rattle.reassembly.proofs.Fitting.{SaneSaid, fit-received}
-use Rattle.receiver.specs.Receiving.{memoryOf, remembering, modeOf, wrongState}
+use Rattle.receiver.specs.Receiving.{labelIn, remembering, modeOf, wrongState}
 use Rattle.receiver.specs.Steps.{stateTests, streamTests}
 use Rattle.receiver.specs.declared.Receiver.{Receiver}
 use Rattle.receiver.specs.declared.Received.{Received}
 use Rattle.batch.proofs.Single.{kept}
-use Rattle.diversity.specs.Diversity.{correctable, sameBytes, pairSaid, frontOf, copyNumber, differ, Result, unchanged, firstAlone, secondAlone, outcome, pairWords, memoryAfter, pairNumber, together, receivedBy, pairReceived}
+use Rattle.diversity.specs.Diversity.{correctable, sameBytes, pairSaid, pairCome, frontOf, copyNumber, differ, Result, unchanged, firstAlone, secondAlone, come, said, outcome, pairWords, memoryAfter, keptServices, pairNumber, together, receivedBy, pairReceived}
 use Rattle.diversity.proofs.Bytes.{same-itself}
 use Rattle.pair.proofs.Enough.{Passes, taken, passes-taken, passes-most}
 use Rattle.delivery.specs.Delivery.{Station, Call, pair, answerOf, ofOne, stationAfter, loggedBy, defined}
 use Rattle.delivery.proofs.Copies.{same-slice}
 use Rattle.delivery.proofs.Made.{Heard}
-use Rattle.delivery.proofs.Serving.{Shows, mode-is, put, shows-put, loggedAlone}
+use Rattle.delivery.proofs.Serving.{rightsBy, fair-after, sane-shown, keeping, Shows, mode-is, put, shows-put, loggedAlone}
 
 -- ---- a refused pair leaves receiver and carry
 
@@ -77,10 +80,19 @@ correctable-is p s u = rw s (go (corrected (take 96 p)) (ap uncorrectable (sym (
     go (some c) e = refl
     go none e = sym e
 
-module _ (mode stream register : ℕ) (m : Mode) (l : listing mode stream ≡ Listed m) (range : 0 < m .sequences) where
-  module _ (x : Station) (y : Memory) (v : Shows mode stream register m l range x y) where
+-- what a pair says, and its label, as it comes
+pub pair-said-in : (register width : ℕ) (c : ControlWord) (y z : List ℕ) → pairCome register width c y z .said ≡ pairSaid register width c y z
+unfolding pairCome
+pair-said-in register width c y z = refl
+
+pub pair-label-in : (register width : ℕ) (c : ControlWord) (y z : List ℕ) → pairCome register width c y z .label ≡ labelIn width c y
+unfolding pairCome
+pair-label-in register width c y z = refl
+
+module _ (mode stream register entitled : ℕ) (m : Mode) (l : listing mode stream ≡ Listed m) (range : 0 < m .sequences) where
+  module _ (x : Station) (y : Holder) (v : Shows mode stream register entitled m l range x y) where
     -- rows 5 to 12 of a copy that is heard
-    rows-pass : (p : List ℕ) (d : Said) → Heard mode stream register (m .width) [] p d → copyNumber (x .receiver) (correctedPdu p) ≡ 0
+    rows-pass : (p : List ℕ) (d : Come) → Heard mode stream register (m .width) [] p d → copyNumber (x .receiver) (correctedPdu p) ≡ 0
     unfolding copyNumber judged
     rows-pass p d h =
         subst (λ (z : List ℕ). firstOf (streamTests (x .receiver) (controlAt z) ++ readerTests (modeIn (listingOf (controlAt z))) (controlAt z) z) ≡ 0) (no-marks-pdu p)
@@ -105,7 +117,7 @@ module _ (mode stream register : ℕ) (m : Mode) (l : listing mode stream ≡ Li
         let s : sameBytes (frontOf a) (frontOf b) ≡ true = ap (sameBytes (frontOf a)) f ∙ same-itself (frontOf a) in
         rw (t, s)
 
-    pub pair-passes : (c : ControlWord) (p q log : List ℕ) (d e : Said) → Heard mode stream register (m .width) [] p d → Heard mode stream register (m .width) [] q e
+    pub pair-passes : (c : ControlWord) (p q log : List ℕ) (d e : Come) → Heard mode stream register (m .width) [] p d → Heard mode stream register (m .width) [] q e
         → controlAt (correctedPdu p) ≡ c → controlAt (correctedPdu q) ≡ c → length (correctedPdu p) ≡ length (correctedPdu q) → take (c .la + 1) (correctedPdu p) ≡ take (c .la + 1) (correctedPdu q)
         → Passes (x .carry) p q log (x .receiver)
     pair-passes c p q log d e hp hq ep eq long front = record {
@@ -119,9 +131,9 @@ module _ (mode stream register : ℕ) (m : Mode) (l : listing mode stream ≡ Li
 
     -- ---- the call
 
-    module _ (p q log : List ℕ) (d : Said) (h : Passes (x .carry) p q log (x .receiver))
-        (says : pairSaid register (m .width) (controlAt (correctedPdu p)) (correctedPdu p) (correctedPdu q) ≡ d) (s : SaneSaid d) (below : d .sequence < m .sequences)
-        (bytes : (i : ℕ) → getD p i 0 < 256) (big : 8400 ≤ length log) where
+    module _ (p q log : List ℕ) (d : Come) (h : Passes (x .carry) p q log (x .receiver))
+        (comes : pairCome register (m .width) (controlAt (correctedPdu p)) (correctedPdu p) (correctedPdu q) ≡ d) (s : SaneSaid (d .said)) (below : d .said .sequence < m .sequences)
+        (narrow : d .label .services < 8) (bytes : (i : ℕ) → getD p i 0 < 256) (big : 8400 ≤ length log) where
       abbrev r : Receiver
       r = x .receiver
 
@@ -129,16 +141,24 @@ module _ (mode stream register : ℕ) (m : Mode) (l : listing mode stream ≡ Li
       carry = x .carry
 
       this-mode : modeOf r ≡ m
-      this-mode = ap modeIn (mode-is mode stream register m l range r (v .sameMode) (v .sameStream))
+      this-mode = ap modeIn (mode-is mode stream register entitled m l range r (v .sameMode) (v .sameStream))
 
-      said-is : pairSaid (r .register) (modeOf r .width) (controlAt (correctedPdu p)) (correctedPdu p) (correctedPdu q) ≡ d
-      said-is = ap₂ (λ (i : ℕ) (t : Mode). pairSaid i (t .width) (controlAt (correctedPdu p)) (correctedPdu p) (correctedPdu q)) (v .sameRegister) this-mode ∙ says
+      come-is : come carry p q log r ≡ d
+      come-is = ap₂ (λ (i : ℕ) (t : Mode). pairCome i (t .width) (controlAt (correctedPdu p)) (correctedPdu p) (correctedPdu q)) (v .sameRegister) this-mode ∙ comes
 
-      outcome-is : outcome carry p q log r ≡ received (m .sequences) y d
+      said-is : said carry p q log r ≡ saidTo (rightsBy entitled stream m) (m .sequences) y d
+      said-is = λ i. saidTo (rightsBy (v .sameEntitled i) (v .sameStream i) (this-mode i)) (this-mode i .sequences) (record { memory = v .memory i; kept = v .kept i; tally = noTally }) (come-is i)
+
+      outcome-is : outcome carry p q log r ≡ received (m .sequences) (y .memory) (saidTo (rightsBy entitled stream m) (m .sequences) y d)
       outcome-is = λ i. received (this-mode i .sequences) (v .memory i) (said-is i)
 
-      after-is : memoryAfter carry p q log r ≡ remembered (m .sequences) y d
+      after-is : memoryAfter carry p q log r ≡ holderFor (rightsBy entitled stream m) (m .sequences) y (came d) .memory
       after-is = λ i. remembered (this-mode i .sequences) (v .memory i) (said-is i)
+
+      kept-is : keptServices carry p q log r ≡ holderFor (rightsBy entitled stream m) (m .sequences) y (came d) .kept
+      kept-is =
+          λ i. keptAfter (rightsBy (v .sameEntitled i) (v .sameStream i) (this-mode i) .keeps)
+          (valueFor (rightsBy (v .sameEntitled i) (v .sameStream i) (this-mode i)) (this-mode i .sequences) (record { memory = v .memory i; kept = v .kept i; tally = noTally }) (come-is i))
 
       all-taken : pairReceived carry p q log r ≡ taken carry p q log r
       all-taken = passes-taken carry p q log r h (let n = passes-most carry p q log r h bytes in omega (arith, n, big))
@@ -146,18 +166,20 @@ module _ (mode stream register : ℕ) (m : Mode) (l : listing mode stream ≡ Li
       pub pair-accepted : answerOf x (pair p q log) .refusal ≡ 0
       pair-accepted = ap (λ (z : Result). z .answer .refusal) all-taken
 
-      pub pair-logged : loggedBy defined x (pair p q log) ≡ logWords (received (m .sequences) y d .entries)
+      pub pair-logged : loggedBy defined x (pair p q log) ≡ logWords (received (m .sequences) (y .memory) (saidTo (rightsBy entitled stream m) (m .sequences) y d) .entries)
       pair-logged =
           ap (λ (z : Result). loggedAlone (ofOne (z .answer)) (z .log)) all-taken
           ∙ take-put log (pairWords carry p q log r)
           ∙ ap (λ (o : Outcome). logWords (o .entries)) outcome-is
 
-      pub pair-shows : Shows mode stream register m l range (stationAfter defined x (pair p q log)) (remembered (m .sequences) y d)
+      pub pair-shows : Shows mode stream register entitled m l range (stationAfter defined x (pair p q log)) (holderFor (rightsBy entitled stream m) (m .sequences) y (came d))
       unfolding remembered
       pair-shows =
-          let z = remembered (m .sequences) y d in
-          let e : stationAfter defined x (pair p q log) ≡ put mode stream register m l range r carry z =
+          let z = holderFor (rightsBy entitled stream m) (m .sequences) y (came d) in
+          let e : stationAfter defined x (pair p q log) ≡ put mode stream register entitled m l range r carry (z .memory) (z .kept) =
           ap (λ (u : Result). record { receiver = u .answer .receiver; carry = u .carry }) all-taken
-          ∙ ap₂ (λ (n : Memory) (o : Outcome). record { receiver = remembering r n; carry = putAt carry 0 (bytesOf (o .partial)) }) after-is outcome-is in
-          subst (λ (t : Station). Shows mode stream register m l range t z) (sym e)
-          (shows-put mode stream register m l range r carry z (v .sameMode) (v .sameStream) (v .sameRegister) (v .room) below (fit-received (m .sequences) y d (v .sane) s .1))
+          ∙ (λ i. record { receiver = remembering r (after-is i) (kept-is i); carry = putAt carry 0 (bytesOf (outcome-is i .partial)) }) in
+          subst (λ (t : Station). Shows mode stream register entitled m l range t z) (sym e)
+          (shows-put mode stream register entitled m l range r carry z (v .sameMode) (v .sameStream) (v .sameRegister) (v .sameEntitled) (v .room) below
+          (fit-received (m .sequences) (y .memory) (saidTo (rightsBy entitled stream m) (m .sequences) y d) (v .sane) (sane-shown (rightsBy entitled stream m) (m .sequences) y d s) .1)
+          (fair-after (keeping mode stream register entitled m l range) (m .sequences) (d .said .sequence) (d .label .services) (y .memory .last) (y .kept) (v .fair) narrow))

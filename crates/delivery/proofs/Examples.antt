@@ -1,12 +1,13 @@
 -- The definitions of the claims' pages at small values, computed: a wrong definition is refused here first.
 use mathlib.Core.Path.{_≡_, refl}
 use mathlib.Core.Bool.{Bool, true, false}
-use mathlib.Core.List.{List, [], _∷_}
+use mathlib.Core.List.{List, [], _∷_, map}
 use Prim.Native.Nat.{ℕ}
 use Rattle.log.specs.Log.{packet}
 use Rattle.runs.specs.Spans.{Span, lies, wholePackets as wholeByMarks}
+use Rattle.runs.specs.Calls.{plainFate}
 use Rattle.delivery.specs.Delivery.{unfinished, alreadySent, inReceived, wholePackets}
-use Rattle.delivery.specs.Channel.{receives, loses, fates}
+use Rattle.delivery.specs.Channel.{receives, loses, ways}
 
 -- packets of 5, 2 and 3 bytes in four PDUs: 3 bytes; 2 and 1; 1 and 2; 1
 abbrev three : List (List ℕ)
@@ -30,6 +31,6 @@ unfolding wholePackets
 number-again = refl
 
 -- over a channel, the second PDU lost
-pub second-missing : wholeByMarks (lies three fourSpans (fates (receives [] [] [] (λ k. true) ∷ loses [] ∷ receives [] [] [] (λ k. true) ∷ receives [] [] [] (λ k. true) ∷ []))) 0 0 three ≡ packet 2 (8 ∷ 9 ∷ 10 ∷ []) ∷ []
+pub second-missing : wholeByMarks (lies three fourSpans (map plainFate (ways (receives [] [] [] (λ k. true) ∷ loses [] ∷ receives [] [] [] (λ k. true) ∷ receives [] [] [] (λ k. true) ∷ [])))) 0 0 three ≡ packet 2 (8 ∷ 9 ∷ 10 ∷ []) ∷ []
 unfolding wholeByMarks
 second-missing = refl

@@ -7,6 +7,9 @@ pub mod Copies
 pub mod Counting
 pub mod Course
 pub mod Diversity
+pub mod Entitled
+pub mod EntitledRuns
+pub mod Entitling
 pub mod Examples
 pub mod Lies
 pub mod Made
@@ -23,3 +26,4 @@ pub mod Serving
 pub mod SmallRuns
 pub mod Theorem
 pub mod WrongReceivers
+pub mod WrongRights

@@ -11,6 +11,7 @@ use lib.Seq.{length-take-le}
 use Rattle.algebra.proofs.Places.{all-join}
 use Rattle.log.proofs.Packets.{Bytes as logBytes}
 use Rattle.refusal.specs.Refusal.{firstOf}
+use Rattle.refusal.proofs.Rows.{none-at}
 use Rattle.modes.specs.Modes.{listing}
 use Rattle.modes.specs.declared.Mode.{Mode}
 use Rattle.modes.specs.declared.Listing.the-variants.{Listed}
@@ -18,6 +19,7 @@ use Rattle.modes.proofs.Listable.{listable}
 use Rattle.layout.specs.Control.{bit, controlAt}
 use Rattle.layout.specs.declared.ControlWord.{ControlWord}
 use Rattle.contents.proofs.Putting.{cut-count}
+use Rattle.settings.specs.Settings.{wrongValues}
 use Rattle.settings.specs.declared.Settings.{Settings}
 use Rattle.correction.specs.Marks.{marksRefusal, correctedWith, correctedPduWith}
 use Rattle.pdu.specs.Reading.{judged, uncorrectable}
@@ -27,7 +29,9 @@ use Rattle.packing.proofs.Limit.{most-small, one-piece}
 use Rattle.packing.proofs.Fitting.{fit-within}
 use Rattle.reassembly.specs.Reassembly.{Piece, Said, following}
 use Rattle.reassembly.proofs.Fitting.{SaneSaid, SanePiece, SanePieces}
-use Rattle.receiver.specs.Receiving.{saidBy}
+use Rattle.reassembly.specs.Rights.{Label}
+use Rattle.reassembly.specs.Holder.{Come}
+use Rattle.receiver.specs.Receiving.{saidBy, labelIn, comeBy}
 use Rattle.writer.specs.Writing.{noRoom, wrongUnfinished, writerTests, extraOf, placed, endedOf, partOf, piecesOf, pduOf, nextOf}
 use Rattle.writer.specs.declared.Writer.{Writer}
 use Rattle.writer.proofs.Accepted.{Fine, fine, few}
@@ -42,24 +46,29 @@ use Rattle.runs.proofs.Theorem.{Unfinished, unfinished-zero}
 use Rattle.writer.specs.RoundTrip.{Bytes}
 use Rattle.delivery.specs.Delivery.{Packets, joined}
 use Rattle.delivery.specs.Copies.{bytesAt, crcAt}
+use Rattle.delivery.specs.Entitlement.{labelOf}
 use Rattle.crc.specs.Crc.{crcFrom}
 use Rattle.delivery.proofs.Counting.{bytes-total, fits-more, cut-more}
 use Rattle.delivery.proofs.Packed.{RoomFor, placed-fits, placed-lengths, cut-joined}
-use Rattle.delivery.proofs.ReadBack.{taken, sent, reads-back, control-back, at-least, at-most, crcs-right, said-back}
+use Rattle.delivery.proofs.ReadBack.{taken, sent, reads-back, control-back, at-least, at-most, crcs-right, come-back}
 use Rattle.delivery.proofs.Calling.{stateAt, next-sequence}
 
--- q with these marks, handed to a receiver of this mode, stream and register, says d
-pub record Heard (mode stream register width : ℕ) (marks q : List ℕ) (d : Said) : Type 0 where
+-- q with these marks, handed to a receiver of this mode, stream and register, comes as d
+pub record Heard (mode stream register width : ℕ) (marks q : List ℕ) (d : Come) : Type 0 where
   pub size : (leb 96 (length q) && leb (length q) 20480) ≡ true
   pub allowed : marksRefusal marks ≡ 0
   pub correctable : uncorrectable (correctedWith marks (take 96 q)) ≡ false
   pub reads : judged (correctedPduWith marks q) ≡ 0
   pub sameMode : controlAt (correctedPduWith marks q) .mode ≡ mode
   pub sameStream : controlAt (correctedPduWith marks q) .stream ≡ stream
-  pub says : saidBy register width (controlAt (correctedPduWith marks q)) (correctedPduWith marks q) ≡ d
+  pub comes : comeBy register width (controlAt (correctedPduWith marks q)) (correctedPduWith marks q) ≡ d
 
--- p, as it was written by this register, says d
-pub record Says (mode stream register width : ℕ) (p : List ℕ) (d : Said) : Type 0 where
+-- a label's numbers are within their widths
+abbrev pub SaneLabel : Label → Type 0
+SaneLabel l = (l .program < 8) × (l .services < 8)
+
+-- p, as it was written by this register, comes as d
+pub record Says (mode stream register width : ℕ) (p : List ℕ) (d : Come) : Type 0 where
   pub bytes : Bytes p
   pub code : isCodeWord (take 96 p) ≡ true
   pub least : 96 ≤ length p
@@ -68,8 +77,18 @@ pub record Says (mode stream register width : ℕ) (p : List ℕ) (d : Said) : T
   pub accepted : judged p ≡ 0
   pub sameMode : controlAt p .mode ≡ mode
   pub sameStream : controlAt p .stream ≡ stream
-  pub says : saidBy register width (controlAt p) p ≡ d
-  pub sane : SaneSaid d
+  pub comes : comeBy register width (controlAt p) p ≡ d
+  pub sane : SaneSaid (d .said)
+  pub labelled : SaneLabel (d .label)
+
+-- what a PDU says, and its label, as it comes
+pub said-in : (register width : ℕ) (c : ControlWord) (y : List ℕ) → comeBy register width c y .said ≡ saidBy register width c y
+unfolding comeBy
+said-in register width c y = refl
+
+pub label-in : (register width : ℕ) (c : ControlWord) (y : List ℕ) → comeBy register width c y .label ≡ labelIn width c y
+unfolding comeBy
+label-in register width c y = refl
 
 taken-read : (bs : List (List ℕ)) → taken bs ≡ readPieces (λ k. 0) bs
 unfolding readPieces
@@ -131,9 +150,9 @@ unfolding readPieces
 read-count f [] = refl
 read-count f (b ∷ bs) = ap suc (read-count (later f) bs)
 
--- a PDU that ends e packets, carries t bytes of the next, and this PSD
-abbrev pub loadOf : ℕ → ℕ → List ℕ → Load
-loadOf e t psd = record { whole = e; over = t; psdBytes = psd; label = record { program = 0; services = 0 } }
+-- a PDU that ends e packets, carries t bytes of the next, this PSD and this label
+abbrev pub loadOf : ℕ → ℕ → List ℕ → Label → Load
+loadOf e t psd label = record { whole = e; over = t; psdBytes = psd; label = label }
 
 abbrev pub planFor : Load → Plan
 planFor c = planOf (transmissionOf c gone) lose
@@ -150,6 +169,11 @@ offered-unfinished s zero rest u h = let q = ltb-false 0 s u in omega (arith, q)
 offered-unfinished s (suc k) [] u h = h
 offered-unfinished s (suc k) (p ∷ ps) u h = h
 
+-- a value of three bits where it is sent
+width-of : (b : Bool) (n : ℕ) → (b && ltb 7 n) ≡ false → cond b n 0 < 8
+width-of true n e = let h = ltb-false 7 n e in omega (arith, h)
+width-of false n e = omega arith
+
 sent-is : (s e t : ℕ) → cond (eqb e 0) s 0 + t ≡ sentAfter s e t
 sent-is s zero t = refl
 sent-is s (suc e) t = rw (eqb·suc-zero e) (omega arith)
@@ -165,7 +189,10 @@ module _ (mode stream register : ℕ) (m : Mode) (l : listing mode stream ≡ Li
     pub counts : total (placed settings psd lengths bytes size m (stateAt mode stream register q i s))
         ≡ bytesIn (cut s (endedOf settings psd lengths bytes size m (stateAt mode stream register q i s)) (partOf settings psd lengths bytes size m (stateAt mode stream register q i s)) (drop i ps))
     pub says : Says mode stream register (m .width) (pduOf settings psd lengths bytes size m (stateAt mode stream register q i s))
-        (saidOf q i s (planFor (loadOf (endedOf settings psd lengths bytes size m (stateAt mode stream register q i s)) (partOf settings psd lengths bytes size m (stateAt mode stream register q i s)) psd)) false (λ k. 0) (drop i ps))
+        (record {
+          said = saidOf q i s (planFor (loadOf (endedOf settings psd lengths bytes size m (stateAt mode stream register q i s)) (partOf settings psd lengths bytes size m (stateAt mode stream register q i s)) psd (labelOf settings))) false (λ k. 0) (drop i ps);
+          label = labelOf settings;
+        })
     pub next : nextOf settings psd lengths bytes size m (stateAt mode stream register q i s)
         ≡ stateAt mode stream register (following (m .sequences) q) (i + endedOf settings psd lengths bytes size m (stateAt mode stream register q i s)) (sentAfter s (endedOf settings psd lengths bytes size m (stateAt mode stream register q i s)) (partOf settings psd lengths bytes size m (stateAt mode stream register q i s)))
 
@@ -207,7 +234,7 @@ module _ (mode stream register : ℕ) (m : Mode) (l : listing mode stream ≡ Li
     pieces-are : piecesOf settings psd (map length os) (joined os) size m w ≡ cut s ended over (drop i ps)
     pieces-are = ap (λ (ns : List ℕ). cutBy ns (drop s (joined os))) lengths-are ∙ cut-joined s ended over os fo (sized-of os yo) uo ∙ more
 
-    said-is : sent settings psd (map length os) (joined os) size m w l t hp (joined-bytes os yo) ≡ saidOf q i s (planFor (loadOf ended over psd)) false (λ k. 0) (drop i ps)
+    said-is : sent settings psd (map length os) (joined os) size m w l t hp (joined-bytes os yo) ≡ saidOf q i s (planFor (loadOf ended over psd (labelOf settings))) false (λ k. 0) (drop i ps)
     said-is =
         ap₂ (λ (n : ℕ) (b : List Piece). record { sequence = q; pfirst = ltb 0 s; plast = ltb 0 over; start = n; psdBytes = psd; pieces = b; withheld = false }) (same-start i (ltb 0 s))
         (taken-read (piecesOf settings psd (map length os) (joined os) size m w) ∙ ap (readPieces (λ k. 0)) pieces-are)
@@ -230,9 +257,10 @@ module _ (mode stream register : ℕ) (m : Mode) (l : listing mode stream ≡ Li
             accepted = reads-back settings psd (map length os) (joined os) size m w l t hp (joined-bytes os yo);
             sameMode = ap (λ (c : ControlWord). c .mode) (control-back settings psd (map length os) (joined os) size m w l t hp (joined-bytes os yo));
             sameStream = ap (λ (c : ControlWord). c .stream) (control-back settings psd (map length os) (joined os) size m w l t hp (joined-bytes os yo));
-            says = ap (λ (c : ControlWord). saidBy register (m .width) c (pduOf settings psd (map length os) (joined os) size m w)) (control-back settings psd (map length os) (joined os) size m w l t hp (joined-bytes os yo))
-                ∙ said-back settings psd (map length os) (joined os) size m w l t hp (joined-bytes os yo)
-                ∙ said-is;
+            comes = ap (λ (c : ControlWord). comeBy register (m .width) c (pduOf settings psd (map length os) (joined os) size m w)) (control-back settings psd (map length os) (joined os) size m w l t hp (joined-bytes os yo))
+                ∙ come-back settings psd (map length os) (joined os) size m w l t hp (joined-bytes os yo)
+                ∙ ap (λ (d : Said). record { said = d; label = labelOf settings }) said-is;
+            labelled = (width-of (settings .programmed) (settings .program) (none-at (wrongValues stream settings) 7 (f .values)), width-of (settings .serviced) (settings .services) (none-at (wrongValues stream settings) 10 (f .values)));
             sane = record {
               psd = (let e = f .extra in let b = listable mode stream m l .limit in omega (arith, e, b), bytes-of psd hp);
               pieces = sane-cut s ended over (drop i ps) fs (packets-drop i ps y) u;

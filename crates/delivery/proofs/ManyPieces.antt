@@ -14,6 +14,7 @@ use Rattle.packing.specs.Packing.{largestUpTo, mostPieces, fit, wholesFrom, par
 use Rattle.pieces.specs.Pieces.{total}
 use Rattle.log.specs.Log.{Entry, packet, logWords, packetWords}
 use Rattle.writer.specs.Writing.{writeAnswer}
+use Rattle.receiver.specs.Entitling.{allPrograms}
 use Rattle.runs.specs.Spans.{Span}
 use Rattle.delivery.specs.Delivery.{Packets, Writing, spansFrom, InOrder, defined, Step, freshStation, inReceived, wholePackets, logsFrom, runOf, made, spans, Asked}
 use Rattle.delivery.proofs.Channel.{made-right}
@@ -55,9 +56,9 @@ both-made =
     omega (arith, e, t)
 
 logged-is : (bs : List Bool) (es : List Entry) → length bs ≡ 2 → wholePackets (inReceived twoSpans bs) 0 0 seventy ≡ es
-    → packetWords (logsFrom defined (freshStation defined 0 0 0 carry) (calls bs)) ≡ logWords es
+    → packetWords (logsFrom defined (freshStation defined 0 0 0 allPrograms carry) (calls bs)) ≡ logWords es
 logged-is bs es n e =
-    let asked : Asked defined 0 0 0 seventy two 0 2 carry (calls bs) = record {
+    let asked : Asked defined 0 0 0 allPrograms seventy two 0 2 carry (calls bs) = record {
       opens = opens;
       sized = right 70;
       offered = in-order;
@@ -75,11 +76,11 @@ packetsFrom i zero = []
 packetsFrom i (suc n) = packet (i % 64) (5 ∷ []) ∷ packetsFrom (suc i) n
 
 -- both received: all 70 are delivered
-pub both-received : packetWords (logsFrom defined (freshStation defined 0 0 0 carry) (calls (true ∷ true ∷ []))) ≡ logWords (packetsFrom 0 70)
+pub both-received : packetWords (logsFrom defined (freshStation defined 0 0 0 allPrograms carry) (calls (true ∷ true ∷ []))) ≡ logWords (packetsFrom 0 70)
 unfolding wholePackets packetsFrom
 both-received = logged-is (true ∷ true ∷ []) (packetsFrom 0 70) refl refl
 
 -- the PDU with 63 pieces lost: the last seven, with the numbers 63 and 0 to 5
-pub second-received : packetWords (logsFrom defined (freshStation defined 0 0 0 carry) (calls (false ∷ true ∷ []))) ≡ logWords (packetsFrom 63 7)
+pub second-received : packetWords (logsFrom defined (freshStation defined 0 0 0 allPrograms carry) (calls (false ∷ true ∷ []))) ≡ logWords (packetsFrom 63 7)
 unfolding wholePackets packetsFrom
 second-received = logged-is (false ∷ true ∷ []) (packetsFrom 63 7) refl refl

@@ -2,7 +2,7 @@
 -- PDUs of no bytes is refused, and the second PDU is marked lost. And the promise is false of a receiver that takes the whole of the better copy.
 use mathlib.Core.Path.{_≡_, refl, sym, ap, ap₂, subst, _∙_, fun-ext}
 use mathlib.Core.Bool.{Bool, true, false, _||_, cond, true≢false}
-use mathlib.Core.List.{List, [], _∷_, _++_}
+use mathlib.Core.List.{List, [], _∷_, _++_, map}
 use Prim.Native.Nat.{ℕ, zero, suc, _+_, _<_, _≤_}
 use native.Mathlib.Omega.{arith}
 use lib.Dec.{eqb, ltb}
@@ -26,14 +26,16 @@ use Rattle.correction.proofs.Answers.{no-marks-pdu}
 use Rattle.log.specs.Log.{Entry, packet, dataWords, entryWords, logWords, packetWords}
 use Rattle.writer.specs.Writing.{opened as writerOpened, pduOf, writeAnswer, writtenPdu}
 use Rattle.writer.specs.RoundTrip.{Bytes}
+use Rattle.receiver.specs.Entitling.{allPrograms}
 use Rattle.receiver.specs.Receiving.{wrongState}
 use Rattle.batch.proofs.Single.{refusal-is}
-use Rattle.runs.specs.Model.{Fate, lose, read}
+use Rattle.runs.specs.Transmissions.{Way, gone, here}
 use Rattle.runs.specs.Spans.{Span, lies, wholePackets}
+use Rattle.runs.specs.Calls.{plainFate}
 use Rattle.diversity.specs.Diversity.{Choice, neither, theFirst, theSecond, choiceOf, sameBytes, pairReceived}
 use Rattle.delivery.specs.Delivery.{Packets, Writing, bufferAfter, pdusFrom, spansFrom, InOrder, Behaviour, Station, Call, receive, pair, answerOf, logOf, defined, freshStation, RefusedAfter, loggedBy, runOf, made, spans, HeaderAltered, Correctable}
 use Rattle.delivery.specs.Copies.{bytesAt, crcAt, pieceAt, causesFor}
-use Rattle.delivery.specs.Diversity.{asSent, ComesAs, Step, pairs, receives, loses, refuses, Through, fates, NoneRefused, logsFrom, Delivered, PairDeliveryFor}
+use Rattle.delivery.specs.Diversity.{asSent, ComesAs, Step, pairs, receives, loses, refuses, Through, ways, NoneRefused, logsFrom, arrived, Delivered, PairDeliveryFor}
 use Rattle.delivery.specs.WrongReceivers.{chosen, choosing}
 use Rattle.delivery.proofs.Channel.{Usable, made-right}
 use Rattle.delivery.proofs.Copies.{corrected-back}
@@ -213,24 +215,24 @@ two-are a b f g h = fun-ext each
     each (suc (suc k)) = refl
 
 -- what is asked for
-abbrev askedFor : List Fate → List ℕ
-askedFor ws = logWords (wholePackets (lies packets twoSpans ws) 0 0 packets)
+abbrev askedFor : List Way → List ℕ
+askedFor ws = logWords (wholePackets (lies packets twoSpans (map plainFate ws)) 0 0 packets)
 
 -- the claim for so many of these PDUs
-module _ (b : Behaviour) (claim : PairDeliveryFor b) (count : ℕ) (steps : List Step) (t : Through b 0 16 (freshStation b 0 0 0 carry) (runOf 0 count (sent ∷ other ∷ [])) steps) where
-  claimed : Delivered b 0 0 0 packets two 0 count carry steps
+module _ (b : Behaviour) (claim : PairDeliveryFor b) (count : ℕ) (steps : List Step) (t : Through b 0 16 (freshStation b 0 0 0 allPrograms carry) (runOf 0 count (sent ∷ other ∷ [])) steps) where
+  claimed : Delivered b 0 0 0 allPrograms packets two 0 count carry steps (arrived 0 0 packets two 0 (ways 16 (runOf 0 count (made 0 0 0 two)) steps))
   unfolding listing
   claimed = claim 0 0 0 packets two 0 count carry steps (record {
     opens = opens;
     sized = right;
     offered = in-order;
     room = carry-room;
-    through = subst (λ (ps : List (List ℕ)). Through b 0 16 (freshStation b 0 0 0 carry) (runOf 0 count ps) steps) (sym made-is) t;
+    through = subst (λ (ps : List (List ℕ)). Through b 0 16 (freshStation b 0 0 0 allPrograms carry) (runOf 0 count ps) steps) (sym made-is) t;
   })
 
-  logged : packetWords (logsFrom b (freshStation b 0 0 0 carry) steps) ≡ askedFor (fates 16 (runOf 0 count (sent ∷ other ∷ [])) steps)
+  logged : packetWords (logsFrom b (freshStation b 0 0 0 allPrograms carry) steps) ≡ askedFor (ways 16 (runOf 0 count (sent ∷ other ∷ [])) steps)
   unfolding listing
-  logged = claimed .log ∙ ap₂ (λ (ss : List Span) (ps : List (List ℕ)). logWords (wholePackets (lies packets ss (fates 16 (runOf 0 count ps) steps)) 0 0 packets)) spans-are made-is
+  logged = claimed .log ∙ ap₂ (λ (ss : List Span) (ps : List (List ℕ)). logWords (wholePackets (lies packets ss (map plainFate (ways 16 (runOf 0 count ps) steps))) 0 0 packets)) spans-are made-is
 
 -- of both copies each piece is taken
 abbrev eitherCause : ℕ → ℕ
@@ -255,24 +257,24 @@ abbrev pub pairCalls : List Step
 pairCalls = pairs first second words ∷ refuses (pair [] [] []) ∷ loses words ∷ []
 
 -- the packets of the first PDU are delivered, and that of the second is not
-pub pair-run : packetWords (logsFrom defined (freshStation defined 0 0 0 carry) pairCalls) ≡ logWords (packet 0 (replicate 100 1) ∷ packet 1 (replicate 40 2) ∷ [])
+pub pair-run : packetWords (logsFrom defined (freshStation defined 0 0 0 allPrograms carry) pairCalls) ≡ logWords (packet 0 (replicate 100 1) ∷ packet 1 (replicate 40 2) ∷ [])
 unfolding wholePackets
 pair-run =
     logged defined pairs-deliver 2 pairCalls (first-comes, second-comes, log-room, (nothing-refused _, (log-room, tt)))
-    ∙ ap (λ (f : ℕ → ℕ). askedFor (read false f ∷ lose ∷ [])) either-taken
+    ∙ ap (λ (f : ℕ → ℕ). askedFor (here f ∷ gone ∷ [])) either-taken
     ∙ refl
 
 -- ---- the whole of the better copy
 
 abbrev fresh : Station
-fresh = freshStation defined 0 0 0 carry
+fresh = freshStation defined 0 0 0 allPrograms carry
 
 -- a copy alone gives one packet
 first-alone : packetWords (loggedBy defined fresh (receive [] first words) ++ []) ≡ logWords (packet 1 (replicate 40 2) ∷ [])
 unfolding wholePackets
 first-alone =
     logged defined pairs-deliver 1 (receives first words ∷ []) (first-comes, log-room, tt)
-    ∙ ap (λ (f : ℕ → ℕ). askedFor (read false f ∷ []))
+    ∙ ap (λ (f : ℕ → ℕ). askedFor (here f ∷ []))
     (two-are 2 0 (causesFor (asSent 16 sent first)) (ap (λ (s : Bool). cond s 0 2) (as-sent 9 2 first-bytes 0 ∙ first-sound .0)) (ap (λ (s : Bool). cond s 0 2) (as-sent 9 2 first-bytes 1 ∙ first-sound .1)))
     ∙ refl
 
@@ -280,7 +282,7 @@ second-alone : packetWords (loggedBy defined fresh (receive [] second words) ++ 
 unfolding wholePackets
 second-alone =
     logged defined pairs-deliver 1 (receives second words ∷ []) (second-comes, log-room, tt)
-    ∙ ap (λ (f : ℕ → ℕ). askedFor (read false f ∷ []))
+    ∙ ap (λ (f : ℕ → ℕ). askedFor (here f ∷ []))
     (two-are 0 2 (causesFor (asSent 16 sent second)) (ap (λ (s : Bool). cond s 0 2) (as-sent 1 9 second-bytes 0 ∙ second-sound .0)) (ap (λ (s : Bool). cond s 0 2) (as-sent 1 9 second-bytes 1 ∙ second-sound .1)))
     ∙ refl
 
@@ -293,7 +295,7 @@ choosing-wrong claim = go (choiceOf first second) refl
     through = (first-comes, second-comes, log-room, tt)
 
     asked : packetWords (loggedBy choosing fresh (pair first second words) ++ []) ≡ logWords (packet 0 (replicate 100 1) ∷ packet 1 (replicate 40 2) ∷ [])
-    asked = logged choosing claim 1 (pairs first second words ∷ []) through ∙ ap (λ (f : ℕ → ℕ). askedFor (read false f ∷ [])) either-taken ∙ refl
+    asked = logged choosing claim 1 (pairs first second words ∷ []) through ∙ ap (λ (f : ℕ → ℕ). askedFor (here f ∷ [])) either-taken ∙ refl
 
     by : (c : Choice) → choiceOf first second ≡ c → loggedBy choosing fresh (pair first second words) ≡ loggedBy defined fresh (receive [] (chosen c first second) words)
     by c e = ap (λ (t : Choice). loggedAlone (answerOf fresh (receive [] (chosen t first second) words)) (logOf fresh (receive [] (chosen t first second) words))) e

@@ -1,4 +1,4 @@
--- Document 02, Ask 5: delivery over a run of pairs, from delivery over a channel.
+-- Document 02, Asks 5 and 10: delivery over a run of pairs, from delivery over a channel.
 use mathlib.Core.Path.{_≡_, refl, sym, ap, ap₂, subst, subst₂, _∙_}
 use mathlib.Core.Bool.{Bool, true, false, _||_}
 use mathlib.Core.List.{List, [], _∷_, _++_, map}
@@ -17,14 +17,17 @@ use Rattle.correction.specs.Marks.{marksRefusal}
 use Rattle.correction.proofs.Answers.{no-marks-pdu}
 use Rattle.correction.proofs.Marking.{unmarked-adopted}
 use Rattle.pdu.specs.Reading.{modeIn}
-use Rattle.runs.specs.Model.{Fate, lose, read}
-use Rattle.runs.specs.Spans.{lies, wholePackets}
+use Rattle.receiver.specs.Entitling.{allPrograms}
+use Rattle.runs.specs.Transmissions.{Way, gone, here}
 use Rattle.diversity.proofs.Bytes.{same-true}
 use Rattle.delivery.specs.Delivery.{joined, Station, Call, receive, batch, pair, markLost, answerOf, defined, freshStation, stationAfter, takenBy, RefusedAfter, loggedBy, runOf, made, spans, Correctable}
 use Rattle.delivery.specs.Copies.{frontLength, restored, bytesAt, crcAt, pieceAt, Copy, causesFor, wrong}
-use Rattle.delivery.specs.Channel.{Came, pdusIn, Step as ChannelStep, receives as takes, pairs as takesBoth, batches as takesAll, stops as takesSome, loses as misses, refuses as declines, callOf as channelCall, AllCopies, Through as Goes, fatesIn as channelFatesIn, fates as channelFates, logsFrom as channelLogs, NotRefused as ChannelTakes, NoneRefused as ChannelAccepted}
-use Rattle.delivery.specs.Diversity.{asSent, ComesAs, AllComeAs, Step, pairs, receives, batches, stops, loses, refuses, callOf, Through, fatesIn, fates, logsFrom, NotRefused, NoneRefused, PairDelivery}
-use Rattle.delivery.proofs.Channel.{Usable, channel-delivers}
+use Rattle.delivery.specs.Channel.{Came, pdusIn, Step as ChannelStep, receives as takes, pairs as takesBoth, batches as takesAll, stops as takesSome, loses as misses, refuses as declines, callOf as channelCall, AllCopies, Through as Goes, waysIn as channelWaysIn, ways as channelWays, logsFrom as channelLogs, NotRefused as ChannelTakes, NoneRefused as ChannelAccepted}
+use Rattle.delivery.specs.Diversity.{asSent, ComesAs, AllComeAs, Step, pairs, receives, batches, stops, loses, refuses, callOf, Through, waysIn, ways, logsFrom, NotRefused, NoneRefused, PairDelivery, EntitledPairDelivery}
+use Rattle.delivery.specs.Entitlement.{due}
+use Rattle.delivery.proofs.Channel.{Usable, channel-delivers, made-right}
+use Rattle.delivery.proofs.Entitling.{all-allowed}
+use Rattle.delivery.proofs.Entitled.{all-due}
 use Rattle.delivery.proofs.Copies.{corrected-back}
 use Rattle.delivery.proofs.Possible.{all-drop, run-usable}
 
@@ -115,22 +118,22 @@ over width (p ∷ ps) (pairs q r log ∷ ss) = takesBoth q r log (asSent width p
 over width (p ∷ ps) (receives q log ∷ ss) = takes [] q log (asSent width p q) ∷ over width ps ss
 over width (p ∷ ps) (loses log ∷ ss) = misses log ∷ over width ps ss
 
-fates-came : (width : ℕ) (qs ps : List (List ℕ)) → channelFatesIn (came width ps qs) ≡ fatesIn width ps qs
-fates-came width [] ps = refl
-fates-came width (q ∷ qs) [] = refl
-fates-came width (q ∷ qs) (p ∷ ps) = ap (λ (l : List Fate). read false (causesFor (asSent width p q)) ∷ l) (fates-came width qs ps)
+ways-came : (width : ℕ) (qs ps : List (List ℕ)) → channelWaysIn (came width ps qs) ≡ waysIn width ps qs
+ways-came width [] ps = refl
+ways-came width (q ∷ qs) [] = refl
+ways-came width (q ∷ qs) (p ∷ ps) = ap (λ (l : List Way). here (causesFor (asSent width p q)) ∷ l) (ways-came width qs ps)
 
-same-fates : (width : ℕ) (ss : List Step) (ps : List (List ℕ)) → channelFates (over width ps ss) ≡ fates width ps ss
-same-fates width [] ps = refl
-same-fates width (refuses c ∷ ss) ps = same-fates width ss ps
-same-fates width (batches qs log ∷ ss) ps = ap₂ (λ (k l : List Fate). k ++ l) (fates-came width qs ps) (same-fates width ss (drop (length qs) ps))
-same-fates width (stops qs ls bytes log ∷ ss) ps = ap₂ (λ (k l : List Fate). k ++ l) (fates-came width qs ps) (same-fates width ss (drop (length qs) ps))
-same-fates width (pairs q r log ∷ ss) [] = refl
-same-fates width (receives q log ∷ ss) [] = refl
-same-fates width (loses log ∷ ss) [] = refl
-same-fates width (pairs q r log ∷ ss) (p ∷ ps) = ap (λ (l : List Fate). read false (causesFor (λ k. asSent width p q k || asSent width p r k)) ∷ l) (same-fates width ss ps)
-same-fates width (receives q log ∷ ss) (p ∷ ps) = ap (λ (l : List Fate). read false (causesFor (asSent width p q)) ∷ l) (same-fates width ss ps)
-same-fates width (loses log ∷ ss) (p ∷ ps) = ap (λ (l : List Fate). lose ∷ l) (same-fates width ss ps)
+same-ways : (width : ℕ) (ss : List Step) (ps : List (List ℕ)) → channelWays (over width ps ss) ≡ ways width ps ss
+same-ways width [] ps = refl
+same-ways width (refuses c ∷ ss) ps = same-ways width ss ps
+same-ways width (batches qs log ∷ ss) ps = ap₂ (λ (k l : List Way). k ++ l) (ways-came width qs ps) (same-ways width ss (drop (length qs) ps))
+same-ways width (stops qs ls bytes log ∷ ss) ps = ap₂ (λ (k l : List Way). k ++ l) (ways-came width qs ps) (same-ways width ss (drop (length qs) ps))
+same-ways width (pairs q r log ∷ ss) [] = refl
+same-ways width (receives q log ∷ ss) [] = refl
+same-ways width (loses log ∷ ss) [] = refl
+same-ways width (pairs q r log ∷ ss) (p ∷ ps) = ap (λ (l : List Way). here (causesFor (λ k. asSent width p q k || asSent width p r k)) ∷ l) (same-ways width ss ps)
+same-ways width (receives q log ∷ ss) (p ∷ ps) = ap (λ (l : List Way). here (causesFor (asSent width p q)) ∷ l) (same-ways width ss ps)
+same-ways width (loses log ∷ ss) (p ∷ ps) = ap (λ (l : List Way). gone ∷ l) (same-ways width ss ps)
 
 module _ (register width : ℕ) where
   -- a batch has the same PDUs, as many of them, and they are copies
@@ -213,17 +216,26 @@ module _ (register width : ℕ) where
       let r = same ss (stationAfter defined x (markLost log)) ps (u .1) (t .1) in
       with-call (loses log) (misses log) refl ss (over width ps ss) x ps r (p ∷ ps) (t .0, r .goes) (λ a. a)
 
--- no call for a PDU of the run is refused, and the packet log holds exactly the packets each of whose pieces is, once corrected, as sent in one copy at least
-pub pairs-deliver : PairDelivery
-pairs-deliver mode stream register packets writings first count carry steps d =
+-- document 02, Ask 10: no call for a PDU of the run is refused, and the packet log holds exactly the packets each of whose pieces is, once corrected, as sent in
+-- one copy at least, that begin in a pair not withheld
+pub entitled-pairs-deliver : EntitledPairDelivery
+entitled-pairs-deliver mode stream register programs packets writings first count carry steps a d =
     let ps : List (List ℕ) = runOf first count (made mode stream register writings) in
     let n : ℕ = modeIn (listing mode stream) .width in
-    let x : Station = freshStation defined mode stream register carry in
+    let x : Station = freshStation defined mode stream register programs carry in
     let s = same register n steps x ps (run-usable mode stream register packets writings (d .opens) (d .sized) (d .offered) first count) (d .through) in
-    let r = channel-delivers mode stream register packets writings first count carry (over n ps steps) (record { opens = d .opens; sized = d .sized; offered = d .offered; room = d .room; through = s .goes }) in
+    let r = channel-delivers mode stream register programs packets writings first count carry (over n ps steps) (record { opens = d .opens; allowed = a; sized = d .sized; offered = d .offered; room = d .room; through = s .goes }) in
     record {
       accepted = s .accepted (r .accepted);
-      log = ap packetWords (sym (s .logs))
-          ∙ r .log
-          ∙ ap (λ (w : List Fate). logWords (wholePackets (lies packets (spans mode stream packets writings) (replicate first lose ++ w)) 0 0 packets)) (same-fates n steps ps);
+      log = ap packetWords (sym (s .logs)) ∙ r .log ∙ ap (λ (ws : List Way). logWords (due mode stream programs packets writings first ws)) (same-ways n steps ps);
+    }
+
+-- Ask 5: a receiver that is entitled to all programs
+pub pairs-deliver : PairDelivery
+pairs-deliver mode stream register packets writings first count carry steps d =
+    let r = entitled-pairs-deliver mode stream register allPrograms packets writings first count carry steps all-allowed d in
+    let ws : List Way = ways (modeIn (listing mode stream) .width) (runOf first count (made mode stream register writings)) steps in
+    record {
+      accepted = r .accepted;
+      log = r .log ∙ ap logWords (all-due mode stream register packets writings first ws (made-right mode stream register packets writings (d .opens) (d .sized) (d .offered)));
     }

@@ -118,8 +118,8 @@ module _ (mode stream register : ℕ) (packets : List (List ℕ)) (writings : Li
   abbrev pub stepsOf : ℕ → ℕ → List Bool → List Step
   stepsOf first count bs = stepsFor [] asSent [] (runOf first count (made mode stream register writings)) bs
 
-  pub possible : (b : Behaviour) (first count : ℕ) (carry : List ℕ) (bs : List Bool) → 4096 ≤ length carry → Asked b mode stream register packets writings first count carry (stepsOf first count bs)
-  possible b first count carry bs big = record {
+  pub possible : (b : Behaviour) (programs : List ℕ) (first count : ℕ) (carry : List ℕ) (bs : List Bool) → 4096 ≤ length carry → Asked b mode stream register programs packets writings first count carry (stepsOf first count bs)
+  possible b programs first count carry bs big = record {
     opens = opens;
     sized = sized;
     offered = offered;

@@ -1,6 +1,6 @@
 -- A PDU that an accepted call wrote says what was sent.
 use mathlib.Core.Path.{_≡_, refl, sym, ap, ap₂, subst, _∙_}
-use mathlib.Core.Bool.{Bool, true, false, cond}
+use mathlib.Core.Bool.{Bool, true, false, _||_, cond}
 use mathlib.Core.List.{List, [], _∷_, _++_, map}
 use Prim.Native.Nat.{ℕ, zero, suc, _+_, _-_, _%_, _<_, _≤_}
 use native.Mathlib.Omega.{arith}
@@ -8,7 +8,7 @@ use lib.Dec.{eqb, ltb}
 use borrow.Author.Tests.{eq-eqb}
 use lib.ListN.{length, getD, take, drop}
 use Rattle.algebra.specs.Places.{All}
-use Rattle.refusal.specs.Refusal.{firstOf}
+use Rattle.refusal.specs.Refusal.{firstOf, anyOf}
 use Rattle.refusal.proofs.Rows.{rest-off}
 use Rattle.modes.specs.Modes.{listing}
 use Rattle.modes.specs.declared.Mode.{Mode}
@@ -22,19 +22,25 @@ use Rattle.settings.specs.declared.Settings.{Settings}
 use Rattle.correction.specs.Correction.{correctedPdu}
 use Rattle.header.proofs.Distances.{distance-self}
 use Rattle.contents.proofs.Putting.{cut-count}
-use Rattle.pdu.specs.Reading.{startAt, lengthAt, psdOf, accepted, widthOf, correctedTests, judged, readTests, readNumber, readPdu}
+use Rattle.settings.specs.Settings.{programOf, fieldsFor}
+use Rattle.expansion.specs.Writing.{interpretedOf}
+use Rattle.pdu.specs.Reading.{startAt, lengthAt, fieldsOf, answered, psdOf, accepted, widthOf, correctedTests, judged, readTests, readNumber, readPdu}
+use Rattle.pdu.specs.declared.ExpansionFields.{ExpansionFields}
 use Rattle.pdu.specs.declared.Part.{Part}
 use Rattle.pdu.specs.declared.Reading.{Reading}
 use Rattle.pdu.specs.PieceRead.{PieceRead}
 use Rattle.pdu.proofs.ReadBack.{read-accepted}
 use Rattle.reassembly.specs.Reassembly.{Piece, Said}
-use Rattle.receiver.specs.Receiving.{pieceIn, piecesIn, saidBy}
+use Rattle.reassembly.specs.Rights.{Label}
+use Rattle.reassembly.specs.Holder.{Come}
+use Rattle.receiver.specs.Receiving.{pieceIn, piecesIn, saidBy, labelIn, comeBy}
 use Rattle.writer.specs.Writing.{writerTests, piecesOf, partOf, placed, controlFor, pduOf}
 use Rattle.writer.specs.declared.Writer.{Writer}
 use Rattle.writer.proofs.Bytes.{Byte}
 use Rattle.writer.specs.RoundTrip.{Bytes, Altered, ReadBack}
 use Rattle.writer.proofs.Accepted.{fine}
 use Rattle.writer.proofs.RoundTrip.{read-back, pdu-length, pdu-bytes}
+use Rattle.delivery.specs.Entitlement.{labelOf}
 
 -- pieces that are taken
 abbrev pub taken : List (List ℕ) → List Piece
@@ -66,6 +72,24 @@ control-of width c y = refl
 psd-of : (width : ℕ) (c : ControlWord) (y : List ℕ) → accepted width c y .psd ≡ psdOf width c y
 unfolding accepted
 psd-of width c y = refl
+
+fields-of : (width : ℕ) (c : ControlWord) (y : List ℕ) → accepted width c y .fields ≡ answered (fieldsOf width c y)
+unfolding accepted
+fields-of width c y = refl
+
+-- the program number is sent whenever any field is
+program-sent : (s : Settings) (size : ℕ) → interpretedOf (fieldsFor s size) .program ≡ programOf s
+unfolding fieldsFor
+program-sent s size = go (s .classed) (s .programmed) (anyOf (s .displaced ∷ s .typed ∷ s .serviced ∷ []))
+  where
+    none-either : (b : Bool) → _≡_ {A = ℕ} (cond b 0 0) 0
+    none-either true = refl
+    none-either false = refl
+
+    go : (a b more : Bool) → cond (a || (b || more)) (cond b (s .program) 0) 0 ≡ cond b (s .program) 0
+    go true b more = refl
+    go false true more = refl
+    go false false more = none-either more
 
 -- a PDU that is read as it is
 corrected-is : (p : List ℕ) → readNumber p ≡ 0 → readPdu p ≡ p → correctedPdu p ≡ p
@@ -136,10 +160,21 @@ module _ (settings : Settings) (psd lengths bytes : List ℕ) (size : ℕ) (m : 
       subst (λ (r : ControlWord). (k : ℕ) → k < r .nop → crcFrom (w .register) (take (lengthAt (m .width) r p k) (drop (startAt (m .width) r p k) p)) ≡ getD p (locatorAt (m .width) p k) 0) (sym control-back)
       (λ k h. let r = back .pieces k (let n = nop-is in omega (arith, n, h)) in ap (crcFrom (w .register)) (r .bytes) ∙ sym (r .crc))
 
-  pub said-back : saidBy (w .register) (m .width) c p ≡ sent
+  said-back : saidBy (w .register) (m .width) c p ≡ sent
   unfolding saidBy
   said-back = ap₂ (λ (s : List ℕ) (l : List Piece). record { sequence = c .sequence; pfirst = c .pfirst; plast = c .plast; start = c .start; psdBytes = s; pieces = l; withheld = false }) psd-back
       (ap (piecesIn (w .register) (m .width) c p 0) nop-is ∙ pieces-back (w .register) (m .width) c p ps 0 (λ j h. subst (λ (n : ℕ). PieceRead (w .register) (m .width) c p n (getD ps j [])) (zero-plus j) (back .pieces j h)))
     where
       zero-plus : (j : ℕ) → j ≡ 0 + j
       zero-plus j = omega arith
+
+  -- document 02, Ask 10: its label is the one that the settings send
+  label-back : labelIn (m .width) c p ≡ labelOf settings
+  unfolding fieldsFor
+  label-back =
+      let e : answered (fieldsOf (m .width) c p) ≡ answered (interpretedOf (fieldsFor settings size)) = sym (fields-of (m .width) c p) ∙ back .fields in
+      ap (λ (x : ExpansionFields). record { program = x .program; services = x .services }) e ∙ ap (λ (n : ℕ). record { program = n; services = cond (settings .serviced) (settings .services) 0 }) (program-sent settings size)
+
+  pub come-back : comeBy (w .register) (m .width) c p ≡ record { said = sent; label = labelOf settings }
+  unfolding comeBy
+  come-back = ap₂ (λ (d : Said) (l : Label). record { said = d; label = l }) said-back label-back

@@ -2,7 +2,7 @@
 -- CRC.
 use mathlib.Core.Path.{_≡_, refl, sym, ap, subst, _∙_}
 use mathlib.Core.Bool.{Bool, true, false, true≢false}
-use mathlib.Core.List.{List, [], _∷_, _++_}
+use mathlib.Core.List.{List, [], _∷_, _++_, map}
 use Prim.Native.Nat.{ℕ, zero, suc, _<_, _≤_}
 use native.Mathlib.Omega.{arith}
 use lib.ListN.{length, getD, take, drop, replicate}
@@ -25,12 +25,16 @@ use Rattle.log.specs.Log.{packet, dataWords, entryWords, logWords, packetWords}
 use Rattle.pdu.specs.Reading.{modeIn}
 use Rattle.writer.specs.Writing.{opened as writerOpened, pduOf, writeAnswer, writtenPdu}
 use Rattle.writer.specs.RoundTrip.{Bytes}
+use Rattle.receiver.specs.Entitling.{allPrograms}
+use Rattle.runs.specs.Calls.{plainFate}
 use Rattle.runs.specs.Spans.{Span, lies, wholePackets as wholeByMarks}
 use Rattle.delivery.specs.Delivery.{Packets, Writing, bufferAfter, pdusFrom, spansFrom, InOrder, defined, Step, receives, freshStation, inReceived, wholePackets, logsFrom, runOf, made, spans, Asked, Delivered, Demand3For}
 use Rattle.delivery.specs.Copies.{wrong, restored, bytesAt, crcAt, Damage, Copy}
-use Rattle.delivery.specs.Channel.{receives as takes, fates, Through}
+use Rattle.delivery.specs.Channel.{receives as takes, ways, Through}
 use Rattle.delivery.specs.WrongReceivers.{zeroed}
 use Rattle.delivery.proofs.Channel.{Usable, made-right, channel-delivers}
+use Rattle.delivery.proofs.Entitling.{all-allowed}
+use Rattle.delivery.proofs.Entitled.{all-due}
 use Rattle.delivery.proofs.Possible.{words, log-room, asSent, stepsFor, possible}
 use Rattle.delivery.proofs.SmallRuns.{offering, bytes-same, carry, carry-room}
 
@@ -125,28 +129,30 @@ copy = record {
 }
 
 abbrev logged : List ℕ
-logged = packetWords (logsFrom defined (freshStation defined 0 0 0 carry) (receives [] (pdu 255) words ∷ []))
+logged = packetWords (logsFrom defined (freshStation defined 0 0 0 allPrograms carry) (receives [] (pdu 255) words ∷ []))
 
 -- no packet is logged
 none-logged : logged ≡ []
 unfolding listing wholeByMarks logWords
 none-logged =
-    channel-delivers 0 0 0 one once 0 1 carry (takes [] (pdu 255) words (λ k. false) ∷ [])
+    channel-delivers 0 0 0 allPrograms one once 0 1 carry (takes [] (pdu 255) words (λ k. false) ∷ [])
     (record {
       opens = opens 0;
+      allowed = all-allowed;
       sized = one-right;
       offered = in-order;
       room = carry-room;
-      through = subst (λ (ps : List (List ℕ)). Through 0 16 (freshStation defined 0 0 0 carry) (runOf 0 1 ps) (takes [] (pdu 255) words (λ k. false) ∷ [])) (sym (made-is 0)) (copy, log-room, tt);
+      through = subst (λ (ps : List (List ℕ)). Through 0 16 (freshStation defined 0 0 0 allPrograms carry) (runOf 0 1 ps) (takes [] (pdu 255) words (λ k. false) ∷ [])) (sym (made-is 0)) (copy, log-room, tt);
     }) .log
-    ∙ ap (λ (l : List Span). logWords (wholeByMarks (lies one l (fates (takes [] (pdu 255) words (λ k. false) ∷ []))) 0 0 one)) spans-are
+    ∙ ap logWords (all-due 0 0 0 one once 0 (ways (takes [] (pdu 255) words (λ k. false) ∷ [])) (made-right 0 0 0 one once (opens 0) one-right in-order))
+    ∙ ap (λ (l : List Span). logWords (wholeByMarks (lies one l (map plainFate (ways (takes [] (pdu 255) words (λ k. false) ∷ [])))) 0 0 one)) spans-are
 
 -- and one is asked for
 pub zeroed-wrong : ¬ Demand3For zeroed
 unfolding stepsFor wholePackets logWords entryWords dataWords
 zeroed-wrong claim =
-    let asked : Asked zeroed 0 0 255 one once 0 1 carry (receives [] (pdu 255) words ∷ []) =
-    subst (λ (ps : List (List ℕ)). Asked zeroed 0 0 255 one once 0 1 carry (stepsFor [] asSent [] (runOf 0 1 ps) (true ∷ []))) (made-is 255) (possible 0 0 255 one once (opens 255) one-right in-order zeroed 0 1 carry (true ∷ []) carry-room) in
+    let asked : Asked zeroed 0 0 255 allPrograms one once 0 1 carry (receives [] (pdu 255) words ∷ []) =
+    subst (λ (ps : List (List ℕ)). Asked zeroed 0 0 255 allPrograms one once 0 1 carry (stepsFor [] asSent [] (runOf 0 1 ps) (true ∷ []))) (made-is 255) (possible 0 0 255 one once (opens 255) one-right in-order zeroed allPrograms 0 1 carry (true ∷ []) carry-room) in
     let found : logged ≡ logWords (packet 0 (replicate 100 2) ∷ []) =
     claim 0 0 255 one once 0 1 carry (receives [] (pdu 255) words ∷ []) asked .log
     ∙ ap (λ (l : List Span). logWords (wholePackets (inReceived (runOf 0 1 l) (true ∷ [])) 0 0 one)) spans-are in

@@ -7,7 +7,8 @@ use lib.ListN.{length, take}
 use Rattle.modes.specs.Modes.{listing}
 use Rattle.modes.specs.declared.Mode.{Mode}
 use Rattle.modes.specs.declared.Listing.the-variants.{Listed}
-use Rattle.reassembly.specs.Reassembly.{Partial, beginning, Memory}
+use Rattle.reassembly.specs.Reassembly.{Partial, beginning}
+use Rattle.reassembly.specs.Holder.{Holder}
 use Rattle.reassembly.specs.Run.{partialOf, lastOf}
 use Rattle.receiver.specs.Receiving.{memoryOf}
 use Rattle.receiver.specs.declared.Receiver.{Receiver}
@@ -22,15 +23,18 @@ memory-only : (r : Receiver) (a b : List ℕ) → take (r .held) a ≡ take (r .
 unfolding memoryOf
 memory-only r a b e = ap (λ (p : Partial). record { last = lastOf (r .known) (r .sequence); partial = p }) (held-only (r .held) (r .number) a b e)
 
-module _ (mode stream register : ℕ) (m : Mode) (l : listing mode stream ≡ Listed m) (range : 0 < m .sequences) where
-  pub shows-held : (x : Station) (y : Memory) (carry : List ℕ) → Shows mode stream register m l range x y → take (x .receiver .held) carry ≡ take (x .receiver .held) (x .carry) → 4096 ≤ length carry
-      → Shows mode stream register m l range (record { receiver = x .receiver; carry = carry }) y
+module _ (mode stream register entitled : ℕ) (m : Mode) (l : listing mode stream ≡ Listed m) (range : 0 < m .sequences) where
+  pub shows-held : (x : Station) (y : Holder) (carry : List ℕ) → Shows mode stream register entitled m l range x y → take (x .receiver .held) carry ≡ take (x .receiver .held) (x .carry) → 4096 ≤ length carry
+      → Shows mode stream register entitled m l range (record { receiver = x .receiver; carry = carry }) y
   shows-held x y carry s e big = record {
     sameMode = s .sameMode;
     sameStream = s .sameStream;
     sameRegister = s .sameRegister;
+    sameEntitled = s .sameEntitled;
     right = s .right;
     room = big;
     memory = memory-only (x .receiver) carry (x .carry) e ∙ s .memory;
+    kept = s .kept;
     sane = s .sane;
+    fair = s .fair;
   }

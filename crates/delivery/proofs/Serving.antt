@@ -19,11 +19,15 @@ use Rattle.layout.specs.Control.{controlAt}
 use Rattle.log.specs.Log.{logWords, entryWords}
 use Rattle.correction.specs.Marks.{marksRefusal, correctedWith, correctedPduWith}
 use Rattle.pdu.specs.Reading.{modeIn, listingOf, correctedTests, readerTests, judged, uncorrectable}
-use Rattle.reassembly.specs.Reassembly.{Said, Partial, nothing, beginning, Memory, Outcome, received, remembered, lostEntries, forgotten}
+use Rattle.reassembly.specs.Reassembly.{Partial, nothing, beginning, Memory, Outcome, inSequence, received, remembered, lostEntries, forgotten}
+use Rattle.reassembly.specs.Rights.{Rights, forgetting, inForce, keptAfter}
+use Rattle.reassembly.specs.Tally.{noTally}
+use Rattle.reassembly.specs.Holder.{Come, came, lost, Holder, valueFor, saidTo, holderFor}
 use Rattle.reassembly.specs.Run.{bytesOf, numberOf as partialNumber, partialOf, lastOf}
 use Rattle.reassembly.proofs.Fitting.{SanePartial, SaneSaid, fit-received}
 use Rattle.reassembly.proofs.Runs.{partial-kept}
-use Rattle.receiver.specs.Receiving.{saidBy, memoryOf, remembering, isKnown, sequenceOf, modeOf, wrongState, said, outcome, receivedWords, memoryAfter, refusedAnswer, receiveTests, receiveNumber, receiveAnswer, carryAfter, logAfter, lostNumber, lostAnswer, logAfterLost}
+use Rattle.receiver.specs.Entitling.{entitles}
+use Rattle.receiver.specs.Receiving.{comeBy, memoryOf, keptOf, remembering, isKnown, orZero, keepsServices, modeOf, wrongState, come, said, outcome, receivedWords, memoryAfter, keptServices, refusedAnswer, receiveTests, receiveNumber, receiveAnswer, carryAfter, logAfter, lostNumber, lostAnswer, logAfterLost}
 use Rattle.receiver.specs.declared.Receiver.{Receiver}
 use Rattle.receiver.specs.declared.Received.{Received}
 use Rattle.refusal.proofs.Rows.{past, row-off, rest-off}
@@ -37,7 +41,7 @@ loggedAlone a log = cond (eqb (a .refusal) 0 || not (eqb (cond (eqb (a .refusal)
 
 -- ---- what is remembered is what is put down
 
-last-back : (o : Option ℕ) → lastOf (isKnown o) (sequenceOf o) ≡ o
+last-back : (o : Option ℕ) → lastOf (isKnown o) (orZero o) ≡ o
 last-back none = refl
 last-back (some q) = refl
 
@@ -45,9 +49,9 @@ held-none : (h : Partial) → SanePartial h → length (bytesOf h) ≡ 0 → h �
 held-none nothing s e = refl
 held-none (beginning n b) s e = absurd (omega (arith, s .1, e))
 
-memory-back : (r : Receiver) (z : Memory) (carry : List ℕ) → SanePartial (z .partial) → memoryOf (remembering r z) (putAt carry 0 (bytesOf (z .partial))) ≡ z
+memory-back : (r : Receiver) (z : Memory) (k : Option ℕ) (carry : List ℕ) → SanePartial (z .partial) → memoryOf (remembering r z k) (putAt carry 0 (bytesOf (z .partial))) ≡ z
 unfolding memoryOf remembering
-memory-back r z carry s =
+memory-back r z k carry s =
     ap₂ (λ (a : Option ℕ) (b : Partial). record { last = a; partial = b }) (last-back (z .last)) (partial-kept (z .partial) carry (held-none (z .partial) s))
 
 -- a sequence that is known is in its range
@@ -55,9 +59,28 @@ abbrev pub Below : ℕ → Option ℕ → Type 0
 Below range none = Unit {0}
 Below range (some q) = q < range
 
-sequence-right : (range : ℕ) (o : Option ℕ) → 0 < range → Below range o → (leb range (sequenceOf o) ≡ false) × ((not (isKnown o) && not (eqb (sequenceOf o) 0)) ≡ false)
+sequence-right : (range : ℕ) (o : Option ℕ) → 0 < range → Below range o → (leb range (orZero o) ≡ false) × ((not (isKnown o) && not (eqb (orZero o) 0)) ≡ false)
 sequence-right range none z b = (lt-leb range 0 z, refl)
 sequence-right range (some q) z b = (lt-leb range q b, refl)
+
+-- applied services that are kept are of three bits, and of a mode and stream that keeps them
+abbrev pub Fair : Bool → Option ℕ → Type 0
+Fair keeps none = Unit {0}
+Fair keeps (some v) = (v < 8) × (keeps ≡ true)
+
+services-right : (keeps : Bool) (o : Option ℕ) → Fair keeps o → (ltb 7 (orZero o) ≡ false) × ((not (isKnown o) && not (eqb (orZero o) 0)) ≡ false) × ((isKnown o && not keeps) ≡ false)
+services-right keeps none f = (refl, refl, refl)
+services-right keeps (some v) f = (le-ltb 7 v (let h = f .0 in omega (arith, h)), refl, ap not (f .1))
+
+-- so are those after a PDU whose own are
+pub fair-after : (keeps : Bool) (range q v : ℕ) (last kept : Option ℕ) → Fair keeps kept → v < 8 → Fair keeps (keptAfter keeps (inForce keeps q v (forgetting range last q kept)))
+fair-after false range q v last kept f h = tt
+fair-after true range q v last kept f h = go (eqb q 0) (inSequence range last q)
+  where
+    go : (a b : Bool) → Fair true (cond a (some v) (cond b kept none))
+    go true b = (h, refl)
+    go false true = f
+    go false false = tt
 
 held-right : (h : Partial) → SanePartial h
     → (ltb 4096 (length (bytesOf h)) ≡ false) × (ltb 63 (partialNumber h) ≡ false) × ((eqb (length (bytesOf h)) 0 && not (eqb (partialNumber h) 0)) ≡ false)
@@ -69,47 +92,69 @@ held-long : (h : Partial) → SanePartial h → length (bytesOf h) ≤ 4096
 held-long nothing s = omega arith
 held-long (beginning n b) s = s .2
 
-module _ (mode stream register : ℕ) (m : Mode) (l : listing mode stream ≡ Listed m) (range : 0 < m .sequences) where
+-- a PDU within its bounds is so, withheld or not
+pub sane-shown : (rights : Rights) (range : ℕ) (y : Holder) (d : Come) → SaneSaid (d .said) → SaneSaid (saidTo rights range y d)
+sane-shown rights range y d s = record { psd = s .psd; pieces = s .pieces; few = s .few }
+
+-- the rights of a receiver with this mask of entitled programs
+abbrev pub rightsBy : (entitled stream : ℕ) → Mode → Rights
+rightsBy entitled stream m = record { entitled = entitles entitled; keeps = eqb stream 0 && eqb (m .sequences) 8 }
+
+module _ (mode stream register entitled : ℕ) (m : Mode) (l : listing mode stream ≡ Listed m) (range : 0 < m .sequences) where
   pub mode-is : (r : Receiver) → r .mode ≡ mode → r .stream ≡ stream → listing (r .mode) (r .stream) ≡ Listed m
   mode-is r a b = ap₂ listing a b ∙ l
 
-  state-right : (r : Receiver) (z : Memory) → r .mode ≡ mode → r .stream ≡ stream → Below (m .sequences) (z .last) → SanePartial (z .partial) → anyOf (wrongState (remembering r z)) ≡ false
+  -- whether it keeps applied services
+  abbrev pub keeping : Bool
+  keeping = rightsBy entitled stream m .keeps
+
+  state-right : (r : Receiver) (z : Memory) (k : Option ℕ) → r .mode ≡ mode → r .stream ≡ stream → Below (m .sequences) (z .last) → SanePartial (z .partial) → Fair keeping k → anyOf (wrongState (remembering r z k)) ≡ false
   unfolding remembering
-  state-right r z a b w s =
+  state-right r z k a b w s f =
       let q = sequence-right (m .sequences) (z .last) range w in
       let h = held-right (z .partial) s in
-      rw (mode-is r a b, q .0, q .1, h .0, h .1, h .2)
+      let v = services-right keeping k f in
+      let e : keepsServices (m .sequences) r ≡ keeping = ap (λ (i : ℕ). eqb i 0 && eqb (m .sequences) 8) b in
+      let u : (isKnown k && not (keepsServices (m .sequences) r)) ≡ false = ap (λ (t : Bool). isKnown k && not t) e ∙ v .2 in
+      rw (mode-is r a b, q .0, q .1, h .0, h .1, h .2, v .0, v .1, u)
 
-  -- ---- a station stands for a memory
+  -- ---- a station stands for what a receiver holds
 
-  pub record Shows (x : Station) (y : Memory) : Type 0 where
+  pub record Shows (x : Station) (y : Holder) : Type 0 where
     pub sameMode : x .receiver .mode ≡ mode
     pub sameStream : x .receiver .stream ≡ stream
     pub sameRegister : x .receiver .register ≡ register
+    pub sameEntitled : x .receiver .entitled ≡ entitled
     pub right : anyOf (wrongState (x .receiver)) ≡ false
     pub room : 4096 ≤ length (x .carry)
-    pub memory : memoryOf (x .receiver) (x .carry) ≡ y
-    pub sane : SanePartial (y .partial)
+    pub memory : memoryOf (x .receiver) (x .carry) ≡ y .memory
+    pub kept : keptOf (x .receiver) ≡ y .kept
+    pub sane : SanePartial (y .memory .partial)
+    pub fair : Fair keeping (y .kept)
 
-  -- the station that remembers z
-  abbrev pub put : Receiver → List ℕ → Memory → Station
-  put r carry z = record { receiver = remembering r z; carry = putAt carry 0 (bytesOf (z .partial)) }
+  -- the station that remembers z, and keeps k
+  abbrev pub put : Receiver → List ℕ → Memory → Option ℕ → Station
+  put r carry z k = record { receiver = remembering r z k; carry = putAt carry 0 (bytesOf (z .partial)) }
 
-  pub shows-put : (r : Receiver) (carry : List ℕ) (z : Memory) → r .mode ≡ mode → r .stream ≡ stream → r .register ≡ register → 4096 ≤ length carry → Below (m .sequences) (z .last) → SanePartial (z .partial) → Shows (put r carry z) z
-  shows-put r carry z a b g big w s = record {
+  pub shows-put : (r : Receiver) (carry : List ℕ) (y : Holder) → r .mode ≡ mode → r .stream ≡ stream → r .register ≡ register → r .entitled ≡ entitled → 4096 ≤ length carry
+      → Below (m .sequences) (y .memory .last) → SanePartial (y .memory .partial) → Fair keeping (y .kept) → Shows (put r carry (y .memory) (y .kept)) y
+  shows-put r carry y a b g t big w s f = record {
     sameMode = unfold remembering in a;
     sameStream = unfold remembering in b;
     sameRegister = unfold remembering in g;
-    right = state-right r z a b w s;
-    room = (let e = put-length carry 0 (bytesOf (z .partial)) (let h = held-long (z .partial) s in omega (arith, h, big)) in omega (arith, e, big));
-    memory = memory-back r z carry s;
+    sameEntitled = unfold remembering in t;
+    right = state-right r (y .memory) (y .kept) a b w s f;
+    room = (let e = put-length carry 0 (bytesOf (y .memory .partial)) (let h = held-long (y .memory .partial) s in omega (arith, h, big)) in omega (arith, e, big));
+    memory = memory-back r (y .memory) (y .kept) carry s;
+    kept = unfold remembering in last-back (y .kept);
     sane = s;
+    fair = f;
   }
 
   -- ---- receiving
 
-  module _ (x : Station) (y : Memory) (v : Shows x y) (marks q log : List ℕ) (d : Said) (h : Heard mode stream register (m .width) marks q d) (s : SaneSaid d) (below : d .sequence < m .sequences)
-      (bytes : (i : ℕ) → getD q i 0 < 256) (big : 8400 ≤ length log) where
+  module _ (x : Station) (y : Holder) (v : Shows x y) (marks q log : List ℕ) (d : Come) (h : Heard mode stream register (m .width) marks q d) (s : SaneSaid (d .said)) (below : d .said .sequence < m .sequences)
+      (narrow : d .label .services < 8) (bytes : (i : ℕ) → getD q i 0 < 256) (big : 8400 ≤ length log) where
     abbrev r : Receiver
     r = x .receiver
 
@@ -119,14 +164,22 @@ module _ (mode stream register : ℕ) (m : Mode) (l : listing mode stream ≡ Li
     this-mode : modeOf r ≡ m
     this-mode = ap modeIn (mode-is r (v .sameMode) (v .sameStream))
 
-    said-is : said marks carry q log r ≡ d
-    said-is = ap₂ (λ (i : ℕ) (t : Mode). saidBy i (t .width) (controlAt (correctedPduWith marks q)) (correctedPduWith marks q)) (v .sameRegister) this-mode ∙ h .says
+    come-is : come marks carry q log r ≡ d
+    come-is = ap₂ (λ (i : ℕ) (t : Mode). comeBy i (t .width) (controlAt (correctedPduWith marks q)) (correctedPduWith marks q)) (v .sameRegister) this-mode ∙ h .comes
 
-    outcome-is : outcome marks carry q log r ≡ received (m .sequences) y d
-    outcome-is = ap (λ (t : Mode). received (t .sequences) (memoryOf r carry) (said marks carry q log r)) this-mode ∙ ap₂ (received (m .sequences)) (v .memory) said-is
+    said-is : said marks carry q log r ≡ saidTo (rightsBy entitled stream m) (m .sequences) y d
+    said-is = λ i. saidTo (rightsBy (v .sameEntitled i) (v .sameStream i) (this-mode i)) (this-mode i .sequences) (record { memory = v .memory i; kept = v .kept i; tally = noTally }) (come-is i)
 
-    after-is : memoryAfter marks carry q log r ≡ remembered (m .sequences) y d
-    after-is = ap (λ (t : Mode). remembered (t .sequences) (memoryOf r carry) (said marks carry q log r)) this-mode ∙ ap₂ (remembered (m .sequences)) (v .memory) said-is
+    outcome-is : outcome marks carry q log r ≡ received (m .sequences) (y .memory) (saidTo (rightsBy entitled stream m) (m .sequences) y d)
+    outcome-is = λ i. received (this-mode i .sequences) (v .memory i) (said-is i)
+
+    after-is : memoryAfter marks carry q log r ≡ holderFor (rightsBy entitled stream m) (m .sequences) y (came d) .memory
+    after-is = λ i. remembered (this-mode i .sequences) (v .memory i) (said-is i)
+
+    kept-is : keptServices marks carry q log r ≡ holderFor (rightsBy entitled stream m) (m .sequences) y (came d) .kept
+    kept-is =
+        λ i. keptAfter (rightsBy (v .sameEntitled i) (v .sameStream i) (this-mode i) .keeps)
+        (valueFor (rightsBy (v .sameEntitled i) (v .sameStream i) (this-mode i)) (this-mode i .sequences) (record { memory = v .memory i; kept = v .kept i; tally = noTally }) (come-is i))
 
     -- none of the rows 1 to 12 applies
     first-twelve : firstOf (firstTwelve marks carry q log r) ≡ 0
@@ -141,7 +194,7 @@ module _ (mode stream register : ℕ) (m : Mode) (l : listing mode stream ≡ Li
         let es : eqb (c .stream) (r .stream) ≡ true = eq-eqb (c .stream) (r .stream) (h .sameStream ∙ sym (v .sameStream)) in
         rw (e1, e2, h .size, h .allowed, h .correctable, e5, em, es) (rest-off (correctedTests c y) 1 refl (h .reads))
 
-    words-are : receivedWords marks carry q log r ≡ logWords (received (m .sequences) y d .entries)
+    words-are : receivedWords marks carry q log r ≡ logWords (received (m .sequences) (y .memory) (saidTo (rightsBy entitled stream m) (m .sequences) y d) .entries)
     words-are = ap (λ (o : Outcome). logWords (o .entries)) outcome-is
 
     pub accepts : receiveNumber marks carry q log r ≡ 0
@@ -151,7 +204,7 @@ module _ (mode stream register : ℕ) (m : Mode) (l : listing mode stream ≡ Li
         let z : ltb (length log) (length (receivedWords marks carry q log r)) ≡ false = le-ltb (length log) (length (receivedWords marks carry q log r)) (omega (arith, n, big)) in
         past (firstTwelve marks carry q log r) ((ltb (length log) (length (receivedWords marks carry q log r)), 13) ∷ []) refl first-twelve ∙ ap (λ (b : Bool). cond b 13 0) z
 
-    answer-is : receiveAnswer marks carry q log r ≡ record { refusal = 0; wrong = 0; words = length (receivedWords marks carry q log r); receiver = remembering r (memoryAfter marks carry q log r) }
+    answer-is : receiveAnswer marks carry q log r ≡ record { refusal = 0; wrong = 0; words = length (receivedWords marks carry q log r); receiver = remembering r (memoryAfter marks carry q log r) (keptServices marks carry q log r) }
     unfolding receiveAnswer
     answer-is = let t : eqb (receiveNumber marks carry q log r) 0 ≡ true = eq-eqb (receiveNumber marks carry q log r) 0 accepts in rw t
 
@@ -170,24 +223,26 @@ module _ (mode stream register : ℕ) (m : Mode) (l : listing mode stream ≡ Li
         let t : eqb (receiveNumber marks carry q log r) 0 ≡ true = eq-eqb (receiveNumber marks carry q log r) 0 accepts in
         ap (λ (b : Bool). cond b (putAt carry 0 (bytesOf (outcome marks carry q log r .partial))) carry) t
 
-    pub receive-logged : loggedBy defined x (receive marks q log) ≡ logWords (received (m .sequences) y d .entries)
+    pub receive-logged : loggedBy defined x (receive marks q log) ≡ logWords (received (m .sequences) (y .memory) (saidTo (rightsBy entitled stream m) (m .sequences) y d) .entries)
     receive-logged =
         ap₂ (λ (a : Received) (w : List ℕ). loggedAlone (ofOne a) w) answer-is log-is
         ∙ take-put log (receivedWords marks carry q log r)
         ∙ words-are
 
-    pub receive-shows : Shows (stationAfter defined x (receive marks q log)) (remembered (m .sequences) y d)
+    pub receive-shows : Shows (stationAfter defined x (receive marks q log)) (holderFor (rightsBy entitled stream m) (m .sequences) y (came d))
     unfolding remembered
     receive-shows =
-        let z = remembered (m .sequences) y d in
-        let e : stationAfter defined x (receive marks q log) ≡ put r carry z =
+        let z = holderFor (rightsBy entitled stream m) (m .sequences) y (came d) in
+        let e : stationAfter defined x (receive marks q log) ≡ put r carry (z .memory) (z .kept) =
         ap₂ (λ (a : Received) (c : List ℕ). record { receiver = a .receiver; carry = c }) answer-is carry-is
-        ∙ ap₂ (λ (n : Memory) (o : Outcome). record { receiver = remembering r n; carry = putAt carry 0 (bytesOf (o .partial)) }) after-is outcome-is in
-        subst (λ (t : Station). Shows t z) (sym e) (shows-put r carry z (v .sameMode) (v .sameStream) (v .sameRegister) (v .room) below (fit-received (m .sequences) y d (v .sane) s .1))
+        ∙ (λ i. record { receiver = remembering r (after-is i) (kept-is i); carry = putAt carry 0 (bytesOf (outcome-is i .partial)) }) in
+        subst (λ (t : Station). Shows t z) (sym e)
+        (shows-put r carry z (v .sameMode) (v .sameStream) (v .sameRegister) (v .sameEntitled) (v .room) below (fit-received (m .sequences) (y .memory) (saidTo (rightsBy entitled stream m) (m .sequences) y d) (v .sane) (sane-shown (rightsBy entitled stream m) (m .sequences) y d s) .1)
+        (fair-after keeping (m .sequences) (d .said .sequence) (d .label .services) (y .memory .last) (y .kept) (v .fair) narrow))
 
   -- ---- marking lost
 
-  module _ (x : Station) (y : Memory) (v : Shows x y) (log : List ℕ) (big : 8400 ≤ length log) where
+  module _ (x : Station) (y : Holder) (v : Shows x y) (log : List ℕ) (big : 8400 ≤ length log) where
     abbrev r′ : Receiver
     r′ = x .receiver
 
@@ -195,11 +250,11 @@ module _ (mode stream register : ℕ) (m : Mode) (l : listing mode stream ≡ Li
     unfolding lostNumber logWords entryWords
     lost-zero = let z : ltb (length log) 1 ≡ false = le-ltb (length log) 1 (omega (arith, big)) in rw (v .right, z)
 
-    lost-answer : lostAnswer log r′ ≡ record { refusal = 0; wrong = 0; words = length (logWords lostEntries); receiver = remembering r′ forgotten }
+    lost-answer : lostAnswer log r′ ≡ record { refusal = 0; wrong = 0; words = length (logWords lostEntries); receiver = remembering r′ forgotten none }
     unfolding lostAnswer
     lost-answer =
         let t : eqb (lostNumber log r′) 0 ≡ true = eq-eqb (lostNumber log r′) 0 lost-zero in
-        ap (λ (b : Bool). cond b (record { refusal = 0; wrong = 0; words = length (logWords lostEntries); receiver = remembering r′ forgotten }) (refusedAnswer r′ (lostNumber log r′) 0)) t
+        ap (λ (b : Bool). cond b (record { refusal = 0; wrong = 0; words = length (logWords lostEntries); receiver = remembering r′ forgotten none }) (refusedAnswer r′ (lostNumber log r′) 0)) t
 
     lost-log : logAfterLost log r′ ≡ putAt log 0 (logWords lostEntries)
     unfolding logAfterLost
@@ -215,8 +270,9 @@ module _ (mode stream register : ℕ) (m : Mode) (l : listing mode stream ≡ Li
         ap₂ (λ (a : Received) (w : List ℕ). loggedAlone (ofOne a) w) lost-answer lost-log
         ∙ take-put log (logWords lostEntries)
 
-    pub lost-shows : Shows (stationAfter defined x (markLost log)) forgotten
+    pub lost-shows : Shows (stationAfter defined x (markLost log)) (holderFor (rightsBy entitled stream m) (m .sequences) y lost)
     lost-shows =
-        let e : stationAfter defined x (markLost log) ≡ record { receiver = remembering r′ forgotten; carry = x .carry } = ap (λ (a : Received). record { receiver = a .receiver; carry = x .carry }) lost-answer in
-        let p : put r′ (x .carry) forgotten ≡ record { receiver = remembering r′ forgotten; carry = x .carry } = ap (λ (c : List ℕ). record { receiver = remembering r′ forgotten; carry = c }) (put-nil (x .carry) 0) in
-        subst (λ (t : Station). Shows t forgotten) (p ∙ sym e) (shows-put r′ (x .carry) forgotten (v .sameMode) (v .sameStream) (v .sameRegister) (v .room) tt tt)
+        let z = holderFor (rightsBy entitled stream m) (m .sequences) y lost in
+        let e : stationAfter defined x (markLost log) ≡ record { receiver = remembering r′ forgotten none; carry = x .carry } = ap (λ (a : Received). record { receiver = a .receiver; carry = x .carry }) lost-answer in
+        let p : put r′ (x .carry) forgotten none ≡ record { receiver = remembering r′ forgotten none; carry = x .carry } = ap (λ (c : List ℕ). record { receiver = remembering r′ forgotten none; carry = c }) (put-nil (x .carry) 0) in
+        subst (λ (t : Station). Shows t z) (p ∙ sym e) (shows-put r′ (x .carry) z (v .sameMode) (v .sameStream) (v .sameRegister) (v .sameEntitled) (v .room) tt tt tt)

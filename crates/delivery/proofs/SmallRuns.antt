@@ -25,6 +25,7 @@ use Rattle.pieces.specs.Pieces.{total}
 use Rattle.log.specs.Log.{Entry, packet, entryWords, logWords, packetWords}
 use Rattle.writer.specs.Writing.{opened as writerOpened, writeAnswer}
 use Rattle.writer.specs.RoundTrip.{Bytes, Altered}
+use Rattle.receiver.specs.Entitling.{allPrograms}
 use Rattle.receiver.specs.Receiving.{receiveNumber, receiveAnswer, lostNumber, lostAnswer, refusedAnswer, wrongState}
 use Rattle.receiver.specs.declared.Receiver.{Receiver}
 use Rattle.receiver.specs.declared.Received.{Received}
@@ -110,7 +111,7 @@ abbrev pub calls : ℕ → ℕ → List Bool → List Step
 calls first count bs = stepsOf 0 0 0 three six opens packets-right in-order first count bs
 
 abbrev pub loggedIn : ℕ → ℕ → List Bool → List ℕ
-loggedIn first count bs = packetWords (logsFrom defined (freshStation defined 0 0 0 carry) (calls first count bs))
+loggedIn first count bs = packetWords (logsFrom defined (freshStation defined 0 0 0 allPrograms carry) (calls first count bs))
 
 pub told : (first count : ℕ) (bs : List Bool) → length (runOf first count fiveSpans) ≡ length bs → receptions (calls first count bs) ≡ bs
 told first count bs n = told-receptions [] asSent [] (runOf first count (made 0 0 0 six)) bs refl (sym (run-length first count (length bs) n))
@@ -118,7 +119,7 @@ told first count bs n = told-receptions [] asSent [] (runOf first count (made 0 
 logged-is : (first count : ℕ) (bs : List Bool) (es : List Entry) → length (runOf first count fiveSpans) ≡ length bs
     → wholePackets (inReceived (runOf first count fiveSpans) bs) 0 0 three ≡ es → loggedIn first count bs ≡ logWords es
 logged-is first count bs es n e =
-    delivers 0 0 0 three six first count carry (calls first count bs) (possible 0 0 0 three six opens packets-right in-order defined first count carry bs carry-room) .log
+    delivers 0 0 0 three six first count carry (calls first count bs) (possible 0 0 0 three six opens packets-right in-order defined allPrograms first count carry bs carry-room) .log
     ∙ ap (askedFor first count) (told first count bs n)
     ∙ asked-is first count bs es e
 
@@ -276,19 +277,19 @@ module _ (marks : List ℕ) (alter : List ℕ → List ℕ) (right : Alters mark
   abbrev pub alteredCalls : List Step
   alteredCalls = refuses emptyPdu ∷ stepsFor marks alter (refuses noLog ∷ []) (runOf 0 5 (made 0 0 0 six)) fourOfFive
 
-  altered-asked : Asked defined 0 0 0 three six 0 5 carry alteredCalls
+  altered-asked : Asked defined 0 0 0 allPrograms three six 0 5 carry alteredCalls
   altered-asked = record {
     opens = opens;
     sized = packets-right;
     offered = in-order;
     room = carry-room;
     through = (
-      no-pdu (freshStation defined 0 0 0 carry),
+      no-pdu (freshStation defined 0 0 0 allPrograms carry),
       goes-through marks alter defined right (refuses noLog ∷ []) (runOf 0 5 (made 0 0 0 six)) fourOfFive _ (λ y. (no-words y, tt)) (run-usable 0 0 0 three six opens packets-right in-order 0 5),
     );
   }
 
-  pub altered-run : packetWords (logsFrom defined (freshStation defined 0 0 0 carry) alteredCalls) ≡ logWords (packet 0 (replicate 20 1) ∷ packet 2 (replicate 10 3) ∷ [])
+  pub altered-run : packetWords (logsFrom defined (freshStation defined 0 0 0 allPrograms carry) alteredCalls) ≡ logWords (packet 0 (replicate 20 1) ∷ packet 2 (replicate 10 3) ∷ [])
   unfolding wholePackets
   altered-run =
       delivers 0 0 0 three six 0 5 carry alteredCalls altered-asked .log
@@ -296,7 +297,7 @@ module _ (marks : List ℕ) (alter : List ℕ → List ℕ) (right : Alters mark
       ∙ asked-is 0 5 fourOfFive (packet 0 (replicate 20 1) ∷ packet 2 (replicate 10 3) ∷ []) refl
 
 -- four bytes of each, and no mark
-pub four-run : packetWords (logsFrom defined (freshStation defined 0 0 0 carry) (alteredCalls [] altered headers-altered)) ≡ logWords (packet 0 (replicate 20 1) ∷ packet 2 (replicate 10 3) ∷ [])
+pub four-run : packetWords (logsFrom defined (freshStation defined 0 0 0 allPrograms carry) (alteredCalls [] altered headers-altered)) ≡ logWords (packet 0 (replicate 20 1) ∷ packet 2 (replicate 10 3) ∷ [])
 four-run = altered-run [] altered headers-altered
 
 -- ---- document 02, Ask 3: six marked bytes and another one altered in each header, twice one plus six being eight
@@ -362,5 +363,5 @@ headers-marked p h = record {
   rest = alter-rest seven p;
 }
 
-pub marked-run : packetWords (logsFrom defined (freshStation defined 0 0 0 carry) (alteredCalls firstSix sevenAltered headers-marked)) ≡ logWords (packet 0 (replicate 20 1) ∷ packet 2 (replicate 10 3) ∷ [])
+pub marked-run : packetWords (logsFrom defined (freshStation defined 0 0 0 allPrograms carry) (alteredCalls firstSix sevenAltered headers-marked)) ≡ logWords (packet 0 (replicate 20 1) ∷ packet 2 (replicate 10 3) ∷ [])
 marked-run = altered-run firstSix sevenAltered headers-marked

@@ -1,4 +1,4 @@
--- Document 00, demand 3: delivery over a channel, where every piece of a PDU that is received is sound.
+-- Document 00, demand 3, and document 02, Ask 10: delivery over a channel, where every piece of a PDU that is received is sound.
 use mathlib.Core.Path.{_≡_, refl, sym, ap, ap₂, subst, subst₂, _∙_, fun-ext}
 use mathlib.Core.Bool.{Bool, true, false, cond}
 use mathlib.Core.List.{List, [], _∷_, _++_, map}
@@ -10,13 +10,19 @@ use Rattle.log.specs.Log.{Entry, logWords, packetWords}
 use Rattle.pdu.specs.Reading.{modeIn}
 use Rattle.writer.specs.Writing.{opened as writerOpened}
 use Rattle.runs.specs.Model.{Fate, lose, read, Mark}
+use Rattle.receiver.specs.Entitling.{allPrograms}
+use Rattle.runs.specs.Transmissions.{Way, gone, here}
 use Rattle.runs.specs.Spans.{Span, lies, wholePackets as wholeByMarks}
+use Rattle.runs.specs.Calls.{plainFate}
 use Rattle.delivery.specs.Delivery.{Packets, joined, Writing, Station, Call, receive, batch, markLost, answerOf, defined, freshStation, stationAfter, loggedBy, AllAltered, Step, receives, batches, stops, loses, refuses, callOf, takenBy, RefusedAfter, Through, receptions, inReceived, wholePackets, logsFrom, NotRefused, NoneRefused, runOf, made as madeBy, spans as spansOf, arrived, Asked, Delivered, Demand3}
-use Rattle.delivery.specs.Channel.{Came, pdusIn, Step as ChannelStep, receives as takes, batches as takesAll, stops as takesSome, loses as misses, refuses as declines, callOf as channelCall, AllCopies, Through as Goes, fatesIn, fates, logsFrom as channelLogs, NotRefused as ChannelTakes, NoneRefused as ChannelAccepted}
+use Rattle.delivery.specs.Channel.{Came, pdusIn, Step as ChannelStep, receives as takes, batches as takesAll, stops as takesSome, loses as misses, refuses as declines, callOf as channelCall, AllCopies, Through as Goes, waysIn, ways, logsFrom as channelLogs, NotRefused as ChannelTakes, NoneRefused as ChannelAccepted}
+use Rattle.delivery.specs.Entitlement.{due, wayBy, waysBy, EntitledDelivery}
 use Rattle.delivery.proofs.Made.{sized-of}
 use Rattle.delivery.proofs.Bridge.{altered-copy}
-use Rattle.delivery.proofs.Lies.{fateBy, fatesBy, received-take, lies-received, whole-same}
+use Rattle.delivery.proofs.Lies.{fatesBy, received-take, lies-received, whole-same}
 use Rattle.delivery.proofs.Channel.{channel-delivers, made-right}
+use Rattle.delivery.proofs.Entitling.{all-allowed}
+use Rattle.delivery.proofs.Entitled.{all-due}
 
 -- ---- the same calls
 
@@ -95,21 +101,31 @@ same-answers (s ∷ ss) x a = (not-refused s x (a .0), same-answers ss (stationA
 
 -- ---- which PDUs are received
 
-fates-append : (bs cs : List Bool) → fatesBy (bs ++ cs) ≡ fatesBy bs ++ fatesBy cs
-fates-append [] cs = refl
-fates-append (b ∷ bs) cs = ap (λ (l : List Fate). fateBy b ∷ l) (fates-append bs cs)
+ways-append : (bs cs : List Bool) → waysBy (bs ++ cs) ≡ waysBy bs ++ waysBy cs
+ways-append [] cs = refl
+ways-append (b ∷ bs) cs = ap (λ (l : List Way). wayBy b ∷ l) (ways-append bs cs)
 
-fates-sound : (qs : List (List ℕ)) → fatesIn (allSound qs) ≡ fatesBy (replicate (length qs) true)
-fates-sound [] = refl
-fates-sound (q ∷ qs) = ap (λ (l : List Fate). read false (λ k. 0) ∷ l) (fates-sound qs)
+ways-sound : (qs : List (List ℕ)) → waysIn (allSound qs) ≡ waysBy (replicate (length qs) true)
+ways-sound [] = refl
+ways-sound (q ∷ qs) = ap (λ (l : List Way). here (λ k. 0) ∷ l) (ways-sound qs)
 
-same-fates : (ss : List Step) → fates (overChannel ss) ≡ fatesBy (receptions ss)
-same-fates [] = refl
-same-fates (receives n q log ∷ ss) = ap (λ (l : List Fate). read false (λ k. 0) ∷ l) (same-fates ss)
-same-fates (batches qs log ∷ ss) = ap₂ (λ (k l : List Fate). k ++ l) (fates-sound qs) (same-fates ss) ∙ sym (fates-append (replicate (length qs) true) (receptions ss))
-same-fates (stops qs ls bytes log ∷ ss) = ap₂ (λ (k l : List Fate). k ++ l) (fates-sound qs) (same-fates ss) ∙ sym (fates-append (replicate (length qs) true) (receptions ss))
-same-fates (loses log ∷ ss) = ap (λ (l : List Fate). lose ∷ l) (same-fates ss)
-same-fates (refuses c ∷ ss) = same-fates ss
+same-ways : (ss : List Step) → ways (overChannel ss) ≡ waysBy (receptions ss)
+same-ways [] = refl
+same-ways (receives n q log ∷ ss) = ap (λ (l : List Way). here (λ k. 0) ∷ l) (same-ways ss)
+same-ways (batches qs log ∷ ss) = ap₂ (λ (k l : List Way). k ++ l) (ways-sound qs) (same-ways ss) ∙ sym (ways-append (replicate (length qs) true) (receptions ss))
+same-ways (stops qs ls bytes log ∷ ss) = ap₂ (λ (k l : List Way). k ++ l) (ways-sound qs) (same-ways ss) ∙ sym (ways-append (replicate (length qs) true) (receptions ss))
+same-ways (loses log ∷ ss) = ap (λ (l : List Way). gone ∷ l) (same-ways ss)
+same-ways (refuses c ∷ ss) = same-ways ss
+
+-- where nothing is withheld
+plain-ways : (bs : List Bool) → map plainFate (waysBy bs) ≡ fatesBy bs
+plain-ways [] = refl
+plain-ways (true ∷ bs) = ap (λ (l : List Fate). read false (λ k. 0) ∷ l) (plain-ways bs)
+plain-ways (false ∷ bs) = ap (λ (l : List Fate). lose ∷ l) (plain-ways bs)
+
+plain-run : (first : ℕ) (bs : List Bool) → map plainFate (replicate first gone ++ waysBy bs) ≡ replicate first lose ++ fatesBy bs
+plain-run zero bs = plain-ways bs
+plain-run (suc first) bs = ap (λ (l : List Fate). lose ∷ l) (plain-run first bs)
 
 -- as many as came in a batch, and those after them
 some-each : (qs ps : List (List ℕ)) (n : ℕ) → AllAltered ps qs → n ≡ length (drop (length qs) ps) → length qs + n ≡ length ps
@@ -131,25 +147,37 @@ one-each (loses log ∷ ss) x [] t = absurd t
 one-each (loses log ∷ ss) x (p ∷ pdus) t = ap suc (one-each ss (stationAfter defined x (markLost log)) pdus (t .1))
 one-each (refuses c ∷ ss) x pdus t = one-each ss (stationAfter defined x c) pdus (t .1)
 
--- no call for a PDU of the run is refused, and the packet log holds exactly the packets that arrived whole
+-- document 02, Ask 10: no call for a PDU of the run is refused, and the packet log holds exactly the packets that arrived whole and begin in a PDU not withheld
+pub entitled-delivers : EntitledDelivery
+entitled-delivers mode stream register programs packets writings first count carry steps a d =
+    let x : Station = freshStation defined mode stream register programs carry in
+    let ps : List (List ℕ) = runOf first count (madeBy mode stream register writings) in
+    let r = channel-delivers mode stream register programs packets writings first count carry (overChannel steps) (record { opens = d .opens; allowed = a; sized = d .sized; offered = d .offered; room = d .room; through = goes register (modeIn (listing mode stream) .width) steps x ps (d .through) }) in
+    record {
+      as-many = made-right mode stream register packets writings (d .opens) (d .sized) (d .offered) .as-many;
+      accepted = same-answers steps x (r .accepted);
+      log = ap packetWords (sym (same-logs steps x)) ∙ r .log ∙ ap (λ (ws : List Way). logWords (due mode stream programs packets writings first ws)) (same-ways steps);
+    }
+
+-- demand 3: a receiver that is entitled to all programs logs all that arrived whole
 pub delivers : Demand3
 delivers mode stream register packets writings first count carry steps d =
     let spans : List Span = spansOf mode stream packets writings in
     let bs : List Bool = receptions steps in
     let made : List (List ℕ) = madeBy mode stream register writings in
     let right = made-right mode stream register packets writings (d .opens) (d .sized) (d .offered) in
-    let x : Station = freshStation defined mode stream register carry in
+    let x : Station = freshStation defined mode stream register allPrograms carry in
     let few : length bs ≤ count = (let e = one-each steps x (runOf first count made) (d .through) in let k = length-take count (drop first made) in omega (arith, e, k)) in
-    let r = channel-delivers mode stream register packets writings first count carry (overChannel steps) (record { opens = d .opens; sized = d .sized; offered = d .offered; room = d .room; through = goes register (modeIn (listing mode stream) .width) steps x (runOf first count made) (d .through) }) in
-    let marks : lies packets spans (replicate first lose ++ fates (overChannel steps)) ≡ (λ j. record { taken = inReceived (runOf first count spans) bs j; free = inReceived (runOf first count spans) bs j }) =
+    let r = entitled-delivers mode stream register allPrograms packets writings first count carry steps all-allowed d in
+    let marks : lies packets spans (map plainFate (replicate first gone ++ waysBy bs)) ≡ (λ j. record { taken = inReceived (runOf first count spans) bs j; free = inReceived (runOf first count spans) bs j }) =
     fun-ext (λ j.
-    ap (λ (w : List Fate). lies packets spans (replicate first lose ++ w) j) (same-fates steps)
+    ap (λ (w : List Fate). lies packets spans w j) (plain-run first bs)
     ∙ lies-received packets first spans bs 0 j (right .follow)
     ∙ ap (λ (b : Bool). record { taken = b; free = b }) (sym (received-take bs count (drop first spans) j few))) in
     record {
-      as-many = right .as-many;
-      accepted = same-answers steps x (r .accepted);
-      log = ap packetWords (sym (same-logs steps x))
-          ∙ r .log
+      as-many = r .as-many;
+      accepted = r .accepted;
+      log = r .log
+          ∙ ap logWords (all-due mode stream register packets writings first (waysBy bs) right)
           ∙ ap logWords (ap (λ (f : ℕ → Mark). wholeByMarks f 0 0 packets) marks ∙ whole-same (inReceived (runOf first count spans) bs) 0 0 packets (sized-of packets (d .sized)));
     }

@@ -23,7 +23,8 @@ use Rattle.log.proofs.Packets.{Fit, packet-words}
 use Rattle.reassembly.specs.Reassembly.{lostEntries, remembered}
 use Rattle.writer.specs.Writing.{opened as writerOpened, pduOf, writeAnswer, writtenPdu}
 use Rattle.writer.specs.declared.Writer.{Writer}
-use Rattle.receiver.specs.Receiving.{opened as receiverOpened, remembering, refusedAnswer, receiveNumber, receiveAnswer, lostNumber, lostAnswer, logAfterLost}
+use Rattle.receiver.specs.Entitling.{allowedPrograms, allPrograms}
+use Rattle.receiver.specs.Receiving.{openingNumber, openedFor, remembering, refusedAnswer, receiveNumber, receiveAnswer, lostNumber, lostAnswer, logAfterLost}
 use Rattle.receiver.specs.declared.Receiver.{Receiver}
 use Rattle.runs.specs.Spans.{Span}
 use Rattle.delivery.specs.Delivery.{Packets, Writing, bufferAfter, pdusFrom, spansFrom, InOrder, Behaviour, Answer, Station, Call, receive, markLost, answerOf, carryOf, logOf, defined, Step, callOf, receives, loses, receptions, freshStation, stationAfter, NoneRefused, logCounts, loggedBy, logsFrom, inReceived, wholePackets, runOf, made, spans, arrived, Asked, Delivered, Demand3For}
@@ -53,10 +54,10 @@ second-asked = asked-is 1 1 (true ∷ []) [] refl
 
 -- the claim for these calls
 module _ (b : Behaviour) (claim : Demand3For b) where
-  claimed : (first count : ℕ) (bs : List Bool) → Delivered b 0 0 0 three six first count carry (calls first count bs)
-  claimed first count bs = claim 0 0 0 three six first count carry (calls first count bs) (possible 0 0 0 three six opens packets-right in-order b first count carry bs carry-room)
+  claimed : (first count : ℕ) (bs : List Bool) → Delivered b 0 0 0 allPrograms three six first count carry (calls first count bs) (arrived 0 0 three six first count (receptions (calls first count bs)))
+  claimed first count bs = claim 0 0 0 three six first count carry (calls first count bs) (possible 0 0 0 three six opens packets-right in-order b allPrograms first count carry bs carry-room)
 
-  all-logged : packetWords (logsFrom b (freshStation b 0 0 0 carry) (calls 0 5 all)) ≡ askedFor 0 5 all
+  all-logged : packetWords (logsFrom b (freshStation b 0 0 0 allPrograms carry) (calls 0 5 all)) ≡ askedFor 0 5 all
   all-logged = claimed 0 5 all .log ∙ ap (askedFor 0 5) (told 0 5 all refl)
 
 -- ---- an empty log for everything
@@ -73,7 +74,7 @@ nothing-logged (s ∷ ss) x =
 pub silent-wrong : ¬ Demand3For silent
 unfolding packetWordsAfter
 silent-wrong claim =
-    let e : [] ≡ askedFor 0 5 all = ap packetWords (sym (nothing-logged (calls 0 5 all) (freshStation silent 0 0 0 carry))) ∙ all-logged silent claim in
+    let e : [] ≡ askedFor 0 5 all = ap packetWords (sym (nothing-logged (calls 0 5 all) (freshStation silent 0 0 0 allPrograms carry))) ∙ all-logged silent claim in
     let h : _≡_ {A = ℕ} 0 114 = ap length e ∙ all-words .0 in
     absurd (omega (arith, h))
 
@@ -113,8 +114,8 @@ zeros-first (w ∷ l) h = rw (h .0) refl
 
 pub untouched-wrong : ¬ Demand3For untouched
 untouched-wrong claim =
-    let z = zeros-logged (runOf 0 5 (made 0 0 0 six)) all (freshStation untouched 0 0 0 carry) in
-    let h : _≡_ {A = ℕ} 0 20 = sym (zeros-first (logsFrom untouched (freshStation untouched 0 0 0 carry) (calls 0 5 all)) z) ∙ ap (λ (l : List ℕ). getD l 0 0) (all-logged untouched claim) ∙ all-words .1 in
+    let z = zeros-logged (runOf 0 5 (made 0 0 0 six)) all (freshStation untouched 0 0 0 allPrograms carry) in
+    let h : _≡_ {A = ℕ} 0 20 = sym (zeros-first (logsFrom untouched (freshStation untouched 0 0 0 allPrograms carry) (calls 0 5 all)) z) ∙ ap (λ (l : List ℕ). getD l 0 0) (all-logged untouched claim) ∙ all-words .1 in
     absurd (omega (arith, h))
 
 -- ---- one fixed packet for every PDU received, or for every one marked lost: of the second PDU alone, none is asked for
@@ -141,11 +142,11 @@ module _ (number : ℕ) (bytes : List ℕ) (fits : Fit (packet number bytes)) wh
   fixed-wrong claim =
       go (runOf 1 1 (made 0 0 0 six)) (run-length 1 1 1 refl) (claimed defined delivers 1 1 (true ∷ []) .accepted) (claimed (fixed number bytes) claim 1 1 (true ∷ []) .log ∙ ap (askedFor 1 1) (told 1 1 (true ∷ []) refl) ∙ second-asked)
     where
-      go : (pdus : List (List ℕ)) → length pdus ≡ 1 → NoneRefused defined (freshStation defined 0 0 0 carry) (stepsFor [] asSent [] pdus (true ∷ []))
-          → ¬ (packetWords (logsFrom (fixed number bytes) (freshStation defined 0 0 0 carry) (stepsFor [] asSent [] pdus (true ∷ []))) ≡ [])
+      go : (pdus : List (List ℕ)) → length pdus ≡ 1 → NoneRefused defined (freshStation defined 0 0 0 allPrograms carry) (stepsFor [] asSent [] pdus (true ∷ []))
+          → ¬ (packetWords (logsFrom (fixed number bytes) (freshStation defined 0 0 0 allPrograms carry) (stepsFor [] asSent [] pdus (true ∷ []))) ≡ [])
       go [] n a e = absurd (omega (arith, n))
       go (p ∷ q ∷ ps) n a e = absurd (omega (arith, n))
-      go (p ∷ []) n a e = one-logged (answerOf (freshStation defined 0 0 0 carry) (receive [] p words)) (a .0) e
+      go (p ∷ []) n a e = one-logged (answerOf (freshStation defined 0 0 0 allPrograms carry) (receive [] p words)) (a .0) e
 
   -- whatever it says of PDUs taken
   pub inventing-wrong : ¬ Demand3For (inventing number bytes)
@@ -153,11 +154,11 @@ module _ (number : ℕ) (bytes : List ℕ) (fits : Fit (packet number bytes)) wh
   inventing-wrong claim =
       go (runOf 1 1 (made 0 0 0 six)) (run-length 1 1 1 refl) (claimed defined delivers 1 1 (false ∷ []) .accepted) (claimed (inventing number bytes) claim 1 1 (false ∷ []) .log ∙ ap (askedFor 1 1) (told 1 1 (false ∷ []) refl) ∙ second-lost)
     where
-      go : (pdus : List (List ℕ)) → length pdus ≡ 1 → NoneRefused defined (freshStation defined 0 0 0 carry) (stepsFor [] asSent [] pdus (false ∷ []))
-          → ¬ (packetWords (logsFrom (inventing number bytes) (freshStation defined 0 0 0 carry) (stepsFor [] asSent [] pdus (false ∷ []))) ≡ [])
+      go : (pdus : List (List ℕ)) → length pdus ≡ 1 → NoneRefused defined (freshStation defined 0 0 0 allPrograms carry) (stepsFor [] asSent [] pdus (false ∷ []))
+          → ¬ (packetWords (logsFrom (inventing number bytes) (freshStation defined 0 0 0 allPrograms carry) (stepsFor [] asSent [] pdus (false ∷ []))) ≡ [])
       go [] n a e = absurd (omega (arith, n))
       go (p ∷ q ∷ ps) n a e = absurd (omega (arith, n))
-      go (p ∷ []) n a e = one-logged (answerOf (freshStation defined 0 0 0 carry) (markLost words)) (a .0) e
+      go (p ∷ []) n a e = one-logged (answerOf (freshStation defined 0 0 0 allPrograms carry) (markLost words)) (a .0) e
 
 -- ---- joins in the first PDU, and then only advances
 
@@ -192,10 +193,10 @@ unfolding wholePackets
 first-asked = asked-is 0 1 (true ∷ []) (packet 0 (replicate 20 1) ∷ []) refl
 
 abbrev fresh : Station
-fresh = freshStation defined 0 0 0 carry
+fresh = freshStation defined 0 0 0 allPrograms carry
 
 fresh-unknown : fresh .receiver .known ≡ false
-unfolding receiverOpened listing
+unfolding openedFor openingNumber allowedPrograms listing
 fresh-unknown = refl
 
 pub advancing-wrong : ¬ Demand3For advancing
@@ -288,10 +289,10 @@ short-spans = refl
 
 -- the claim for PDUs that are written so
 module _ (b : Behaviour) (claim : Demand3For b) (packets : List (List ℕ)) (writings : List Writing) (z : Packets packets) (o : InOrder 0 0 packets 0 writings) (pdus : List (List ℕ)) (e : made 0 0 0 writings ≡ pdus) where
-  delivered : (count : ℕ) (bs : List Bool) → Delivered b 0 0 0 packets writings 0 count carry (stepsFor [] asSent [] (runOf 0 count pdus) bs)
+  delivered : (count : ℕ) (bs : List Bool) → Delivered b 0 0 0 allPrograms packets writings 0 count carry (stepsFor [] asSent [] (runOf 0 count pdus) bs) (arrived 0 0 packets writings 0 count (receptions (stepsFor [] asSent [] (runOf 0 count pdus) bs)))
   delivered count bs =
       claim 0 0 0 packets writings 0 count carry (stepsFor [] asSent [] (runOf 0 count pdus) bs)
-      (subst (λ (ps : List (List ℕ)). Asked b 0 0 0 packets writings 0 count carry (stepsFor [] asSent [] (runOf 0 count ps) bs)) e (possible 0 0 0 packets writings opens z o b 0 count carry bs carry-room))
+      (subst (λ (ps : List (List ℕ)). Asked b 0 0 0 allPrograms packets writings 0 count carry (stepsFor [] asSent [] (runOf 0 count ps) bs)) e (possible 0 0 0 packets writings opens z o b allPrograms 0 count carry bs carry-room))
 
 -- words with no packet among them change nothing
 pub no-packet : (l r : List ℕ) → packetWords l ≡ [] → packetWords (l ++ r) ≡ packetWords r

@@ -1,17 +1,19 @@
 -- Delivery over a channel that alters pieces too: one claim for demand 3 and for what document 02 adds to it. Each PDU of a run is marked lost, or
--- comes as a copy (Copies.antt), some of whose pieces are sound, or as two copies in a pair; the list's other calls are refused ones.
+-- comes as a copy (Copies.antt), some of whose pieces are sound, or as two copies in a pair; the list's other calls are refused ones. The receiver is entitled
+-- to any list of programs (Entitlement.antt).
 use mathlib.Core.Path.{_≡_}
 use mathlib.Core.Bool.{Bool, true, false, _||_}
 use mathlib.Core.List.{List, [], _∷_, _++_, map}
 use Prim.Native.Nat.{ℕ, _*_, _≤_}
-use lib.ListN.{length, drop, replicate}
+use lib.ListN.{length, drop}
 use Rattle.modes.specs.Modes.{listing}
 use Rattle.pdu.specs.Reading.{modeIn}
-use Rattle.log.specs.Log.{Entry, logWords, packetWords}
+use Rattle.log.specs.Log.{logWords, packetWords}
 use Rattle.writer.specs.Writing.{opened as writerOpened}
-use Rattle.runs.specs.Model.{Fate, lose, read}
-use Rattle.runs.specs.Spans.{lies, wholePackets}
-use Rattle.delivery.specs.Delivery.{Packets, joined, Writing, InOrder, Station, Call, receive, batch, pair, markLost, answerOf, defined, freshStation, stationAfter, takenBy, RefusedAfter, loggedBy, runOf, made, spans}
+use Rattle.receiver.specs.Entitling.{allowedPrograms}
+use Rattle.runs.specs.Transmissions.{Way, gone, here}
+use Rattle.delivery.specs.Delivery.{Packets, joined, Writing, InOrder, Station, Call, receive, batch, pair, markLost, answerOf, defined, freshStation, stationAfter, takenBy, RefusedAfter, loggedBy, runOf, made}
+use Rattle.delivery.specs.Entitlement.{due}
 use Rattle.delivery.specs.Copies.{Copy, causesFor}
 
 -- a PDU as it came in a batch, and which of its pieces are sound
@@ -65,19 +67,19 @@ module _ (register width : ℕ) where
   Through x [] (loses log ∷ ss) = ⊥
   Through x (p ∷ ps) (loses log ∷ ss) = (8400 ≤ length log) × Through (stationAfter defined x (markLost log)) ps ss
 
--- what came of each PDU of the run; of a pair, a piece is taken that is sound in one copy at least
-abbrev pub fatesIn : List Came → List Fate
-fatesIn [] = []
-fatesIn (c ∷ cs) = read false (causesFor (c .sound)) ∷ fatesIn cs
+-- how each PDU of the run came; of a pair, a piece is taken that is sound in one copy at least
+abbrev pub waysIn : List Came → List Way
+waysIn [] = []
+waysIn (c ∷ cs) = here (causesFor (c .sound)) ∷ waysIn cs
 
-abbrev pub fates : List Step → List Fate
-fates [] = []
-fates (receives marks pdu log sound ∷ ss) = read false (causesFor sound) ∷ fates ss
-fates (pairs first second log sound other ∷ ss) = read false (causesFor (λ k. sound k || other k)) ∷ fates ss
-fates (batches came log ∷ ss) = fatesIn came ++ fates ss
-fates (stops came lengths bytes log ∷ ss) = fatesIn came ++ fates ss
-fates (loses log ∷ ss) = lose ∷ fates ss
-fates (refuses c ∷ ss) = fates ss
+abbrev pub ways : List Step → List Way
+ways [] = []
+ways (receives marks pdu log sound ∷ ss) = here (causesFor sound) ∷ ways ss
+ways (pairs first second log sound other ∷ ss) = here (causesFor (λ k. sound k || other k)) ∷ ways ss
+ways (batches came log ∷ ss) = waysIn came ++ ways ss
+ways (stops came lengths bytes log ∷ ss) = waysIn came ++ ways ss
+ways (loses log ∷ ss) = gone ∷ ways ss
+ways (refuses c ∷ ss) = ways ss
 
 abbrev pub logsFrom : Station → List Step → List ℕ
 logsFrom x [] = []
@@ -96,26 +98,23 @@ abbrev pub NoneRefused : Station → List Step → Type 0
 NoneRefused x [] = Unit {0}
 NoneRefused x (s ∷ ss) = NotRefused x s × NoneRefused (stationAfter defined x (callOf s)) ss
 
-module _ (mode stream register : ℕ) (packets : List (List ℕ)) (writings : List Writing) (first count : ℕ) (carry : List ℕ) (steps : List Step) where
-  -- the packets with every byte in a sound piece of a PDU of the run that was received; PDUs before the run count as lost
-  abbrev pub arrived : List Entry
-  arrived = wholePackets (lies packets (spans mode stream packets writings) (replicate first lose ++ fates steps)) 0 0 packets
-
-  -- what is asked of the calls
+module _ (mode stream register : ℕ) (programs : List ℕ) (packets : List (List ℕ)) (writings : List Writing) (first count : ℕ) (carry : List ℕ) (steps : List Step) where
+  -- what is asked of the calls; the list of programs is not refused with 22
   pub record Asked : Type 0 where
     pub opens : writerOpened mode stream register .refusal ≡ 0
+    pub allowed : allowedPrograms programs ≡ true
     pub sized : Packets packets
     pub offered : InOrder mode stream packets 0 writings
     pub room : 4096 ≤ length carry
-    pub through : Through register (modeIn (listing mode stream) .width) (freshStation defined mode stream register carry) (runOf first count (made mode stream register writings)) steps
+    pub through : Through register (modeIn (listing mode stream) .width) (freshStation defined mode stream register programs carry) (runOf first count (made mode stream register writings)) steps
 
   -- what is promised of them
   pub record Delivered : Type 0 where
-    pub accepted : NoneRefused (freshStation defined mode stream register carry) steps
-    pub log : packetWords (logsFrom (freshStation defined mode stream register carry) steps) ≡ logWords arrived
+    pub accepted : NoneRefused (freshStation defined mode stream register programs carry) steps
+    pub log : packetWords (logsFrom (freshStation defined mode stream register programs carry) steps) ≡ logWords (due mode stream programs packets writings first (ways steps))
 
 abbrev pub ChannelDelivery : Type 0
 ChannelDelivery =
-    (mode stream register : ℕ) (packets : List (List ℕ)) (writings : List Writing) (first count : ℕ) (carry : List ℕ) (steps : List Step)
-    → Asked mode stream register packets writings first count carry steps
-    → Delivered mode stream register packets writings first count carry steps
+    (mode stream register : ℕ) (programs : List ℕ) (packets : List (List ℕ)) (writings : List Writing) (first count : ℕ) (carry : List ℕ) (steps : List Step)
+    → Asked mode stream register programs packets writings first count carry steps
+    → Delivered mode stream register programs packets writings first count carry steps

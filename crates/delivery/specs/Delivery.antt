@@ -1,7 +1,8 @@
 -- Document 00, demand 3, by document 01, "Demand 3 is a single claim about whole lists of calls". The claim is of a receiver (`Demand3For`), with
 -- opening and writing as writer/specs/Writing.antt defines them. `Demand3` is its case at the receiver of receiver/specs/Receiving.antt: the
 -- contracts say that the code does what these two define. Calls have marked places (document 02, Ask 3), and batches of PDUs stand among them (Ask 1); without
--- both it is document 00's claim. A refused call may be of any kind, a pair (Ask 5) too; runs of pairs are claimed in Diversity.antt.
+-- both it is document 00's claim. A refused call may be of any kind, a pair (Ask 5) too; runs of pairs are claimed in Diversity.antt. The receiver is
+-- entitled to all programs; Entitlement.antt has the claim for any list of them (Ask 10).
 use mathlib.Core.Path.{_≡_}
 use mathlib.Core.Bool.{Bool, true, false, not, _&&_, _||_, cond}
 use mathlib.Core.List.{List, [], _∷_, _++_, map}
@@ -19,7 +20,8 @@ use Rattle.writer.specs.Writing.{opened as writerOpened, placed, writeAnswer, w
 use Rattle.writer.specs.RoundTrip.{Bytes}
 use Rattle.writer.specs.declared.Writer.{Writer}
 use Rattle.writer.specs.declared.Written.{Written}
-use Rattle.receiver.specs.Receiving.{opened as receiverOpened, receiveAnswer, carryAfter, logAfter, lostAnswer, logAfterLost}
+use Rattle.receiver.specs.Entitling.{allPrograms}
+use Rattle.receiver.specs.Receiving.{openedFor, receiveAnswer, carryAfter, logAfter, lostAnswer, logAfterLost}
 use Rattle.receiver.specs.declared.Receiver.{Receiver}
 use Rattle.receiver.specs.declared.Received.{Received}
 use Rattle.batch.specs.Batches.{received}
@@ -133,9 +135,9 @@ ofOne a = record { refusal = a .refusal; taken = cond (eqb (a .refusal) 0) 1 0; 
 abbrev pub ofBatch : Batch → Answer
 ofBatch a = record { refusal = a .refusal; taken = a .taken; words = a .words; receiver = a .receiver }
 
--- a receiver as its calls show it: what opening hands back, what a call answers, and the carry and the log after it
+-- a receiver as its calls show it: what opening with a list of entitled programs hands back, what a call answers, and the carry and the log after it
 pub record Behaviour : Type 0 where
-  pub opening : (mode stream register : ℕ) → Receiver
+  pub opening : (mode stream register : ℕ) (programs : List ℕ) → Receiver
   pub answer : Station → Call → Answer
   pub carry : Station → Call → List ℕ
   pub log : Station → Call → List ℕ
@@ -160,7 +162,7 @@ logOf x (pair first second log) = pairReceived (x .carry) first second log (x .r
 logOf x (markLost log) = logAfterLost log (x .receiver)
 
 abbrev pub defined : Behaviour
-defined = record { opening = λ mode stream register. receiverOpened mode stream register .receiver; answer = answerOf; carry = carryOf; log = logOf }
+defined = record { opening = λ mode stream register programs. openedFor mode stream register programs .receiver; answer = answerOf; carry = carryOf; log = logOf }
 
 -- ---- going through a run
 
@@ -209,8 +211,8 @@ receptions (loses log ∷ ss) = false ∷ receptions ss
 receptions (refuses c ∷ ss) = receptions ss
 
 module _ (b : Behaviour) where
-  abbrev pub freshStation : (mode stream register : ℕ) (carry : List ℕ) → Station
-  freshStation mode stream register carry = record { receiver = b .opening mode stream register; carry = carry }
+  abbrev pub freshStation : (mode stream register : ℕ) (programs carry : List ℕ) → Station
+  freshStation mode stream register programs carry = record { receiver = b .opening mode stream register programs; carry = carry }
 
   -- the next call gets receiver and carry as this one left them
   abbrev pub stationAfter : Station → Call → Station
@@ -303,27 +305,28 @@ module _ (mode stream : ℕ) (packets : List (List ℕ)) (writings : List Writin
   abbrev pub arrived : (first count : ℕ) (received : List Bool) → List Entry
   arrived first count received = wholePackets (inReceived (runOf first count spans) received) 0 0 packets
 
--- writer and receiver are opened for one mode and stream, and with one register that CRCs start with, whatever it is (document 02, Ask 2)
-module _ (b : Behaviour) (mode stream register : ℕ) (packets : List (List ℕ)) (writings : List Writing) (first count : ℕ) (carry : List ℕ) (steps : List Step) where
+-- writer and receiver are opened for one mode and stream, and with one register that CRCs start with, whatever it is (document 02, Ask 2); the receiver
+-- with a list of entitled programs
+module _ (b : Behaviour) (mode stream register : ℕ) (programs : List ℕ) (packets : List (List ℕ)) (writings : List Writing) (first count : ℕ) (carry : List ℕ) (steps : List Step) where
   -- what is asked of the calls
   pub record Asked : Type 0 where
     pub opens : writerOpened mode stream register .refusal ≡ 0
     pub sized : Packets packets
     pub offered : InOrder mode stream packets 0 writings
     pub room : 4096 ≤ length carry
-    pub through : Through b (freshStation b mode stream register carry) (runOf first count (made mode stream register writings)) steps
+    pub through : Through b (freshStation b mode stream register programs carry) (runOf first count (made mode stream register writings)) steps
 
   -- what is promised of them: each PDU made has its span, none of the run is refused, and the joined logs hold exactly these packets
-  pub record Delivered : Type 0 where
+  pub record Delivered (due : List Entry) : Type 0 where
     pub as-many : length (spans mode stream packets writings) ≡ length (made mode stream register writings)
-    pub accepted : NoneRefused b (freshStation b mode stream register carry) steps
-    pub log : packetWords (logsFrom b (freshStation b mode stream register carry) steps) ≡ logWords (arrived mode stream packets writings first count (receptions steps))
+    pub accepted : NoneRefused b (freshStation b mode stream register programs carry) steps
+    pub log : packetWords (logsFrom b (freshStation b mode stream register programs carry) steps) ≡ logWords due
 
 abbrev pub Demand3For : Behaviour → Type 0
 Demand3For b =
     (mode stream register : ℕ) (packets : List (List ℕ)) (writings : List Writing) (first count : ℕ) (carry : List ℕ) (steps : List Step)
-    → Asked b mode stream register packets writings first count carry steps
-    → Delivered b mode stream register packets writings first count carry steps
+    → Asked b mode stream register allPrograms packets writings first count carry steps
+    → Delivered b mode stream register allPrograms packets writings first count carry steps (arrived mode stream packets writings first count (receptions steps))
 
 -- demand 3
 abbrev pub Demand3 : Type 0

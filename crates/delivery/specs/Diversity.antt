@@ -15,10 +15,13 @@ use Rattle.pdu.specs.Reading.{modeIn}
 use Rattle.log.specs.Log.{Entry, logWords, packetWords}
 use Rattle.writer.specs.Writing.{opened as writerOpened}
 use Rattle.writer.specs.RoundTrip.{Bytes}
-use Rattle.runs.specs.Model.{Fate, lose, read}
+use Rattle.receiver.specs.Entitling.{allPrograms, allowedPrograms}
+use Rattle.runs.specs.Transmissions.{Way, gone, here}
+use Rattle.runs.specs.Calls.{plainFate}
 use Rattle.runs.specs.Spans.{lies, wholePackets}
 use Rattle.diversity.specs.Diversity.{sameBytes}
 use Rattle.delivery.specs.Delivery.{Packets, joined, Writing, InOrder, Station, Call, receive, batch, pair, markLost, Behaviour, defined, freshStation, stationAfter, takenBy, RefusedAfter, loggedBy, runOf, made, spans}
+use Rattle.delivery.specs.Entitlement.{due}
 use Rattle.delivery.specs.Copies.{frontLength, bytesAt, crcAt, pieceAt, causesFor}
 
 -- ---- a copy q of a PDU p with locators of a width
@@ -62,23 +65,23 @@ callOf (stops pdus lengths bytes log) = batch (map length pdus ++ lengths) (join
 callOf (loses log) = markLost log
 callOf (refuses c) = c
 
--- what came of these PDUs: a piece is taken that is as sent in one copy at least
-abbrev pub fatesIn : ℕ → List (List ℕ) → List (List ℕ) → List Fate
-fatesIn width ps [] = []
-fatesIn width [] (q ∷ qs) = []
-fatesIn width (p ∷ ps) (q ∷ qs) = read false (causesFor (asSent width p q)) ∷ fatesIn width ps qs
+-- how these PDUs came: a piece is taken that is as sent in one copy at least
+abbrev pub waysIn : ℕ → List (List ℕ) → List (List ℕ) → List Way
+waysIn width ps [] = []
+waysIn width [] (q ∷ qs) = []
+waysIn width (p ∷ ps) (q ∷ qs) = here (causesFor (asSent width p q)) ∷ waysIn width ps qs
 
-abbrev pub fates : ℕ → List (List ℕ) → List Step → List Fate
-fates width ps [] = []
-fates width ps (refuses c ∷ ss) = fates width ps ss
-fates width ps (batches qs log ∷ ss) = fatesIn width ps qs ++ fates width (drop (length qs) ps) ss
-fates width ps (stops qs lengths bytes log ∷ ss) = fatesIn width ps qs ++ fates width (drop (length qs) ps) ss
-fates width [] (pairs q r log ∷ ss) = []
-fates width [] (receives q log ∷ ss) = []
-fates width [] (loses log ∷ ss) = []
-fates width (p ∷ ps) (pairs q r log ∷ ss) = read false (causesFor (λ k. asSent width p q k || asSent width p r k)) ∷ fates width ps ss
-fates width (p ∷ ps) (receives q log ∷ ss) = read false (causesFor (asSent width p q)) ∷ fates width ps ss
-fates width (p ∷ ps) (loses log ∷ ss) = lose ∷ fates width ps ss
+abbrev pub ways : ℕ → List (List ℕ) → List Step → List Way
+ways width ps [] = []
+ways width ps (refuses c ∷ ss) = ways width ps ss
+ways width ps (batches qs log ∷ ss) = waysIn width ps qs ++ ways width (drop (length qs) ps) ss
+ways width ps (stops qs lengths bytes log ∷ ss) = waysIn width ps qs ++ ways width (drop (length qs) ps) ss
+ways width [] (pairs q r log ∷ ss) = []
+ways width [] (receives q log ∷ ss) = []
+ways width [] (loses log ∷ ss) = []
+ways width (p ∷ ps) (pairs q r log ∷ ss) = here (causesFor (λ k. asSent width p q k || asSent width p r k)) ∷ ways width ps ss
+ways width (p ∷ ps) (receives q log ∷ ss) = here (causesFor (asSent width p q)) ∷ ways width ps ss
+ways width (p ∷ ps) (loses log ∷ ss) = gone ∷ ways width ps ss
 
 module _ (b : Behaviour) where
   -- the calls go through these PDUs in order: each PDU has one call, with a log that suffices
@@ -119,7 +122,7 @@ module _ (b : Behaviour) where
 
 -- ---- the claim
 
-module _ (b : Behaviour) (mode stream register : ℕ) (packets : List (List ℕ)) (writings : List Writing) (first count : ℕ) (carry : List ℕ) (steps : List Step) where
+module _ (b : Behaviour) (mode stream register : ℕ) (programs : List ℕ) (packets : List (List ℕ)) (writings : List Writing) (first count : ℕ) (carry : List ℕ) (steps : List Step) where
   abbrev pub width : ℕ
   width = modeIn (listing mode stream) .width
 
@@ -127,29 +130,41 @@ module _ (b : Behaviour) (mode stream register : ℕ) (packets : List (List ℕ)
   abbrev pub run : List (List ℕ)
   run = runOf first count (made mode stream register writings)
 
-  -- the packets with every byte in PDUs of the run, each of whose pieces is, once corrected, as sent in one copy at least; PDUs before the run count as lost
-  abbrev pub arrived : List Entry
-  arrived = wholePackets (lies packets (spans mode stream packets writings) (replicate first lose ++ fates width run steps)) 0 0 packets
-
   -- what is asked of the calls
   pub record Asked : Type 0 where
     pub opens : writerOpened mode stream register .refusal ≡ 0
     pub sized : Packets packets
     pub offered : InOrder mode stream packets 0 writings
     pub room : 4096 ≤ length carry
-    pub through : Through b register width (freshStation b mode stream register carry) run steps
+    pub through : Through b register width (freshStation b mode stream register programs carry) run steps
 
   -- what is promised of them: none of the run is refused, and the joined logs hold exactly these packets
-  pub record Delivered : Type 0 where
-    pub accepted : NoneRefused b (freshStation b mode stream register carry) steps
-    pub log : packetWords (logsFrom b (freshStation b mode stream register carry) steps) ≡ logWords arrived
+  pub record Delivered (packetsDue : List Entry) : Type 0 where
+    pub accepted : NoneRefused b (freshStation b mode stream register programs carry) steps
+    pub log : packetWords (logsFrom b (freshStation b mode stream register programs carry) steps) ≡ logWords packetsDue
+
+-- the packets with every byte in PDUs of the run, each of whose pieces is, once corrected, as sent in one copy at least; PDUs before the run count as lost
+abbrev pub arrived : (mode stream : ℕ) (packets : List (List ℕ)) (writings : List Writing) (first : ℕ) → List Way → List Entry
+arrived mode stream packets writings first ws = wholePackets (lies packets (spans mode stream packets writings) (map plainFate (replicate first gone ++ ws))) 0 0 packets
 
 abbrev pub PairDeliveryFor : Behaviour → Type 0
 PairDeliveryFor b =
     (mode stream register : ℕ) (packets : List (List ℕ)) (writings : List Writing) (first count : ℕ) (carry : List ℕ) (steps : List Step)
-    → Asked b mode stream register packets writings first count carry steps
-    → Delivered b mode stream register packets writings first count carry steps
+    → Asked b mode stream register allPrograms packets writings first count carry steps
+    → Delivered b mode stream register allPrograms packets writings first count carry steps
+    (arrived mode stream packets writings first (ways (modeIn (listing mode stream) .width) (runOf first count (made mode stream register writings)) steps))
 
--- the promise over a run of pairs
+-- the promise over a run of pairs, for a receiver that is entitled to all programs
 abbrev pub PairDelivery : Type 0
 PairDelivery = PairDeliveryFor defined
+
+-- document 02, Ask 10: of these packets, those that begin in a pair not withheld, for every list of programs that is not refused with 22
+abbrev pub EntitledPairDeliveryFor : Behaviour → Type 0
+EntitledPairDeliveryFor b =
+    (mode stream register : ℕ) (programs : List ℕ) (packets : List (List ℕ)) (writings : List Writing) (first count : ℕ) (carry : List ℕ) (steps : List Step) → allowedPrograms programs ≡ true
+    → Asked b mode stream register programs packets writings first count carry steps
+    → Delivered b mode stream register programs packets writings first count carry steps
+    (due mode stream programs packets writings first (ways (modeIn (listing mode stream) .width) (runOf first count (made mode stream register writings)) steps))
+
+abbrev pub EntitledPairDelivery : Type 0
+EntitledPairDelivery = EntitledPairDeliveryFor defined

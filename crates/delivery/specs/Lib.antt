@@ -2,4 +2,5 @@ pub mod Channel
 pub mod Copies
 pub mod Delivery
 pub mod Diversity
+pub mod Entitlement
 pub mod WrongReceivers

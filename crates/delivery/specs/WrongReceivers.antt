@@ -1,13 +1,16 @@
 -- The receivers that document 01 wants thrown out by demand 3, one that delivers a packet for a PDU marked lost, one that joins across a lost PDU, one that
 -- does not take the register it is given, one whose batches forget, and one that takes the whole of the better copy. Each is the receiver of document 01 but for
 -- what its line says; demand 3 is shown false of `zeroed` in proofs/Registers.antt, of `forgetting` in proofs/BatchRuns.antt, and of the others in
--- proofs/WrongReceivers.antt, but the promise over runs of pairs of `choosing`, in proofs/PairRuns.antt.
-use mathlib.Core.Bool.{Bool, true, false, cond}
+-- proofs/WrongReceivers.antt, but the promise over runs of pairs of `choosing`, in proofs/PairRuns.antt, and the promise for entitled programs of `supposing` and
+-- `keeping`, in proofs/WrongRights.antt.
+use mathlib.Core.Bool.{Bool, true, false, _||_, cond}
 use mathlib.Core.List.{List, [], _∷_}
 use Prim.Native.Nat.{ℕ}
 use lib.ListN.{length}
 use Rattle.buffer.specs.Buffer.{putAt}
 use Rattle.log.specs.Log.{packet, logWords}
+use Rattle.reassembly.specs.Reassembly.{forgotten}
+use Rattle.receiver.specs.Receiving.{keptOf, remembering, keepsServices, modeOf}
 use Rattle.receiver.specs.declared.Receiver.{Receiver}
 use Rattle.diversity.specs.Diversity.{Choice, neither, theFirst, theSecond, choiceOf}
 use Rattle.delivery.specs.Delivery.{Behaviour, Answer, Station, Call, receive, batch, pair, markLost, answerOf, carryOf, logOf, defined}
@@ -92,7 +95,7 @@ joining = record { opening = defined .opening; answer = joiningAnswer; carry = c
 
 -- it opens with a register of 0, whatever is asked for (document 02, Ask 2)
 abbrev pub zeroed : Behaviour
-zeroed = record { opening = λ mode stream register. defined .opening mode stream 0; answer = answerOf; carry = carryOf; log = logOf }
+zeroed = record { opening = λ mode stream register programs. defined .opening mode stream 0 programs; answer = answerOf; carry = carryOf; log = logOf }
 
 -- a batch hands back the receiver that it got (document 02, Ask 1)
 abbrev pub forgettingAnswer : Station → Call → Answer
@@ -118,3 +121,39 @@ better (markLost log) = markLost log
 
 abbrev pub choosing : Behaviour
 choosing = record { opening = defined .opening; answer = λ x c. answerOf x (better c); carry = λ x c. carryOf x (better c); log = λ x c. logOf x (better c) }
+
+-- ---- document 02, Ask 10, for core of sequence range 0-7
+
+-- applied services that are unknown count as 0
+abbrev pub assuming : Receiver → Receiver
+assuming r = record {
+  mode = r .mode;
+  stream = r .stream;
+  register = r .register;
+  entitled = r .entitled;
+  known = r .known;
+  sequence = r .sequence;
+  held = r .held;
+  number = r .number;
+  serviced = r .serviced || keepsServices (modeOf r .sequences) r;
+  services = r .services;
+}
+
+abbrev pub assumed : Station → Station
+assumed x = record { receiver = assuming (x .receiver); carry = x .carry }
+
+abbrev pub supposing : Behaviour
+supposing = record { opening = defined .opening; answer = λ x c. answerOf (assumed x) c; carry = λ x c. carryOf (assumed x) c; log = λ x c. logOf (assumed x) c }
+
+-- marking lost keeps the applied services
+abbrev pub servicesKept : Station → Receiver
+servicesKept x = remembering (x .receiver) forgotten (keptOf (x .receiver))
+
+abbrev pub keepingAnswer : Station → Call → Answer
+keepingAnswer x (receive marks pdu log) = answerOf x (receive marks pdu log)
+keepingAnswer x (batch lengths pdus log) = answerOf x (batch lengths pdus log)
+keepingAnswer x (pair first second log) = answerOf x (pair first second log)
+keepingAnswer x (markLost log) = withReceiver (servicesKept x) (answerOf x (markLost log))
+
+abbrev pub keeping : Behaviour
+keeping = record { opening = defined .opening; answer = keepingAnswer; carry = carryOf; log = logOf }

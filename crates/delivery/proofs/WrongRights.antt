@@ -1,0 +1,242 @@
+-- Document 02, Ask 10: the promise is false of a receiver for which applied services that are unknown count as 0, and of one that keeps them over a lost PDU.
+use mathlib.Core.Path.{_≡_, refl, sym, ap, ap₂, subst, subst₂, _∙_}
+use mathlib.Core.Bool.{Bool, true, false}
+use mathlib.Core.List.{List, [], _∷_, _++_, map, append-nil}
+use mathlib.Core.Option.{some}
+use Prim.Native.Nat.{ℕ, zero, suc, _<_, _≤_}
+use native.Mathlib.Omega.{arith}
+use lib.ListN.{length, take, drop, replicate}
+use Rattle.refusal.specs.Refusal.{firstOf, anyOf}
+use Rattle.modes.specs.Modes.{listing}
+use Rattle.modes.specs.declared.Mode.{Mode}
+use Rattle.modes.specs.declared.Listing.the-variants.{Listed}
+use Rattle.buffer.proofs.Laws.{put-nil}
+use Rattle.settings.specs.Settings.{fieldsFor}
+use Rattle.expansion.specs.Expansion.{chained}
+use Rattle.expansion.specs.Writing.{expansionBytes}
+use Rattle.packing.specs.Packing.{largestUpTo, mostPieces, fit, wholesFrom, partAfter, partFrom}
+use Rattle.pieces.specs.Pieces.{total}
+use Rattle.log.specs.Log.{Entry, packet, dataWords, entryWords, logWords, packetWordsAfter, packetWords}
+use Rattle.log.proofs.Packets.{FitAll}
+use Rattle.reassembly.specs.Reassembly.{Piece, lostEntries, forgotten, received, remembered, contentsStep, sequenceStep, beginningStep, psdEntries, piecesStep, pieceStep, joined as joinedStep, finished}
+use Rattle.reassembly.specs.Rights.{Label}
+use Rattle.reassembly.specs.Tally.{noTally, tallied}
+use Rattle.reassembly.specs.Holder.{Holder, opened, logged, after}
+use Rattle.writer.specs.Writing.{opened as writerOpened, writerTests, endedOf, partOf, pduOf, writeAnswer, writtenPdu}
+use Rattle.receiver.specs.Entitling.{allowedPrograms, maskOf, entitles}
+use Rattle.receiver.specs.Receiving.{fresh as freshFor, memoryOf, keptOf, remembering, wrongState}
+use Rattle.receiver.specs.declared.Receiver.{Receiver}
+use Rattle.runs.specs.Model.{cut, readPieces, saidOf}
+use Rattle.runs.specs.Transmissions.{Way, here}
+use Rattle.runs.specs.Spans.{Span, wholePackets}
+use Rattle.runs.specs.Promise.{arrived}
+use Rattle.runs.specs.Calls.{Speech, heard}
+use Rattle.runs.proofs.Theorem.{Unfinished}
+use Rattle.delivery.specs.Delivery.{Packets, joined, Writing, pdusFrom, spansFrom, InOrder, Behaviour, Station, receive, markLost, answerOf, defined, Step, freshStation, stationAfter, loggedBy, receptions, logsFrom, runOf, made, spans, Asked}
+use Rattle.delivery.specs.Copies.{causesFor}
+use Rattle.delivery.specs.Entitlement.{labelOf, labelsFrom, rightsFor, due, waysBy, EntitledDeliveryFor}
+use Rattle.delivery.specs.WrongReceivers.{assumed, supposing, servicesKept, keeping}
+use Rattle.delivery.proofs.Calling.{stateAt}
+use Rattle.delivery.proofs.Made.{Says, loadOf, planFor, made as madeOf}
+use Rattle.delivery.proofs.Copies.{struck-read}
+use Rattle.delivery.proofs.Serving.{rightsBy, Shows, shows-put, lost-accepted, lost-logged}
+use Rattle.delivery.proofs.Bridge.{asSent as allTaken, Speaks, StandsFor, copied, altered-copy, serves}
+use Rattle.delivery.proofs.Channel.{fresh-receiver, shows-fresh}
+use Rattle.delivery.proofs.Possible.{words, log-room, asSent, as-sent, stepsFor, possible}
+use Rattle.delivery.proofs.SmallRuns.{carry, carry-room}
+use Rattle.delivery.proofs.EntitledRuns.{paid, sending, triple, triplesFrom, triples-right, opens}
+
+-- ---- three PDUs of mode 1, core, each with a packet of program 1, applied services 0, for a receiver that is entitled to no program
+
+abbrev three : List (List ℕ)
+three = triplesFrom 0 3
+
+abbrev calls : List Writing
+calls = sending (paid 1 0) (triple 0) ∷ sending (paid 1 0) (triple 1) ∷ sending (paid 1 0) (triple 2) ∷ []
+
+abbrev m : Mode
+m = record { width = 12; sequences = 8; limit = 21; psd = true }
+
+listed : listing 1 0 ≡ Listed m
+unfolding listing
+listed = refl
+
+range : 0 < 8
+range = omega arith
+
+right : Packets three
+right = triples-right 3 0 (omega arith)
+
+in-order : InOrder 1 0 three 0 calls
+unfolding writeAnswer listing fieldsFor expansionBytes chained total largestUpTo mostPieces fit wholesFrom partAfter partFrom
+in-order = ((1, refl, refl), ((1, refl, refl), ((1, refl, refl), tt)))
+
+none-allowed : allowedPrograms [] ≡ true
+unfolding allowedPrograms
+none-allowed = refl
+
+abbrev pduAt : ℕ → List ℕ
+pduAt v = pduOf (paid 1 0) [] (3 ∷ []) (triple v) 96 m (stateAt 1 0 0 v v 0)
+
+three-made : made 1 0 0 calls ≡ pduAt 0 ∷ pduAt 1 ∷ pduAt 2 ∷ []
+unfolding pdusFrom writerOpened writeAnswer writtenPdu listing fieldsFor expansionBytes chained total largestUpTo mostPieces fit wholesFrom partAfter partFrom
+three-made = refl
+
+threeSpans : spans 1 0 three calls ≡ record { from = 0; count = 3 } ∷ record { from = 3; count = 3 } ∷ record { from = 6; count = 3 } ∷ []
+unfolding spansFrom writeAnswer listing fieldsFor expansionBytes chained total largestUpTo mostPieces fit wholesFrom partAfter partFrom
+threeSpans = refl
+
+abbrev label : Label
+label = record { program = 1; services = 0 }
+
+threeLabels : labelsFrom 1 0 three 0 calls ≡ label ∷ label ∷ label ∷ []
+unfolding labelsFrom writeAnswer listing fieldsFor expansionBytes chained total largestUpTo mostPieces fit wholesFrom partAfter partFrom
+threeLabels = refl
+
+-- what is asked for of the third alone, and of all with the second lost: unknown, the third is withheld
+last-due : due 1 0 [] three calls 2 (waysBy (true ∷ [])) ≡ []
+unfolding listing wholePackets
+last-due = (λ i. arrived (rightsFor 1 0 []) 8 2 three (threeSpans i) (threeLabels i) (waysBy (true ∷ []))) ∙ refl
+
+first-due : due 1 0 [] three calls 0 (waysBy (true ∷ false ∷ true ∷ [])) ≡ packet 0 (triple 0) ∷ []
+unfolding listing wholePackets
+first-due = (λ i. arrived (rightsFor 1 0 []) 8 0 three (threeSpans i) (threeLabels i) (waysBy (true ∷ false ∷ true ∷ []))) ∙ refl
+
+-- ---- what PDU v says, and what is logged of it
+
+abbrev mask : ℕ
+mask = maskOf []
+
+abbrev speech : ℕ → Speech
+speech v f = record { said = saidOf v v 0 (planFor (loadOf 1 0 [] label)) false f (drop v three); label = label }
+
+abbrev came : List Way
+came = here (causesFor (λ k. true)) ∷ []
+
+module _ (v : ℕ) (small : v < 8) (bytes : List ℕ) (next : take 1 (drop v three) ≡ bytes ∷ []) (is : pduOf (paid 1 0) [] (map length (bytes ∷ [])) (joined (bytes ∷ [])) 96 m (stateAt 1 0 0 v v 0) ≡ pduAt v)
+    (u : Unfinished 0 (drop v three))
+    (t : firstOf (writerTests (paid 1 0) [] (map length (take 1 (drop v three))) (joined (take 1 (drop v three))) 96 m (stateAt 1 0 0 v v 0)) ≡ 0)
+    (one : endedOf (paid 1 0) [] (map length (take 1 (drop v three))) (joined (take 1 (drop v three))) 96 m (stateAt 1 0 0 v v 0) ≡ 1)
+    (none : partOf (paid 1 0) [] (map length (take 1 (drop v three))) (joined (take 1 (drop v three))) 96 m (stateAt 1 0 0 v v 0) ≡ 0) where
+  says : Says 1 0 0 12 (pduAt v) (speech v allTaken)
+  says =
+      subst (λ (p : List ℕ). Says 1 0 0 12 p (speech v allTaken)) (ap (λ (os : List (List ℕ)). pduOf (paid 1 0) [] (map length os) (joined os) 96 m (stateAt 1 0 0 v v 0)) next ∙ is)
+      (subst₂ (λ (a b : ℕ). Says 1 0 0 12 (pduOf (paid 1 0) [] (map length (take 1 (drop v three))) (joined (take 1 (drop v three))) 96 m (stateAt 1 0 0 v v 0)) (record { said = saidOf v v 0 (planFor (loadOf a b [] label)) false (λ k. 0) (drop v three); label = label })) one none
+      (madeOf 1 0 0 m listed three v v 0 (paid 1 0) [] 1 96 tt right u small t .says))
+
+  speaks : Speaks 1 0 0 mask m listed range (pduAt v) (speech v)
+  speaks = record {
+    says = says;
+    below = small;
+    struck = λ s. ap (λ (b : List Piece). record { sequence = v; pfirst = false; plast = false; start = saidOf v v 0 (planFor (loadOf 1 0 [] label)) false (λ k. 0) (drop v three) .start; psdBytes = []; pieces = b; withheld = false }) (struck-read s (cut 0 1 0 (drop v three)));
+    labels = λ f. refl;
+  }
+
+  -- by a station that stands for y
+  module _ (x : Station) (y : Holder) (s : Shows 1 0 0 mask m listed range x y) where
+    abbrev entries : List Entry
+    entries = logged (rightsBy mask 0 m) 8 y (heard came (speech v ∷ []))
+
+    all : (loggedBy defined x (receive [] (pduAt v) words) ≡ logWords entries) × FitAll entries × Shows 1 0 0 mask m listed range (stationAfter defined x (receive [] (pduAt v) words)) (after (rightsBy mask 0 m) 8 y (heard came (speech v ∷ [])))
+    all =
+        let r = serves 1 0 0 mask m listed range x y (receive [] (pduAt v) words) (pduAt v ∷ []) came (speech v ∷ []) s
+        (copied (altered-copy 0 12 [] (pduAt v) (pduAt v) (as-sent (pduAt v) (says .bytes, says .least, says .most, says .code))) log-room) (speaks, tt) in
+        (r .1 .log, r .1 .fit, r .1 .stands)
+
+-- the first and the third
+passes : (firstOf (writerTests (paid 1 0) [] (3 ∷ []) (triple 0) 96 m (stateAt 1 0 0 0 0 0)) ≡ 0) × (firstOf (writerTests (paid 1 0) [] (3 ∷ []) (triple 2) 96 m (stateAt 1 0 0 2 2 0)) ≡ 0)
+unfolding fieldsFor expansionBytes chained total largestUpTo mostPieces fit wholesFrom partAfter partFrom
+passes = (refl, refl)
+
+-- a packet ends, and no part follows
+ends : (v : ℕ) → (endedOf (paid 1 0) [] (3 ∷ []) (triple v) 96 m (stateAt 1 0 0 v v 0) ≡ 1) × (partOf (paid 1 0) [] (3 ∷ []) (triple v) 96 m (stateAt 1 0 0 v v 0) ≡ 0)
+unfolding fieldsFor expansionBytes chained largestUpTo mostPieces fit wholesFrom partAfter partFrom
+ends v = (refl, refl)
+
+abbrev Logs : ℕ → Station → Holder → Type 0
+Logs v x y =
+    (loggedBy defined x (receive [] (pduAt v) words) ≡ logWords (logged (rightsBy mask 0 m) 8 y (heard came (speech v ∷ [])))) × FitAll (logged (rightsBy mask 0 m) 8 y (heard came (speech v ∷ [])))
+    × Shows 1 0 0 mask m listed range (stationAfter defined x (receive [] (pduAt v) words)) (after (rightsBy mask 0 m) 8 y (heard came (speech v ∷ [])))
+
+first-logs : (x : Station) (y : Holder) → Shows 1 0 0 mask m listed range x y → Logs 0 x y
+first-logs x y s = all 0 (omega arith) (triple 0) refl refl (omega arith) (passes .0) (ends 0 .0) (ends 0 .1) x y s
+
+third-logs : (x : Station) (y : Holder) → Shows 1 0 0 mask m listed range x y → Logs 2 x y
+third-logs x y s = all 2 (omega arith) (triple 2) refl refl (omega arith) (passes .1) (ends 2 .0) (ends 2 .1) x y s
+
+-- a receiver that knows the value 0, and nothing else
+abbrev knowing : Holder
+knowing = record { memory = forgotten; kept = some 0; tally = noTally }
+
+third-given : logged (rightsBy mask 0 m) 8 knowing (heard came (speech 2 ∷ [])) ≡ packet 2 (triple 2) ∷ []
+unfolding logged heard received contentsStep remembered sequenceStep beginningStep psdEntries piecesStep pieceStep joinedStep finished readPieces cut entitles maskOf
+third-given = refl
+
+first-given : (logged (rightsBy mask 0 m) 8 opened (heard came (speech 0 ∷ [])) ≡ packet 0 (triple 0) ∷ []) × (after (rightsBy mask 0 m) 8 opened (heard came (speech 0 ∷ [])) .kept ≡ some 0)
+unfolding logged after heard received contentsStep remembered sequenceStep beginningStep psdEntries piecesStep pieceStep joinedStep finished readPieces cut entitles maskOf
+first-given = (refl, refl)
+
+-- ---- the claim
+
+module _ (b : Behaviour) (claim : EntitledDeliveryFor b) (first count : ℕ) (bs : List Bool) where
+  abbrev steps : List Step
+  steps = stepsFor [] asSent [] (runOf first count (pduAt 0 ∷ pduAt 1 ∷ pduAt 2 ∷ [])) bs
+
+  claimed : packetWords (logsFrom b (freshStation b 1 0 0 [] carry) steps) ≡ logWords (due 1 0 [] three calls first (waysBy (receptions steps)))
+  claimed = claim 1 0 0 [] three calls first count carry steps none-allowed (subst (λ (ps : List (List ℕ)). Asked b 1 0 0 [] three calls first count carry (stepsFor [] asSent [] (runOf first count ps) bs)) three-made (possible 1 0 0 three calls opens right in-order b [] first count carry bs carry-room)) .log
+
+abbrev fresh : Station
+fresh = record { receiver = freshFor 1 0 0 mask; carry = carry }
+
+fresh-is : freshStation defined 1 0 0 [] carry ≡ fresh
+fresh-is = ap (λ (r : Receiver). record { receiver = r; carry = carry }) (fresh-receiver 1 0 0 [] m listed none-allowed)
+
+-- ---- unknown counts as 0: the third PDU alone
+
+assumed-shows : Shows 1 0 0 mask m listed range (assumed fresh) knowing
+unfolding listing memoryOf
+assumed-shows = record { sameMode = refl; sameStream = refl; sameRegister = refl; sameEntitled = refl; right = refl; room = carry-room; memory = refl; kept = refl; sane = tt; fair = (omega arith, refl) }
+
+-- nothing is asked for, and its packet is logged
+pub supposing-wrong : ¬ EntitledDeliveryFor supposing
+unfolding stepsFor logWords entryWords dataWords packetWordsAfter
+supposing-wrong claim =
+    let asked : packetWords (loggedBy defined (assumed fresh) (receive [] (pduAt 2) words) ++ []) ≡ [] =
+    ap (λ (x : Station). packetWords (loggedBy defined (assumed x) (receive [] (pduAt 2) words) ++ [])) (sym fresh-is) ∙ claimed supposing claim 2 1 (true ∷ []) ∙ ap logWords last-due in
+    let found : loggedBy defined (assumed fresh) (receive [] (pduAt 2) words) ≡ logWords (packet 2 (triple 2) ∷ []) = third-logs (assumed fresh) knowing assumed-shows .0 ∙ ap logWords third-given in
+    let h : _≡_ {A = ℕ} 2 0 = ap length (ap (λ (l : List ℕ). packetWords (l ++ [])) (sym found) ∙ asked) in
+    absurd (omega (arith, h))
+
+-- ---- the value kept over a lost PDU: the second lost
+
+-- after the first PDU, and after the lost one
+abbrev begun : Station → Station
+begun x = stationAfter defined x (receive [] (pduAt 0) words)
+
+abbrev kept : Station → Station
+kept x = record { receiver = servicesKept (begun x); carry = begun x .carry }
+
+begun-shows : Shows 1 0 0 mask m listed range (begun fresh) (after (rightsBy mask 0 m) 8 opened (heard came (speech 0 ∷ [])))
+begun-shows = first-logs fresh opened (shows-fresh 1 0 0 mask m listed range carry carry-room) .2
+
+kept-shows : Shows 1 0 0 mask m listed range (kept fresh) knowing
+kept-shows =
+    let s = begun-shows in
+    let r : Receiver = begun fresh .receiver in
+    let e : remembering r forgotten (some 0) ≡ servicesKept (begun fresh) = ap (remembering r forgotten) (sym (s .kept ∙ first-given .1)) in
+    subst (λ (x : Station). Shows 1 0 0 mask m listed range x knowing) (ap₂ (λ (a : Receiver) (c : List ℕ). record { receiver = a; carry = c }) e (put-nil (begun fresh .carry) 0))
+    (shows-put 1 0 0 mask m listed range r (begun fresh .carry) knowing (s .sameMode) (s .sameStream) (s .sameRegister) (s .sameEntitled) (s .room) tt tt (omega arith, refl))
+
+-- the first packet is asked for, and the third is logged too
+pub keeping-wrong : ¬ EntitledDeliveryFor keeping
+unfolding stepsFor logWords entryWords dataWords packetWordsAfter
+keeping-wrong claim =
+    let asked : packetWords (loggedBy defined fresh (receive [] (pduAt 0) words) ++ (loggedBy defined (begun fresh) (markLost words) ++ (loggedBy defined (kept fresh) (receive [] (pduAt 2) words) ++ []))) ≡ logWords (packet 0 (triple 0) ∷ []) =
+    ap (λ (x : Station). packetWords (loggedBy defined x (receive [] (pduAt 0) words) ++ (loggedBy defined (begun x) (markLost words) ++ (loggedBy defined (kept x) (receive [] (pduAt 2) words) ++ [])))) (sym fresh-is)
+    ∙ claimed keeping claim 0 3 (true ∷ false ∷ true ∷ [])
+    ∙ ap logWords first-due in
+    let a : loggedBy defined fresh (receive [] (pduAt 0) words) ≡ logWords (packet 0 (triple 0) ∷ []) = first-logs fresh opened (shows-fresh 1 0 0 mask m listed range carry carry-room) .0 ∙ ap logWords (first-given .0) in
+    let b : loggedBy defined (begun fresh) (markLost words) ≡ logWords lostEntries = lost-logged 1 0 0 mask m listed range (begun fresh) _ begun-shows words log-room in
+    let c : loggedBy defined (kept fresh) (receive [] (pduAt 2) words) ≡ logWords (packet 2 (triple 2) ∷ []) = third-logs (kept fresh) knowing kept-shows .0 ∙ ap logWords third-given in
+    let h : _≡_ {A = ℕ} 4 2 = ap length (sym (λ i. packetWords (a i ++ (b i ++ (c i ++ [])))) ∙ asked) in
+    absurd (omega (arith, h))
