@@ -3,6 +3,7 @@ pub mod Bounds
 pub mod Calling
 pub mod Enough
 pub mod Entitled
+pub mod Examples
 pub mod Front
 pub mod Losing
 pub mod Lowest
