@@ -28,6 +28,8 @@
  *                   3): an erasure,
  *    pair, copies   for the PDUs of "two antennas" (document 02, Ask 5): two
  *                   receptions of one PDU.
+ * "Withheld" is document 02's own word (Ask 10): what a PDU's packets are to a
+ * receiver that is not entitled to them.
  */
 #ifndef BARZHILUP_H
 #define BARZHILUP_H
@@ -93,6 +95,11 @@ extern "C" {
 #define BARZHILUP_COUNTS_MAX 4096
 #define BARZHILUP_COUNT_MAX 63
 #define BARZHILUP_LATENCY_MAX 7
+
+/* The largest program number, and the largest value of the applied services.
+ * (Document 01, "Expansion, PSD, pieces".) */
+#define BARZHILUP_PROGRAM_MAX 7
+#define BARZHILUP_SERVICES_MAX 7
 
 /* ---- Refusal numbers (document 01, "What is turned down"; document 02) --- */
 
@@ -186,6 +193,10 @@ extern "C" {
 /* A bench for latency settings: no counts, more than 4,096, or one over 63.
  * Checked after BARZHILUP_REFUSED_MODE. (Document 02, Ask 7.) */
 #define BARZHILUP_REFUSED_COUNTS 21
+
+/* Opening a receiver: a program number over 7, or one repeated. Checked after
+ * BARZHILUP_REFUSED_MODE. (Document 02, Ask 10.) */
+#define BARZHILUP_REFUSED_PROGRAMS 22
 
 /* ---- Header code (document 01, "Header code"; 001, 5.2.3.1) -------------- */
 
@@ -579,6 +590,13 @@ barzhilup_written barzhilup_write(barzhilup_writer writer,
  * 02, Ask 5.) */
 #define BARZHILUP_NOTE_COPIES_DIFFER 7
 
+/* The PDU is withheld: its applied services are 1, or unknown, and the receiver is
+ * not entitled to its program. It stands where the PSD would, whether the PDU has
+ * PSD or not, and behind it nothing but what comes of a first piece that continues a
+ * packet held before. About no piece. barzhilup_open_receiver_entitled says more.
+ * (Document 02, Ask 10.) */
+#define BARZHILUP_NOTE_WITHHELD 8
+
 /* ---- Receiver (document 01, "Receiver") ---------------------------------- */
 
 /* What a receiver was opened with and what it remembers. A caller keeps it
@@ -592,6 +610,9 @@ typedef struct {
     /* The value that the CRC's register starts with, any byte; every call keeps
      * it, marking lost too. (Document 02, Ask 2.) */
     uint8_t crc_start;
+    /* The programs that it is entitled to: bit p for program p. Every call keeps
+     * them, marking lost too. (Document 02, Ask 10.) */
+    uint8_t entitled;
     /* Whether the last PDU's sequence is known. */
     bool known;
     /* The last PDU's sequence; 0 if not known. */
@@ -602,14 +623,22 @@ typedef struct {
     uint16_t held;
     /* That packet's number, 0 to 63; 0 if nothing is held. */
     uint8_t number;
+    /* Whether the applied services in force are known. Only the core streams of
+     * modes 1, 2, 3 and 13, which have PDU sequences 0 to 7, keep them from one PDU to
+     * the next; elsewhere this is false, or the receiver is refused with
+     * BARZHILUP_REFUSED_STATE. (Document 02, Ask 10.) */
+    bool serviced;
+    /* The applied services in force, 0 to 7; 0 if not known. */
+    uint8_t services;
 } barzhilup_receiver;
 
 /* What came of opening a receiver. */
 typedef struct {
-    /* BARZHILUP_ACCEPTED or BARZHILUP_REFUSED_MODE. */
+    /* BARZHILUP_ACCEPTED or BARZHILUP_REFUSED_MODE; with a list of programs also
+     * BARZHILUP_REFUSED_PROGRAMS. */
     uint32_t refusal;
-    /* No sequence known, nothing held. If refused, a receiver of mode 255, which
-     * every call turns down with BARZHILUP_REFUSED_STATE. */
+    /* No sequence and no applied services known, nothing held. If refused, a receiver
+     * of mode 255, which every call turns down with BARZHILUP_REFUSED_STATE. */
     barzhilup_receiver receiver;
 } barzhilup_receiver_opened;
 
@@ -650,7 +679,8 @@ typedef struct {
 } barzhilup_batch;
 
 /* Opens a receiver for a mode and stream of document 01's table. The register of
- * its CRCs starts at BARZHILUP_CRC_START, 0, as in document 01's examples. */
+ * its CRCs starts at BARZHILUP_CRC_START, 0, as in document 01's examples. It is
+ * entitled to programs 0 to 7: no PDU is withheld. */
 barzhilup_receiver_opened barzhilup_open_receiver(uint8_t mode, uint8_t stream);
 
 /*
@@ -659,11 +689,44 @@ barzhilup_receiver_opened barzhilup_open_receiver(uint8_t mode, uint8_t stream);
  * with. Any byte will do: the opening is refused for its mode and stream only.
  * With 0 this is barzhilup_open_receiver; recordings off the air check with
  * BARZHILUP_CRC_START_OFF_AIR, 255. Nothing is promised for a writer and a
- * receiver with unequal values.
+ * receiver with unequal values. It is entitled to programs 0 to 7: no PDU is
+ * withheld.
  */
 barzhilup_receiver_opened barzhilup_open_receiver_with(uint8_t mode,
                                                        uint8_t stream,
                                                        uint8_t crc_start);
+
+/*
+ * Opens a receiver that is entitled to some programs only (document 02, Ask 10).
+ * `programs` is a list of `count` program numbers, each 0 to 7 and none twice, in any
+ * order; it is only read. With `count` 0 the receiver is entitled to none, with all
+ * eight this is barzhilup_open_receiver_with. It is refused with
+ * BARZHILUP_REFUSED_MODE, and then with BARZHILUP_REFUSED_PROGRAMS.
+ *
+ * A PDU is withheld if its applied services are 1 and its program is not listed.
+ * Other applied services, 0 and 2 to 7, withhold nothing; not sent, or not
+ * interpreted, they count as 0, and so does the program. For the core streams of
+ * modes 1, 2, 3 and 13 the value that counts is the one sent with PDU sequence 0,
+ * until the next such PDU: what the others send is not taken. Opening, marking lost
+ * and BARZHILUP_NOTE_SEQUENCE forget it (the PDU that brings this note may bring the
+ * new value with it); while it is unknown, every program that is not listed is
+ * withheld, whatever the PDU says.
+ *
+ * What a withheld PDU leaves: in log order, note 1 or note 4, if due; in place of the
+ * PSD BARZHILUP_NOTE_WITHHELD; and what comes of the first piece, if it continues a
+ * packet of which a beginning is held. No other piece is looked at: none is logged,
+ * noted or held. So a packet follows the right of the PDU in which it began: begun in
+ * a PDU that is not withheld, it is delivered even if it goes on in a withheld one;
+ * begun in a withheld one, it is not, and where it goes on in a PDU that is not
+ * withheld, nothing of it is held (BARZHILUP_NOTE_NOTHING_HELD).
+ *
+ * A withheld PDU is judged as any other, and refused with the same numbers; if it is
+ * accepted, its header is left corrected. What its PSD and pieces hold makes no
+ * difference to log, carry and receiver, unless a packet continues in it.
+ */
+barzhilup_receiver_opened
+barzhilup_open_receiver_entitled(uint8_t mode, uint8_t stream, uint8_t crc_start,
+                                 const uint8_t *programs, size_t count);
 
 /*
  * Receives one PDU: corrects its header in place, joins its pieces to packets,
@@ -675,7 +738,8 @@ barzhilup_receiver_opened barzhilup_open_receiver_with(uint8_t mode,
  * buffers must not overlap.
  *
  * In log order: note 1 or note 4, if due; the PSD, if any; and for each piece a
- * packet if one ends with it, a note if it is dropped, or nothing if it is held.
+ * packet if one ends with it, a note if it is dropped, or nothing if it is held. For a
+ * PDU that is withheld, barzhilup_open_receiver_entitled says what there is.
  *
  * If the PDU is accepted, `pdu` is left corrected, the first `words` words of
  * `log` are written, and the first `held` bytes of `carry` are the bytes held
@@ -806,7 +870,7 @@ barzhilup_received barzhilup_receive_pair(barzhilup_receiver receiver,
 
 /*
  * Marks a PDU lost, in its place in the row of PDUs: logs note 6, one word,
- * drops what is held and forgets the sequence. The carry buffer is not needed
+ * drops what is held and forgets the sequence and the applied services. The carry buffer is not needed
  * and stays as it is. `log` may hold anything; no other word of it has changed,
  * and none if the call is refused.
  */

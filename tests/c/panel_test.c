@@ -645,9 +645,10 @@ static unsigned long refusals[18], notes[7]; /* how often each came */
 static int same_receiver(barzhilup_receiver one, barzhilup_receiver other)
 {
     return one.mode == other.mode && one.stream == other.stream
-           && one.crc_start == other.crc_start && one.known == other.known
-           && one.sequence == other.sequence && one.held == other.held
-           && one.number == other.number;
+           && one.crc_start == other.crc_start && one.entitled == other.entitled
+           && one.known == other.known && one.sequence == other.sequence
+           && one.held == other.held && one.number == other.number
+           && one.serviced == other.serviced && one.services == other.services;
 }
 
 /* All that is lent, filled with bytes of all kinds, and a receiver that was just

@@ -240,6 +240,8 @@ static struct {
     unsigned sequence;
     size_t held;
     unsigned number;
+    int serviced;
+    unsigned services;
     uint8_t bytes[CARRY];
 } memory;
 
@@ -277,6 +279,32 @@ static void want_piece(const struct parts *p, unsigned k, const uint8_t *bytes)
     }
 }
 
+/* The applied services that a PDU sends; 0 where they are not sent or not
+ * interpreted. */
+static unsigned services_sent(const struct parts *p)
+{
+    size_t i = 0;
+    while (i < p->expansion_length) {
+        unsigned first = p->expansion[i] & 0x7f, id = first >> 4;
+        if (id == 4 && (first & 8) != 0)
+            return first & 7;
+        if (id > 2)
+            return 0;
+        i += id == 0 ? 1 : id == 2 ? 2 : (first & 1) != 0 ? 3 : 1;
+    }
+    return 0;
+}
+
+/* Core PDUs of sequence range 0-7 keep the value that is sent with sequence 0
+ * (document 02, Ask 10). */
+static void keep_services(const struct parts *p)
+{
+    if (p->stream == 0 && line_of(p->mode, p->stream)->sequences == 8 && p->sequence == 0) {
+        memory.serviced = 1;
+        memory.services = services_sent(p);
+    }
+}
+
 /* Works out what a PDU that is accepted makes the receiver log and remember. */
 static void want_all(const struct parts *p)
 {
@@ -287,7 +315,10 @@ static void want_all(const struct parts *p)
     if (memory.known && p->sequence != (memory.sequence + 1) % sequences) {
         want_note(BARZHILUP_NOTE_SEQUENCE, 0);
         drop();
+        memory.serviced = 0;
+        memory.services = 0;
     }
+    keep_services(p);
     if (memory.held > 0 && (!p->pfirst || memory.number != (p->start + 63u) % 64)) {
         want_note(BARZHILUP_NOTE_NOT_CONTINUED, 0);
         drop();
@@ -317,9 +348,10 @@ static barzhilup_receiver receiver;
 static int same_receiver(barzhilup_receiver one, barzhilup_receiver other)
 {
     return one.mode == other.mode && one.stream == other.stream
-           && one.crc_start == other.crc_start && one.known == other.known
-           && one.sequence == other.sequence && one.held == other.held
-           && one.number == other.number;
+           && one.crc_start == other.crc_start && one.entitled == other.entitled
+           && one.known == other.known && one.sequence == other.sequence
+           && one.held == other.held && one.number == other.number
+           && one.serviced == other.serviced && one.services == other.services;
 }
 
 /* Fills everything that is lent, guards too, with bytes of all kinds. */
@@ -354,6 +386,8 @@ static void put_state(int known, unsigned sequence, size_t held, unsigned number
     memory.sequence = sequence;
     memory.held = held;
     memory.number = number;
+    memory.serviced = receiver.serviced;
+    memory.services = receiver.services;
     memcpy(memory.bytes, is.carry + GUARD, held);
 }
 
@@ -410,6 +444,8 @@ static void check_accepted(barzhilup_received a, const char *what, unsigned long
     next.sequence = (uint8_t)memory.sequence;
     next.held = (uint16_t)memory.held;
     next.number = (uint8_t)memory.number;
+    next.serviced = memory.serviced != 0;
+    next.services = (uint8_t)memory.services;
     check(a.refusal == 0 && a.wrong_locator == 0, what, which);
     check(a.words == wanted_count && wanted_count <= LOG, "count of words", which);
     check(same_receiver(a.receiver, next), "receiver afterwards", which);
@@ -471,10 +507,11 @@ static void test_opening(void)
             barzhilup_receiver_opened o =
                 barzhilup_open_receiver((uint8_t)mode, (uint8_t)stream);
             const struct line *l = line_of(mode, stream);
-            barzhilup_receiver r = {255, 0, 0, false, 0, 0, 0};
+            barzhilup_receiver r = {255, 0, 0, 0, false, 0, 0, 0, false, 0};
             if (l != NULL) {
                 r.mode = l->mode;
                 r.stream = l->stream;
+                r.entitled = 255;
             }
             check(o.refusal == (l == NULL ? BARZHILUP_REFUSED_MODE : 0), "opening",
                   mode * 256 + stream);

@@ -154,9 +154,10 @@ static int same_writer(barzhilup_writer one, barzhilup_writer other)
 static int same_receiver(barzhilup_receiver one, barzhilup_receiver other)
 {
     return one.mode == other.mode && one.stream == other.stream
-           && one.crc_start == other.crc_start && one.known == other.known
-           && one.sequence == other.sequence && one.held == other.held
-           && one.number == other.number;
+           && one.crc_start == other.crc_start && one.entitled == other.entitled
+           && one.known == other.known && one.sequence == other.sequence
+           && one.held == other.held && one.number == other.number
+           && one.serviced == other.serviced && one.services == other.services;
 }
 
 /* Opens a writer and a receiver with each start. A mode and stream that the table
@@ -166,7 +167,7 @@ static void check_opening(uint8_t mode, uint8_t stream)
     int there = in_table(mode, stream), writers = 1, receivers = 1;
     uint32_t refusal = there ? BARZHILUP_ACCEPTED : BARZHILUP_REFUSED_MODE;
     barzhilup_writer w = {255, 0, 0, 0, 0, 0};
-    barzhilup_receiver r = {255, 0, 0, false, 0, 0, 0};
+    barzhilup_receiver r = {255, 0, 0, 0, false, 0, 0, 0, false, 0};
     barzhilup_writer_opened of_writer = barzhilup_open_writer(mode, stream);
     barzhilup_receiver_opened of_receiver = barzhilup_open_receiver(mode, stream);
     unsigned start;
@@ -174,6 +175,7 @@ static void check_opening(uint8_t mode, uint8_t stream)
     if (there) {
         w.mode = r.mode = mode;
         w.stream = r.stream = stream;
+        r.entitled = 255;
     }
     check(of_writer.refusal == refusal && same_writer(of_writer.writer, w), "writer", mode);
     check(of_receiver.refusal == refusal && same_receiver(of_receiver.receiver, r), "receiver",
@@ -375,7 +377,7 @@ static void want_first(int right)
 /* The receiver after the first PDU. */
 static barzhilup_receiver after_first(unsigned start, int right)
 {
-    barzhilup_receiver r = {0, 0, 0, true, 0, 0, 0};
+    barzhilup_receiver r = {0, 0, 0, 255, true, 0, 0, 0, false, 0};
     r.crc_start = (uint8_t)start;
     r.held = (uint16_t)(right ? PART : 0);
     r.number = (uint8_t)(right ? 4 : 0);
@@ -504,6 +506,9 @@ static void check_receiver_keeps(const uint8_t *line, unsigned start)
     uint32_t one;
 
     known.known = true;
+    /* Core PDUs of sequence range 0-7 take their applied services with sequence 0. */
+    known.serviced =
+        line[1] == 0 && (line[0] == 1 || line[0] == 2 || line[0] == 3 || line[0] == 13);
     check(barzhilup_write(writer, none, bytes, 0, lengths, 1, bytes, 1, pdu, HEADER).refusal == 0,
           "written", start);
     lend(pdu, 0);

@@ -40,6 +40,7 @@ done
 run shares_test "$library"
 run batch_test "$library"
 run pair_test "$library"
+run entitled_test "$library"
 run panel_test "$panel" "$library"
 run registers_test "$panel" "$library"
 
