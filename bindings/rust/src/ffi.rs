@@ -126,10 +126,13 @@ pub(crate) struct Receiver {
     pub(crate) mode: u8,
     pub(crate) stream: u8,
     pub(crate) crc_start: u8,
+    pub(crate) entitled: u8,
     pub(crate) known: bool,
     pub(crate) sequence: u8,
     pub(crate) held: u16,
     pub(crate) number: u8,
+    pub(crate) serviced: bool,
+    pub(crate) services: u8,
 }
 
 /// What came of opening a receiver.
@@ -192,6 +195,13 @@ mod c {
             pdu_length: usize,
         ) -> Written;
         pub fn barzhilup_open_receiver_with(mode: u8, stream: u8, crc_start: u8) -> ReceiverOpened;
+        pub fn barzhilup_open_receiver_entitled(
+            mode: u8,
+            stream: u8,
+            crc_start: u8,
+            programs: *const u8,
+            count: usize,
+        ) -> ReceiverOpened;
         pub fn barzhilup_receive(
             receiver: Receiver,
             carry: *mut u8,
@@ -324,6 +334,25 @@ pub(crate) fn open_receiver(mode: u8, stream: u8, crc_start: u8) -> ReceiverOpen
     unsafe { c::barzhilup_open_receiver_with(mode, stream, crc_start) }
 }
 
+/// Opens a receiver with the programs that it is entitled to.
+pub(crate) fn open_receiver_entitled(
+    mode: u8,
+    stream: u8,
+    crc_start: u8,
+    programs: &[u8],
+) -> ReceiverOpened {
+    // SAFETY: a slice with its length, only read.
+    unsafe {
+        c::barzhilup_open_receiver_entitled(
+            mode,
+            stream,
+            crc_start,
+            programs.as_ptr(),
+            programs.len(),
+        )
+    }
+}
+
 /// Receives a PDU.
 pub(crate) fn receive(
     receiver: Receiver,
@@ -388,7 +417,7 @@ const _: () = {
     assert!(size_of::<WriterOpened>() == 12 && align_of::<WriterOpened>() == 4);
     assert!(size_of::<Settings>() == 20 && align_of::<Settings>() == 4);
     assert!(size_of::<Written>() == 16 && align_of::<Written>() == 4);
-    assert!(size_of::<Receiver>() == 10 && align_of::<Receiver>() == 2);
+    assert!(size_of::<Receiver>() == 12 && align_of::<Receiver>() == 2);
     assert!(size_of::<ReceiverOpened>() == 16 && align_of::<ReceiverOpened>() == 4);
     assert!(size_of::<Received>() == 24 && align_of::<Received>() == 4);
     assert!(size_of::<Piece>() == 6 && align_of::<Piece>() == 2);

@@ -130,10 +130,15 @@ pub enum Cause {
     /// one than in the other. It stands where [`Cause::Crc`] would. (Document 02,
     /// Ask 5.)
     CopiesDiffer,
+    /// 8: the PDU is withheld: its applied services are 1, or unknown, and the
+    /// receiver is not entitled to its program. It stands where the PSD would.
+    /// [`Receiver::open_entitled`](crate::Receiver::open_entitled) says more. About no
+    /// piece. (Document 02, Ask 10.)
+    Withheld,
 }
 
 impl Cause {
-    /// The cause's number in document 01, 1 to 6, or in document 02, 7.
+    /// The cause's number in document 01, 1 to 6, or in document 02, 7 and 8.
     pub const fn number(self) -> u16 {
         match self {
             Cause::Sequence => 1,
@@ -143,6 +148,7 @@ impl Cause {
             Cause::TooLong => 5,
             Cause::Lost => 6,
             Cause::CopiesDiffer => 7,
+            Cause::Withheld => 8,
         }
     }
 
@@ -156,6 +162,7 @@ impl Cause {
             5 => Cause::TooLong,
             6 => Cause::Lost,
             7 => Cause::CopiesDiffer,
+            8 => Cause::Withheld,
             _ => return None,
         })
     }
@@ -179,6 +186,7 @@ impl fmt::Display for Cause {
             Cause::TooLong => "the packet is over 4,096 bytes",
             Cause::Lost => "the PDU was marked lost",
             Cause::CopiesDiffer => "the two copies of the piece differ, and both CRCs are right",
+            Cause::Withheld => "the PDU is withheld: its program is not one of those entitled",
         })
     }
 }

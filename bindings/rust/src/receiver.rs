@@ -1,4 +1,4 @@
-//! The PDU receiver (document 01, "Receiver"; document 02, Asks 1 to 3 and 5).
+//! The PDU receiver (document 01, "Receiver"; document 02, Asks 1 to 3, 5 and 10).
 
 use crate::{ffi, Log, Mode, Refusal, Stream, CARRY_BYTES, CRC_START, LOG_WORDS};
 use std::fmt;
@@ -20,6 +20,9 @@ pub struct ReceiverState {
     /// The value that the CRC's register starts with, any byte. (Document 02, Ask
     /// 2.)
     pub crc_start: u8,
+    /// The programs that it is entitled to: bit p for program p. (Document 02, Ask
+    /// 10.)
+    pub entitled: u8,
     /// The last PDU's sequence, if it is known.
     pub sequence: Option<u8>,
     /// How many bytes of an unfinished packet are held, 0 to 4,096. 0: nothing is
@@ -27,6 +30,10 @@ pub struct ReceiverState {
     pub held: u16,
     /// That packet's number, 0 to 63; 0 if nothing is held.
     pub number: u8,
+    /// The applied services in force, 0 to 7, if they are known: only for the core
+    /// streams of modes 1, 2, 3 and 13, which keep them from one PDU to the next.
+    /// (Document 02, Ask 10.)
+    pub services: Option<u8>,
 }
 
 impl ReceiverState {
@@ -36,10 +43,13 @@ impl ReceiverState {
             mode: self.mode.number(),
             stream: self.stream.number(),
             crc_start: self.crc_start,
+            entitled: self.entitled,
             known: self.sequence.is_some(),
             sequence: self.sequence.unwrap_or(0),
             held: self.held,
             number: self.number,
+            serviced: self.services.is_some(),
+            services: self.services.unwrap_or(0),
         }
     }
 
@@ -49,9 +59,11 @@ impl ReceiverState {
             mode,
             stream,
             crc_start: receiver.crc_start,
+            entitled: receiver.entitled,
             sequence: receiver.known.then_some(receiver.sequence),
             held: receiver.held,
             number: receiver.number,
+            services: receiver.serviced.then_some(receiver.services),
         }
     }
 }
@@ -74,7 +86,7 @@ pub struct Receiver {
 impl Receiver {
     /// Opens a receiver for a mode and stream: no sequence is known, nothing is
     /// held. The register of its CRCs starts at [`CRC_START`], 0, as in document
-    /// 01's examples.
+    /// 01's examples. It is entitled to programs 0 to 7: no PDU is withheld.
     ///
     /// # Errors
     ///
@@ -90,13 +102,73 @@ impl Receiver {
     ///
     /// Nothing is promised for a writer and a receiver with unequal values; what a
     /// user sees then is [`Cause::Crc`](crate::Cause::Crc) for every piece that came
-    /// as it was sent.
+    /// as it was sent. It is entitled to programs 0 to 7: no PDU is withheld.
     ///
     /// # Errors
     ///
     /// [`Refusal::Mode`]: the mode has no such stream.
     pub fn open_with(mode: Mode, stream: Stream, crc_start: u8) -> Result<Receiver, Refusal> {
         let answer = ffi::open_receiver(mode.number(), stream.number(), crc_start);
+        Refusal::check(answer.refusal, 0)?;
+        let state = ReceiverState::after(mode, stream, answer.receiver);
+        Ok(Receiver::new(state, vec![0; CARRY_BYTES]))
+    }
+
+    /// Opens a receiver that is entitled to some programs only: `programs` has their
+    /// numbers, each 0 to 7 and none twice, in any order. With none it is entitled to
+    /// none, with all eight this is [`Receiver::open_with`]. (Document 02, Ask 10.)
+    ///
+    /// A PDU is withheld if its applied services are 1 and its program is not listed.
+    /// Other applied services withhold nothing; not sent, they count as 0, and so does
+    /// the program. For the core streams of modes 1, 2, 3 and 13 the value that counts
+    /// is the one sent with PDU sequence 0, until the next such PDU. Opening, marking
+    /// lost and [`Cause::Sequence`](crate::Cause::Sequence) forget it; while it is
+    /// unknown, every program that is not listed is withheld.
+    ///
+    /// A withheld PDU logs [`Cause::Withheld`](crate::Cause::Withheld) in place of its
+    /// PSD, and of its pieces nothing but what comes of the first, if it continues a
+    /// packet of which a beginning is held. So a packet follows the right of the PDU in
+    /// which it began.
+    ///
+    /// # Errors
+    ///
+    /// [`Refusal::Mode`]: the mode has no such stream.
+    /// [`Refusal::Programs`]: a program number is over 7, or repeated.
+    ///
+    /// # Example
+    ///
+    /// ```
+    /// use barzhilup::{Cause, Entry, Mode, ProgramType, Receiver, Services, Settings, Stream, Writer};
+    ///
+    /// # fn main() -> Result<(), barzhilup::Refusal> {
+    /// let mut writer = Writer::open(Mode::M0, Stream::Core)?;
+    /// let paid = Settings {
+    ///     class: Some(1),
+    ///     program: Some(3),
+    ///     program_type: Some(ProgramType { access: 1, type_code: 0 }),
+    ///     services: Some(Services { applied: 1, marker: 0 }),
+    ///     ..Settings::default()
+    /// };
+    /// let mut pdu = [0; 96];
+    /// writer.write(&paid, b"", &[b"audio"], &mut pdu)?;
+    /// let mut without = Receiver::open_entitled(Mode::M0, Stream::Core, 0, &[1, 2])?;
+    /// let log = without.receive(&mut pdu.clone())?;
+    /// let withheld = Entry::Note { cause: Cause::Withheld, piece: None };
+    /// assert!(log.entries().eq([withheld]));
+    /// let mut with = Receiver::open_entitled(Mode::M0, Stream::Core, 0, &[3])?;
+    /// let log = with.receive(&mut pdu)?;
+    /// assert!(matches!(log.entries().next(), Some(Entry::Packet { number: 0, .. })));
+    /// # Ok(())
+    /// # }
+    /// ```
+    pub fn open_entitled(
+        mode: Mode,
+        stream: Stream,
+        crc_start: u8,
+        programs: &[u8],
+    ) -> Result<Receiver, Refusal> {
+        let answer =
+            ffi::open_receiver_entitled(mode.number(), stream.number(), crc_start, programs);
         Refusal::check(answer.refusal, 0)?;
         let state = ReceiverState::after(mode, stream, answer.receiver);
         Ok(Receiver::new(state, vec![0; CARRY_BYTES]))
@@ -149,7 +221,8 @@ impl Receiver {
     /// packets, and hands out the log of this call. In log order: a note on the
     /// sequence or on a beginning that is not continued, if due; the PSD, if any;
     /// and for each piece a packet if one ends with it, a note if it is dropped,
-    /// or nothing if it is held.
+    /// or nothing if it is held. Of a PDU that is withheld,
+    /// [`Receiver::open_entitled`] says what there is.
     ///
     /// # Errors
     ///
@@ -200,7 +273,7 @@ impl Receiver {
 
     /// Marks a PDU lost, in its place in the row of PDUs: logs
     /// [`Cause::Lost`](crate::Cause::Lost), drops what is held and forgets the
-    /// sequence.
+    /// sequence and the applied services.
     ///
     /// # Errors
     ///

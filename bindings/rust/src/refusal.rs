@@ -78,11 +78,14 @@ pub enum Refusal {
     /// 21: a bench for latency settings has no counts, more than 4,096, or one
     /// over 63 (document 02, Ask 7).
     Counts,
+    /// 22: a list of entitled programs has a number over 7, or one repeated
+    /// (document 02, Ask 10).
+    Programs,
 }
 
 impl Refusal {
     /// The number in document 01's table, 1 to 17, or in document 02, 18 to
-    /// 21.
+    /// 22.
     pub const fn number(self) -> u32 {
         match self {
             Refusal::State => 1,
@@ -106,6 +109,7 @@ impl Refusal {
             Refusal::Marks => 19,
             Refusal::Pair => 20,
             Refusal::Counts => 21,
+            Refusal::Programs => 22,
         }
     }
 
@@ -135,6 +139,7 @@ impl Refusal {
             19 => Refusal::Marks,
             20 => Refusal::Pair,
             21 => Refusal::Counts,
+            22 => Refusal::Programs,
             _ => unreachable!("the library has no refusal {number}"),
         })
     }
@@ -167,6 +172,7 @@ impl Refusal {
             Refusal::Marks => "more than eight marks, one over 95, or one repeated",
             Refusal::Pair => "the two copies say different things before their pieces",
             Refusal::Counts => "no counts, more than 4,096, or one over 63",
+            Refusal::Programs => "a program number is over 7, or repeated",
         }
     }
 }

@@ -69,6 +69,7 @@ fn each_cause_and_its_piece() {
         0xC005_0035,
         0xC006_0000,
         0xC007_003E,
+        0xC008_0000,
     ];
     let expected = vec![
         Plain::Note(Cause::Sequence, None),
@@ -78,6 +79,7 @@ fn each_cause_and_its_piece() {
         Plain::Note(Cause::TooLong, Some(0x35)),
         Plain::Note(Cause::Lost, None),
         Plain::Note(Cause::CopiesDiffer, Some(0x3E)),
+        Plain::Note(Cause::Withheld, None),
     ];
     assert_eq!(entries(&words), Ok(expected));
 }
@@ -123,7 +125,8 @@ fn a_first_word_that_does_not_fit() {
         0x8000_0000, // PSD of no bytes
         0x8001_0001, // PSD with a bit that has no meaning
         0xC000_0000, // note 0
-        0xC008_0000, // note 8
+        0xC009_0000, // note 9
+        0xC008_0001, // note 8, which is about no piece, with one
         0xC006_0001, // note 6, which is about no piece, with one
     ];
     for word in wrong {

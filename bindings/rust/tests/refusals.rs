@@ -144,9 +144,11 @@ fn n1_receiver_state() {
         mode: Mode::M0,
         stream: Stream::Core,
         crc_start: CRC_START,
+        entitled: 255,
         sequence: Some(1),
         held: 4096,
         number: 63,
+        services: None,
     };
     let carry = [6; 4096];
     let receiver = Receiver::resume(right, &carry).unwrap();
@@ -167,6 +169,16 @@ fn n1_receiver_state() {
         ReceiverState { held: 0, ..right },
         ReceiverState {
             stream: Stream::Enhanced,
+            ..right
+        },
+        // Applied services are kept by core streams of PDU sequences 0 to 7 only.
+        ReceiverState {
+            services: Some(0),
+            ..right
+        },
+        ReceiverState {
+            mode: Mode::M1,
+            services: Some(8),
             ..right
         },
     ];

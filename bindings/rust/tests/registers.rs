@@ -116,9 +116,11 @@ fn every_value_opens() {
                 mode: row.mode,
                 stream: row.stream,
                 crc_start,
+                entitled: 255,
                 sequence: None,
                 held: 0,
                 number: 0,
+                services: None,
             };
             assert_eq!(receiver.state(), state);
             assert_eq!(Receiver::resume(state, receiver.carry()), Ok(receiver));

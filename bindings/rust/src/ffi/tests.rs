@@ -85,10 +85,13 @@ fn receivers() -> Vec<String> {
             mode,
             stream,
             crc_start,
+            entitled,
             known,
             sequence,
             held,
-            number
+            number,
+            serviced,
+            services
         ),
         layout!(
             "barzhilup_receiver_opened",
