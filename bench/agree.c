@@ -76,8 +76,9 @@ static struct reception ours, theirs;
 static int same_receiver(const barzhilup_receiver *x, const barzhilup_receiver *y)
 {
     return x->mode == y->mode && x->stream == y->stream && x->crc_start == y->crc_start
-           && x->known == y->known && x->sequence == y->sequence && x->held == y->held
-           && x->number == y->number;
+           && x->entitled == y->entitled && x->known == y->known && x->sequence == y->sequence
+           && x->held == y->held && x->number == y->number && x->serviced == y->serviced
+           && x->services == y->services;
 }
 
 static barzhilup_received call_receive(receive_call *receive, struct reception *r, size_t length,
@@ -241,6 +242,8 @@ static unsigned random_reception(const struct implementation *peer, barzhilup_wr
             barzhilup_open_receiver_with(writer.mode, writer.stream, writer.crc_start).receiver;
     if (seldom())
         ours.receiver.sequence = theirs.receiver.sequence = (uint8_t)random_below(9);
+    if (seldom())
+        ours.receiver.entitled = theirs.receiver.entitled = (uint8_t)random_below(256);
     received = same_receive(peer, pdu, length, seldom() ? random_below(200) : LOG);
     if (received.refusal == BARZHILUP_REFUSED_STATE)
         ours.receiver = theirs.receiver = barzhilup_open_receiver(0, 0).receiver;

@@ -293,6 +293,7 @@ struct reading {
     size_t marks[PIECES + 1]; /* La and each locator */
     uint8_t taken[PIECES];    /* from which copy a piece is taken, or its note */
     uint32_t wrong;           /* k of the first wrong locator */
+    unsigned program, services;
 };
 
 static size_t locator_at(const struct mode *m, const uint8_t *pdu, size_t k)
@@ -346,6 +347,10 @@ static uint32_t read_expansion(struct reading *r, const uint8_t *pdu, size_t at)
             r->displaced = 1;
             r->displacement = (size_t)(pdu[at + 1] & 0x7f) << 7 | (pdu[at + 2] & 0x7f);
         }
+        if (id == 1)
+            r->program = pdu[at] >> 1 & 7;
+        if (id == 4)
+            r->services = pdu[at] & 7;
         at += size;
     }
     return BARZHILUP_ACCEPTED;
@@ -391,6 +396,8 @@ static uint32_t read_pdu(struct reading *r, const barzhilup_receiver *receiver,
     uint32_t refusal;
     r->wrong = 0;
     r->displaced = 0;
+    r->program = 0;
+    r->services = 0;
     r->m = mode_of(pdu[8] & 15, pdu[8] >> 4 & 3);
     if (r->m == NULL)
         return BARZHILUP_REFUSED_MODE;
@@ -490,11 +497,31 @@ static unsigned piece_note(const struct reading *r, size_t k, size_t held)
     return held + n > BARZHILUP_PACKET_MAX ? BARZHILUP_NOTE_TOO_LONG : 0;
 }
 
-/* The words that steps 1 to 4 will write. */
-static size_t count_words(const struct reading *r, unsigned note, size_t held)
+/* Takes the applied services that are kept with this PDU, and says whether it is
+ * withheld (document 02, Ask 10). */
+static int is_withheld(const struct reading *r, unsigned note, barzhilup_receiver *next)
 {
-    size_t k, psd = r->la + 1 - r->psd, words = (note != 0) + (psd > 0 ? 1 + data_words(psd) : 0);
-    for (k = 0; k < r->pieces; k++) {
+    int keeps = next->stream == 0 && r->m->sequences == 8;
+    if (note == BARZHILUP_NOTE_SEQUENCE) {
+        next->serviced = false;
+        next->services = 0;
+    }
+    if (keeps && r->sequence == 0) {
+        next->serviced = true;
+        next->services = (uint8_t)r->services;
+    }
+    if ((next->entitled >> r->program & 1) != 0)
+        return 0;
+    return keeps ? !next->serviced || next->services == 1 : r->services == 1;
+}
+
+/* The words that steps 1 to 4 will write, with so many pieces looked at. */
+static size_t count_words(const struct reading *r, unsigned note, size_t held, int withheld,
+                          size_t pieces)
+{
+    size_t k, psd = r->la + 1 - r->psd, words = note != 0;
+    words += withheld ? 1 : psd > 0 ? 1 + data_words(psd) : 0;
+    for (k = 0; k < pieces; k++) {
         size_t n = r->marks[k + 1] - r->marks[k] - 1;
         if (piece_note(r, k, held) != 0)
             words++;
@@ -507,12 +534,12 @@ static size_t count_words(const struct reading *r, unsigned note, size_t held)
 
 /* Step 4; the next receiver's held and number are set. */
 static uint32_t *take_pieces(const struct reading *r, const uint8_t *pdu, const uint8_t *second,
-                             uint8_t *carry, barzhilup_receiver *next, uint32_t *log)
+                             size_t pieces, uint8_t *carry, barzhilup_receiver *next, uint32_t *log)
 {
     size_t k, held = next->held;
     next->held = 0;
     next->number = 0;
-    for (k = 0; k < r->pieces; k++) {
+    for (k = 0; k < pieces; k++) {
         const uint8_t *piece = (r->taken[k] == FROM_SECOND ? second : pdu) + r->marks[k] + 1;
         size_t n = r->marks[k + 1] - r->marks[k] - 1;
         unsigned number = (r->start + (unsigned)k + (r->pfirst ? 63 : 0)) % 64;
@@ -537,21 +564,27 @@ static uint32_t take_pdu(const struct reading *r, const uint8_t *pdu, const uint
                          uint8_t *carry, uint32_t *log, size_t log_length,
                          barzhilup_received *answer)
 {
-    unsigned note = first_note(&answer->receiver, r);
-    size_t psd = r->la + 1 - r->psd, held = note == 0 ? answer->receiver.held : 0;
+    barzhilup_receiver next = answer->receiver;
+    unsigned note = first_note(&next, r);
+    size_t psd = r->la + 1 - r->psd, held = note == 0 ? next.held : 0;
+    int withheld = is_withheld(r, note, &next);
+    size_t pieces = withheld ? held > 0 : r->pieces;
     uint32_t *at = log;
-    if (log_length < count_words(r, note, held))
+    if (log_length < count_words(r, note, held, withheld, pieces))
         return BARZHILUP_REFUSED_LOG_LENGTH;
     if (note != 0)
         at = put_note(at, note, 0);
-    if (psd > 0) {
+    if (withheld) {
+        at = put_note(at, BARZHILUP_NOTE_WITHHELD, 0);
+    } else if (psd > 0) {
         *at++ = 0x80000000u | (uint32_t)psd;
         at = put_data(at, pdu + r->psd, psd);
     }
-    answer->receiver.held = (uint16_t)held;
-    at = take_pieces(r, pdu, second, carry, &answer->receiver, at);
-    answer->receiver.known = true;
-    answer->receiver.sequence = (uint8_t)r->sequence;
+    next.held = (uint16_t)held;
+    at = take_pieces(r, pdu, second, pieces, carry, &next, at);
+    next.known = true;
+    next.sequence = (uint8_t)r->sequence;
+    answer->receiver = next;
     answer->words = (uint32_t)(at - log);
     return BARZHILUP_ACCEPTED;
 }
@@ -563,7 +596,9 @@ static uint32_t wrong_reception(const barzhilup_receiver *r, size_t carry_length
 {
     const struct mode *m = mode_of(r->mode, r->stream);
     if (m == NULL || r->sequence >= m->sequences || (!r->known && r->sequence != 0)
-        || r->held > BARZHILUP_PACKET_MAX || r->number > 63 || (r->held == 0 && r->number != 0))
+        || r->held > BARZHILUP_PACKET_MAX || r->number > 63 || (r->held == 0 && r->number != 0)
+        || r->services > 7 || (!r->serviced && r->services != 0)
+        || (r->serviced && (r->stream != 0 || m->sequences != 8)))
         return BARZHILUP_REFUSED_STATE;
     if (carry_length < BARZHILUP_CARRY_BYTES)
         return BARZHILUP_REFUSED_CARRY_LENGTH;
@@ -590,7 +625,7 @@ barzhilup_received plain_receive(barzhilup_receiver receiver,
                                  uint8_t *pdu, size_t pdu_length,
                                  uint32_t *log, size_t log_length)
 {
-    barzhilup_received answer = {0, 0, 0, {0, 0, 0, false, 0, 0, 0}};
+    barzhilup_received answer = {0, 0, 0, {0, 0, 0, 0, false, 0, 0, 0, false, 0}};
     uint8_t before[HEADER];
     struct reading r;
     answer.receiver = receiver;
@@ -679,7 +714,7 @@ barzhilup_received plain_receive_pair(barzhilup_receiver receiver,
                                       uint8_t *second, size_t second_length,
                                       uint32_t *log, size_t log_length)
 {
-    barzhilup_received answer = {0, 0, 0, {0, 0, 0, false, 0, 0, 0}};
+    barzhilup_received answer = {0, 0, 0, {0, 0, 0, 0, false, 0, 0, 0, false, 0}};
     struct copy one, other, *by = &one;
     answer.receiver = receiver;
     answer.refusal = wrong_reception(&receiver, carry_length, BARZHILUP_PDU_MIN);

@@ -1,8 +1,8 @@
 /*
  * The writer and the receiver once more, in plain C: what a C programmer would
- * write from document 01, and for pairs from document 02, with libfec for the
- * header and a table CRC. It is what the library is measured beside, and nothing
- * else uses it.
+ * write from document 01, and for pairs and entitled programs from document 02,
+ * with libfec for the header and a table CRC. It is what the library is measured
+ * beside, and nothing else uses it.
  *
  * The functions are called as the library's are (barzhilup.h), and answer the
  * same, refusals included. Of wrong locators the first is named.

@@ -177,6 +177,12 @@ static void open_receiver_with(void)
     MEASURE(sink = barzhilup_open_receiver_with(10, 1, 255).refusal);
 }
 
+static void open_receiver_entitled(void)
+{
+    static const uint8_t programs[8] = {7, 6, 5, 4, 3, 2, 1, 0};
+    MEASURE(sink = barzhilup_open_receiver_entitled(10, 1, 255, programs, 8).refusal);
+}
+
 static void write_pdu(void)
 {
     const struct offer *o = &drive->offers[at];
@@ -328,6 +334,7 @@ static const struct {
     {"barzhilup_write", write_pdu},
     {"barzhilup_open_receiver", open_receiver},
     {"barzhilup_open_receiver_with", open_receiver_with},
+    {"barzhilup_open_receiver_entitled", open_receiver_entitled},
     {"barzhilup_receive", receive},
     {"barzhilup_receive_marked", receive_marked},
     {"barzhilup_receive_batch", receive_batch},

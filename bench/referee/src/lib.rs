@@ -54,10 +54,13 @@ pub struct CReceiver {
     mode: u8,
     stream: u8,
     crc_start: u8,
+    entitled: u8,
     known: bool,
     sequence: u8,
     held: u16,
     number: u8,
+    serviced: bool,
+    services: u8,
 }
 
 #[repr(C)]
@@ -122,10 +125,13 @@ impl From<CReceiver> for Receiver {
             mode: r.mode,
             stream: r.stream,
             register: r.crc_start,
+            entitled: std::array::from_fn(|program| r.entitled >> program & 1 != 0),
             known: r.known,
             sequence: r.sequence,
             held: r.held,
             number: r.number,
+            serviced: r.serviced,
+            services: r.services,
         }
     }
 }
@@ -136,10 +142,13 @@ impl From<Receiver> for CReceiver {
             mode: r.mode,
             stream: r.stream,
             crc_start: r.register,
+            entitled: (0..8).map(|p| u8::from(r.entitled[p]) << p).sum(),
             known: r.known,
             sequence: r.sequence,
             held: r.held,
             number: r.number,
+            serviced: r.serviced,
+            services: r.services,
         }
     }
 }
