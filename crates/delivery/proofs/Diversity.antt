@@ -43,7 +43,7 @@ use Rattle.pair.proofs.Enough.{Passes, taken, passes-taken, passes-most}
 use Rattle.delivery.specs.Delivery.{Station, Call, pair, answerOf, ofOne, stationAfter, loggedBy, defined}
 use Rattle.delivery.proofs.Copies.{same-slice}
 use Rattle.delivery.proofs.Made.{Heard}
-use Rattle.delivery.proofs.Serving.{rightsBy, fair-after, sane-shown, keeping, Shows, mode-is, put, shows-put, loggedAlone}
+use Rattle.delivery.proofs.Serving.{rightsBy, Shows, mode-is, taking, outcome-is, taking-shows, loggedAlone}
 
 -- ---- a refused pair leaves receiver and carry
 
@@ -140,25 +140,8 @@ module _ (mode stream register entitled : ℕ) (m : Mode) (l : listing mode stre
       abbrev carry : List ℕ
       carry = x .carry
 
-      this-mode : modeOf r ≡ m
-      this-mode = ap modeIn (mode-is mode stream register entitled m l range r (v .sameMode) (v .sameStream))
-
       come-is : come carry p q log r ≡ d
-      come-is = ap₂ (λ (i : ℕ) (t : Mode). pairCome i (t .width) (controlAt (correctedPdu p)) (correctedPdu p) (correctedPdu q)) (v .sameRegister) this-mode ∙ comes
-
-      said-is : said carry p q log r ≡ saidTo (rightsBy entitled stream m) (m .sequences) y d
-      said-is = λ i. saidTo (rightsBy (v .sameEntitled i) (v .sameStream i) (this-mode i)) (this-mode i .sequences) (record { memory = v .memory i; kept = v .kept i; tally = noTally }) (come-is i)
-
-      outcome-is : outcome carry p q log r ≡ received (m .sequences) (y .memory) (saidTo (rightsBy entitled stream m) (m .sequences) y d)
-      outcome-is = λ i. received (this-mode i .sequences) (v .memory i) (said-is i)
-
-      after-is : memoryAfter carry p q log r ≡ holderFor (rightsBy entitled stream m) (m .sequences) y (came d) .memory
-      after-is = λ i. remembered (this-mode i .sequences) (v .memory i) (said-is i)
-
-      kept-is : keptServices carry p q log r ≡ holderFor (rightsBy entitled stream m) (m .sequences) y (came d) .kept
-      kept-is =
-          λ i. keptAfter (rightsBy (v .sameEntitled i) (v .sameStream i) (this-mode i) .keeps)
-          (valueFor (rightsBy (v .sameEntitled i) (v .sameStream i) (this-mode i)) (this-mode i .sequences) (record { memory = v .memory i; kept = v .kept i; tally = noTally }) (come-is i))
+      come-is = ap₂ (λ (i : ℕ) (t : Mode). pairCome i (t .width) (controlAt (correctedPdu p)) (correctedPdu p) (correctedPdu q)) (v .sameRegister) (ap modeIn (mode-is mode stream register entitled m l range r (v .sameMode) (v .sameStream))) ∙ comes
 
       all-taken : pairReceived carry p q log r ≡ taken carry p q log r
       all-taken = passes-taken carry p q log r h (let n = passes-most carry p q log r h bytes in omega (arith, n, big))
@@ -170,16 +153,10 @@ module _ (mode stream register entitled : ℕ) (m : Mode) (l : listing mode stre
       pair-logged =
           ap (λ (z : Result). loggedAlone (ofOne (z .answer)) (z .log)) all-taken
           ∙ take-put log (pairWords carry p q log r)
-          ∙ ap (λ (o : Outcome). logWords (o .entries)) outcome-is
+          ∙ ap (λ (o : Outcome). logWords (o .entries)) (outcome-is mode stream register entitled m l range x y v (come carry p q log r) d come-is)
 
       pub pair-shows : Shows mode stream register entitled m l range (stationAfter defined x (pair p q log)) (holderFor (rightsBy entitled stream m) (m .sequences) y (came d))
-      unfolding remembered
       pair-shows =
-          let z = holderFor (rightsBy entitled stream m) (m .sequences) y (came d) in
-          let e : stationAfter defined x (pair p q log) ≡ put mode stream register entitled m l range r carry (z .memory) (z .kept) =
-          ap (λ (u : Result). record { receiver = u .answer .receiver; carry = u .carry }) all-taken
-          ∙ (λ i. record { receiver = remembering r (after-is i) (kept-is i); carry = putAt carry 0 (bytesOf (outcome-is i .partial)) }) in
-          subst (λ (t : Station). Shows mode stream register entitled m l range t z) (sym e)
-          (shows-put mode stream register entitled m l range r carry z (v .sameMode) (v .sameStream) (v .sameRegister) (v .sameEntitled) (v .room) below
-          (fit-received (m .sequences) (y .memory) (saidTo (rightsBy entitled stream m) (m .sequences) y d) (v .sane) (sane-shown (rightsBy entitled stream m) (m .sequences) y d s) .1)
-          (fair-after (keeping mode stream register entitled m l range) (m .sequences) (d .said .sequence) (d .label .services) (y .memory .last) (y .kept) (v .fair) narrow))
+          let e : stationAfter defined x (pair p q log) ≡ taking mode stream register entitled m l range x (come carry p q log r) = ap (λ (u : Result). record { receiver = u .answer .receiver; carry = u .carry }) all-taken in
+          subst (λ (t : Station). Shows mode stream register entitled m l range t (holderFor (rightsBy entitled stream m) (m .sequences) y (came d))) (sym e)
+          (taking-shows mode stream register entitled m l range x y v (come carry p q log r) d come-is s below narrow)

@@ -27,7 +27,7 @@ use Rattle.reassembly.specs.Run.{bytesOf, numberOf as partialNumber, partialOf,
 use Rattle.reassembly.proofs.Fitting.{SanePartial, SaneSaid, fit-received}
 use Rattle.reassembly.proofs.Runs.{partial-kept}
 use Rattle.receiver.specs.Entitling.{entitles}
-use Rattle.receiver.specs.Receiving.{comeBy, memoryOf, keptOf, remembering, isKnown, orZero, keepsServices, modeOf, wrongState, come, said, outcome, receivedWords, memoryAfter, keptServices, refusedAnswer, receiveTests, receiveNumber, receiveAnswer, carryAfter, logAfter, lostNumber, lostAnswer, logAfterLost}
+use Rattle.receiver.specs.Receiving.{comeBy, memoryOf, keptOf, remembering, isKnown, orZero, keepsServices, shown, keptBy, modeOf, wrongState, come, outcome, receivedWords, memoryAfter, keptServices, refusedAnswer, receiveTests, receiveNumber, receiveAnswer, carryAfter, logAfter, lostNumber, lostAnswer, logAfterLost}
 use Rattle.receiver.specs.declared.Receiver.{Receiver}
 use Rattle.receiver.specs.declared.Received.{Received}
 use Rattle.refusal.proofs.Rows.{past, row-off, rest-off}
@@ -73,7 +73,7 @@ services-right keeps none f = (refl, refl, refl)
 services-right keeps (some v) f = (le-ltb 7 v (let h = f .0 in omega (arith, h)), refl, ap not (f .1))
 
 -- so are those after a PDU whose own are
-pub fair-after : (keeps : Bool) (range q v : ℕ) (last kept : Option ℕ) → Fair keeps kept → v < 8 → Fair keeps (keptAfter keeps (inForce keeps q v (forgetting range last q kept)))
+fair-after : (keeps : Bool) (range q v : ℕ) (last kept : Option ℕ) → Fair keeps kept → v < 8 → Fair keeps (keptAfter keeps (inForce keeps q v (forgetting range last q kept)))
 fair-after false range q v last kept f h = tt
 fair-after true range q v last kept f h = go (eqb q 0) (inSequence range last q)
   where
@@ -151,6 +151,45 @@ module _ (mode stream register entitled : ℕ) (m : Mode) (l : listing mode stre
     fair = f;
   }
 
+  -- ---- a PDU that comes to a station
+
+  -- the station after it
+  abbrev pub taking : Station → Come → Station
+  taking x c =
+      let r = x .receiver in
+      let n = modeOf r .sequences in
+      let d = shown n r (x .carry) c in
+      record { receiver = remembering r (remembered n (memoryOf r (x .carry)) d) (keptBy n r (x .carry) c); carry = putAt (x .carry) 0 (bytesOf (received n (memoryOf r (x .carry)) d .partial)) }
+
+  -- of a station that stands for y, where the PDU is d
+  module _ (x : Station) (y : Holder) (v : Shows x y) (c d : Come) (e : c ≡ d) where
+    mode-here : modeOf (x .receiver) ≡ m
+    mode-here = ap modeIn (mode-is (x .receiver) (v .sameMode) (v .sameStream))
+
+    shown-is : shown (modeOf (x .receiver) .sequences) (x .receiver) (x .carry) c ≡ saidTo (rightsBy entitled stream m) (m .sequences) y d
+    shown-is = λ i. saidTo (rightsBy (v .sameEntitled i) (v .sameStream i) (mode-here i)) (mode-here i .sequences) (record { memory = v .memory i; kept = v .kept i; tally = noTally }) (e i)
+
+    pub outcome-is : received (modeOf (x .receiver) .sequences) (memoryOf (x .receiver) (x .carry)) (shown (modeOf (x .receiver) .sequences) (x .receiver) (x .carry) c)
+        ≡ received (m .sequences) (y .memory) (saidTo (rightsBy entitled stream m) (m .sequences) y d)
+    outcome-is = λ i. received (mode-here i .sequences) (v .memory i) (shown-is i)
+
+    kept-is : keptBy (modeOf (x .receiver) .sequences) (x .receiver) (x .carry) c ≡ holderFor (rightsBy entitled stream m) (m .sequences) y (came d) .kept
+    kept-is =
+        λ i. keptAfter (rightsBy (v .sameEntitled i) (v .sameStream i) (mode-here i) .keeps)
+        (valueFor (rightsBy (v .sameEntitled i) (v .sameStream i) (mode-here i)) (mode-here i .sequences) (record { memory = v .memory i; kept = v .kept i; tally = noTally }) (e i))
+
+    -- the station after it stands for what the receiver holds after it
+    pub taking-shows : SaneSaid (d .said) → d .said .sequence < m .sequences → d .label .services < 8 → Shows (taking x c) (holderFor (rightsBy entitled stream m) (m .sequences) y (came d))
+    unfolding remembered
+    taking-shows s below narrow =
+        let z = holderFor (rightsBy entitled stream m) (m .sequences) y (came d) in
+        let p : taking x c ≡ put (x .receiver) (x .carry) (z .memory) (z .kept) =
+        (λ i. record { receiver = remembering (x .receiver) (remembered (mode-here i .sequences) (v .memory i) (shown-is i)) (kept-is i); carry = putAt (x .carry) 0 (bytesOf (outcome-is i .partial)) }) in
+        subst (λ (t : Station). Shows t z) (sym p)
+        (shows-put (x .receiver) (x .carry) z (v .sameMode) (v .sameStream) (v .sameRegister) (v .sameEntitled) (v .room) below
+        (fit-received (m .sequences) (y .memory) (saidTo (rightsBy entitled stream m) (m .sequences) y d) (v .sane) (sane-shown (rightsBy entitled stream m) (m .sequences) y d s) .1)
+        (fair-after keeping (m .sequences) (d .said .sequence) (d .label .services) (y .memory .last) (y .kept) (v .fair) narrow))
+
   -- ---- receiving
 
   module _ (x : Station) (y : Holder) (v : Shows x y) (marks q log : List ℕ) (d : Come) (h : Heard mode stream register (m .width) marks q d) (s : SaneSaid (d .said)) (below : d .said .sequence < m .sequences)
@@ -161,25 +200,8 @@ module _ (mode stream register entitled : ℕ) (m : Mode) (l : listing mode stre
     abbrev carry : List ℕ
     carry = x .carry
 
-    this-mode : modeOf r ≡ m
-    this-mode = ap modeIn (mode-is r (v .sameMode) (v .sameStream))
-
     come-is : come marks carry q log r ≡ d
-    come-is = ap₂ (λ (i : ℕ) (t : Mode). comeBy i (t .width) (controlAt (correctedPduWith marks q)) (correctedPduWith marks q)) (v .sameRegister) this-mode ∙ h .comes
-
-    said-is : said marks carry q log r ≡ saidTo (rightsBy entitled stream m) (m .sequences) y d
-    said-is = λ i. saidTo (rightsBy (v .sameEntitled i) (v .sameStream i) (this-mode i)) (this-mode i .sequences) (record { memory = v .memory i; kept = v .kept i; tally = noTally }) (come-is i)
-
-    outcome-is : outcome marks carry q log r ≡ received (m .sequences) (y .memory) (saidTo (rightsBy entitled stream m) (m .sequences) y d)
-    outcome-is = λ i. received (this-mode i .sequences) (v .memory i) (said-is i)
-
-    after-is : memoryAfter marks carry q log r ≡ holderFor (rightsBy entitled stream m) (m .sequences) y (came d) .memory
-    after-is = λ i. remembered (this-mode i .sequences) (v .memory i) (said-is i)
-
-    kept-is : keptServices marks carry q log r ≡ holderFor (rightsBy entitled stream m) (m .sequences) y (came d) .kept
-    kept-is =
-        λ i. keptAfter (rightsBy (v .sameEntitled i) (v .sameStream i) (this-mode i) .keeps)
-        (valueFor (rightsBy (v .sameEntitled i) (v .sameStream i) (this-mode i)) (this-mode i .sequences) (record { memory = v .memory i; kept = v .kept i; tally = noTally }) (come-is i))
+    come-is = ap₂ (λ (i : ℕ) (t : Mode). comeBy i (t .width) (controlAt (correctedPduWith marks q)) (correctedPduWith marks q)) (v .sameRegister) (ap modeIn (mode-is r (v .sameMode) (v .sameStream))) ∙ h .comes
 
     -- none of the rows 1 to 12 applies
     first-twelve : firstOf (firstTwelve marks carry q log r) ≡ 0
@@ -195,7 +217,7 @@ module _ (mode stream register entitled : ℕ) (m : Mode) (l : listing mode stre
         rw (e1, e2, h .size, h .allowed, h .correctable, e5, em, es) (rest-off (correctedTests c y) 1 refl (h .reads))
 
     words-are : receivedWords marks carry q log r ≡ logWords (received (m .sequences) (y .memory) (saidTo (rightsBy entitled stream m) (m .sequences) y d) .entries)
-    words-are = ap (λ (o : Outcome). logWords (o .entries)) outcome-is
+    words-are = ap (λ (o : Outcome). logWords (o .entries)) (outcome-is x y v (come marks carry q log r) d come-is)
 
     pub accepts : receiveNumber marks carry q log r ≡ 0
     unfolding receiveNumber
@@ -230,15 +252,9 @@ module _ (mode stream register entitled : ℕ) (m : Mode) (l : listing mode stre
         ∙ words-are
 
     pub receive-shows : Shows (stationAfter defined x (receive marks q log)) (holderFor (rightsBy entitled stream m) (m .sequences) y (came d))
-    unfolding remembered
     receive-shows =
-        let z = holderFor (rightsBy entitled stream m) (m .sequences) y (came d) in
-        let e : stationAfter defined x (receive marks q log) ≡ put r carry (z .memory) (z .kept) =
-        ap₂ (λ (a : Received) (c : List ℕ). record { receiver = a .receiver; carry = c }) answer-is carry-is
-        ∙ (λ i. record { receiver = remembering r (after-is i) (kept-is i); carry = putAt carry 0 (bytesOf (outcome-is i .partial)) }) in
-        subst (λ (t : Station). Shows t z) (sym e)
-        (shows-put r carry z (v .sameMode) (v .sameStream) (v .sameRegister) (v .sameEntitled) (v .room) below (fit-received (m .sequences) (y .memory) (saidTo (rightsBy entitled stream m) (m .sequences) y d) (v .sane) (sane-shown (rightsBy entitled stream m) (m .sequences) y d s) .1)
-        (fair-after keeping (m .sequences) (d .said .sequence) (d .label .services) (y .memory .last) (y .kept) (v .fair) narrow))
+        let e : stationAfter defined x (receive marks q log) ≡ taking x (come marks carry q log r) = ap₂ (λ (a : Received) (c : List ℕ). record { receiver = a .receiver; carry = c }) answer-is carry-is in
+        subst (λ (t : Station). Shows t (holderFor (rightsBy entitled stream m) (m .sequences) y (came d))) (sym e) (taking-shows x y v (come marks carry q log r) d come-is s below narrow)
 
   -- ---- marking lost
 
