@@ -5,8 +5,8 @@
 //! received in one call with refusal 18 (Ask 1), the CRC's starting register
 //! (Ask 2), header bytes marked doubtful with refusal 19 (Ask 3), two copies of a
 //! PDU with refusal 20 and note 7 (Ask 5), a bench for latency settings with
-//! refusal 21 (Ask 7), parity as bytes arrive (Ask 8), and up to 63 pieces (Ask
-//! 9):
+//! refusal 21 (Ask 7), parity as bytes arrive (Ask 8), up to 63 pieces (Ask 9),
+//! and paid programs with refusal 22 and note 8 (Ask 10):
 //!
 //! - `field`: the bytes as elements of GF(256);
 //! - `linear`: systems of linear equations over them;
@@ -23,6 +23,7 @@
 //! - `writer`: the writer, opened and writing;
 //! - `log`: the words of the packet log;
 //! - `receiver`: the receiver, opened, receiving and marking lost;
+//! - `entitlement`: the entitled programs, and which PDUs are withheld;
 //! - `batches`: PDUs received in one call;
 //! - `pairs`: two copies of a PDU, one chosen, or both received in one call;
 //! - `refusal`: the numbers of the table of refusals, and their causes;
@@ -36,6 +37,7 @@ pub mod batches;
 pub mod control;
 pub mod crc;
 pub mod encode;
+pub mod entitlement;
 pub mod erasures;
 pub mod expansion;
 pub mod field;

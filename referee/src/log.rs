@@ -19,6 +19,8 @@ pub enum Note {
     /// 7: right CRCs in both copies, and other bytes in one than in the other
     /// (document 02, Ask 5).
     Differing(usize),
+    /// 8: the PDU is withheld (document 02, Ask 10).
+    Withheld,
 }
 
 impl Note {
@@ -32,6 +34,7 @@ impl Note {
             Note::TooLong(_) => 5,
             Note::Lost => 6,
             Note::Differing(_) => 7,
+            Note::Withheld => 8,
         }
     }
 
@@ -39,7 +42,7 @@ impl Note {
     pub fn piece(self) -> usize {
         match self {
             Note::WrongCrc(k) | Note::NothingHeld(k) | Note::TooLong(k) | Note::Differing(k) => k,
-            Note::NotTheNext | Note::NotContinued | Note::Lost => 0,
+            Note::NotTheNext | Note::NotContinued | Note::Lost | Note::Withheld => 0,
         }
     }
 
@@ -53,6 +56,7 @@ impl Note {
             5 => Note::TooLong(piece),
             6 => Note::Lost,
             7 => Note::Differing(piece),
+            8 => Note::Withheld,
             _ => return None,
         };
         (note.piece() == piece).then_some(note)
@@ -218,7 +222,13 @@ mod tests {
                 assert_eq!(entries(&wrong), None);
             }
         }
-        for wrong in [0xC000_0000, 0xC008_0000, 0xC006_0001, 0x4100_0000] {
+        for wrong in [
+            0xC000_0000,
+            0xC009_0000,
+            0xC006_0001,
+            0xC008_0001,
+            0x4100_0000,
+        ] {
             assert_eq!(entries(&[wrong]), None);
         }
     }

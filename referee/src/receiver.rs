@@ -1,10 +1,12 @@
 //! The receiver (document 01, "Receiver"; the CRC's register, document 02, Ask
-//! 2; with marks, Ask 3), with the refusals 1 to 13 and 19. All causes for a
+//! 2; with marks, Ask 3; with entitled programs, Ask 10), with the refusals 1 to
+//! 13, 19 and 22. All causes for a
 //! refusal are gathered first; of their numbers the one checked first is the
 //! answer. `pairs` receives two copies of a PDU by the same steps.
 
 use crate::control::{self, ControlWord};
 use crate::crc::crc8_from;
+use crate::entitlement::{self, Entitled};
 use crate::erasures;
 use crate::log::{self, Entry, Note};
 use crate::modes;
@@ -26,6 +28,8 @@ pub struct Receiver {
     pub stream: u8,
     /// What the register of the CRCs starts at: any byte.
     pub register: u8,
+    /// Of each program, whether it is entitled.
+    pub entitled: Entitled,
     /// Whether the last PDU sequence is known.
     pub known: bool,
     pub sequence: u8,
@@ -33,6 +37,10 @@ pub struct Receiver {
     pub held: u16,
     /// The number of the packet it begins.
     pub number: u8,
+    /// Whether the applied services that are kept are known; only for core PDUs of
+    /// sequence range 0-7.
+    pub serviced: bool,
+    pub services: u8,
 }
 
 /// Opens a receiver for a mode and stream, or answers the refusal's number. The
@@ -42,8 +50,15 @@ pub fn open(mode: u8, stream: u8) -> Result<Receiver, u32> {
 }
 
 /// Opens a receiver for a mode and stream with what the register of its CRCs
-/// starts at, any byte; or answers the refusal's number.
+/// starts at, any byte; or answers the refusal's number. It is entitled to all
+/// programs.
 pub fn open_with(mode: u8, stream: u8, register: u8) -> Result<Receiver, u32> {
+    open_entitled(mode, stream, register, &[0, 1, 2, 3, 4, 5, 6, 7])
+}
+
+/// Opens a receiver that is entitled to these programs; or answers the refusal's
+/// number, 5 before 22.
+pub fn open_entitled(mode: u8, stream: u8, register: u8, programs: &[u8]) -> Result<Receiver, u32> {
     if modes::line_for(mode, stream).is_none() {
         return Err(refusal::MODE_AND_STREAM);
     }
@@ -51,10 +66,8 @@ pub fn open_with(mode: u8, stream: u8, register: u8) -> Result<Receiver, u32> {
         mode,
         stream,
         register,
-        known: false,
-        sequence: 0,
-        held: 0,
-        number: 0,
+        entitled: entitlement::entitled(programs)?,
+        ..Receiver::default()
     })
 }
 
@@ -134,8 +147,8 @@ pub fn receive_marked(
     }
 }
 
-/// Marks a PDU lost: logs note 6, drops the beginning and forgets the
-/// sequence.
+/// Marks a PDU lost: logs note 6, drops the beginning and forgets the sequence
+/// and the applied services.
 pub fn mark_lost(receiver: Receiver, log: &mut [u32]) -> Answer {
     let words = Entry::Note(Note::Lost).words();
     let mut causes = state_causes(&receiver);
@@ -152,6 +165,7 @@ pub fn mark_lost(receiver: Receiver, log: &mut [u32]) -> Answer {
             mode: receiver.mode,
             stream: receiver.stream,
             register: receiver.register,
+            entitled: receiver.entitled,
             ..Receiver::default()
         },
     }
@@ -188,6 +202,23 @@ pub(crate) fn state_causes(receiver: &Receiver) -> Vec<ReceiverCause> {
     }
     if receiver.held == 0 && receiver.number != 0 {
         causes.push(ReceiverCause::NumberNotHeld);
+    }
+    causes.extend(services_causes(receiver));
+    causes
+}
+
+/// Refusal 1 for the applied services that are kept.
+fn services_causes(receiver: &Receiver) -> Vec<ReceiverCause> {
+    let mut causes = Vec::new();
+    if receiver.services > entitlement::MOST_SERVICES {
+        causes.push(ReceiverCause::ServicesOver7);
+    }
+    if !receiver.serviced && receiver.services != 0 {
+        causes.push(ReceiverCause::ServicesNotKnown);
+    }
+    let line = modes::line_for(receiver.mode, receiver.stream);
+    if receiver.serviced && !line.is_some_and(|line| entitlement::keeps(&line)) {
+        causes.push(ReceiverCause::ServicesNotKept);
     }
     causes
 }
@@ -289,10 +320,14 @@ pub(crate) struct Heard {
     held: Option<Beginning>,
     /// The PDU's sequence.
     sequence: u8,
+    /// The applied services that are kept then, if known.
+    services: Option<u8>,
 }
 
 impl Heard {
-    /// The four steps, in log order, with what is said of each piece.
+    /// The four steps, in log order, with what is said of each piece. For a PDU that
+    /// is withheld, note 8 stands in place of step 3, and no piece is looked at but
+    /// one that continues a held beginning (document 02, Ask 10).
     pub(crate) fn new(
         receiver: &Receiver,
         carry: &[u8],
@@ -305,16 +340,35 @@ impl Heard {
             entries: Vec::new(),
             held: held(receiver, carry),
             sequence: word.sequence,
+            services: receiver.serviced.then_some(receiver.services),
         };
         heard.step_1(receiver, word);
+        let withheld = heard.withheld(receiver, reading);
         heard.step_2(word);
-        heard.step_3(reading, pdu);
-        heard.step_4(word, pieces);
+        if withheld {
+            heard.note(Note::Withheld);
+            let looked_at = usize::from(heard.held.is_some());
+            heard.step_4(word, pieces, looked_at);
+        } else {
+            heard.step_3(reading, pdu);
+            heard.step_4(word, pieces, pieces.len());
+        }
         heard
     }
 
+    /// Takes the PDU's value, if it is one to be kept, and says whether the PDU is
+    /// withheld. Note 1 has forgotten the value before.
+    fn withheld(&mut self, receiver: &Receiver, reading: &Reading) -> bool {
+        let word = &reading.control;
+        let fields = &reading.expansion;
+        let line = modes::line_for(word.mode, word.stream).expect("a line of the table");
+        self.services = entitlement::kept(&line, self.services, word.sequence, fields.services);
+        !receiver.entitled[usize::from(fields.program)]
+            && entitlement::withheld(&line, self.services, fields.services)
+    }
+
     /// Step 1: sequence known and not the next (0 follows the last of its
-    /// range): note 1, beginning dropped.
+    /// range): note 1, beginning dropped, applied services forgotten.
     fn step_1(&mut self, receiver: &Receiver, word: &ControlWord) {
         let line = modes::line_for(word.mode, word.stream).expect("a line of the table");
         let last = line.sequences - 1;
@@ -326,6 +380,7 @@ impl Heard {
         if receiver.known && word.sequence != next {
             self.note(Note::NotTheNext);
             self.held = None;
+            self.services = None;
         }
     }
 
@@ -354,9 +409,10 @@ impl Heard {
     /// Step 4: each piece k: wrong CRC, note 2; continuing with nothing held,
     /// note 3; over 4,096 bytes with what was held, note 5; otherwise delivered
     /// if it ends here, held if Plast. A noted piece leaves nothing held. Note 7
-    /// stands in place of note 2 (document 02, Ask 5).
-    fn step_4(&mut self, word: &ControlWord, pieces: &[Said]) {
-        for (k, said) in pieces.iter().enumerate() {
+    /// stands in place of note 2 (document 02, Ask 5). Only the first so many pieces
+    /// are looked at.
+    fn step_4(&mut self, word: &ControlWord, pieces: &[Said], looked_at: usize) {
+        for (k, said) in pieces.iter().enumerate().take(looked_at) {
             let continues = k == 0 && word.pfirst;
             let goes_on = k + 1 == pieces.len() && word.plast;
             let before = self.held.take();
@@ -424,10 +480,13 @@ impl Heard {
             mode: receiver.mode,
             stream: receiver.stream,
             register: receiver.register,
+            entitled: receiver.entitled,
             known: true,
             sequence: self.sequence,
             held: u16::try_from(held).expect("no more than a packet"),
             number,
+            serviced: self.services.is_some(),
+            services: self.services.unwrap_or(0),
         }
     }
 }
@@ -626,6 +685,7 @@ mod tests {
                 let receiver = Receiver {
                     mode,
                     stream,
+                    entitled: entitlement::ALL,
                     ..Receiver::default()
                 };
                 let wanted = if there { Ok(receiver) } else { Err(5) };
@@ -1078,6 +1138,117 @@ mod tests {
                     assert_eq!(lost.receiver, receiver);
                     assert_eq!(log, [UNTOUCHED]);
                 }
+            }
+        }
+    }
+
+    /// A PDU of this line with one byte of PSD, program 3 and these applied services,
+    /// and pieces.
+    fn paid(line: (u8, u8), control: ControlWord, services: u8, pieces: &[(&[u8], u8)]) -> Vec<u8> {
+        let control = ControlWord {
+            mode: line.0,
+            stream: line.1,
+            expansion: true,
+            ..control
+        };
+        // Program 3, applied services and a marker, and a byte of PSD behind them.
+        let before = [0x96, 0xC8 | services, 0x80, 0x80, 0x00, 0x50];
+        pdu(control, &before, pieces)
+    }
+
+    /// What is logged and left where programs 1 and 2 are listed, by a receiver of this
+    /// line that knows no sequence.
+    fn withheld(line: (u8, u8), pdu: &[u8], held: usize, services: Option<u8>) -> Got {
+        let receiver = Receiver {
+            serviced: services.is_some(),
+            services: services.unwrap_or(0),
+            held: held as u16,
+            number: if held > 0 { 4 } else { 0 },
+            ..open_entitled(line.0, line.1, 0, &[1, 2]).unwrap()
+        };
+        receive_from(receiver, &carry_with(&[0x77; 9]), pdu)
+    }
+
+    /// Note 8 in place of the PSD; of the pieces only one that continues what is held
+    /// (document 02, Ask 10).
+    #[test]
+    fn withheld_pdus() {
+        let eight = note(Note::Withheld);
+        for line in [(0, 0), (1, 1), (10, 0), (10, 1)] {
+            let pieces: [(&[u8], u8); 2] = [(&[1, 2], 0), (&[3], 0)];
+            let word = word(1, true, true, 5);
+            let sent = paid(line, word, 1, &pieces);
+            let got = withheld(line, &sent, 0, None);
+            assert_eq!(got.entries(), [eight.clone()]);
+            assert_eq!(got.state(), (true, 1, 0, 0));
+            let got = withheld(line, &sent, 1, None);
+            let packet = Entry::Packet(4, vec![0x77, 1, 2]);
+            assert_eq!(got.entries(), [eight.clone(), packet]);
+            assert_eq!(got.state(), (true, 1, 0, 0));
+            let wrong = paid(line, word, 1, &[(&[1, 2], 9), (&[3], 0)]);
+            let got = withheld(line, &wrong, 1, None);
+            assert_eq!(got.entries(), [eight.clone(), note(Note::WrongCrc(0))]);
+            let alone = paid(line, word, 1, &pieces[..1]);
+            let got = withheld(line, &alone, 1, None);
+            assert_eq!(got.entries(), [eight.clone()]);
+            assert_eq!(got.state(), (true, 1, 3, 4));
+            // Not withheld: 0 and 2 to 7.
+            for services in [0, 2, 3, 4, 5, 6, 7] {
+                let got = withheld(line, &paid(line, word, services, &pieces), 0, None);
+                let wanted = [Entry::Psd(vec![0x50]), note(Note::NothingHeld(0))];
+                assert_eq!(got.entries(), wanted);
+                assert_eq!(got.state(), (true, 1, 1, 5));
+            }
+        }
+    }
+
+    /// The value of sequence 0 is kept; unknown, all that is not listed is withheld.
+    #[test]
+    fn kept_services() {
+        let eight = [note(Note::Withheld)];
+        let psd = [Entry::Psd(vec![0x50])];
+        for mode in [1, 2, 3, 13] {
+            for sequence in 0..8 {
+                let word = word(sequence, false, false, 0);
+                for sent in 0..8 {
+                    for before in [None, Some(0), Some(1), Some(2), Some(7)] {
+                        let got = withheld((mode, 0), &paid((mode, 0), word, sent, &[]), 0, before);
+                        let kept = if sequence == 0 { Some(sent) } else { before };
+                        let next = got.answer.receiver;
+                        assert_eq!(next.serviced.then_some(next.services), kept);
+                        assert!(next.serviced || next.services == 0);
+                        let gone = kept.is_none() || kept == Some(1);
+                        let wanted = if gone { &eight } else { &psd };
+                        assert_eq!(got.entries(), wanted);
+                    }
+                }
+            }
+        }
+    }
+
+    #[test]
+    fn refusals_of_the_services() {
+        use ReceiverCause::{ServicesNotKept, ServicesNotKnown, ServicesOver7};
+        for line in TABLE {
+            let keeps = entitlement::keeps(&line);
+            for (serviced, services, cause) in [
+                (false, 0, None),
+                (false, 1, Some(ServicesNotKnown)),
+                (false, 7, Some(ServicesNotKnown)),
+                (true, 0, (!keeps).then_some(ServicesNotKept)),
+                (true, 7, (!keeps).then_some(ServicesNotKept)),
+                (true, 8, Some(ServicesOver7)),
+                (true, 255, Some(ServicesOver7)),
+            ] {
+                let receiver = Receiver {
+                    serviced,
+                    services,
+                    ..open(line.mode, line.stream).unwrap()
+                };
+                let causes = state_causes(&receiver);
+                assert_eq!(causes.first(), cause.as_ref());
+                let refusal = mark_lost(receiver, &mut [0]).refusal;
+                assert_eq!(refusal, u32::from(cause.is_some()));
             }
         }
     }

@@ -75,6 +75,10 @@ pub const COPIES: u32 = 20;
 /// A bench has no counts, more than 4,096, or one over 63 (document 02, Ask 7).
 pub const COUNTS: u32 = 21;
 
+/// A list of entitled programs has a number over 7, or one repeated (document 02,
+/// Ask 10).
+pub const PROGRAMS: u32 = 22;
+
 /// Which of these numbers is answered: the lowest, but 19 directly after 3 and 20
 /// directly after 12.
 pub fn first(numbers: impl Iterator<Item = u32>) -> Option<u32> {
@@ -238,6 +242,11 @@ pub enum ReceiverCause {
     SequenceNotKnown,
     /// The number is not 0 where nothing is held.
     NumberNotHeld,
+    /// The kept applied services are over 7, not 0 where they are unknown, or known
+    /// where none are kept (document 02, Ask 10).
+    ServicesOver7,
+    ServicesNotKnown,
+    ServicesNotKept,
     CarryUnder4096,
     Marks(MarksCause),
     /// What reading the PDU without a receiver turns down.
@@ -255,7 +264,8 @@ impl ReceiverCause {
     pub fn number(self) -> u32 {
         use ReceiverCause::*;
         match self {
-            ModeAndStream | Sequence | Held | Number | SequenceNotKnown | NumberNotHeld => STATE,
+            ModeAndStream | Sequence | Held | Number | SequenceNotKnown | NumberNotHeld
+            | ServicesOver7 | ServicesNotKnown | ServicesNotKept => STATE,
             CarryUnder4096 => CARRY,
             Marks(_) => MARKS,
             Pdu(cause) => cause.number(),

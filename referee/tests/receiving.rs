@@ -863,10 +863,13 @@ fn opening() {
                     mode,
                     stream,
                     register: 0,
+                    entitled: [true; 8],
                     known: false,
                     sequence: 0,
                     held: 0,
                     number: 0,
+                    serviced: false,
+                    services: 0,
                 };
                 assert_eq!(receiver, wanted);
             }

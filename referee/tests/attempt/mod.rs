@@ -328,6 +328,10 @@ fn marked(receiver: Receiver, before: &LentLog, known: &Known) -> (Answer, LentL
     check_answer(&receiver, &answer, known);
     if answer.refusal == 0 {
         let fresh = receiver::open_with(receiver.mode, receiver.stream, receiver.register);
+        let fresh = fresh.map(|fresh| Receiver {
+            entitled: receiver.entitled,
+            ..fresh
+        });
         assert_eq!(Ok(answer.receiver), fresh);
         assert_eq!(answer.words, 1);
         assert_eq!(log.words()[0], 0xC006_0000);
@@ -510,14 +514,20 @@ pub mod against_product {
 
     /// The product's receiver that says what the reference's says.
     pub fn receiver_for(receiver: &Receiver) -> product::Receiver {
+        let bits = receiver.entitled.iter().enumerate();
         product::Receiver {
             mode: receiver.mode,
             stream: receiver.stream,
             register: receiver.register,
+            entitled: bits
+                .map(|(program, &listed)| u8::from(listed) << program)
+                .sum(),
             known: u8::from(receiver.known),
             sequence: receiver.sequence,
             held: receiver.held,
             number: receiver.number,
+            serviced: u8::from(receiver.serviced),
+            services: receiver.services,
         }
     }
 }

@@ -159,6 +159,30 @@ pub fn some_settings(rng: &mut Rng, line: &Line, length: usize) -> Settings {
     }
 }
 
+/// Settings of which most say a class, and most of these applied services 1
+/// (document 02, Ask 10): those have programs 1 to 7.
+#[allow(dead_code)]
+pub fn paid_settings(rng: &mut Rng, line: &Line, length: usize) -> Settings {
+    let settings = some_settings(rng, line, length);
+    if rng.below(4) == 0 {
+        return settings;
+    }
+    Settings {
+        blend: 0,
+        class_code: Some(1),
+        program: Some(rng.within(1, 7) as u8),
+        program_type: Some(ProgramType {
+            access: 1,
+            code: rng.byte(),
+        }),
+        applied: Some(Applied {
+            services: u8::from(rng.below(3) > 0),
+            marker: rng.below(1 << 21) as u32,
+        }),
+        ..settings
+    }
+}
+
 /// How many expansion bytes these settings ask for.
 pub fn expansion_size(settings: &Settings) -> usize {
     let class = usize::from(settings.class_code.is_some());

@@ -25,6 +25,7 @@ use referee::modes::{self, Line};
 use referee::receiver::{self, Receiver, LOG_WORDS};
 use referee::refusal;
 use referee::rng::Rng;
+use referee::settings::Settings;
 use referee::writer::{self, Offer, Writer};
 use std::collections::BTreeMap;
 use std::ops::Range;
@@ -71,6 +72,7 @@ pub struct Sent {
     first: usize,
     end: usize,
     psd: Vec<u8>,
+    settings: Settings,
 }
 
 impl Sent {
@@ -98,7 +100,12 @@ pub struct List {
     sent: usize,
     writer: Writer,
     pub pdus: Vec<Sent>,
+    /// How the settings of a PDU of this line and length are chosen.
+    settings: SomeSettings,
 }
+
+/// Chooses right settings.
+pub type SomeSettings = fn(&mut Rng, &Line, usize) -> Settings;
 
 impl List {
     /// A list of which nothing is sent yet, for a writer with this register.
@@ -110,11 +117,23 @@ impl List {
             writer: writer::open_with(line.mode, line.stream, register)
                 .expect("a line of the table"),
             pdus: Vec::new(),
+            settings: calls::some_settings,
         }
     }
 
     /// A random list, sent to its end or until there are many PDUs.
     pub fn random(rng: &mut Rng, line: Line, style: Style, register: u8) -> List {
+        List::random_with(rng, line, style, register, calls::some_settings)
+    }
+
+    /// The same with settings chosen so.
+    pub fn random_with(
+        rng: &mut Rng,
+        line: Line,
+        style: Style,
+        register: u8,
+        settings: SomeSettings,
+    ) -> List {
         let count = match rng.below(16) {
             0 => rng.below(3),
             _ => rng.within(style.packets / 3, style.packets),
@@ -125,7 +144,10 @@ impl List {
                 some_bytes(rng, usize::from(length))
             })
             .collect();
-        let mut list = List::new(line, packets, register);
+        let mut list = List {
+            settings,
+            ..List::new(line, packets, register)
+        };
         let longest = style.longest_pdu.min(calls::longest(&line));
         let most_pdus = rng.within(5, 45);
         while list.pdus.len() < most_pdus {
@@ -193,7 +215,7 @@ impl List {
     fn call(&self, rng: &mut Rng, offered: usize, length: usize) -> Call {
         let (index, _) = self.unfinished();
         let packets = &self.packets[index..index + offered];
-        let settings = calls::some_settings(rng, &self.line, length);
+        let settings = (self.settings)(rng, &self.line, length);
         let most = calls::most_psd(&self.line, &settings, length);
         let psd = match rng.below(4) {
             0 | 1 => 0,
@@ -225,6 +247,7 @@ impl List {
             first,
             end: self.sent,
             psd: call.psd.clone(),
+            settings: call.settings,
         });
     }
 
@@ -327,16 +350,59 @@ impl List {
         received
     }
 
+    /// Which PDUs of a run are withheld from a receiver that is entitled to these
+    /// programs (document 02, Ask 10), told from the writing calls, the list of
+    /// programs and the lost marks alone; of a lost one it says nothing.
+    #[allow(dead_code)]
+    pub fn withheld(&self, run: &Range<usize>, lost: &[bool], programs: &[u8]) -> Vec<bool> {
+        let sent = |place: usize| &self.pdus[run.start + place].settings;
+        let services = |place: usize| sent(place).applied.map_or(0, |applied| applied.services);
+        let paid = |place: usize| match (self.line.mode, self.line.stream) {
+            (1 | 2 | 3 | 13, 0) => {
+                // The value sent with sequence 0, with no lost PDU since.
+                let since = (0..=place).rev().take_while(|&before| !lost[before]);
+                let mut sequences_0 = since.filter(|&before| (run.start + before) % 8 == 0);
+                sequences_0
+                    .next()
+                    .is_none_or(|before| services(before) == 1)
+            }
+            _ => services(place) == 1,
+        };
+        (0..run.len())
+            .map(|place| !programs.contains(&sent(place).program.unwrap_or(0)) && paid(place))
+            .collect()
+    }
+
+    /// The PDU in which a place of the joined list is sent, counted from the run's
+    /// first; none where it is not of the run.
+    fn pdu_of(&self, run: &Range<usize>, place: usize) -> Option<usize> {
+        let holds = |sent: &Sent| (sent.first..sent.end).contains(&place);
+        self.pdus[run.clone()].iter().position(holds)
+    }
+
     /// The words for the packets with every byte in such pieces, in list order:
     /// how many packets, and their words.
     pub fn wanted(&self, run: &Range<usize>, came: &[Came]) -> (usize, Vec<u32>) {
+        self.wanted_of(run, came, &vec![false; run.len()])
+    }
+
+    /// The same without the packets that begin in a withheld PDU.
+    pub fn wanted_of(
+        &self,
+        run: &Range<usize>,
+        came: &[Came],
+        withheld: &[bool],
+    ) -> (usize, Vec<u32>) {
         let received = self.received(run, came);
+        let any = withheld.contains(&true);
         let mut words = Vec::new();
         let mut count = 0;
         let mut begin = 0;
         for (number, packet) in self.packets.iter().enumerate() {
             let end = begin + packet.len();
-            if received[begin..end].iter().all(|&byte| byte) {
+            let all = received[begin..end].iter().all(|&byte| byte);
+            let begins = |place: usize| self.pdu_of(run, place).expect("a PDU of the run");
+            if all && !(any && withheld[begins(begin)]) {
                 words.extend(told::packet(number, packet));
                 count += 1;
             }
@@ -608,6 +674,18 @@ pub fn check(
 /// The joined logs of a drive against what they have to hold, where this came of
 /// the PDUs of the run.
 pub fn check_came(drive: u64, list: &List, run: &Range<usize>, came: &[Came], joined: &[u32]) {
+    check_served(drive, list, run, came, &vec![false; run.len()], joined);
+}
+
+/// The same where some of the PDUs are withheld (document 02, Ask 10).
+pub fn check_served(
+    drive: u64,
+    list: &List,
+    run: &Range<usize>,
+    came: &[Came],
+    withheld: &[bool],
+    joined: &[u32],
+) {
     let told = || {
         format!(
             "drive {drive}: mode {}, stream {}, register {}, run {run:?}, came {came:?}",
@@ -618,29 +696,44 @@ pub fn check_came(drive: u64, list: &List, run: &Range<usize>, came: &[Came], jo
     };
     let kinds = Kinds::of(joined);
     assert!(
-        kinds.packets == list.wanted(run, came).1,
+        kinds.packets == list.wanted_of(run, came, withheld).1,
         "packets; {}",
         told()
     );
     // Besides: the PSD of each received PDU, note 6 for each lost one, note 2 for
     // each piece that came otherwise than it was sent, and note 3 where a received
-    // PDU begins inside a packet of which not all before it is received.
+    // PDU begins inside a packet of which not all before it is received, or which
+    // began in a withheld PDU. In a withheld one note 8 stands in place of the PSD,
+    // and of the pieces only a continuing one is looked at, if its beginning is held.
     let received = list.received(run, came);
     let mut psd = Vec::new();
     let mut notes = Vec::new();
-    for (came, index) in came.iter().zip(run.clone()) {
+    for (place, (came, index)) in came.iter().zip(run.clone()).enumerate() {
         let sent = &list.pdus[index];
         let Some(as_sent) = came else {
             notes.push(told::note(6, 0));
             continue;
         };
+        let begun = list.begun(sent.first);
+        let continues = !begun.is_empty();
+        let held = !received[begun.clone()].contains(&false)
+            && list
+                .pdu_of(run, begun.start)
+                .is_some_and(|place| !withheld[place]);
+        if withheld[place] {
+            notes.push(told::note(8, 0));
+            if continues && held && !as_sent[0] {
+                notes.push(told::note(2, 0));
+            }
+            continue;
+        }
         if !sent.psd.is_empty() {
             psd.extend(told::psd(&sent.psd));
         }
         for (k, &as_sent) in as_sent.iter().enumerate() {
             if !as_sent {
                 notes.push(told::note(2, k));
-            } else if k == 0 && received[list.begun(sent.first)].contains(&false) {
+            } else if k == 0 && continues && !held {
                 notes.push(told::note(3, 0));
             }
         }

@@ -4,17 +4,21 @@ use crate::lent::{Lent, LentLog};
 use std::cell::Cell;
 
 /// A receiver. Whether the sequence is known is a byte here, so that one that
-/// is neither 1 nor 0 shows.
+/// is neither 1 nor 0 shows, and so is whether applied services are.
 #[repr(C)]
 #[derive(Clone, Copy, Debug, PartialEq, Eq)]
 pub struct Receiver {
     pub mode: u8,
     pub stream: u8,
     pub register: u8,
+    /// Bit p for program p.
+    pub entitled: u8,
     pub known: u8,
     pub sequence: u8,
     pub held: u16,
     pub number: u8,
+    pub serviced: u8,
+    pub services: u8,
 }
 
 /// The answer to opening a receiver; refused, the receiver is all 0.
@@ -75,6 +79,13 @@ impl Place {
 extern "C" {
     fn barzhilup_open_receiver(mode: u8, stream: u8) -> Opened;
     fn barzhilup_open_receiver_with(mode: u8, stream: u8, register: u8) -> Opened;
+    fn barzhilup_open_receiver_entitled(
+        mode: u8,
+        stream: u8,
+        register: u8,
+        programs: *const u8,
+        count: usize,
+    ) -> Opened;
     fn barzhilup_receive(
         receiver: Receiver,
         carry: *mut u8,
@@ -120,6 +131,14 @@ pub fn open(mode: u8, stream: u8) -> Opened {
 /// Opens a receiver with what the register of its CRCs starts at.
 pub fn open_with(mode: u8, stream: u8, register: u8) -> Opened {
     unsafe { barzhilup_open_receiver_with(mode, stream, register) }
+}
+
+/// Opens a receiver that is entitled to these programs.
+pub fn open_entitled(mode: u8, stream: u8, register: u8, programs: &Lent) -> Opened {
+    let programs = programs.bytes();
+    unsafe {
+        barzhilup_open_receiver_entitled(mode, stream, register, programs.as_ptr(), programs.len())
+    }
 }
 
 /// Receives a PDU.

@@ -8,6 +8,7 @@ use crate::samples::{Sample, Wish};
 use crate::told;
 use referee::control::MOST_PIECES;
 use referee::encode::{Field, Piece};
+use referee::entitlement;
 use referee::header::{LONGEST, PLACES};
 use referee::locators;
 use referee::modes::{self, Line, TABLE};
@@ -62,6 +63,7 @@ impl Reception {
                 mode: line.mode,
                 stream: line.stream,
                 register: sample.parts.register,
+                entitled: entitlement::ALL,
                 ..Receiver::default()
             },
             carry: some_carry(rng),
@@ -133,6 +135,45 @@ impl Reception {
         piece.crc_error == told::added(registers, piece.bytes.len())
     }
 
+    /// Whether the PDU is of one of the modes and streams for which applied
+    /// services are kept: 1, 2, 3 and 13, core.
+    pub fn keeps(&self) -> bool {
+        let Line { mode, stream, .. } = self.sample.line;
+        matches!((mode, stream), (1 | 2 | 3 | 13, 0))
+    }
+
+    /// The applied services that are kept after the PDU, where it follows a gap or
+    /// doesn't.
+    fn kept(&self, gap: bool) -> Option<u8> {
+        let Receiver {
+            serviced, services, ..
+        } = self.receiver;
+        match self.sample.parts.control.sequence {
+            _ if !self.keeps() => None,
+            0 => Some(self.sample.reading().expansion.services),
+            _ if gap || !serviced => None,
+            _ => Some(services),
+        }
+    }
+
+    /// Whether the PDU is withheld.
+    pub fn is_withheld(&self) -> bool {
+        let range = self.sample.line.sequences;
+        let next = (self.receiver.sequence + 1) % range;
+        let gap = self.receiver.known && self.sample.parts.control.sequence != next;
+        self.withheld(self.kept(gap))
+    }
+
+    /// Whether the PDU is withheld, where these applied services are kept with it.
+    fn withheld(&self, kept: Option<u8>) -> bool {
+        let said = self.sample.reading().expansion;
+        let paid = match self.keeps() {
+            true => kept == Some(1) || kept.is_none(),
+            false => said.services == 1,
+        };
+        paid && !self.receiver.entitled[usize::from(said.program)]
+    }
+
     /// What has to be answered and left, if everything is right. A piece's
     /// place makes no difference, and its CRC is right or wrong as above.
     pub fn wanted(&self) -> Wanted {
@@ -151,7 +192,11 @@ impl Reception {
         } else if held > 0 && !continued {
             words.push(told::note(4, 0));
         }
-        if !self.sample.parts.psd.is_empty() {
+        let kept = self.kept(gap);
+        let withheld = self.withheld(kept);
+        if withheld {
+            words.push(told::note(8, 0));
+        } else if !self.sample.parts.psd.is_empty() {
             words.extend(told::psd(&self.sample.parts.psd));
         }
         let mut receiver = Receiver {
@@ -159,6 +204,8 @@ impl Reception {
             sequence: word.sequence,
             held: 0,
             number: 0,
+            serviced: kept.is_some(),
+            services: kept.unwrap_or(0),
             ..self.receiver
         };
         let mut carry = self.carry.clone();
@@ -166,6 +213,9 @@ impl Reception {
         for (k, piece) in pieces.iter().enumerate() {
             let first = k == 0 && word.pfirst;
             let last = k + 1 == pieces.len() && word.plast;
+            if withheld && !(first && continued) {
+                break;
+            }
             let kept = if first && continued { held } else { 0 };
             let total = kept + piece.bytes.len();
             let number = match (first, word.pfirst) {
@@ -399,6 +449,8 @@ fn open_another(rng: &mut Rng, reception: &mut Reception) {
     reception.receiver.mode = other.mode;
     reception.receiver.stream = other.stream;
     reception.receiver.sequence %= other.sequences;
+    reception.receiver.serviced = false;
+    reception.receiver.services = 0;
 }
 
 /// Spoils the PDU, with 5 or 7 to 12.
