@@ -6,7 +6,7 @@ ghost use Prim.Native.Nat.{_≤_};
 const CARRY: usize = 4096;
 
 // The places of a row of counts, of which there are three too. After the counts of `counts` stands what the receiver remembers that has its file alone.
-const ROW: usize = 40;
+const ROW: usize = 42;
 
 const KNOWN: usize = 36;
 
@@ -16,16 +16,23 @@ const HELD: usize = 38;
 
 const NUMBER: usize = 39;
 
+const SERVICED: usize = 40;
+
+const SERVICES: usize = 41;
+
 // The receiver of a row, opened as the pair's is.
 fn remembered(row: &[u64], r: Receiver) -> Receiver {
     Receiver {
         mode: r.mode,
         stream: r.stream,
         register: r.register,
+        entitled: r.entitled,
         known: counts::at(row, KNOWN) != 0,
         sequence: (counts::at(row, SEQUENCE) % 256) as u8,
         held: (counts::at(row, HELD) % 65536) as u16,
         number: (counts::at(row, NUMBER) % 256) as u8,
+        serviced: counts::at(row, SERVICED) != 0,
+        services: (counts::at(row, SERVICES) % 256) as u8,
     }
 }
 
@@ -36,12 +43,24 @@ fn set(row: &mut [u64], place: usize, value: u64) {
     row[place] = value;
 }
 
-// Keeps in a row what a receiver remembers.
-fn remember(row: &mut [u64], r: Receiver) {
+// Keeps in a row the applied services in force (document 02, Ask 10).
+fn remember_services(row: &mut [u64], r: Receiver) {
+    set(row, SERVICED, r.serviced as u64);
+    set(row, SERVICES, r.services as u64);
+}
+
+// Keeps in a row the sequence and the held beginning.
+fn remember_step(row: &mut [u64], r: Receiver) {
     set(row, KNOWN, r.known as u64);
     set(row, SEQUENCE, r.sequence as u64);
     set(row, HELD, r.held as u64);
     set(row, NUMBER, r.number as u64);
+}
+
+// Keeps in a row what a receiver remembers.
+fn remember(row: &mut [u64], r: Receiver) {
+    remember_step(row, r);
+    remember_services(row, r);
 }
 
 // What a file gives alone: its copy is received by its own receiver and counted, and is left as it came.

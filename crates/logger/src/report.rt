@@ -64,23 +64,23 @@ fn shorter(from: &[u8], records: u64, pdus: u64) {
 
 // The row of counts of one of two files, from a place on; nothing where there is none.
 fn row(rows: &[u64], from: usize) -> &[u64]
-    requires { ⌜ from ≤ 80 ⌝ }
+    requires { ⌜ from ≤ 84 ⌝ }
 {
-    if rows.len() < from + 40 {
+    if rows.len() < from + 42 {
         return &rows[0..0];
     }
-    &rows[from..from + 40]
+    &rows[from..from + 42]
 }
 
 // What each of two files gives alone, and where the pieces are taken from, by the counts of both.
 pub fn copies(rows: &[u64]) {
     let mut lines = [0u8; 512];
-    let n = counts::put_alone(&mut lines, 0, b"barzhilup log: first copies", row(rows, 40));
+    let n = counts::put_alone(&mut lines, 0, b"barzhilup log: first copies", row(rows, 42));
     let m = counts::put_alone(
         &mut lines,
         n,
         b"barzhilup log: second copies",
-        row(rows, 80),
+        row(rows, 84),
     );
     let k = text::fill(
         &mut lines,
