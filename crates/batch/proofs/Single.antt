@@ -12,7 +12,7 @@ use Rattle.refusal.proofs.Rows.{passed, row-off}
 use Rattle.buffer.specs.Buffer.{putAt}
 use Rattle.buffer.proofs.Laws.{put-length}
 use Rattle.reassembly.specs.Run.{bytesOf}
-use Rattle.receiver.specs.Receiving.{outcome, receivedWords, receiveNumber, receiveAnswer, carryAfter, pduAfter, logAfter}
+use Rattle.receiver.specs.Receiving.{outcome, receivedWords, receiveTests, receiveNumber, receiveAnswer, carryAfter, pduAfter, logAfter}
 use Rattle.receiver.specs.declared.Receiver.{Receiver}
 use Rattle.receiver.specs.declared.Received.{Received}
 use Rattle.receiver.proofs.Enough.{firstTwelve, most}
@@ -62,8 +62,9 @@ module _ (marks carry pdu log : List ℕ) (r : Receiver) where
   free : number ≡ 0 → (firstOf (firstTwelve marks carry pdu log r) ≡ 0) × (length (receivedWords marks carry pdu log r) ≤ length log)
   unfolding receiveNumber
   free e =
-      let t = passed 0 (firstTwelve marks carry pdu log r) ((ltb (length log) (length (receivedWords marks carry pdu log r)), 13) ∷ []) refl e in
-      (t .0, ltb-false (length log) (length (receivedWords marks carry pdu log r)) (row-off ((ltb (length log) (length (receivedWords marks carry pdu log r)), 13) ∷ []) 0 refl (t .1)))
+      let rows = drop 13 (receiveTests marks carry pdu log r) in
+      let t = passed 0 (firstTwelve marks carry pdu log r) rows refl e in
+      (t .0, ltb-false (length log) (length (receivedWords marks carry pdu log r)) (row-off rows 0 refl (t .1)))
 
   -- no more words are counted than the log has
   pub words-fit : answer .words ≤ length log

@@ -100,12 +100,19 @@ fn least(a: usize, b: usize) -> usize
     b
 }
 
-// Where the pieces are taken from that a PDU has by what was read of it.
-fn pieces_of(register: u8, first: &[u8], second: &[u8], r: Reading) -> Pieces {
+// How many pieces of a PDU are told of: those that were looked at.
+fn many_of(nop: u8, looked: u64) -> usize
+    ensures { λ r. ⌜ r ≤ 64 ⌝ }
+{
+    least(least(nop as usize, looked as usize), 64)
+}
+
+// Where the pieces are taken from that a PDU has by what was read of it, as many as were looked at.
+fn pieces_of(register: u8, first: &[u8], second: &[u8], r: Reading, looked: u64) -> Pieces {
     let control = r.control;
     let starts = r.starts;
     let lengths = r.lengths;
-    let many = least(control.nop as usize, 64);
+    let many = many_of(control.nop, looked);
     let mut all = no_pieces();
     let mut k: usize = 0;
     while k < many {
@@ -151,24 +158,32 @@ fn with_pieces(o: Outcome, kind: u8, pieces: Pieces) -> Taken {
 }
 
 // What is told of a PDU that was received, by what was read of its copies: one that cannot be corrected is refused there.
-fn told_by(o: Outcome, first: &[u8], second: &[u8], one: Reading, two: Reading) -> Taken {
+fn told_by(
+    o: Outcome,
+    looked: u64,
+    first: &[u8],
+    second: &[u8],
+    one: Reading,
+    two: Reading,
+) -> Taken {
     let receiver = o.receiver;
     let register = receiver.register;
     if one.refusal != 0 {
-        return with_pieces(o, SECOND, pieces_of(register, b"", second, two));
+        return with_pieces(o, SECOND, pieces_of(register, b"", second, two, looked));
     }
     if two.refusal != 0 {
-        return with_pieces(o, FIRST, pieces_of(register, first, b"", one));
+        return with_pieces(o, FIRST, pieces_of(register, first, b"", one, looked));
     }
-    let pieces = pieces_of(register, first, second, one);
+    let pieces = pieces_of(register, first, second, one, looked);
     with_pieces(o, kind_of(pieces), pieces)
 }
 
-// What is told of a PDU that was received. Its copies that can be corrected are corrected by then, and stay as they are.
-fn told(o: Outcome, first: &mut [u8], second: &mut [u8]) -> Taken {
+// What is told of a PDU that was received, of which so many pieces were looked at. Its copies that can be corrected are corrected by then, and stay as they
+// are.
+fn told(o: Outcome, looked: u64, first: &mut [u8], second: &mut [u8]) -> Taken {
     let one = pdu::read(&mut *first);
     let two = pdu::read(&mut *second);
-    told_by(o, first, second, one, two)
+    told_by(o, looked, first, second, one, two)
 }
 
 // The length and the header of the better copy, where the second is; else of the first.
@@ -243,6 +258,15 @@ fn received(
     of_pair(receiver, carry, first, second, log)
 }
 
+// What is told of a PDU, before which a beginning was held or was not, by its log: of one that was not received no pieces.
+fn told_of(o: Outcome, held: bool, first: &mut [u8], second: &mut [u8], log: &[u32]) -> Taken {
+    if o.kind != outcome::RECEIVED {
+        return with_pieces(o, o.kind, no_pieces());
+    }
+    let looked = words::looked_at(64, held, words::written(log, o.words));
+    told(o, looked, first, second)
+}
+
 // Receives two copies of a PDU, and tells where its pieces are taken from.
 pub fn of_copies(
     receiver: Receiver,
@@ -251,11 +275,8 @@ pub fn of_copies(
     second: &mut [u8],
     log: &mut [u32],
 ) -> Taken {
-    let o = received(receiver, carry, &mut *first, &mut *second, log);
-    if o.kind != outcome::RECEIVED {
-        return with_pieces(o, o.kind, no_pieces());
-    }
-    told(o, first, second)
+    let o = received(receiver, carry, &mut *first, &mut *second, &mut *log);
+    told_of(o, receiver.held != 0, first, second, log)
 }
 
 // Whether a copy can be corrected, in place, and is of another mode or stream than the receiver.

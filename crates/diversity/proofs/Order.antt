@@ -1,18 +1,18 @@
--- In which order a pair's rows are judged: 1 and 2 first, then 4 where neither can be corrected, else 5 to 12, then 20, then 13.
+-- In which order a pair's rows are judged: 1 and 2 first, then 4 where neither can be corrected, else 5 to 12, then 20, then 13, then 27.
 use mathlib.Core.Path.{_≡_, refl, _∙_}
 use mathlib.Core.Bool.{true, false}
 use mathlib.Core.List.{List, [], _∷_, _++_}
-use Prim.Native.Nat.{ℕ}
-use lib.Dec.{eqb}
+use Prim.Native.Nat.{ℕ, _<_}
+use lib.Dec.{eqb, ltb}
 use lib.ListN.{length, drop}
-use borrow.Author.Tests.{ne-eqb}
+use borrow.Author.Tests.{ne-eqb, lt-ltb}
 use Rattle.refusal.specs.Refusal.{firstOf}
 use Rattle.refusal.proofs.Rows.{past}
 use Rattle.correction.specs.Correction.{correctedPdu}
 use Rattle.receiver.specs.Steps.{stateTests}
 use Rattle.receiver.specs.declared.Receiver.{Receiver}
 use Rattle.receiver.proofs.Rows.{first-on}
-use Rattle.diversity.specs.Diversity.{copyNumber, lower, differ, pairTests, pairNumber, receivedBy}
+use Rattle.diversity.specs.Diversity.{copyNumber, lower, differ, pairWords, pairTests, pairNumber, receivedBy}
 
 module _ (carry first second log : List ℕ) (r : Receiver) where
   abbrev ofEither : ℕ
@@ -39,3 +39,9 @@ module _ (carry first second log : List ℕ) (r : Receiver) where
     -- however short the log is
     pub differing-before-room : ofEither ≡ 0 → differ (correctedPdu first) (correctedPdu second) ≡ true → pairNumber carry first second log r ≡ 20
     differing-before-room h d = after-state ∙ rw (h, d)
+
+    -- whatever the counts are
+    pub room-before-limit : ofEither ≡ 0 → differ (correctedPdu first) (correctedPdu second) ≡ false → length log < length (pairWords carry first second log r) → pairNumber carry first second log r ≡ 13
+    room-before-limit h d l =
+        let t : ltb (length log) (length (pairWords carry first second log r)) ≡ true = lt-ltb (length log) (length (pairWords carry first second log r)) l in
+        after-state ∙ rw (h, d, t)

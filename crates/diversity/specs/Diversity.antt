@@ -19,8 +19,9 @@ use Rattle.correction.specs.declared.Correction.the-variants.{Corrected, Refuse
 use Rattle.pdu.specs.Reading.{wrongLocator, lowestBelow, readerTests, modeIn, listingOf, widthOf}
 use Rattle.reassembly.specs.Reassembly.{Piece, Said, Memory, Outcome, received, remembered}
 use Rattle.reassembly.specs.Holder.{Come}
+use Rattle.reassembly.specs.Tally.{Tally, tallied, passesLimit}
 use Rattle.reassembly.specs.Run.{bytesOf}
-use Rattle.receiver.specs.Receiving.{pieceIn, saidBy, labelIn, memoryOf, shown, keptBy, remembering, modeOf, refusedAnswer, receiveAnswer, carryAfter, pduAfter, logAfter}
+use Rattle.receiver.specs.Receiving.{pieceIn, saidBy, labelIn, memoryOf, tallyOf, shown, keptBy, remembering, modeOf, refusedAnswer, receiveAnswer, carryAfter, pduAfter, logAfter}
 use Rattle.receiver.specs.Steps.{stateTests, streamTests}
 use Rattle.receiver.specs.declared.Receiver.{Receiver}
 use Rattle.receiver.specs.declared.Received.{Received}
@@ -167,7 +168,11 @@ module _ (carry first second log : List ℕ) (r : Receiver) where
   abbrev pub keptServices : Option ℕ
   keptServices = keptBy (modeOf r .sequences) r carry come
 
-  -- rows 1 and 2, then 5 to 12, the lowest over both, then 20, then 13
+  -- delivered, missing and the last delivered number after it
+  abbrev pub tallyAfter : Tally
+  tallyAfter = tallied (tallyOf r) (outcome .entries)
+
+  -- rows 1 and 2, then 5 to 12, the lowest over both, then 20, then 13, then 27
   abbrev pub pairTests : List (Bool × ℕ)
   pairTests =
       let y = correctedPdu first in
@@ -177,6 +182,7 @@ module _ (carry first second log : List ℕ) (r : Receiver) where
       ++ (not (eqb n 0), n)
       ∷ (differ y z, 20)
       ∷ (ltb (length log) (length pairWords), 13)
+      ∷ (passesLimit tallyAfter, 27)
       ∷ []
 
   unfoldable pub pairNumber : ℕ
@@ -189,7 +195,7 @@ module _ (carry first second log : List ℕ) (r : Receiver) where
       let z = correctedPdu second in
       cond (eqb pairNumber 0)
       (record {
-        answer = record { refusal = 0; wrong = 0; words = length pairWords; receiver = remembering r memoryAfter keptServices };
+        answer = record { refusal = 0; wrong = 0; words = length pairWords; receiver = remembering r memoryAfter keptServices tallyAfter };
         carry = putAt carry 0 (bytesOf (outcome .partial));
         first = y;
         second = z;

@@ -208,7 +208,7 @@ fn exchange_pieces(
 }
 
 // Receives the first of two PDUs of one length with the pieces of the second where causes are not 0, by its marks and what both causes are together, or
-// refuses with 13. Such pieces are exchanged, and back again.
+// refuses with 13 or 27. Such pieces are exchanged, and back again.
 fn receive_exchanged(
     r: Receiver,
     range: u8,
@@ -233,7 +233,7 @@ fn receive_exchanged(
     a
 }
 
-// Receives two corrected PDUs that are alike in length and bytes 8 to La, and that no row from 1 to 12 turns down, or refuses with 13.
+// Receives two corrected PDUs that are alike in length and bytes 8 to La, and that no row from 1 to 12 turns down, or refuses with 13 or 27.
 pub fn receive_alike(
     r: Receiver,
     m: Mode,

@@ -27,7 +27,7 @@ use Rattle.receiver.specs.declared.Receiver.{Receiver}
 use Rattle.receiver.specs.declared.Received.{Received}
 use Rattle.receiver.proofs.Calling.{Corrects, Promised as Alone, turned-down, corrected-call}
 use Rattle.receiver.proofs.Rows.{first-on, state-listed, state-unlisted, usable}
-use Rattle.diversity.specs.Diversity.{correctable, Result, unchanged, firstAlone, secondAlone, outcome, pairWords, memoryAfter, keptServices, wrongInPair, pairTests, pairNumber, together, receivedBy, pairReceived}
+use Rattle.diversity.specs.Diversity.{correctable, Result, unchanged, firstAlone, secondAlone, outcome, pairWords, memoryAfter, keptServices, tallyAfter, wrongInPair, pairTests, pairNumber, together, receivedBy, pairReceived}
 use Rattle.pair.specs.Steps.{bothNumber, Paired}
 
 -- ---- which can be corrected
@@ -66,7 +66,7 @@ module _ (p : List ℕ) (a : Correction) (b : Bool) (ea : a ≡ correctionOf p) 
 -- both accepted
 abbrev accepted : List ℕ → List ℕ → List ℕ → List ℕ → Receiver → Result
 accepted carry p q log r = record {
-  answer = record { refusal = 0; wrong = 0; words = length (pairWords carry p q log r); receiver = remembering r (memoryAfter carry p q log r) (keptServices carry p q log r) };
+  answer = record { refusal = 0; wrong = 0; words = length (pairWords carry p q log r); receiver = remembering r (memoryAfter carry p q log r) (keptServices carry p q log r) (tallyAfter carry p q log r) };
   carry = putAt carry 0 (bytesOf (outcome carry p q log r .partial));
   first = correctedPdu p;
   second = correctedPdu q;

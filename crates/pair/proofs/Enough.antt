@@ -25,13 +25,15 @@ use Rattle.pdu.proofs.Sizes.{lengthsFrom, sized}
 use Rattle.reassembly.specs.Reassembly.{received}
 use Rattle.reassembly.specs.Rights.{under}
 use Rattle.reassembly.specs.Run.{bytesOf}
+use Rattle.reassembly.specs.Tally.{Countable, passesLimit}
+use Rattle.reassembly.proofs.Tallies.{not-passed}
 use Rattle.reassembly.proofs.Bound.{pieceBytes, bound}
 use Rattle.receiver.specs.Receiving.{pieceIn, saidBy, memoryOf, remembering, modeOf, wrongState}
 use Rattle.receiver.specs.Steps.{stateTests, streamTests}
 use Rattle.receiver.specs.declared.Receiver.{Receiver}
 use Rattle.receiver.proofs.Enough.{taken-few, held-few, corrected-length}
 use Rattle.receiver.proofs.Rows.{same-listing}
-use Rattle.diversity.specs.Diversity.{correctable, pairPiece, pairPieces, pairSaid, pairCome, copyNumber, differ, Result, said, outcome, pairWords, memoryAfter, keptServices, keptServices, pairTests, pairNumber, together, receivedBy, pairReceived}
+use Rattle.diversity.specs.Diversity.{correctable, pairPiece, pairPieces, pairSaid, pairCome, copyNumber, differ, Result, said, outcome, pairWords, memoryAfter, keptServices, tallyAfter, keptServices, pairTests, pairNumber, together, receivedBy, pairReceived}
 use Rattle.diversity.proofs.Alike.{locators-same, pair-bytes}
 use Rattle.pair.proofs.Calling.{corrected-is}
 
@@ -88,7 +90,7 @@ module _ (carry p q log : List ℕ) (r : Receiver) where
   -- what is answered and left, both received
   abbrev pub taken : Result
   taken = record {
-    answer = record { refusal = 0; wrong = 0; words = length (pairWords carry p q log r); receiver = remembering r (memoryAfter carry p q log r) (keptServices carry p q log r) };
+    answer = record { refusal = 0; wrong = 0; words = length (pairWords carry p q log r); receiver = remembering r (memoryAfter carry p q log r) (keptServices carry p q log r) (tallyAfter carry p q log r) };
     carry = putAt carry 0 (bytesOf (outcome carry p q log r .partial));
     first = correctedPdu p;
     second = correctedPdu q;
@@ -96,18 +98,19 @@ module _ (carry p q log : List ℕ) (r : Receiver) where
   }
 
   module _ (h : Passes) where
-    number-is : pairNumber carry p q log r ≡ cond (ltb (length log) (length (pairWords carry p q log r))) 13 0
+    number-is : pairNumber carry p q log r ≡ cond (ltb (length log) (length (pairWords carry p q log r))) 13 (cond (passesLimit (tallyAfter carry p q log r)) 27 0)
     unfolding pairNumber
     number-is =
         let s = h .same in
         past (stateTests r (length carry)) (drop 2 (pairTests carry p q log r)) refl (h .state)
         ∙ rw (h .firstRows, h .secondRows, s)
 
-    pub passes-taken : length (pairWords carry p q log r) ≤ length log → pairReceived carry p q log r ≡ taken
+    pub passes-taken : length (pairWords carry p q log r) ≤ length log → Countable (tallyAfter carry p q log r) → pairReceived carry p q log r ≡ taken
     unfolding pairReceived together
-    passes-taken room =
+    passes-taken room few =
         let t : ltb (length log) (length (pairWords carry p q log r)) ≡ false = le-ltb (length log) (length (pairWords carry p q log r)) room in
-        let z : pairNumber carry p q log r ≡ 0 = number-is ∙ ap (λ (b : Bool). cond b 13 0) t in
+        let u : passesLimit (tallyAfter carry p q log r) ≡ false = not-passed (tallyAfter carry p q log r) few in
+        let z : pairNumber carry p q log r ≡ 0 = number-is ∙ ap₂ (λ (b d : Bool). cond b 13 (cond d 27 0)) t u in
         let e : eqb (pairNumber carry p q log r) 0 ≡ true = eq-eqb (pairNumber carry p q log r) 0 z in
         ap₂ (receivedBy carry p q log r) (h .first) (h .second) ∙ rw e
 

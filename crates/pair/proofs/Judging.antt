@@ -1,5 +1,5 @@
 -- What is turned down of two corrected copies, row by row.
-use mathlib.Core.Path.{_≡_, refl, sym, ap, ap₂, _∙_}
+use mathlib.Core.Path.{_≡_, refl, sym, ap, ap₂, subst, _∙_}
 use mathlib.Core.Bool.{Bool, true, false, not, _&&_, cond}
 use mathlib.Core.List.{List, [], _∷_, _++_}
 use Prim.Native.Nat.{ℕ, _+_, _-_, _<_, _≤_}
@@ -20,7 +20,7 @@ use Rattle.pdu.specs.declared.Verdict.{Verdict}
 use Rattle.pdu.proofs.Lowest.{without-eleven}
 use Rattle.pdu.proofs.Sizes.{sized}
 use Rattle.receiver.specs.Receiving.{refusedAnswer}
-use Rattle.receiver.specs.Steps.{noRoom, Answered, Takes, streamTests}
+use Rattle.receiver.specs.Steps.{lastTests, Answered, Takes, streamTests}
 use Rattle.receiver.specs.declared.Receiver.{Receiver}
 use Rattle.receiver.specs.declared.Received.{Received}
 use Rattle.receiver.proofs.Answering.{answered-refused, answered-number}
@@ -82,7 +82,7 @@ module _ (y z : List ℕ) where
       ap not (eb ∙ ap₂ (λ (i j : ℕ). sameBytes (take (i - 8) (drop 8 y)) (take (j - 8) (drop 8 z))) ea ee)
       ∙ ap (λ (x : Bool). not (x && sameBytes (frontOf y) (frontOf z))) (sym t)
 
--- ---- rows 5 to 12, 20 and 13
+-- ---- rows 5 to 12, 20, 13 and 27
 
 module _ (m : Mode) (r : Receiver) (carry y z log : List ℕ) where
   abbrev lowest : ℕ
@@ -108,22 +108,17 @@ module _ (m : Mode) (r : Receiver) (carry y z log : List ℕ) where
     unfolding bothNumber wrongInPair
     differs-call b a eb h q = let u : differ y z ≡ true = sym eb ∙ h in refused-with 20 0 a (rw (t, u)) (λ e. absurd (omega arith)) refl q
 
-    -- 13, or accepted
+    -- 13, 27, or accepted
     pub alike-call : (b : Bool) (a : Received) (carryEnd logEnd : List ℕ) → b ≡ differ y z → b ≡ false → Takes (m .sequences) (comeAsBoth m r carry y z log) r carry log a carryEnd logEnd
         → Paired m r carry y z log a carryEnd logEnd
     unfolding bothNumber wrongInPair
     alike-call b a carryEnd logEnd eb h q =
         let u : differ y z ≡ false = sym eb ∙ h in
-        let full : Bool = noRoom (m .sequences) (comeAsBoth m r carry y z log) r carry log in
-        let number : bothNumber m r carry y z log ≡ cond full 13 0 = rw (t, u) in
-        rw number (go full q)
-      where
-        abbreviated : Bool → Type 0
-        abbreviated x = Answered (m .sequences) (comeAsBoth m r carry y z log) r carry log (cond x 13 0) (wrongInPair y z (cond x 13 0)) a carryEnd logEnd
-
-        go : (x : Bool) → Answered (m .sequences) (comeAsBoth m r carry y z log) r carry log (cond x 13 0) 0 a carryEnd logEnd → abbreviated x
-        go true p = p
-        go false p = p
+        let rows = lastTests (m .sequences) (comeAsBoth m r carry y z log) r carry log in
+        let n : ℕ = firstOf rows in
+        let number : bothNumber m r carry y z log ≡ n = rw (t, u) in
+        let k : 0 ≡ wrongInPair y z n = let d : eqb n 11 ≡ false = ne-eqb n 11 (never 11 rows refl refl) in rw d in
+        rw number (subst (λ (j : ℕ). Answered (m .sequences) (comeAsBoth m r carry y z log) r carry log n j a carryEnd logEnd) k q)
 
   -- ---- the header put back
 

@@ -8,12 +8,12 @@ use Rattle.modes.specs.declared.Mode.{Mode}
 use Rattle.layout.specs.Control.{controlAt}
 use Rattle.pdu.specs.declared.Verdict.{Verdict}
 use Rattle.reassembly.specs.Holder.{Come}
-use Rattle.receiver.specs.Steps.{noRoom, Answered}
+use Rattle.receiver.specs.Steps.{lastTests, Answered}
 use Rattle.receiver.specs.declared.Receiver.{Receiver}
 use Rattle.receiver.specs.declared.Received.{Received}
 use Rattle.diversity.specs.Diversity.{pairCome, copyNumber, lower, wrongInPair, differ}
 
--- ---- rows 5 to 12, 20 and 13, of two corrected copies
+-- ---- rows 5 to 12, 20, 13 and 27, of two corrected copies
 
 -- the k that comes with the lower of two numbers; of two that are the same, the smaller k
 abbrev pub lowerWrong : Verdict → Verdict → ℕ
@@ -28,7 +28,7 @@ module _ (m : Mode) (r : Receiver) (carry y z log : List ℕ) where
   unfoldable pub bothNumber : ℕ
   bothNumber =
       let n = lower (copyNumber r y) (copyNumber r z) in
-      firstOf ((not (eqb n 0), n) ∷ (differ y z, 20) ∷ (noRoom (m .sequences) comeAsBoth r carry log, 13) ∷ [])
+      firstOf ((not (eqb n 0), n) ∷ (differ y z, 20) ∷ lastTests (m .sequences) comeAsBoth r carry log)
 
   abbrev pub Paired : Received → List ℕ → List ℕ → Type 0
   Paired a carryAfter logAfter = Answered (m .sequences) comeAsBoth r carry log bothNumber (wrongInPair y z bothNumber) a carryAfter logAfter

@@ -89,7 +89,7 @@ fn differs(first: &[u8], second: &[u8]) -> bool
     !diversity::same_bytes(&first[8..a], &second[8..e])
 }
 
-// Receives two corrected PDUs, or refuses with 5 to 12, 20 or 13.
+// Receives two corrected PDUs, or refuses with 5 to 12, 20, 13 or 27.
 fn receive_both(
     r: Receiver,
     m: Mode,
@@ -189,7 +189,7 @@ fn receive_listed(
 
 // Receives a pair of PDUs, two copies of one: each header that can be corrected is left corrected, and each piece is taken from a copy in which its CRC is
 // right; where both are right and differ, note 7 stands in place of note 2. Where only one can be corrected, that one is received alone. It is refused with 1,
-// 2, 4 where neither can be corrected, 5 to 12 of either, 20 where they differ in length or in bytes 8 to La, or 13, and nothing is changed.
+// 2, 4 where neither can be corrected, 5 to 12 of either, 20 where they differ in length or in bytes 8 to La, 13 or 27, and nothing is changed.
 pub fn receive(
     receiver: Receiver,
     carry: &mut [u8],

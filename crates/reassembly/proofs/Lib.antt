@@ -5,5 +5,6 @@ pub mod Examples
 pub mod Fitting
 pub mod Laws
 pub mod Runs
+pub mod Tallies
 pub mod Whole
 pub mod Withheld

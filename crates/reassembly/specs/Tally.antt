@@ -1,15 +1,14 @@
 -- Document 02, Ask 14: delivered and missing.
-use mathlib.Core.Bool.{Bool, cond}
+use mathlib.Core.Bool.{Bool, _||_, cond}
 use mathlib.Core.List.{List, [], _∷_}
 use Prim.Native.Nat.{ℕ, zero, suc, _+_, _-_, _%_, _≤_}
-use lib.Dec.{eqb}
+use lib.Dec.{eqb, ltb}
 use Rattle.log.specs.Log.{Entry, packet, psd, note}
+use Rattle.reassembly.specs.declared.Tally.{Tally as Counts}
 
 -- counts, and the last delivered number; with delivered 0 the other two are 0
-pub record Tally : Type 0 where
-  pub delivered : ℕ
-  pub missing : ℕ
-  pub last : ℕ
+abbrev pub Tally : Type 0
+Tally = Counts
 
 abbrev pub noTally : Tally
 noTally = record { delivered = 0; missing = 0; last = 0 }
@@ -37,3 +36,7 @@ pub record Grows (t u : Tally) : Type 0 where
 -- neither count passes 4,294,967,295
 abbrev pub Countable : Tally → Type 0
 Countable t = (t .delivered ≤ 4294967295) × (t .missing ≤ 4294967295)
+
+-- 27: a count passes 4,294,967,295
+abbrev pub passesLimit : Tally → Bool
+passesLimit t = ltb 4294967295 (t .delivered) || ltb 4294967295 (t .missing)

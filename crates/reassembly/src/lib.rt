@@ -1,15 +1,17 @@
-// Reassembly of packets from the pieces of PDUs (document 01, "Receiver"), withheld ones too (document 02, Ask 10).
+// Reassembly of packets from the pieces of PDUs (document 01, "Receiver"), withheld ones too (document 02, Ask 10); delivered and missing counted (Ask 14).
 ghost use mathlib.Core.Path.{_≡_};
-ghost use mathlib.Core.Bool.{true, false};
+ghost use mathlib.Core.Bool.{true, false, cond};
 ghost use mathlib.Core.List.{List, _++_};
 ghost use Prim.Native.Nat.{ℕ, _+_, _-_, _*_, _≤_, _<_};
+ghost use lib.Dec.{eqb};
 ghost use lib.ListN.{length, take, getD};
 ghost use Rattle.buffer.specs.Buffer.{putAt};
 ghost use Rattle.log.specs.Log.{logWords};
 ghost use Rattle.reassembly.specs.Reassembly.{following, inSequence, nothing, dropped, numberAt, finished, pieceStep, piecesStep, psdEntries, continuingStep, contentsStep, received};
 ghost use Rattle.reassembly.specs.Rights.{under};
 ghost use Rattle.reassembly.specs.Run.{lastOf, continuedBy, firstCause, endsAt, begun, partialOf, pieceOf, Did, Room, Marked, placeAt, pieceAt, piecesFrom, Parsed, saidOf, memoryOf};
-ghost use Rattle.reassembly.specs.Count.{countFinish, countPiece, countFrom, countPsd, countContinuing, countContents, countAll};
+ghost use Rattle.reassembly.specs.Tally.{gap, counted};
+ghost use Rattle.reassembly.specs.Count.{countFinish, countPiece, withPiece, withWords, countFrom, countPsd, countContinuing, countContents, countAll, Bounded};
 
 // What is held and where the log stands, in the course of a step. The bytes are the first ones of the carry buffer; held length 0 means nothing
 // held, with number 0.
@@ -39,10 +41,24 @@ pub struct Head {
     pub services: u8,
 }
 
-// Log words counted before they are written, and bytes held after them.
+// The packets delivered, those missing between them, and the last delivered number (document 02, Ask 14); with delivered 0 the other two are 0.
 pub struct Tally {
+    pub delivered: u64,
+    pub missing: u64,
+    pub last: u8,
+}
+
+// What a piece comes to: log words, bytes held after it, and whether it delivers a packet.
+pub struct PieceCount {
     pub words: usize,
     pub held: usize,
+    pub delivers: bool,
+}
+
+// Log words counted before they are written, and the tally after them.
+pub struct Forecast {
+    pub words: usize,
+    pub tally: Tally,
 }
 
 fn wide(x: u8) -> usize
@@ -123,36 +139,53 @@ fn ends_here(plast: bool, left: usize) -> bool
     true
 }
 
-// The words of packet bytes, n with what was held: too long, delivered or held.
-fn count_finish(ends: bool, n: usize) -> Tally
+// Packet bytes, n with what was held: too long, delivered or held.
+fn count_finish(ends: bool, n: usize) -> PieceCount
     requires { ⌜ n ≤ 100000 ⌝ }
     ensures { λ r. ⌜ r ≡ countFinish ends n ⌝ }
 {
     if 4096 < n {
-        return Tally { words: 1, held: 0 };
-    }
-    if ends {
-        return Tally {
-            words: 1 + (n + 2) / 3,
+        return PieceCount {
+            words: 1,
             held: 0,
+            delivers: false,
         };
     }
-    Tally { words: 0, held: n }
+    if ends {
+        return PieceCount {
+            words: 1 + (n + 2) / 3,
+            held: 0,
+            delivers: true,
+        };
+    }
+    PieceCount {
+        words: 0,
+        held: n,
+        delivers: false,
+    }
 }
 
-// The words of a piece of n bytes.
-fn count_piece(held: usize, continues: bool, ends: bool, cause: u8, n: usize) -> Tally
+// A piece of n bytes.
+fn count_piece(held: usize, continues: bool, ends: bool, cause: u8, n: usize) -> PieceCount
     requires { ⌜ (n ≤ 65535) × (held ≤ 4096) ⌝ }
     ensures { λ r. ⌜ r ≡ countPiece held continues ends cause n ⌝ }
 {
     if cause != 0 {
-        return Tally { words: 1, held: 0 };
+        return PieceCount {
+            words: 1,
+            held: 0,
+            delivers: false,
+        };
     }
     if !continues {
         return count_finish(ends, n);
     }
     if held == 0 {
-        return Tally { words: 1, held: 0 };
+        return PieceCount {
+            words: 1,
+            held: 0,
+            delivers: false,
+        };
     }
     count_finish(ends, held + n)
 }
@@ -463,23 +496,86 @@ pub fn accept(
     contents(first, head, marks, causes, pdu, &mut *carry, &mut *log)
 }
 
-// The words of all pieces.
-fn count_pieces(held: usize, head: Head, marks: [u16; 64], causes: [u8; 64]) -> usize
-    requires { ⌜ (held ≤ 4096) × (head .nop ≤ 63) ⌝ }
+// What a delivery of number n adds to missing (document 02, Ask 14): its number minus the last minus 1, modulo 64, but nothing where it is the first.
+fn missed_before(t: Tally, n: u8) -> u64
+    requires { ⌜ t .last ≤ 63 ⌝ }
+    ensures { λ r. ⌜ (r ≡ cond (eqb (t .delivered) 0) 0 (gap (t .last) n)) × (r ≤ 63) ⌝ }
+{
+    if t.delivered == 0 {
+        return 0;
+    }
+    (n as u64 + 63 - t.last as u64) % 64
+}
+
+// A delivery of number n.
+fn count_delivery(t: Tally, n: u8) -> Tally
+    requires { ⌜ (t .delivered ≤ 5000000000) × (t .missing ≤ 5000000000) × (t .last ≤ 63) ⌝ }
+    ensures { λ r. ⌜ r ≡ counted t n ⌝ }
+{
+    let missed = missed_before(t, n);
+    Tally {
+        delivered: t.delivered + 1,
+        missing: t.missing + missed,
+        last: n,
+    }
+}
+
+// So many words more.
+fn add_words(x: Forecast, n: usize) -> Forecast
+    requires { ⌜ (x .words ≤ 1) × (n ≤ 22000) ⌝ }
+    ensures { λ r. ⌜ r ≡ withWords x n ⌝ }
+{
+    let tally = x.tally;
+    Forecast {
+        words: x.words + n,
+        tally: tally,
+    }
+}
+
+// A piece of packet number n more.
+fn add_piece(x: Forecast, p: PieceCount, n: u8) -> Forecast
+    requires { ⌜ Bounded 63 x × (p .words ≤ 1400) ⌝ }
+    ensures { λ r. ⌜ r ≡ withPiece x p n ⌝ }
+{
+    let words = x.words + p.words;
+    let tally = x.tally;
+    if p.delivers {
+        return Forecast {
+            words: words,
+            tally: count_delivery(tally, n),
+        };
+    }
+    Forecast {
+        words: words,
+        tally: tally,
+    }
+}
+
+// All pieces.
+fn count_pieces(
+    held: usize,
+    head: Head,
+    marks: [u16; 64],
+    causes: [u8; 64],
+    x: Forecast,
+) -> Forecast
+    requires { ⌜ (held ≤ 4096) × (head .nop ≤ 63) × Bounded 0 x ⌝ }
     requires { ⌜ ((k : ℕ) → k < head .nop → placeAt marks k < getD marks (k + 1) 0) ⌝ }
-    ensures { λ r. ⌜ (r ≡ countFrom marks causes (head .plast) 0 (head .nop) (head .pfirst) held) × (r ≤ 88200) ⌝ }
+    ensures { λ r. ⌜ r ≡ countFrom (numberAt (head .pfirst) (head .start)) marks causes (head .plast) 0 (head .nop) (head .pfirst) held x ⌝ }
 {
     let mut continues = head.pfirst;
     let mut kept = held;
-    let mut sum: usize = 0;
+    let mut sum = x;
     let mut k: usize = 0;
     while k < head.nop {
         let a = place(marks[k]) + 1;
         let e = place(marks[k + 1]);
         let ends = ends_here(head.plast, head.nop - (k + 1));
-        let t = count_piece(kept, continues, ends, causes[k], e - a);
-        sum += t.words;
-        kept = t.held;
+        let p = count_piece(kept, continues, ends, causes[k], e - a);
+        let n = piece_number(head.pfirst, head.start, k);
+        let next = add_piece(sum, p, n);
+        sum = next;
+        kept = p.held;
         continues = false;
         k += 1;
     }
@@ -497,60 +593,79 @@ fn count_psd(n: usize) -> usize
     1 + (n + 2) / 3
 }
 
-// The words of the piece that continues so many held bytes, if there is one.
-fn count_continuing(held: usize, head: Head, marks: [u16; 64], causes: [u8; 64]) -> usize
-    requires { ⌜ (held ≤ 4096) × (head .nop ≤ 63) ⌝ }
+// The piece that continues so many held bytes, if there is one.
+fn count_continuing(
+    held: usize,
+    head: Head,
+    marks: [u16; 64],
+    causes: [u8; 64],
+    x: Forecast,
+) -> Forecast
+    requires { ⌜ (held ≤ 4096) × (head .nop ≤ 63) × Bounded 0 x ⌝ }
     requires { ⌜ ((k : ℕ) → k < head .nop → placeAt marks k < getD marks (k + 1) 0) ⌝ }
-    ensures { λ r. ⌜ (r ≡ countContinuing head marks causes held) × (r ≤ 88200) ⌝ }
+    ensures { λ r. ⌜ r ≡ countContinuing head marks causes held x ⌝ }
 {
     if held == 0 {
-        return 0;
+        return x;
     }
     if head.nop == 0 {
-        return 0;
+        return x;
     }
     let a = place(marks[0]) + 1;
     let e = place(marks[1]);
     let ends = ends_here(head.plast, head.nop - 1);
-    let t = count_piece(held, true, ends, causes[0], e - a);
-    t.words
+    let p = count_piece(held, true, ends, causes[0], e - a);
+    let n = piece_number(head.pfirst, head.start, 0);
+    add_piece(x, p, n)
 }
 
-// The words of steps 3 and 4, of a PDU that is withheld or not, with so many bytes held.
+// Steps 3 and 4, of a PDU that is withheld or not, with so many bytes held.
 fn count_contents(
     held: usize,
     head: Head,
     withheld: bool,
     marks: [u16; 64],
     causes: [u8; 64],
-) -> usize
+    x: Forecast,
+) -> Forecast
     requires { ⌜ (held ≤ 4096) × (head .nop ≤ 63) × (head .psd ≤ placeAt marks 0) ⌝ }
+    requires { ⌜ (x .words ≤ 1) × Bounded 0 x ⌝ }
     requires { ⌜ ((k : ℕ) → k < head .nop → placeAt marks k < getD marks (k + 1) 0) ⌝ }
-    ensures { λ r. ⌜ (r ≡ countContents withheld head marks causes held) × (r ≤ 120000) ⌝ }
+    ensures { λ r. ⌜ r ≡ countContents withheld head marks causes held x ⌝ }
 {
     if withheld {
-        return 1 + count_continuing(held, head, marks, causes);
+        return count_continuing(held, head, marks, causes, add_words(x, 1));
     }
     let extra = count_psd(place(marks[0]) + 1 - head.psd);
-    extra + count_pieces(held, head, marks, causes)
+    count_pieces(held, head, marks, causes, add_words(x, extra))
 }
 
-// The words that an accepted PDU writes, counted before any is written.
-pub fn words_needed(
+// The words that an accepted PDU writes, counted before any is written, and the tally after it.
+pub fn forecast_for(
     state: State,
     range: u8,
     head: Head,
     withheld: bool,
     marks: [u16; 64],
     causes: [u8; 64],
-) -> usize
+    tally: Tally,
+) -> Forecast
     requires { ⌜ (state .last < 255) × (state .held ≤ 4096) ⌝ }
     requires { ⌜ (head .nop ≤ 63) × (head .psd ≤ placeAt marks 0) ⌝ }
     requires { ⌜ ((k : ℕ) → k < head .nop → placeAt marks k < getD marks (k + 1) 0) ⌝ }
-    ensures { λ r. ⌜ r ≡ countAll withheld state range head marks causes ⌝ }
+    requires { ⌜ (tally .delivered ≤ 4294967295) × (tally .missing ≤ 4294967295) × (tally .last ≤ 63) ⌝ }
+    ensures { λ r. ⌜ r ≡ countAll withheld state range head marks causes tally ⌝ }
 {
     if first_cause(state, range, head) == 0 {
-        return count_contents(state.held, head, withheld, marks, causes);
+        let x = Forecast {
+            words: 0,
+            tally: tally,
+        };
+        return count_contents(state.held, head, withheld, marks, causes, x);
     }
-    1 + count_contents(0, head, withheld, marks, causes)
+    let x = Forecast {
+        words: 1,
+        tally: tally,
+    };
+    count_contents(0, head, withheld, marks, causes, x)
 }

@@ -22,7 +22,7 @@ use Rattle.layout.specs.declared.ControlWord.{ControlWord}
 use Rattle.pdu.specs.Reading.{readerTests, modeIn, wrongWith, wrongOf}
 use Rattle.pdu.proofs.Lowest.{without-eleven}
 use Rattle.receiver.specs.Receiving.{comeBy, modeOf, wrongFields, wrongState, refusedAnswer, receiveNumber, receiveAnswer, carryAfter, pduAfter, logAfter}
-use Rattle.receiver.specs.Steps.{noRoom, Takes, streamTests, correctedNumber, Answered}
+use Rattle.receiver.specs.Steps.{lastTests, Takes, streamTests, correctedNumber, Answered}
 use Rattle.receiver.specs.declared.Receiver.{Receiver}
 use Rattle.receiver.specs.declared.Received.{Received}
 use Rattle.receiver.proofs.Answering.{answered-refused, answered-number}
@@ -59,14 +59,14 @@ module _ (m : Mode) (r : Receiver) (carry y log : List ℕ) where
       pub reader-call : (v k : ℕ) (a : Received) → v ≡ firstOf (readerTests m c y) → k ≡ wrongWith (m .width) c y v → (v ≡ 0 → ⊥) → a ≡ refusedAnswer r v k → Corrects a carry log
       reader-call v k a e w z q = refused-with v k a (at-reader m r carry y log c ec l none v e z) z (w ∙ same-wrong v) q
 
-      -- 13, or accepted
+      -- 13, 27, or accepted
       pub log-call : (v : ℕ) (a : Received) (carryEnd logEnd : List ℕ) → v ≡ firstOf (readerTests m c y) → v ≡ 0
           → Takes (m .sequences) (comeBy (r .register) (m .width) c y) r carry log a carryEnd logEnd
           → Corrects a carryEnd logEnd
       log-call v a carryEnd logEnd e z q =
-          let n : ℕ = cond (noRoom (m .sequences) (comeBy (r .register) (m .width) c y) r carry log) 13 0 in
+          let n : ℕ = firstOf (lastTests (m .sequences) (comeBy (r .register) (m .width) c y) r carry log) in
           let number : applying ≡ n = at-log m r carry y log c ec l none (sym e ∙ z) in
-          let k : 0 ≡ wrongOf y n = sym (without-eleven y n (never 11 ((noRoom (m .sequences) (comeBy (r .register) (m .width) c y) r carry log, 13) ∷ []) refl refl)) in
+          let k : 0 ≡ wrongOf y n = sym (without-eleven y n (never 11 (lastTests (m .sequences) (comeBy (r .register) (m .width) c y) r carry log) refl refl)) in
           let first : Answered (m .sequences) (comeBy (r .register) (m .width) c y) r carry log n (wrongOf y n) a carryEnd logEnd =
           subst (λ (j : ℕ). Answered (m .sequences) (comeBy (r .register) (m .width) c y) r carry log n j a carryEnd logEnd) k q in
           let second : Answered (m .sequences) (comeBy (r .register) (m .width) c y) r carry log applying (wrongOf y applying) a carryEnd logEnd = rw number first in

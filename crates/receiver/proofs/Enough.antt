@@ -9,7 +9,7 @@ use borrow.Author.Tests.{ltb-true, ltb-false, leb-true, le-ltb, eqb-true, not-fa
 use lib.ListN.{length, getD, take, drop, length-append, length-take, length-drop}
 use lib.Seq.{length-take-le}
 use Rattle.refusal.specs.Refusal.{firstOf, anyOf}
-use Rattle.refusal.proofs.Rows.{passed, row-off, rest-off, never, last-on, none-at}
+use Rattle.refusal.proofs.Rows.{passed, row-off, rest-off, never, row-on, last-on, none-at}
 use Rattle.modes.specs.Modes.{numberOf}
 use Rattle.modes.specs.declared.Mode.{Mode}
 use Rattle.header.proofs.Unique.{all-take}
@@ -113,8 +113,8 @@ module _ (marks carry pdu log : List ℕ) (r : Receiver) where
   pub enough-log : ((i : ℕ) → getD pdu i 0 < 256) → 8400 ≤ length log → ¬ (receiveNumber marks carry pdu log r ≡ 13)
   unfolding receiveNumber
   enough-log b big e =
-      let t = passed 13 firstTwelve ((ltb (length log) (length (receivedWords marks carry pdu log r)), 13) ∷ []) refl e in
-      let on = ltb-true (length log) (length (receivedWords marks carry pdu log r)) (last-on (ltb (length log) (length (receivedWords marks carry pdu log r))) 13 refl (t .1)) in
+      let t = passed 13 firstTwelve (drop 13 (receiveTests marks carry pdu log r)) refl e in
+      let on = ltb-true (length log) (length (receivedWords marks carry pdu log r)) (row-on (ltb (length log) (length (receivedWords marks carry pdu log r))) 13 [] (drop 14 (receiveTests marks carry pdu log r)) refl refl refl (t .1)) in
       let h = most b (t .0) in
       absurd (omega (arith, on, h, big))
 

@@ -1,14 +1,15 @@
--- Document 02, Ask 10, case by case: what a withheld PDU logs and leaves held, and which PDUs are withheld.
+-- Document 02, Ask 10, case by case: what a withheld PDU logs and leaves held, and which PDUs are withheld; Ask 14: which counts are turned down.
 use mathlib.Core.Path.{_≡_, refl}
 use mathlib.Core.Bool.{Bool, true, false}
 use mathlib.Core.List.{List, [], _∷_}
 use mathlib.Core.Option.{none, some}
 use Prim.Native.Nat.{ℕ}
+use Rattle.refusal.specs.Refusal.{anyOf}
 use Rattle.log.specs.Log.{packet, note}
 use Rattle.reassembly.specs.Reassembly.{Piece, Said, nothing, beginning, Memory, sequenceStep, beginningStep, finished, joined, pieceStep, continuingStep, contentsStep, received, forgotten}
 use Rattle.reassembly.specs.Holder.{Come}
 use Rattle.receiver.specs.Entitling.{entitles, allowedPrograms}
-use Rattle.receiver.specs.Receiving.{fresh, openingNumber, memoryOf, shown, keptBy}
+use Rattle.receiver.specs.Receiving.{fresh, openingNumber, memoryOf, shown, keptBy, remembering, wrongState}
 use Rattle.receiver.specs.declared.Receiver.{Receiver}
 use Rattle.modes.specs.Modes.{listing}
 
@@ -67,7 +68,7 @@ abbrev core : Receiver
 core = fresh 1 0 0 2
 
 abbrev knowing : ℕ → Receiver
-knowing value = record { mode = 1; stream = 0; register = 0; entitled = 2; known = true; sequence = 2; held = 0; number = 0; serviced = true; services = value }
+knowing value = record { mode = 1; stream = 0; register = 0; entitled = 2; known = true; sequence = 2; held = 0; number = 0; serviced = true; services = value; delivered = 0; missing = 0; last = 0 }
 
 abbrev enhanced : Receiver
 enhanced = fresh 10 1 0 2
@@ -132,3 +133,17 @@ twice = refl
 pub empty-list : openingNumber 0 0 [] ≡ 0
 unfolding openingNumber listing allowedPrograms
 empty-list = refl
+
+-- ---- document 02, Ask 14: counts in the record
+
+-- number 1: with delivered 0 the other two are 0, and the last number is at most 63
+abbrev having : ℕ → ℕ → ℕ → Receiver
+having delivered missing last = remembering (fresh 0 0 0 255) forgotten none (record { delivered = delivered; missing = missing; last = last })
+
+pub wrong-counts : (anyOf (wrongState (having 0 0 3)) ≡ true) × (anyOf (wrongState (having 0 1 0)) ≡ true) × (anyOf (wrongState (having 1 0 64)) ≡ true)
+unfolding remembering listing
+wrong-counts = (refl, refl, refl)
+
+pub right-counts : (anyOf (wrongState (having 0 0 0)) ≡ false) × (anyOf (wrongState (having 1 0 63)) ≡ false) × (anyOf (wrongState (having 4294967295 4294967295 0)) ≡ false)
+unfolding remembering listing
+right-counts = (refl, refl, refl)

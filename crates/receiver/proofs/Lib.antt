@@ -1,6 +1,7 @@
 pub mod Answering
 pub mod Bounds
 pub mod Calling
+pub mod Counting
 pub mod Enough
 pub mod Entitled
 pub mod Examples

@@ -1,6 +1,6 @@
 -- The lowest number that applies, row by row.
 use mathlib.Core.Path.{_≡_, refl, sym, ap, ap₂, _∙_}
-use mathlib.Core.Bool.{Bool, true, false, not, _&&_, cond, true≢false}
+use mathlib.Core.Bool.{Bool, true, false, not, _&&_, _||_, cond, true≢false}
 use mathlib.Core.List.{List, [], _∷_, _++_}
 use mathlib.Core.Option.{Option, none, some}
 use Prim.Native.Nat.{ℕ, _<_, _≤_}
@@ -25,7 +25,7 @@ use Rattle.layout.specs.Control.{controlAt}
 use Rattle.layout.specs.declared.ControlWord.{ControlWord}
 use Rattle.pdu.specs.Reading.{readerTests, modeIn, listingOf, uncorrectable, widthOf}
 use Rattle.receiver.specs.Receiving.{comeBy, modeOf, wrongFields, wrongState, receiveNumber}
-use Rattle.receiver.specs.Steps.{Usable, noRoom, streamTests, correctedNumber}
+use Rattle.receiver.specs.Steps.{Usable, lastTests, streamTests, correctedNumber}
 use Rattle.receiver.specs.declared.Receiver.{Receiver}
 
 -- rows of which one applies: later ones are not looked at
@@ -61,14 +61,14 @@ module _ (r : Receiver) (c : ControlWord) where
       let h = both-on (eqb (c .mode) (r .mode)) (eqb (c .stream) (r .stream)) e in
       ap₂ listing (eqb-true (c .mode) (r .mode) (h .0)) (eqb-true (c .stream) (r .stream) (h .1))
 
--- ---- rows 5 to 13, of a corrected PDU
+-- ---- rows 5 to 13, and 27, of a corrected PDU
 
 module _ (m : Mode) (r : Receiver) (carry y log : List ℕ) (c : ControlWord) (ec : c ≡ controlAt y) where
-  -- row 13
+  -- rows 13 and 27
   abbrev room : List (Bool × ℕ)
-  room = (noRoom (m .sequences) (comeBy (r .register) (m .width) c y) r carry log, 13) ∷ []
+  room = lastTests (m .sequences) (comeBy (r .register) (m .width) c y) r carry log
 
-  -- rows 7 to 13, for a line of the table
+  -- rows 7 to 13, and 27, for a line of the table
   abbrev later : Listing → List (Bool × ℕ)
   later l = readerTests (modeIn l) c y ++ room
 
@@ -93,7 +93,7 @@ module _ (m : Mode) (r : Receiver) (carry y log : List ℕ) (c : ControlWord) (e
     pub at-reader : (n : ℕ) → n ≡ firstOf (readerTests m c y) → (n ≡ 0 → ⊥) → correctedNumber m r carry y log ≡ n
     at-reader n e z = later-rows ∙ first-on (readerTests m c y) room (λ q. z (e ∙ q)) ∙ sym e
 
-    pub at-log : firstOf (readerTests m c y) ≡ 0 → correctedNumber m r carry y log ≡ cond (noRoom (m .sequences) (comeBy (r .register) (m .width) c y) r carry log) 13 0
+    pub at-log : firstOf (readerTests m c y) ≡ 0 → correctedNumber m r carry y log ≡ firstOf room
     at-log e = later-rows ∙ past (readerTests m c y) room refl e
 
 -- ---- rows 3, 19 and 4 are correction's numbers
@@ -130,6 +130,11 @@ module _ (marks p : List ℕ) (x : ℕ) where
 
 -- ---- row 1
 
+pub three-or : (a b c d : Bool) → ((a || (b || c)) || d) ≡ (a || (b || (c || d)))
+three-or true b c d = refl
+three-or false true c d = refl
+three-or false false c d = refl
+
 module _ (r : Receiver) where
   pub state-listed : (m : Mode) → listing (r .mode) (r .stream) ≡ Listed m → anyOf (wrongState r) ≡ anyOf (wrongFields m r)
   state-listed m e = ap (λ (l : Listing). anyOf (not (eqb (numberOf l) 0) ∷ wrongFields (modeIn l) r)) e
@@ -139,7 +144,7 @@ module _ (r : Receiver) where
       let f : n ≡ 5 = refusal-five (r .mode) (r .stream) n e in
       ap (λ (l : Listing). anyOf (not (eqb (numberOf l) 0) ∷ wrongFields (modeIn l) r)) (e ∙ ap Refused f)
 
-  number-held : (held number : ℕ) → (eqb held 0 && not (eqb number 0)) ≡ false → held ≡ 0 → number ≡ 0
+  pub number-held : (held number : ℕ) → (eqb held 0 && not (eqb number 0)) ≡ false → held ≡ 0 → number ≡ 0
   number-held held number e z = eqb-true number 0 (go (eqb number 0) (rw t at e))
     where
       t : eqb held 0 ≡ true
@@ -165,6 +170,7 @@ module _ (r : Receiver) where
         held = ltb-false 4096 (r .held) (off 2);
         number = number-held (r .held) (r .number) (off 4);
         services = none-known (r .serviced) (r .services) (off 6);
+        last = ltb-false 63 (r .last) (off 8);
         room = h;
       }
 

@@ -22,9 +22,10 @@ use Rattle.reassembly.specs.Reassembly.{Said, Partial, nothing, Outcome, beginn
 use Rattle.reassembly.specs.Rights.{Label, forgetting, inForce, keptAfter, withheldBy}
 use Rattle.reassembly.specs.Holder.{Come}
 use Rattle.reassembly.specs.Run.{bytesOf}
+use Rattle.reassembly.specs.Tally.{tallied}
 use Rattle.reassembly.proofs.Withheld.{begun-held, nothing-shown}
 use Rattle.receiver.specs.Entitling.{entitles}
-use Rattle.receiver.specs.Receiving.{labelIn, comeBy, saidBy, memoryOf, keptOf, keepsServices, valueAt, shown, keptBy, remembering, modeOf, come, said, receiveTests, receiveNumber, receiveAnswer, carryAfter, logAfter}
+use Rattle.receiver.specs.Receiving.{labelIn, comeBy, saidBy, memoryOf, keptOf, tallyOf, keepsServices, valueAt, shown, keptBy, remembering, modeOf, come, said, receiveTests, receiveNumber, receiveAnswer, carryAfter, logAfter}
 use Rattle.receiver.specs.Secrecy.{Withheld, SameFront, stillHeld, Same, Secrecy}
 use Rattle.receiver.specs.declared.Receiver.{Receiver}
 use Rattle.receiver.specs.declared.Received.{Received}
@@ -50,7 +51,7 @@ module _ (range : ℕ) (r : Receiver) (carry : List ℕ) (d e : Come) (q : d .sa
 
   -- the answer of an accepted call
   abbrev answerWith : Outcome → ℕ → Option ℕ → Received
-  answerWith o sequence kept = record { refusal = 0; wrong = 0; words = length (logWords (o .entries)); receiver = remembering r (record { last = some sequence; partial = o .partial }) kept }
+  answerWith o sequence kept = record { refusal = 0; wrong = 0; words = length (logWords (o .entries)); receiver = remembering r (record { last = some sequence; partial = o .partial }) kept (tallied (tallyOf r) (o .entries)) }
 
   answer-same : answerWith (received range (memoryOf r carry) (shown range r carry d)) (d .said .sequence) (keptBy range r carry d) ≡ answerWith (received range (memoryOf r carry) (shown range r carry e)) (e .said .sequence) (keptBy range r carry e)
   answer-same = λ i. answerWith (outcome-same i) (q i) (kept-same i)

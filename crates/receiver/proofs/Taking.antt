@@ -1,4 +1,4 @@
--- A PDU by what its header says, its marks and causes: withheld or not, its words counted, and put down where the log has room.
+-- A PDU by what its header says, its marks and causes: withheld or not, its words and packets counted, and put down where the log has room and no count passes its limit.
 use mathlib.Core.Path.{_≡_, refl, sym, ap, _∙_}
 use mathlib.Core.Bool.{Bool, true, false, cond}
 use mathlib.Core.List.{List}
@@ -13,13 +13,16 @@ use Rattle.reassembly.specs.Reassembly.{Outcome, received, remembered}
 use Rattle.reassembly.specs.Rights.{forgetting, inForce, keptAfter, withheldBy, under}
 use Rattle.reassembly.specs.Run.{bytesOf, numberOf, runAfter, keeps, writes, Did, Room, placeAt, Parsed, saidOf, lastOf, memoryOf as memoryBy}
 use Rattle.reassembly.specs.Count.{countAll}
+use Rattle.reassembly.specs.Tally.{Tally, tallied, passesLimit, Countable}
+use Rattle.reassembly.specs.declared.Forecast.{Forecast}
 use Rattle.reassembly.specs.declared.Head.{Head}
 use Rattle.reassembly.specs.declared.Run.{Run}
 use Rattle.reassembly.specs.declared.State.{State}
-use Rattle.reassembly.proofs.Counts.{count-received}
+use Rattle.reassembly.proofs.Counts.{afterEntries, count-received}
+use Rattle.reassembly.proofs.Tallies.{within-limit}
 use Rattle.receiver.specs.Entitling.{entitles}
-use Rattle.receiver.specs.Receiving.{memoryOf, keptOf, isKnown, orZero, keepsServices, valueAt, shown, keptBy, remembering, refusedAnswer}
-use Rattle.receiver.specs.Steps.{stateOf, servicesOf, comeOf, Usable, acceptedAfter, outcomeOf, noRoom, acceptedAnswer, Takes}
+use Rattle.receiver.specs.Receiving.{memoryOf, keptOf, tallyOf, isKnown, orZero, keepsServices, valueAt, shown, keptBy, remembering, refusedAnswer}
+use Rattle.receiver.specs.Steps.{stateOf, servicesOf, comeOf, Usable, acceptedAfter, outcomeOf, noRoom, tallyBy, acceptedAnswer, Takes}
 use Rattle.receiver.specs.declared.Receiver.{Receiver}
 use Rattle.receiver.specs.declared.Received.{Received}
 use Rattle.receiver.specs.declared.Services.{Services}
@@ -67,16 +70,40 @@ module _ {r : Receiver} {head : Head} {y marks carry : List ℕ} {state : State}
   plain : state .held ≡ 0 → state .number ≡ 0
   plain = rw (ready .stated) (fine .number)
 
-  pub needed : ((state .last < 255) × (state .held ≤ 4096)) × (((head .nop ≤ 63) × (head .psd ≤ placeAt marks 0)) × ((k : ℕ) → k < head .nop → placeAt marks k < getD marks (k + 1) 0))
-  needed = ((last, small), ((whole .marked .few, whole .psd), whole .marked .rising))
+  -- what is counted so far
+  abbrev pub Counted : Tally → Type 0
+  Counted t = (t ≡ tallyOf r) × (t .delivered ≤ 4294967295) × (t .missing ≤ 4294967295)
 
-  module _ (range : ℕ) (causes log : List ℕ) (services : Services) (es : services ≡ servicesOf (forceAt range r head)) (w : Bool)
-      (ew : w ≡ withheldBy (entitles (r .entitled)) (head .program) (lastOf (services .known) (services .value))) where
+  pub needed : (t : Tally) → Counted t
+      → ((state .last < 255) × (state .held ≤ 4096)) × (((head .nop ≤ 63) × (head .psd ≤ placeAt marks 0)) × (((k : ℕ) → k < head .nop → placeAt marks k < getD marks (k + 1) 0) × ((t .delivered ≤ 4294967295) × (t .missing ≤ 4294967295) × (t .last ≤ 63))))
+  needed t b = ((last, small), ((whole .marked .few, whole .psd), (whole .marked .rising, (b .1, b .2, rw (b .0) (fine .last)))))
+
+  -- what is known once the words and the packets are counted
+  pub record Weighed (range : ℕ) (causes : List ℕ) : Type 0 where
+    pub services : Services
+    pub inForceHere : services ≡ servicesOf (forceAt range r head)
+    pub withheld : Bool
+    pub withheldHere : withheld ≡ withheldBy (entitles (r .entitled)) (head .program) (lastOf (services .known) (services .value))
+    pub before : Tally
+    pub countedBefore : Counted before
+    pub count : Forecast
+    pub forecast : count ≡ countAll withheld state range head marks causes before
+
+  module _ {range : ℕ} {causes : List ℕ} (k : Weighed range causes) (log : List ℕ) where
+    abbrev services : Services
+    services = k .services
+
+    abbrev w : Bool
+    w = k .withheld
+
+    abbrev count : Forecast
+    count = k .count
+
     abbrev pub Accepts : Outcome
     Accepts = received range (memoryBy state carry) (under w (saidOf head marks causes y))
 
     withheld-as : w ≡ withheldBy (entitles (r .entitled)) (head .program) (valueAt range r carry (comeOf head marks causes y))
-    withheld-as = ew ∙ ap (λ (s : Services). withheldBy (entitles (r .entitled)) (head .program) (lastOf (s .known) (s .value))) es ∙ ap (withheldBy (entitles (r .entitled)) (head .program)) (known-again (forceAt range r head) ∙ value-is range r head marks causes y carry)
+    withheld-as = k .withheldHere ∙ ap (λ (s : Services). withheldBy (entitles (r .entitled)) (head .program) (lastOf (s .known) (s .value))) (k .inForceHere) ∙ ap (withheldBy (entitles (r .entitled)) (head .program)) (known-again (forceAt range r head) ∙ value-is range r head marks causes y carry)
 
     said-as : under w (saidOf head marks causes y) ≡ shown range r carry (comeOf head marks causes y)
     said-as = ap (λ (b : Bool). under b (saidOf head marks causes y)) withheld-as
@@ -84,75 +111,96 @@ module _ {r : Receiver} {head : Head} {y marks carry : List ℕ} {state : State}
     same : Accepts ≡ outcomeOf range (comeOf head marks causes y) r carry log
     same = λ i. received range ((ap (λ (s : State). memoryBy s carry) (ready .stated) ∙ same-memory r carry) i) (said-as i)
 
-    module _ (words : ℕ) (en : words ≡ countAll w state range head marks causes) where
-      counted : words ≡ length (logWords (Accepts .entries))
-      counted = en ∙ count-received w state range head marks causes y carry small (fine .room) whole
+    as-logged : count ≡ afterEntries (record { words = 0; tally = k .before }) (Accepts .entries)
+    as-logged = k .forecast ∙ count-received w state range head marks causes y carry (k .before) small (fine .room) whole
 
-      counted-here : words ≡ length (logWords (outcomeOf range (comeOf head marks causes y) r carry log .entries))
-      counted-here = counted ∙ ap (λ (o : Outcome). length (logWords (o .entries))) same
+    counted : count .words ≡ length (logWords (Accepts .entries))
+    unfolding afterEntries
+    counted = ap (λ (x : Forecast). x .words) as-logged ∙ zero-add (length (logWords (Accepts .entries)))
 
-      -- the log is too short
-      pub too-short : (a : Received) → length log < words → a ≡ refusedAnswer r 13 0 → Takes range (comeOf head marks causes y) r carry log a carry log
-      too-short a h q =
-          let t : noRoom range (comeOf head marks causes y) r carry log ≡ true =
-          lt-ltb (length log) (length (logWords (outcomeOf range (comeOf head marks causes y) r carry log .entries))) (omega (arith, counted-here)) in
-          rw t (answered-refused range (comeOf head marks causes y) r carry log 13 0 a (λ z. omega arith) q)
+    counted-here : count .words ≡ length (logWords (outcomeOf range (comeOf head marks causes y) r carry log .entries))
+    counted-here = counted ∙ ap (λ (o : Outcome). length (logWords (o .entries))) same
 
-      module _ (h : words ≤ length log) where
-        pub accepts : (state .last < 255) × (((state .held ≤ 4096) × (state .held ≡ 0 → state .number ≡ 0)) × ((4096 ≤ length carry) × (Parsed head y marks × Room Accepts 0 log)))
-        unfolding Room
-        accepts = (last, ((small, plain), (fine .room, (whole, omega (arith, counted)))))
+    tally-here : count .tally ≡ tallyBy range (comeOf head marks causes y) r carry log
+    unfolding afterEntries
+    tally-here = ap (λ (x : Forecast). x .tally) as-logged ∙ (λ i. tallied (k .countedBefore .0 i) (same i .entries))
 
-        module _ (carryAfter logAfter : List ℕ) (run : Run) (did : Did Accepts 0 carry log carryAfter logAfter run) where
-          run-at : run .at ≡ words
-          unfolding runAfter
-          run-at = ap (λ (x : Run). x .at) (did .run) ∙ zero-add (length (logWords (Accepts .entries))) ∙ sym counted
+    -- 13: the log is too short
+    pub too-short : (a : Received) → length log < count .words → a ≡ refusedAnswer r 13 0 → Takes range (comeOf head marks causes y) r carry log a carry log
+    too-short a h q =
+        let t : noRoom range (comeOf head marks causes y) r carry log ≡ true =
+        lt-ltb (length log) (length (logWords (outcomeOf range (comeOf head marks causes y) r carry log .entries))) (omega (arith, counted-here)) in
+        rw t (answered-refused range (comeOf head marks causes y) r carry log 13 0 a (λ z. omega arith) q)
 
-          run-held : run .held ≡ length (bytesOf (Accepts .partial))
-          unfolding runAfter
-          run-held = ap (λ (x : Run). x .held) (did .run)
+    module _ (h : count .words ≤ length log) (over : Bool) (eo : over ≡ passesLimit (count .tally)) where
+      room : noRoom range (comeOf head marks causes y) r carry log ≡ false
+      room = le-ltb (length log) (length (logWords (outcomeOf range (comeOf head marks causes y) r carry log .entries))) (omega (arith, counted-here))
 
-          pub run-fits : (run .held ≤ 65535) × (run .at ≤ 4294967295)
-          run-fits = (
-            omega (arith, run-held, held-bounded w state range head marks causes y carry small (fine .room) whole),
-            omega (arith, run-at, counted, words-bounded w state range head marks causes y carry small (fine .room) whole),
-          )
+      passes : (b : Bool) → over ≡ b → passesLimit (tallyBy range (comeOf head marks causes y) r carry log) ≡ b
+      passes b e = ap passesLimit (sym tally-here) ∙ sym eo ∙ e
 
-          module _ (kept : Services) (ek : kept ≡ cond (keepsServices range r) services (servicesOf none)) where
-            kept-as : kept ≡ servicesOf (keptBy range r carry (comeOf head marks causes y))
-            kept-as =
-                ek ∙ ap (λ (s : Services). cond (keepsServices range r) s (servicesOf none)) es ∙ kept-services (keepsServices range r) (forceAt range r head)
-                ∙ ap (λ (v : Option ℕ). servicesOf (keptAfter (keepsServices range r) v)) (value-is range r head marks causes y carry)
+      -- 27: a count passes its limit
+      pub too-many : (a : Received) → over ≡ true → a ≡ refusedAnswer r 27 0 → Takes range (comeOf head marks causes y) r carry log a carry log
+      too-many a e q = rw (room, passes true e) (answered-refused range (comeOf head marks causes y) r carry log 27 0 a (λ z. omega arith) q)
 
-            run-answer : acceptedAfter r (head .sequence) kept run ≡ acceptedAnswer range (comeOf head marks causes y) r carry log
-            unfolding runAfter remembering remembered saidOf
-            run-answer =
-                let at : run .at ≡ length (logWords (outcomeOf range (comeOf head marks causes y) r carry log .entries)) = run-at ∙ counted-here in
-                let held : run .held ≡ length (bytesOf (outcomeOf range (comeOf head marks causes y) r carry log .partial)) = run-held ∙ ap (λ (o : Outcome). length (bytesOf (o .partial))) same in
-                let number : run .number ≡ numberOf (outcomeOf range (comeOf head marks causes y) r carry log .partial) = ap (λ (x : Run). x .number) (did .run) ∙ ap (λ (o : Outcome). numberOf (o .partial)) same in
-                λ i. record {
-                  refusal = 0;
-                  wrong = 0;
-                  words = at i;
-                  receiver = record {
-                    mode = r .mode;
-                    stream = r .stream;
-                    register = r .register;
-                    entitled = r .entitled;
-                    known = true;
-                    sequence = head .sequence;
-                    held = held i;
-                    number = number i;
-                    serviced = kept-as i .known;
-                    services = kept-as i .value;
-                  };
-                }
+      pub accepts : (state .last < 255) × (((state .held ≤ 4096) × (state .held ≡ 0 → state .number ≡ 0)) × ((4096 ≤ length carry) × (Parsed head y marks × Room Accepts 0 log)))
+      unfolding Room
+      accepts = (last, ((small, plain), (fine .room, (whole, omega (arith, counted)))))
 
-            pub taken : (a : Received) → a ≡ acceptedAfter r (head .sequence) kept run → Takes range (comeOf head marks causes y) r carry log a carryAfter logAfter
-            unfolding keeps writes
-            taken a q =
-                let t : noRoom range (comeOf head marks causes y) r carry log ≡ false =
-                le-ltb (length log) (length (logWords (outcomeOf range (comeOf head marks causes y) r carry log .entries))) (omega (arith, counted-here)) in
-                let k = did .carry in
-                let l = did .log in
-                rw t (answered-accepted range (comeOf head marks causes y) r carry log 0 0 a carryAfter logAfter refl (q ∙ run-answer) (rw same at k) (rw same at l))
+      module _ (off : over ≡ false) (carryAfter logAfter : List ℕ) (run : Run) (did : Did Accepts 0 carry log carryAfter logAfter run) where
+        run-at : run .at ≡ count .words
+        unfolding runAfter
+        run-at = ap (λ (x : Run). x .at) (did .run) ∙ zero-add (length (logWords (Accepts .entries))) ∙ sym counted
+
+        run-held : run .held ≡ length (bytesOf (Accepts .partial))
+        unfolding runAfter
+        run-held = ap (λ (x : Run). x .held) (did .run)
+
+        pub run-fits : (run .held ≤ 65535) × (run .at ≤ 4294967295)
+        run-fits = (
+          omega (arith, run-held, held-bounded w state range head marks causes y carry small (fine .room) whole),
+          omega (arith, run-at, counted, words-bounded w state range head marks causes y carry small (fine .room) whole),
+        )
+
+        pub tally-fits : Countable (count .tally)
+        tally-fits = within-limit (count .tally) (sym eo ∙ off)
+
+        module _ (kept : Services) (ek : kept ≡ cond (keepsServices range r) services (servicesOf none)) where
+          kept-as : kept ≡ servicesOf (keptBy range r carry (comeOf head marks causes y))
+          kept-as =
+              ek ∙ ap (λ (s : Services). cond (keepsServices range r) s (servicesOf none)) (k .inForceHere) ∙ kept-services (keepsServices range r) (forceAt range r head)
+              ∙ ap (λ (v : Option ℕ). servicesOf (keptAfter (keepsServices range r) v)) (value-is range r head marks causes y carry)
+
+          run-answer : acceptedAfter r (head .sequence) kept run (count .tally) ≡ acceptedAnswer range (comeOf head marks causes y) r carry log
+          unfolding runAfter remembering remembered saidOf
+          run-answer =
+              let at : run .at ≡ length (logWords (outcomeOf range (comeOf head marks causes y) r carry log .entries)) = run-at ∙ counted-here in
+              let held : run .held ≡ length (bytesOf (outcomeOf range (comeOf head marks causes y) r carry log .partial)) = run-held ∙ ap (λ (o : Outcome). length (bytesOf (o .partial))) same in
+              let number : run .number ≡ numberOf (outcomeOf range (comeOf head marks causes y) r carry log .partial) = ap (λ (x : Run). x .number) (did .run) ∙ ap (λ (o : Outcome). numberOf (o .partial)) same in
+              λ i. record {
+                refusal = 0;
+                wrong = 0;
+                words = at i;
+                receiver = record {
+                  mode = r .mode;
+                  stream = r .stream;
+                  register = r .register;
+                  entitled = r .entitled;
+                  known = true;
+                  sequence = head .sequence;
+                  held = held i;
+                  number = number i;
+                  serviced = kept-as i .known;
+                  services = kept-as i .value;
+                  delivered = tally-here i .delivered;
+                  missing = tally-here i .missing;
+                  last = tally-here i .last;
+                };
+              }
+
+          pub taken : (a : Received) → a ≡ acceptedAfter r (head .sequence) kept run (count .tally) → Takes range (comeOf head marks causes y) r carry log a carryAfter logAfter
+          unfolding keeps writes
+          taken a q =
+              let c = did .carry in
+              let l = did .log in
+              rw (room, passes false off) (answered-accepted range (comeOf head marks causes y) r carry log 0 0 a carryAfter logAfter refl (q ∙ run-answer) (rw same at c) (rw same at l))

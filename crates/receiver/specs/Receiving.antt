@@ -1,4 +1,4 @@
--- Document 01, "Receiver": opening, receiving a PDU, and marking one lost; document 02, Ask 10: with entitled programs.
+-- Document 01, "Receiver": opening, receiving a PDU, and marking one lost; document 02, Ask 10: with entitled programs; Ask 14: delivered and missing.
 use mathlib.Core.Bool.{Bool, true, false, not, _&&_, cond}
 use mathlib.Core.List.{List, [], _∷_, _++_}
 use mathlib.Core.Option.{Option, none, some}
@@ -20,7 +20,7 @@ use Rattle.correction.specs.Marks.{marksRefusal, correctedWith, correctedPduWit
 use Rattle.pdu.specs.Reading.{startAt, lengthAt, fieldsOf, psdOf, readerTests, listingOf, modeIn, uncorrectable, wrongOf}
 use Rattle.reassembly.specs.Reassembly.{Piece, Said, Memory, Outcome, received, remembered, lostEntries, forgotten}
 use Rattle.reassembly.specs.Rights.{Rights, Label, keptAfter}
-use Rattle.reassembly.specs.Tally.{noTally}
+use Rattle.reassembly.specs.Tally.{Tally, tallied, passesLimit}
 use Rattle.reassembly.specs.Holder.{Come, Holder, valueFor, saidTo}
 use Rattle.reassembly.specs.Run.{bytesOf, numberOf as partialNumber, partialOf, lastOf}
 use Rattle.receiver.specs.Entitling.{allowedPrograms, maskOf, allPrograms, entitles}
@@ -32,12 +32,12 @@ use Rattle.receiver.specs.declared.Received.{Received}
 
 -- what a refused opening hands back: a mode that the table has not, so that number 1 turns it down
 abbrev pub noReceiver : Receiver
-noReceiver = record { mode = 255; stream = 0; register = 0; entitled = 0; known = false; sequence = 0; held = 0; number = 0; serviced = false; services = 0 }
+noReceiver = record { mode = 255; stream = 0; register = 0; entitled = 0; known = false; sequence = 0; held = 0; number = 0; serviced = false; services = 0; delivered = 0; missing = 0; last = 0 }
 
--- a receiver that knows no sequence, holds nothing and knows of no applied services; the entitled programs are a mask
+-- a receiver that knows no sequence, holds nothing, knows of no applied services and has delivered nothing; the entitled programs are a mask
 abbrev pub fresh : ℕ → ℕ → ℕ → ℕ → Receiver
 fresh mode stream register entitled =
-    record { mode = mode; stream = stream; register = register; entitled = entitled; known = false; sequence = 0; held = 0; number = 0; serviced = false; services = 0 }
+    record { mode = mode; stream = stream; register = register; entitled = entitled; known = false; sequence = 0; held = 0; number = 0; serviced = false; services = 0; delivered = 0; missing = 0; last = 0 }
 
 -- 5, mode and stream not in the table; then 22, a program number over 7 or repeated
 abbrev pub openingTests : ℕ → ℕ → List ℕ → List (Bool × ℕ)
@@ -98,9 +98,13 @@ memoryOf r carry = record { last = lastOf (r .known) (r .sequence); partial = pa
 abbrev pub keptOf : Receiver → Option ℕ
 keptOf r = lastOf (r .serviced) (r .services)
 
--- as reassembly/specs/Holder.antt has it, without counts
+-- delivered, missing and the last delivered number
+abbrev pub tallyOf : Receiver → Tally
+tallyOf r = record { delivered = r .delivered; missing = r .missing; last = r .last }
+
+-- as reassembly/specs/Holder.antt has it
 abbrev pub holderOf : Receiver → List ℕ → Holder
-holderOf r carry = record { memory = memoryOf r carry; kept = keptOf r; tally = noTally }
+holderOf r carry = record { memory = memoryOf r carry; kept = keptOf r; tally = tallyOf r }
 
 abbrev pub isKnown : Option ℕ → Bool
 isKnown none = false
@@ -111,8 +115,8 @@ orZero none = 0
 orZero (some q) = q
 
 -- a field not known or not held is set to 0; held length 0 means nothing held
-unfoldable pub remembering : Receiver → Memory → Option ℕ → Receiver
-remembering r x kept = record {
+unfoldable pub remembering : Receiver → Memory → Option ℕ → Tally → Receiver
+remembering r x kept tally = record {
   mode = r .mode;
   stream = r .stream;
   register = r .register;
@@ -123,6 +127,9 @@ remembering r x kept = record {
   number = partialNumber (x .partial);
   serviced = isKnown kept;
   services = orZero kept;
+  delivered = tally .delivered;
+  missing = tally .missing;
+  last = tally .last;
 }
 
 -- ---- document 02, Ask 10: what is withheld from a receiver (reassembly/specs/Rights.antt)
@@ -159,7 +166,15 @@ wrongServices m r =
     ∷ (r .serviced && not (keepsServices (m .sequences) r))
     ∷ []
 
--- sequence, held, number and applied services outside their ranges for a mode; not 0 where not known or not held
+-- the last number over 63; with delivered 0 the other two not 0
+abbrev pub wrongCounts : Receiver → List Bool
+wrongCounts r =
+    ltb 63 (r .last)
+    ∷ (eqb (r .delivered) 0 && not (eqb (r .missing) 0))
+    ∷ (eqb (r .delivered) 0 && not (eqb (r .last) 0))
+    ∷ []
+
+-- sequence, held, number, applied services and counts outside their ranges for a mode; not 0 where not known, not held or nothing delivered
 abbrev pub wrongFields : Mode → Receiver → List Bool
 wrongFields m r =
     leb (m .sequences) (r .sequence)
@@ -167,7 +182,7 @@ wrongFields m r =
     ∷ ltb 4096 (r .held)
     ∷ ltb 63 (r .number)
     ∷ (eqb (r .held) 0 && not (eqb (r .number) 0))
-    ∷ wrongServices m r
+    ∷ (wrongServices m r ++ wrongCounts r)
 
 -- 1: mode and stream not in the table, or a field outside its range
 abbrev pub wrongState : Receiver → List Bool
@@ -200,7 +215,11 @@ module _ (marks carry pdu log : List ℕ) (r : Receiver) where
   abbrev pub keptServices : Option ℕ
   keptServices = keptBy (modeOf r .sequences) r carry come
 
-  -- rows 1 to 13, in the table's order, 19 directly after 3
+  -- delivered, missing and the last delivered number after it
+  abbrev pub tallyAfter : Tally
+  tallyAfter = tallied (tallyOf r) (outcome .entries)
+
+  -- rows 1 to 13, in the table's order, 19 directly after 3, and 27 after 13
   abbrev pub receiveTests : List (Bool × ℕ)
   receiveTests =
       let y = correctedPduWith marks pdu in
@@ -212,7 +231,10 @@ module _ (marks carry pdu log : List ℕ) (r : Receiver) where
       ∷ (uncorrectable (correctedWith marks (take 96 pdu)), 4)  -- the paper's beyond mending
       ∷ (not (eqb (numberOf (listingOf c)) 0), 5)  -- mode and stream not in the table
       ∷ (not (eqb (c .mode) (r .mode) && eqb (c .stream) (r .stream)), 6)  -- not those opened
-      ∷ (readerTests (modeIn (listingOf c)) c y ++ (ltb (length log) (length receivedWords), 13) ∷ [])  -- 7 to 12; log shorter than the words
+      ∷ (readerTests (modeIn (listingOf c)) c y  -- 7 to 12
+      ++ (ltb (length log) (length receivedWords), 13)  -- log shorter than the words
+      ∷ (passesLimit tallyAfter, 27)  -- a count would pass 4,294,967,295
+      ∷ [])
 
   -- the number of the first row that applies, 0 where the PDU is accepted
   unfoldable pub receiveNumber : ℕ
@@ -221,7 +243,7 @@ module _ (marks carry pdu log : List ℕ) (r : Receiver) where
   -- the answer
   unfoldable pub receiveAnswer : Received
   receiveAnswer =
-      cond (eqb receiveNumber 0) (record { refusal = 0; wrong = 0; words = length receivedWords; receiver = remembering r memoryAfter keptServices })
+      cond (eqb receiveNumber 0) (record { refusal = 0; wrong = 0; words = length receivedWords; receiver = remembering r memoryAfter keptServices tallyAfter })
       (refusedAnswer r receiveNumber (wrongOf (correctedPduWith marks pdu) receiveNumber))
 
   -- the buffers after the call: what is held stands first in the carry, the PDU is corrected, the words stand in the log from its first
@@ -235,7 +257,7 @@ module _ (marks carry pdu log : List ℕ) (r : Receiver) where
   unfoldable pub logAfter : List ℕ
   logAfter = cond (eqb receiveNumber 0) (putAt log 0 receivedWords) log
 
--- ---- marking a PDU lost, which takes no PDU and no carry: all that is remembered is forgotten
+-- ---- marking a PDU lost, which takes no PDU and no carry: all that is remembered is forgotten, but the counts and the last delivered number stay
 
 module _ (log : List ℕ) (r : Receiver) where
   abbrev pub lostTests : List (Bool × ℕ)
@@ -246,7 +268,7 @@ module _ (log : List ℕ) (r : Receiver) where
 
   unfoldable pub lostAnswer : Received
   lostAnswer =
-      cond (eqb lostNumber 0) (record { refusal = 0; wrong = 0; words = length (logWords lostEntries); receiver = remembering r forgotten none }) (refusedAnswer r lostNumber 0)
+      cond (eqb lostNumber 0) (record { refusal = 0; wrong = 0; words = length (logWords lostEntries); receiver = remembering r forgotten none (tallyOf r) }) (refusedAnswer r lostNumber 0)
 
   unfoldable pub logAfterLost : List ℕ
   logAfterLost = cond (eqb lostNumber 0) (putAt log 0 (logWords lostEntries)) log

@@ -17,11 +17,12 @@ use Rattle.log.specs.Log.{logWords}
 use Rattle.pdu.specs.Reading.{afterLocators, expansionBytes, fieldsOf, markAt, modeIn, listingOf, readerTests}
 use Rattle.reassembly.specs.Reassembly.{Outcome, received, remembered}
 use Rattle.reassembly.specs.Holder.{Come}
+use Rattle.reassembly.specs.Tally.{Tally, tallied, passesLimit}
 use Rattle.reassembly.specs.Run.{bytesOf, pieceAt, saidOf}
 use Rattle.reassembly.specs.declared.Head.{Head}
 use Rattle.reassembly.specs.declared.Run.{Run}
 use Rattle.reassembly.specs.declared.State.{State}
-use Rattle.receiver.specs.Receiving.{comeBy, fresh, memoryOf, isKnown, orZero, shown, keptBy, remembering, wrongState, refusedAnswer}
+use Rattle.receiver.specs.Receiving.{comeBy, memoryOf, tallyOf, isKnown, orZero, shown, keptBy, remembering, wrongState, refusedAnswer}
 use Rattle.receiver.specs.declared.Receiver.{Receiver}
 use Rattle.receiver.specs.declared.Received.{Received}
 use Rattle.receiver.specs.declared.Services.{Services}
@@ -59,15 +60,16 @@ pub record Usable (r : Receiver) (carry : List ℕ) : Type 0 where
   pub held : r .held ≤ 4096
   pub number : r .held ≡ 0 → r .number ≡ 0
   pub services : r .serviced ≡ false → r .services ≡ 0
+  pub last : r .last ≤ 63
   pub room : 4096 ≤ length carry
 
 -- applied services in force, 0 where not known
 abbrev pub servicesOf : Option ℕ → Services
 servicesOf kept = record { known = isKnown kept; value = orZero kept }
 
--- the answer after a run, with these applied services kept
-abbrev pub acceptedAfter : Receiver → ℕ → Services → Run → Received
-acceptedAfter r sequence kept run = record {
+-- the answer after a run, with these applied services kept and this tally
+abbrev pub acceptedAfter : Receiver → ℕ → Services → Run → Tally → Received
+acceptedAfter r sequence kept run tally = record {
   refusal = 0;
   wrong = 0;
   words = run .at;
@@ -82,13 +84,34 @@ acceptedAfter r sequence kept run = record {
     number = run .number;
     serviced = kept .known;
     services = kept .value;
+    delivered = tally .delivered;
+    missing = tally .missing;
+    last = tally .last;
   };
 }
 
--- the answer after marking a PDU lost
+-- the answer after marking a PDU lost: the counts and the last delivered number stay
 abbrev pub forgetful : Receiver → ℕ → Received
-forgetful r words =
-    record { refusal = 0; wrong = 0; words = words; receiver = fresh (r .mode) (r .stream) (r .register) (r .entitled) }
+forgetful r words = record {
+  refusal = 0;
+  wrong = 0;
+  words = words;
+  receiver = record {
+    mode = r .mode;
+    stream = r .stream;
+    register = r .register;
+    entitled = r .entitled;
+    known = false;
+    sequence = 0;
+    held = 0;
+    number = 0;
+    serviced = false;
+    services = 0;
+    delivered = r .delivered;
+    missing = r .missing;
+    last = r .last;
+  };
+}
 
 -- ---- the answer and the buffers after a step, by the lowest number that applies, 0 where there is none, and the k that comes with it
 
@@ -99,19 +122,31 @@ module _ (range : ℕ) (come : Come) (r : Receiver) (carry log : List ℕ) where
   abbrev pub noRoom : Bool
   noRoom = ltb (length log) (length (logWords (outcomeOf .entries)))
 
+  abbrev pub tallyBy : Tally
+  tallyBy = tallied (tallyOf r) (outcomeOf .entries)
+
+  -- 13: log shorter than the words; 27: a count would pass 4,294,967,295
+  abbrev pub lastTests : List (Bool × ℕ)
+  lastTests = (noRoom, 13) ∷ (passesLimit tallyBy, 27) ∷ []
+
   abbrev pub acceptedAnswer : Received
-  acceptedAnswer = record { refusal = 0; wrong = 0; words = length (logWords (outcomeOf .entries)); receiver = remembering r (remembered range (memoryOf r carry) (shown range r carry come)) (keptBy range r carry come) }
+  acceptedAnswer = record {
+    refusal = 0;
+    wrong = 0;
+    words = length (logWords (outcomeOf .entries));
+    receiver = remembering r (remembered range (memoryOf r carry) (shown range r carry come)) (keptBy range r carry come) tallyBy;
+  }
 
   pub record Answered (n k : ℕ) (a : Received) (carryAfter logAfter : List ℕ) : Type 0 where
     pub answer : a ≡ cond (eqb n 0) acceptedAnswer (refusedAnswer r n k)
     pub held : carryAfter ≡ cond (eqb n 0) (putAt carry 0 (bytesOf (outcomeOf .partial))) carry
     pub logged : logAfter ≡ cond (eqb n 0) (putAt log 0 (logWords (outcomeOf .entries))) log
 
--- 13, or accepted
+-- 13 or 27, or accepted
 abbrev pub Takes : ℕ → Come → Receiver → List ℕ → List ℕ → Received → List ℕ → List ℕ → Type 0
-Takes range come r carry log a carryAfter logAfter = Answered range come r carry log (cond (noRoom range come r carry log) 13 0) 0 a carryAfter logAfter
+Takes range come r carry log a carryAfter logAfter = Answered range come r carry log (firstOf (lastTests range come r carry log)) 0 a carryAfter logAfter
 
--- ---- rows 5 to 13, of a corrected PDU
+-- ---- rows 5 to 13, and 27, of a corrected PDU
 
 -- mode and stream not in the table, or not those opened
 abbrev pub streamTests : Receiver → ControlWord → List (Bool × ℕ)
@@ -121,4 +156,4 @@ streamTests r c = (not (eqb (numberOf (listingOf c)) 0), 5) ∷ (not (eqb (c .mo
 unfoldable pub correctedNumber : Mode → Receiver → List ℕ → List ℕ → List ℕ → ℕ
 correctedNumber m r carry y log =
     let c = controlAt y in
-    firstOf (streamTests r c ++ (readerTests (modeIn (listingOf c)) c y ++ (noRoom (m .sequences) (comeBy (r .register) (m .width) c y) r carry log, 13) ∷ []))
+    firstOf (streamTests r c ++ (readerTests (modeIn (listingOf c)) c y ++ lastTests (m .sequences) (comeBy (r .register) (m .width) c y) r carry log))

@@ -1,4 +1,5 @@
-// Opening a receiver, receiving PDUs, and marking them lost (document 01, "Receiver"); with entitled programs (document 02, Ask 10).
+// Opening a receiver, receiving PDUs, and marking them lost (document 01, "Receiver"); with entitled programs (document 02, Ask 10), and with delivered and missing
+// counted (Ask 14).
 use correction::Correction;
 use layout::ControlWord;
 use modes::Listing;
@@ -6,6 +7,7 @@ use modes::Mode;
 use reassembly::Head;
 use reassembly::Run;
 use reassembly::State;
+use reassembly::Tally;
 ghost use mathlib.Core.Path.{_≡_};
 ghost use mathlib.Core.Bool.{false, not, _&&_, cond};
 ghost use mathlib.Core.List.{[]};
@@ -21,8 +23,9 @@ ghost use Rattle.layout.specs.Control.{controlAt};
 ghost use Rattle.pdu.specs.Reading.{readerTests, wrongOf};
 ghost use Rattle.reassembly.specs.Run.{placeAt, Marked, Parsed, lastOf};
 ghost use Rattle.reassembly.specs.Rights.{forgetting, inForce, withheldBy};
+ghost use Rattle.reassembly.specs.Tally.{passesLimit};
 ghost use Rattle.receiver.specs.Entitling.{isListed, allowedPrograms, maskOf, entitles};
-ghost use Rattle.receiver.specs.Receiving.{comeBy, fresh as freshFor, noReceiver, openedFor, opened, keptOf, keepsServices, wrongServices, wrongFields, refusedAnswer, receiveAnswer, carryAfter, pduAfter, logAfter, lostAnswer, logAfterLost};
+ghost use Rattle.receiver.specs.Receiving.{comeBy, fresh as freshFor, noReceiver, openedFor, opened, keptOf, tallyOf, keepsServices, wrongServices, wrongCounts, wrongFields, refusedAnswer, receiveAnswer, carryAfter, pduAfter, logAfter, lostAnswer, logAfterLost};
 ghost use Rattle.receiver.specs.Steps.{MarksOf, causeAt, CausesOf, headOf, comeOf, stateOf, servicesOf, stateTests, Usable, acceptedAfter, Answered, Takes, streamTests, correctedNumber, forgetful};
 
 // What a receiver was opened with, and what it remembers. A field not known or not held is 0; held length 0 means nothing held.
@@ -43,6 +46,10 @@ pub struct Receiver {
     // The applied services in force, if known; only for core of sequence range 0-7 (document 02, Ask 10).
     pub serviced: bool,
     pub services: u8,
+    // The packets delivered, those missing between them, and the last delivered number; with delivered 0 the other two are 0 (document 02, Ask 14).
+    pub delivered: u32,
+    pub missing: u32,
+    pub last: u8,
 }
 
 // The refusal number, 0 where there is none, and the receiver: if refused, one that every call turns down with 1.
@@ -65,7 +72,7 @@ pub struct Received {
 // A mode that the table has not.
 const NO_MODE: u8 = 255;
 
-// A receiver that knows no sequence, holds nothing and knows of no applied services.
+// A receiver that knows no sequence, holds nothing, knows of no applied services and has delivered nothing.
 fn fresh(mode: u8, stream: u8, register: u8, entitled: u8) -> Receiver
     ensures { λ r. ⌜ r ≡ freshFor mode stream register entitled ⌝ }
 {
@@ -80,6 +87,9 @@ fn fresh(mode: u8, stream: u8, register: u8, entitled: u8) -> Receiver
         number: 0,
         serviced: false,
         services: 0,
+        delivered: 0,
+        missing: 0,
+        last: 0,
     }
 }
 
@@ -191,15 +201,21 @@ fn wrong_services(r: Receiver, m: Mode) -> bool
     (7 < r.services) | ((!r.serviced & (r.services != 0)) | (r.serviced & !keeps))
 }
 
+// Refusal 1, the counts: a last number over 63, or missing or a last number with nothing delivered.
+fn wrong_counts(r: Receiver) -> bool
+    ensures { λ b. ⌜ b ≡ anyOf (wrongCounts r) ⌝ }
+{
+    (63 < r.last) | (((r.delivered == 0) & (r.missing != 0)) | ((r.delivered == 0) & (r.last != 0)))
+}
+
 // Refusal 1, for a mode and stream that the table has.
 fn wrong_state(r: Receiver, m: Mode) -> bool
     ensures { λ b. ⌜ b ≡ anyOf (wrongFields m r) ⌝ }
 {
-    let services = wrong_services(r, m);
+    let rest = wrong_services(r, m) | wrong_counts(r);
     (m.sequences <= r.sequence)
         | ((!r.known & (r.sequence != 0))
-            | ((4096 < r.held)
-                | ((63 < r.number) | (((r.held == 0) & (r.number != 0)) | services))))
+            | ((4096 < r.held) | ((63 < r.number) | (((r.held == 0) & (r.number != 0)) | rest))))
 }
 
 // Refusal 1 or 2, for a mode and stream that the table has and a carry of so many bytes, or 0.
@@ -294,6 +310,24 @@ fn state_of(r: Receiver) -> State
         held: r.held as usize,
         number: r.number,
     }
+}
+
+// What the receiver has counted, for reassembly.
+fn tally_of(r: Receiver) -> Tally
+    ensures { λ t. ⌜ (t ≡ tallyOf r) × (t .delivered ≤ 4294967295) × (t .missing ≤ 4294967295) ⌝ }
+{
+    Tally {
+        delivered: r.delivered as u64,
+        missing: r.missing as u64,
+        last: r.last,
+    }
+}
+
+// Refusal 27: a count passes 4,294,967,295.
+fn passes_limit(t: Tally) -> bool
+    ensures { λ b. ⌜ b ≡ passesLimit t ⌝ }
+{
+    (4294967295 < t.delivered) | (4294967295 < t.missing)
 }
 
 // The applied services in force at a PDU, if known; 0 where not known.
@@ -393,10 +427,11 @@ pub fn refused(r: Receiver, number: u32, k: u32) -> Received
     }
 }
 
-// The answer for an accepted PDU of a sequence, after its run, with these applied services kept.
-fn accepted(r: Receiver, sequence: u8, kept: Services, run: Run) -> Received
+// The answer for an accepted PDU of a sequence, after its run, with these applied services kept and this tally.
+fn accepted(r: Receiver, sequence: u8, kept: Services, run: Run, tally: Tally) -> Received
     requires { ⌜ (run .held ≤ 65535) × (run .at ≤ 4294967295) ⌝ }
-    ensures { λ a. ⌜ a ≡ acceptedAfter r sequence kept run ⌝ }
+    requires { ⌜ (tally .delivered ≤ 4294967295) × (tally .missing ≤ 4294967295) ⌝ }
+    ensures { λ a. ⌜ a ≡ acceptedAfter r sequence kept run tally ⌝ }
 {
     Received {
         refusal: 0,
@@ -413,11 +448,14 @@ fn accepted(r: Receiver, sequence: u8, kept: Services, run: Run) -> Received
             number: run.number,
             serviced: kept.known,
             services: kept.value,
+            delivered: tally.delivered as u32,
+            missing: tally.missing as u32,
+            last: tally.last,
         },
     }
 }
 
-// Receives a PDU by what its header says, its marks and each piece's cause, or refuses with 13.
+// Receives a PDU by what its header says, its marks and each piece's cause, or refuses with 13 or 27.
 pub fn receive_parsed(
     r: Receiver,
     range: u8,
@@ -435,9 +473,13 @@ pub fn receive_parsed(
     let state = state_of(r);
     let services = services_at(r, range, head);
     let withheld = is_withheld(r, head.program, services);
-    let words = reassembly::words_needed(state, range, head, withheld, marks, causes);
-    if log.len() < words {
+    let count = reassembly::forecast_for(state, range, head, withheld, marks, causes, tally_of(r));
+    let tally = count.tally;
+    if log.len() < count.words {
         return refused(r, 13, 0);
+    }
+    if passes_limit(tally) {
+        return refused(r, 27, 0);
     }
     let run = reassembly::accept(
         state,
@@ -451,10 +493,10 @@ pub fn receive_parsed(
         &mut *log,
     );
     let kept = services_after(r, range, services);
-    accepted(r, head.sequence, kept, run)
+    accepted(r, head.sequence, kept, run, tally)
 }
 
-// Receives a corrected PDU that no row from 1 to 12 turns down, or refuses with 13.
+// Receives a corrected PDU that no row from 1 to 12 turns down, or refuses with 13 or 27.
 fn receive_read(
     r: Receiver,
     m: Mode,
@@ -506,7 +548,7 @@ pub fn wrong_stream(r: Receiver, c: ControlWord) -> u32
     }
 }
 
-// Receives a corrected PDU, or refuses with 5 to 13.
+// Receives a corrected PDU, or refuses with 5 to 13, or 27.
 fn receive_corrected(r: Receiver, m: Mode, carry: &mut [u8], y: &[u8], log: &mut [u32]) -> Received
     requires { ⌜ listing (r .mode) (r .stream) ≡ Listed m ⌝ }
     requires { ⌜ Usable r (now carry) ⌝ }
@@ -577,7 +619,7 @@ fn receive_listed(
     }
 }
 
-// The answer after so many words that mark a PDU lost.
+// The answer after so many words that mark a PDU lost: the counts and the last delivered number stay.
 fn forgotten(r: Receiver, words: usize) -> Received
     requires { ⌜ words ≤ 4294967295 ⌝ }
     ensures { λ a. ⌜ a ≡ forgetful r words ⌝ }
@@ -645,7 +687,7 @@ impl Receiver {
     }
 
     // Receives a PDU (document 01, "Receiver"): its header is corrected in place, log words are written from the log's first word on, and
-    // what is held stands first in the carry buffer; or it is refused with 1 to 13, and nothing is changed.
+    // what is held stands first in the carry buffer; or it is refused with 1 to 13, or 27, and nothing is changed.
     pub fn receive(self, carry: &mut [u8], pdu: &mut [u8], log: &mut [u32]) -> Received
         ensures { λ a. ⌜ a ≡ receiveAnswer [] (now (carry .entry)) (now (pdu .entry)) (now (log .entry)) self ⌝ }
         ensures { λ _. ⌜ now (carry .exit) ≡ carryAfter [] (now (carry .entry)) (now (pdu .entry)) (now (log .entry)) self ⌝ }

@@ -12,6 +12,7 @@ use lib.ListN.{length, drop}
 use Rattle.log.specs.Log.{Entry, packet, psd, note, packetsOf}
 use Rattle.reassembly.specs.Rights.{Rights}
 use Rattle.reassembly.specs.Tally.{Tally, noTally, gap, counted, tallied}
+use Rattle.reassembly.proofs.Tallies.{tally-append}
 use Rattle.reassembly.specs.Holder.{Event, lost, came, Holder, opened, entriesFor, holderFor, logged, after}
 use Rattle.runs.specs.Model.{Mark, due, wanted, arrived, AllFit, Sized}
 use Rattle.runs.specs.Transmissions.{Transmission, plansFrom, eventsFrom, dueFrom, Close, lastOf, AddsUp}
@@ -19,13 +20,6 @@ use Rattle.runs.proofs.Entitled.{entitled-run}
 use Rattle.runs.proofs.Wrong.{value-stays}
 
 -- ---- a receiver's counts are those of its log
-
-pub tally-append : (a b : List Entry) (t : Tally) → tallied t (a ++ b) ≡ tallied (tallied t a) b
-unfolding tallied
-tally-append [] b t = refl
-tally-append (packet n p ∷ a) b t = tally-append a b (counted t n)
-tally-append (psd p ∷ a) b t = tally-append a b t
-tally-append (note c k ∷ a) b t = tally-append a b t
 
 -- only packets count
 pub tally-packets : (es : List Entry) (t : Tally) → tallied t es ≡ tallied t (packetsOf es)

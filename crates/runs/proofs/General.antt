@@ -15,6 +15,7 @@ use Rattle.log.proofs.Packets.{FitAll, fit-append, packet-words}
 use Rattle.reassembly.specs.Reassembly.{following, forgotten, lostEntries}
 use Rattle.reassembly.specs.Rights.{Rights, Label}
 use Rattle.reassembly.specs.Tally.{Tally, noTally, counted, tallied, Grows, Countable}
+use Rattle.reassembly.proofs.Tallies.{tally-grows}
 use Rattle.reassembly.specs.Holder.{Come, Event, lost, came, Holder, opened, entriesFor, holderFor, logged, after}
 use Rattle.runs.specs.Model.{cut, Fits, sentAfter, Fate, Plan, Mark, verdicts, arrived, wanted, AllFit, Sized}
 use Rattle.runs.specs.Transmissions.{Way, gone, here, Transmission, fateOf, keptOf, plansFrom, eventOf, eventsFrom, dueFrom, Close, AddsUp}
@@ -41,18 +42,11 @@ module _ (rights : Rights) (range : ℕ) where
 
 -- ---- counts only grow
 
-grows : (es : List Entry) (t : Tally) → Grows t (tallied t es)
-unfolding tallied counted
-grows [] t = record { delivered = omega arith; missing = omega arith }
-grows (packet n b ∷ es) t = let g = grows es (counted t n) in let a = g .delivered in let b = g .missing in record { delivered = omega (arith, a); missing = omega (arith, b) }
-grows (psd b ∷ es) t = grows es t
-grows (note c k ∷ es) t = grows es t
-
 grows-on : (rights : Rights) (range : ℕ) (a b : List Event) (x : Holder) → Grows (after rights range x a .tally) (after rights range x (a ++ b) .tally)
 grows-on rights range a b x =
     let e : after rights range x (a ++ b) .tally ≡ tallied (after rights range x a .tally) (logged rights range (after rights range x a) b) =
     ap (λ (y : Holder). y .tally) (after-append rights range a b x) ∙ run-tally rights range b (after rights range x a) in
-    subst (Grows (after rights range x a .tally)) (sym e) (grows (logged rights range (after rights range x a) b) (after rights range x a .tally))
+    subst (Grows (after rights range x a .tally)) (sym e) (tally-grows (logged rights range (after rights range x a) b) (after rights range x a .tally))
 
 -- ---- the calls' parts of a run
 

@@ -10,20 +10,26 @@ use Rattle.reassembly.specs.Tally.{Tally, noTally, tallied}
 use Rattle.runs.specs.Model.{Fate}
 use Rattle.runs.specs.Transmissions.{gone, Close, AddsUp}
 use Rattle.runs.specs.Spans.{lies, wholePackets, wholeIndices}
-use Rattle.runs.specs.Calls.{Load, spansFrom, labelsOf, Machine, Bridge, Step, waysOf, logsFrom}
-use Rattle.runs.specs.Promise.{Promise}
-use Rattle.runs.proofs.General.{Asked, Delivered, general}
+use Rattle.runs.specs.Calls.{Load, spansFrom, labelsOf, Machine, Bridge, Step, waysOf, logsFrom, fatesFrom}
+use Rattle.runs.specs.Promise.{fates, arrived, Promise}
+use Rattle.runs.proofs.General.{arrivals, Asked, Delivered, general}
 use Rattle.runs.proofs.Bridges.{fates-along}
 use Rattle.runs.proofs.Looking.{told-is}
 
 module _ (rights : Rights) (range : ℕ) (M : Machine) (B : Bridge rights range M) (ps : List (List ℕ)) (loads : List Load) (made : List (B .Pdu)) (first count : ℕ) (x : M .State) (ss : List (Step B)) where
+  -- what came of each PDU, looking back from it
+  told : fatesFrom rights range first (waysOf B ss) loads ≡ fates rights range first ps (spansFrom 0 0 ps loads) (labelsOf loads) (waysOf B ss)
+  told = fates-along rights range loads (replicate first gone ++ waysOf B ss) 0 none ∙ sym (told-is rights range (labelsOf loads) (replicate first gone ++ waysOf B ss))
+
+  pub arrivals-told : arrivals rights range M B ps loads made first count x ss ≡ arrived rights range first ps (spansFrom 0 0 ps loads) (labelsOf loads) (waysOf B ss)
+  arrivals-told = ap (λ (w : List Fate). wholePackets (lies ps (spansFrom 0 0 ps loads) w) 0 0 ps) told
+
   pub promised : (d : Asked rights range M B ps loads made first count x ss)
       → Promise rights range first ps (spansFrom 0 0 ps loads) (labelsOf loads) (waysOf B ss) (logsFrom B x ss) (general rights range M B ps loads made first count x ss d .last .tally)
   promised d =
       let g = general rights range M B ps loads made first count x ss d in
-      let e = fates-along rights range loads (replicate first gone ++ waysOf B ss) 0 none ∙ sym (told-is rights range (labelsOf loads) (replicate first gone ++ waysOf B ss)) in
       record {
-        holds = g .log ∙ ap (λ (w : List Fate). logWords (wholePackets (lies ps (spansFrom 0 0 ps loads) w) 0 0 ps)) e;
-        counted = g .tally ∙ ap (λ (w : List Fate). tallied noTally (wholePackets (lies ps (spansFrom 0 0 ps loads) w) 0 0 ps)) e;
-        adds-up = subst (λ (w : List Fate). Close (wholeIndices (lies ps (spansFrom 0 0 ps loads) w) 0 0 ps) → AddsUp (wholeIndices (lies ps (spansFrom 0 0 ps loads) w) 0 0 ps) (g .last .tally)) e (g .adds-up);
+        holds = g .log ∙ ap logWords arrivals-told;
+        counted = g .tally ∙ ap (tallied noTally) arrivals-told;
+        adds-up = subst (λ (w : List Fate). Close (wholeIndices (lies ps (spansFrom 0 0 ps loads) w) 0 0 ps) → AddsUp (wholeIndices (lies ps (spansFrom 0 0 ps loads) w) 0 0 ps) (g .last .tally)) told (g .adds-up);
       }

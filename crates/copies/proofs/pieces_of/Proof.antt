@@ -4,16 +4,13 @@ use Rattle.copies.proofs.pieces_of.Statement.{statement}
 use Rattle.copies.proofs.pieces_of.Tie as tie
 
 abbrev Inv-loop : tie.InvT-loop
-Inv-loop register first second starts lengths many all₀ k₀ all k = (k ≤ many) × (many ≤ 64)
+Inv-loop register first second looked starts lengths many all₀ k₀ all k = (k ≤ many) × (many ≤ 64)
 
 abbrev μ-loop : tie.MeasureT-loop
-μ-loop register first second starts lengths many all₀ k₀ all k = many - k
+μ-loop register first second looked starts lengths many all₀ k₀ all k = many - k
 
-cast-least : tie.Need-cast-least Inv-loop μ-loop
-cast-least c = search needs
-
-least-requires : tie.Need-least-requires Inv-loop μ-loop
-least-requires c κs = search needs
+many-of-requires : tie.Need-many-of-requires Inv-loop μ-loop
+many-of-requires c κs = search needs
 
 no-pieces-requires : tie.Need-no-pieces-requires Inv-loop μ-loop
 no-pieces-requires c κs = search needs
@@ -63,8 +60,7 @@ pieces-of-spec =
     (tie.spec
     Inv-loop
     μ-loop
-    cast-least
-    least-requires
+    many-of-requires
     no-pieces-requires
     loop-holds
     mul-place

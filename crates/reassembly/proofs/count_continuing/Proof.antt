@@ -1,28 +1,30 @@
 use borrow.Author.Tests.{eq-eqb, ne-eqb}
 use lib.Dec.{eqb}
 use mathlib.Core.Bool.{true, false}
-use mathlib.Core.Path.{_≡_, refl}
+use mathlib.Core.Path.{_≡_, refl, _∙_}
 use Prim.Native.Nat.{ℕ, _+_, _-_}
 use native.Mathlib.Omega.{arith}
-use Rattle.reassembly.proofs.Counts.{none-counted, no-piece-counted, piece-counted, count-small}
+use Rattle.reassembly.proofs.Counts.{none-counted, no-piece-counted, piece-counted, count-small, bounded-more}
 use borrow.Author.Needs.{needs}
 use Rattle.reassembly.proofs.count_continuing.Statement.{statement}
 use Rattle.reassembly.proofs.count_continuing.Tie as tie
 use Rattle.reassembly.proofs.count_continuing.Reads as reads
 use Rattle.reassembly.proofs.count_continuing.Lts as lts
+use Rattle.reassembly.proofs.add_piece.Reads as add-piece-reads
 use Rattle.reassembly.proofs.count_piece.Reads as count-piece-reads
 use Rattle.reassembly.proofs.ends_here.Reads as ends-here-reads
+use Rattle.reassembly.proofs.piece_number.Reads as piece-number-reads
 use Rattle.reassembly.proofs.place.Reads as place-reads
 
 returns : tie.Need-returns
 returns c =
     let a = c .before .args in
-    (none-counted (a .head) (a .t3) (a .t4) (a .held) (c .if1 .taken), omega arith)
+    none-counted (a .head) (a .t3) (a .t4) (a .held) (a .x) (c .if1 .taken)
 
 returns-2 : tie.Need-returns-2
 returns-2 c =
     let a = c .before .before .before .args in
-    (no-piece-counted (a .head) (a .t3) (a .t4) (a .held) (c .before .before .if1 .left) (c .if2 .taken), omega arith)
+    no-piece-counted (a .head) (a .t3) (a .t4) (a .held) (a .x) (c .before .before .if1 .left) (c .if2 .taken)
 
 array-read-place : tie.Need-array-read-place
 array-read-place c = omega arith
@@ -59,13 +61,27 @@ count-piece-requires c κs =
     let p = c .before .before .before .before .before .before .before in
     (omega (arith, c .before .before .place2 .ensures .1), p .pre .0 .0)
 
+piece-number-requires : tie.Need-piece-number-requires
+piece-number-requires c κs = omega arith
+
+add-piece-requires : tie.Need-add-piece-requires
+add-piece-requires c κs =
+    let p = c .before .before .before .before .before .before .before .before .before in
+    let t = c .before .count-piece in
+    (bounded-more 0 63 (p .args .x) (omega arith) (p .pre .0 .2), rw (t .ensures) (count-small _ _ _ _ _ .0))
+
 returns-3 : tie.Need-returns-3
 returns-3 c =
-    let p = c .before .before .before .before .before .before .before .before in
+    let k = c .before .before in
+    let n = k .before in
+    let e = n .before .before in
+    let l = e .before in
+    let p = l .before .before .before .before in
     let a = p .args in
-    let t = c .count-piece in
-    let e = piece-counted (a .head) (a .t3) (a .t4) (a .held) (c .before .before .before .before .before .before .before .if1 .left) (c .before .before .before .before .before .if2 .left) (c .before .before .before .before .place .result) (c .before .before .before .place2 .result) (c .before .ends-here .result) (c .before .before .before .before .place .ensures .0) (c .before .before .before .place2 .ensures .0) (c .before .ends-here .ensures) (t .result) (t .ensures) in
-    (e .0, omega (arith, e .1))
+    let t = k .count-piece in
+    let q = c .before .piece-number in
+    c .add-piece .ensures
+    ∙ piece-counted (a .head) (a .t3) (a .t4) (a .held) (a .x) (l .before .before .before .if1 .left) (l .before .if2 .left) (l .place .result) (e .place2 .result) (q .result) (n .ends-here .result) (l .place .ensures .0) (e .place2 .ensures .0) (n .ends-here .ensures) (t .result) (t .ensures) (q .ensures)
 
 pub count-continuing-spec : {M : Type 1} → statement M
 count-continuing-spec =
@@ -83,4 +99,6 @@ count-continuing-spec =
     array-read-count-piece
     sub-count-piece
     count-piece-requires
+    piece-number-requires
+    add-piece-requires
     returns-3)

@@ -1,24 +1,26 @@
-use Rattle.reassembly.specs.Run.{lengthAt, endsAt}
-use Rattle.reassembly.specs.Count.{countPiece, countFrom}
-use Rattle.reassembly.specs.declared.Tally.{Tally}
-use Rattle.reassembly.proofs.Counts.{count-small, count-next, count-none}
-use native.Mathlib.Nat.{sub-zero, zero-add}
+use Rattle.reassembly.specs.Reassembly.{numberAt}
+use Rattle.reassembly.specs.Count.{countFrom, Bounded}
+use Rattle.reassembly.proofs.Counts.{count-none, piece-small, count-next, next-bounded, bounded-more}
+use native.Mathlib.Nat.{sub-zero}
 use borrow.Author.Needs.{needs}
 use native.Mathlib.Omega.{arith}
-use mathlib.Core.Path.{_≡_, refl, ap, _∙_}
+use mathlib.Core.Path.{_≡_, refl, sym, _∙_}
 use Prim.Native.Nat.{ℕ, _+_, _-_, _*_, _≤_, _<_}
 use lib.ListN.{getD}
 use Rattle.reassembly.proofs.count_pieces.Statement.{statement}
 use Rattle.reassembly.proofs.count_pieces.Tie as tie
 use Rattle.reassembly.proofs.count_pieces.Reads as reads
 use Rattle.reassembly.proofs.count_pieces.Lts as lts
+use Rattle.reassembly.proofs.add_piece.Reads as add-piece-reads
 use Rattle.reassembly.proofs.count_piece.Reads as count-piece-reads
 use Rattle.reassembly.proofs.ends_here.Reads as ends-here-reads
+use Rattle.reassembly.proofs.piece_number.Reads as piece-number-reads
 use Rattle.reassembly.proofs.place.Reads as place-reads
 
 abbrev Inv-loop : tie.InvT-loop
 Inv-loop held head marks causes continues₀ kept₀ sum₀ k₀ continues kept sum k =
-    (k ≤ head .nop) × (kept ≤ 4096) × (sum ≤ 1400 * k) × (sum + countFrom marks causes (head .plast) k (head .nop - k) continues kept ≡ countFrom marks causes (head .plast) 0 (head .nop) continues₀ held)
+    (k ≤ head .nop) × (kept ≤ 4096) × Bounded k sum
+    × (countFrom (numberAt (head .pfirst) (head .start)) marks causes (head .plast) k (head .nop - k) continues kept sum ≡ countFrom (numberAt (head .pfirst) (head .start)) marks causes (head .plast) 0 (head .nop) continues₀ held sum₀)
 
 abbrev μ-loop : tie.MeasureT-loop
 μ-loop held head marks causes continues₀ kept₀ sum₀ k₀ continues kept sum k = head .nop - k
@@ -26,7 +28,7 @@ abbrev μ-loop : tie.MeasureT-loop
 loop-holds : tie.Need-loop-holds Inv-loop μ-loop
 loop-holds c =
     let z : c .args .head .nop - 0 ≡ c .args .head .nop = sub-zero (c .args .head .nop) in
-    (omega arith, c .pre .0 .0, omega arith, rw (z, zero-add) refl)
+    (omega arith, c .pre .0 .0, c .pre .0 .2, rw z refl)
 
 mul-place : tie.Need-mul-place Inv-loop μ-loop
 mul-place c =
@@ -126,66 +128,55 @@ count-piece-requires c κs =
     let i = c .before .before .before .before .before .before in
     (omega (arith, c .before .before .place2 .ensures .1), i .loop .inv .1)
 
-add-sum : tie.Need-add-sum Inv-loop μ-loop
-add-sum c =
-    let i = c .before .before .before .before .before .before .before .before in
+piece-number-requires : tie.Need-piece-number-requires Inv-loop μ-loop
+piece-number-requires c κs =
+    let i = c .before .before .before .before .before .before .before in
+    let s = i .before in
+    let k : ℕ = i .loop .k in
+    let more : k < s .args .head .nop = c .before .before .before .before .before .if1 .taken in
+    omega (arith, more, s .pre .0 .1)
+
+add-piece-requires : tie.Need-add-piece-requires Inv-loop μ-loop
+add-piece-requires c κs =
+    let q = c .before in
+    let e = q .before in
+    let r = e .before .before in
+    let l = r .before in
+    let i = l .before .before .before in
     let s = i .before in
     let a = s .args in
-    let k : ℕ = i .loop .k in
-    let more : k < a .head .nop = c .before .before .before .before .before .before .if1 .taken in
-    let l = c .before .before .before .before .before .place in
-    let r = c .before .before .before .before .place2 in
-    let e = c .before .before .ends-here in
-    let q = c .before .count-piece in
-    let t : Tally = countPiece (i .loop .kept) (i .loop .continues) (endsAt (a .head .plast) (a .head .nop - (k + 1))) (getD (a .t4) k 0) (lengthAt (a .t3) k) in
-    let same : q .result ≡ t = q .ensures ∙ rw (e .ensures, l .ensures .0, r .ensures .0) refl in
-    let small : (t .words ≤ 1400) × (t .held ≤ 4096) = count-small (i .loop .kept) (i .loop .continues) (endsAt (a .head .plast) (a .head .nop - (k + 1))) (getD (a .t4) k 0) (lengthAt (a .t3) k) in
-    let words : q .result .words ≡ t .words = ap (λ (x : Tally). x .words) same in
-    omega (arith, small, words, i .loop .inv .2, more, s .pre .0 .1)
+    let more = l .before .if1 .taken in
+    (bounded-more (i .loop .k) 63 (i .loop .sum) (omega (arith, more, s .pre .0 .1)) (i .loop .inv .2), piece-small (a .head) (a .t3) (a .t4) (i .loop .k) (i .loop .continues) (i .loop .kept) (i .loop .sum) more (l .place .result) (r .place2 .result) (e .ends-here .result) (q .count-piece .result) (l .place .ensures .0) (r .place2 .ensures .0) (e .ends-here .ensures) (q .count-piece .ensures) .0)
 
 add-k : tie.Need-add-k Inv-loop μ-loop
 add-k c =
-    let i = c .before .before .before .before .before .before .before .before in
-    let s = i .before in
-    let a = s .args in
-    let k : ℕ = i .loop .k in
-    let more : k < a .head .nop = c .before .before .before .before .before .before .if1 .taken in
-    omega (arith, more, s .pre .0 .1)
+    let l = c .before .before .before .before .before .before .before in
+    omega (arith, l .if1 .taken, l .before .before .before .pre .0 .1)
 
 loop-less : tie.Need-loop-less Inv-loop μ-loop
-loop-less c =
-    let i = c .before .before .before .before .before .before .before .before in
-    let s = i .before in
-    let a = s .args in
-    let k : ℕ = i .loop .k in
-    let more : k < a .head .nop = c .before .before .before .before .before .before .if1 .taken in
-    omega (arith, more)
+loop-less c = omega (arith, c .before .before .before .before .before .before .before .if1 .taken)
 
 loop-again : tie.Need-loop-again Inv-loop μ-loop
 loop-again c =
-    let i = c .before .before .before .before .before .before .before .before in
-    let s = i .before in
-    let a = s .args in
-    let k : ℕ = i .loop .k in
-    let more : k < a .head .nop = c .before .before .before .before .before .before .if1 .taken in
-    let l = c .before .before .before .before .before .place in
-    let r = c .before .before .before .before .place2 in
-    let e = c .before .before .ends-here in
-    let q = c .before .count-piece in
-    let t : Tally = countPiece (i .loop .kept) (i .loop .continues) (endsAt (a .head .plast) (a .head .nop - (k + 1))) (getD (a .t4) k 0) (lengthAt (a .t3) k) in
-    let same : q .result ≡ t = q .ensures ∙ rw (e .ensures, l .ensures .0, r .ensures .0) refl in
-    let small : (t .words ≤ 1400) × (t .held ≤ 4096) = count-small (i .loop .kept) (i .loop .continues) (endsAt (a .head .plast) (a .head .nop - (k + 1))) (getD (a .t4) k 0) (lengthAt (a .t3) k) in
-    let words : q .result .words ≡ t .words = ap (λ (x : Tally). x .words) same in
-    let held : q .result .held ≡ t .held = ap (λ (x : Tally). x .held) same in
-    let next = count-next (a .t3) (a .t4) (a .head .plast) k (a .head .nop) (i .loop .continues) (i .loop .kept) more in
-    (omega (arith, more), rw held (small .1), omega (arith, small, words, i .loop .inv .2), rw held (omega (arith, words, next, i .loop .inv .3)))
+    let n = c .before in
+    let q = n .before in
+    let e = q .before in
+    let r = e .before .before in
+    let l = r .before in
+    let i = l .before .before .before in
+    let a = i .before .args in
+    let more = l .before .if1 .taken in
+    let p = q .count-piece in
+    let small = piece-small (a .head) (a .t3) (a .t4) (i .loop .k) (i .loop .continues) (i .loop .kept) (i .loop .sum) more (l .place .result) (r .place2 .result) (e .ends-here .result) (p .result) (l .place .ensures .0) (r .place2 .ensures .0) (e .ends-here .ensures) (p .ensures) in
+    let bounded = next-bounded (a .head) (a .t3) (a .t4) (i .loop .k) (i .loop .continues) (i .loop .kept) (i .loop .sum) more (l .place .result) (r .place2 .result) (e .ends-here .result) (p .result) (l .place .ensures .0) (r .place2 .ensures .0) (e .ends-here .ensures) (p .ensures) (n .piece-number .result) (c .add-piece .result) (n .piece-number .ensures) (c .add-piece .ensures) (i .loop .inv .2) in
+    let next = count-next (a .head) (a .t3) (a .t4) (i .loop .k) (i .loop .continues) (i .loop .kept) (i .loop .sum) more (l .place .result) (r .place2 .result) (e .ends-here .result) (p .result) (l .place .ensures .0) (r .place2 .ensures .0) (e .ends-here .ensures) (p .ensures) (n .piece-number .result) (c .add-piece .result) (n .piece-number .ensures) (c .add-piece .ensures) in
+    (omega (arith, more), small .1, bounded, next ∙ i .loop .inv .3)
 
 returns : tie.Need-returns Inv-loop μ-loop
 returns c =
     let i = c .before .before in
-    let s = i .before in
-    let a = s .args in
-    (omega (arith, i .loop .inv .3, count-none (a .t3) (a .t4) (a .head .plast) (i .loop .k) (a .head .nop) (i .loop .continues) (i .loop .kept) (c .if1 .left)), omega (arith, i .loop .inv .0, i .loop .inv .2, s .pre .0 .1))
+    let a = i .before .args in
+    sym (count-none (a .head) (a .t3) (a .t4) (i .loop .k) (i .loop .continues) (i .loop .kept) (i .loop .sum) (c .if1 .left)) ∙ i .loop .inv .3
 
 pub count-pieces-spec : {M : Type 1} → statement M
 count-pieces-spec =
@@ -208,7 +199,8 @@ count-pieces-spec =
     array-read-count-piece
     sub-count-piece
     count-piece-requires
-    add-sum
+    piece-number-requires
+    add-piece-requires
     add-k
     loop-less
     loop-again

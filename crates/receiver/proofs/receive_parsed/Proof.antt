@@ -1,23 +1,44 @@
 use native.Mathlib.Omega.{arith}
 use denote.Ref.{now}
-use Rattle.receiver.proofs.Taking.{Ready, needed, too-short, accepts, run-fits, taken}
+use Prim.Native.Nat.{_≤_}
+use lib.ListN.{length}
+use Rattle.receiver.proofs.Taking.{Ready, needed, Weighed, too-short, too-many, accepts, run-fits, tally-fits, taken}
 use borrow.Author.Needs.{needs}
 use Rattle.receiver.proofs.receive_parsed.Statement.{statement}
 use Rattle.receiver.proofs.receive_parsed.Tie as tie
 use Rattle.receiver.proofs.receive_parsed.Reads as reads
 use Rattle.receiver.proofs.receive_parsed.Lts as lts
 use Rattle.reassembly.proofs.accept.Reads as accept-reads
-use Rattle.reassembly.proofs.words_needed.Reads as words-needed-reads
+use Rattle.reassembly.proofs.forecast_for.Reads as forecast-for-reads
 use Rattle.receiver.proofs.accepted.Reads as accepted-reads
 use Rattle.receiver.proofs.is_withheld.Reads as is-withheld-reads
+use Rattle.receiver.proofs.passes_limit.Reads as passes-limit-reads
 use Rattle.receiver.proofs.refused.Reads as refused-reads
 use Rattle.receiver.proofs.services_after.Reads as services-after-reads
 use Rattle.receiver.proofs.services_at.Reads as services-at-reads
 use Rattle.receiver.proofs.state_of.Reads as state-of-reads
+use Rattle.receiver.proofs.tally_of.Reads as tally-of-reads
 
 -- what is known before the words are counted
 ready : (w : tie.After-state-of) → let a = w .before .before .before .before .args in Ready (a .r) (a .head) (now (a .y)) (a .marks) (now (a .carry)) (w .state-of .result)
 ready w = let p = w .before .before .before .before .pre in record { fine = p .0; whole = p .1; stated = w .state-of .ensures }
+
+-- and once they are
+abbrev weighed : (f : tie.After-forecast-for) → let t = f .before .before .before .before in let a = t .before .before .before .before .args in Weighed (ready t) (a .range) (a .causes)
+weighed f =
+    let g = f .before in
+    let i = g .before in
+    let s = i .before in
+    record {
+      services = s .services-at .result;
+      inForceHere = s .services-at .ensures;
+      withheld = i .is-withheld .result;
+      withheldHere = i .is-withheld .ensures;
+      before = g .tally-of .result;
+      countedBefore = g .tally-of .ensures;
+      count = f .forecast-for .result;
+      forecast = f .forecast-for .ensures;
+    }
 
 state-of-requires : tie.Need-state-of-requires
 state-of-requires c κs = search needs
@@ -28,42 +49,59 @@ services-at-requires c κs = let p = c .before .before .before .before .pre in (
 is-withheld-requires : tie.Need-is-withheld-requires
 is-withheld-requires c κs = search needs
 
-words-needed-requires : tie.Need-words-needed-requires
-words-needed-requires c κs = needed (ready (c .before .before))
+tally-of-requires : tie.Need-tally-of-requires
+tally-of-requires c κs = search needs
+
+forecast-for-requires : tie.Need-forecast-for-requires
+forecast-for-requires c κs = needed (ready (c .before .before .before)) (c .tally-of .result) (c .tally-of .ensures)
 
 refused-requires : tie.Need-refused-requires
 refused-requires c κs = search needs
 
 returns : tie.Need-returns
 returns c =
-    let w = c .before .before in
-    let i = w .before in
-    let s = i .before in
-    let t = s .before in
+    let f = c .before .before .before .before in
+    let t = f .before .before .before .before in
     let a = t .before .before .before .before .args in
-    too-short (ready t) (a .range) (a .causes) (now (a .log)) (s .services-at .result) (s .services-at .ensures) (i .is-withheld .result) (i .is-withheld .ensures) (w .words-needed .result) (w .words-needed .ensures) (c .refused .result) (omega (arith, c .before .if1 .taken)) (c .refused .ensures)
+    too-short (ready t) (weighed f) (now (a .log)) (c .refused .result) (omega (arith, c .before .if1 .taken)) (c .refused .ensures)
+
+passes-limit-requires : tie.Need-passes-limit-requires
+passes-limit-requires c κs = search needs
+
+refused-requires-2 : tie.Need-refused-requires-2
+refused-requires-2 c κs = search needs
+
+returns-2 : tie.Need-returns-2
+returns-2 c =
+    let p = c .before .before in
+    let f = p .before .before .before .before in
+    let t = f .before .before .before .before in
+    let a = t .before .before .before .before .args in
+    too-many (ready t) (weighed f) (now (a .log)) (omega (arith, p .before .if1 .left)) (p .passes-limit .result) (p .passes-limit .ensures) (c .refused2 .result) (c .before .if2 .taken) (c .refused2 .ensures)
 
 accept-requires : tie.Need-accept-requires
 accept-requires c κs =
-    let w = c .before .before .before in
-    let i = w .before in
-    let s = i .before in
-    let t = s .before in
+    let p = c .before .before .before in
+    let f = p .before .before .before .before in
+    let t = f .before .before .before .before in
     let a = t .before .before .before .before .args in
-    accepts (ready t) (a .range) (a .causes) (now (a .log)) (s .services-at .result) (s .services-at .ensures) (i .is-withheld .result) (i .is-withheld .ensures) (w .words-needed .result) (w .words-needed .ensures) (omega (arith, c .before .before .if1 .left))
+    accepts (ready t) (weighed f) (now (a .log)) (omega (arith, p .before .if1 .left)) (p .passes-limit .result) (p .passes-limit .ensures)
 
 services-after-requires : tie.Need-services-after-requires
 services-after-requires c κs = search needs
 
 accepted-requires : tie.Need-accepted-requires
 accepted-requires c κs =
-    let w = c .before .before .before .before .before .before .before .before .before in
-    let i = w .before in
-    let s = i .before in
-    let t = s .before in
-    let a = t .before .before .before .before .args in
     let d = c .before .before .before .before .before in
-    run-fits (ready t) (a .range) (a .causes) (now (a .log)) (s .services-at .result) (s .services-at .ensures) (i .is-withheld .result) (i .is-withheld .ensures) (w .words-needed .result) (w .words-needed .ensures) (omega (arith, c .before .before .before .before .before .before .before .before .if1 .left)) (d .accept .last .1 .1 .1 .1 .1 .1 .1 .0) (d .accept .last .1 .1 .1 .1 .1 .1 .1 .1 .0) (d .accept .result) (d .accept .ensures)
+    let e = d .before .before .before in
+    let p = e .before in
+    let f = p .before .before .before .before in
+    let t = f .before .before .before .before in
+    let a = t .before .before .before .before .args in
+    let room : f .forecast-for .result .words ≤ length (now (a .log)) = omega (arith, p .before .if1 .left) in (
+      run-fits (ready t) (weighed f) (now (a .log)) room (p .passes-limit .result) (p .passes-limit .ensures) (e .if2 .left) (d .accept .last .1 .1 .1 .1 .1 .1 .1 .0) (d .accept .last .1 .1 .1 .1 .1 .1 .1 .1 .0) (d .accept .result) (d .accept .ensures),
+      tally-fits (ready t) (weighed f) (now (a .log)) room (p .passes-limit .result) (p .passes-limit .ensures) (e .if2 .left) (d .accept .last .1 .1 .1 .1 .1 .1 .1 .0) (d .accept .last .1 .1 .1 .1 .1 .1 .1 .1 .0) (d .accept .result) (d .accept .ensures),
+    )
 
 same-length : tie.Need-same-length
 same-length c = search needs
@@ -71,16 +109,16 @@ same-length c = search needs
 same-length-2 : tie.Need-same-length-2
 same-length-2 c = search needs
 
-returns-2 : tie.Need-returns-2
-returns-2 c =
-    let w = c .before .before .before .before .before .before .before .before .before .before in
-    let i = w .before in
-    let s = i .before in
-    let t = s .before in
+returns-3 : tie.Need-returns-3
+returns-3 c =
+    let k = c .before in
+    let d = k .before .before .before .before .before in
+    let e = d .before .before .before in
+    let p = e .before in
+    let f = p .before .before .before .before in
+    let t = f .before .before .before .before in
     let a = t .before .before .before .before .args in
-    let d = c .before .before .before .before .before .before in
-    let k = c .before .services-after in
-    taken (ready t) (a .range) (a .causes) (now (a .log)) (s .services-at .result) (s .services-at .ensures) (i .is-withheld .result) (i .is-withheld .ensures) (w .words-needed .result) (w .words-needed .ensures) (omega (arith, c .before .before .before .before .before .before .before .before .before .if1 .left)) (d .accept .last .1 .1 .1 .1 .1 .1 .1 .0) (d .accept .last .1 .1 .1 .1 .1 .1 .1 .1 .0) (d .accept .result) (d .accept .ensures) (k .result) (k .ensures) (c .accepted .result) (c .accepted .ensures)
+    taken (ready t) (weighed f) (now (a .log)) (omega (arith, p .before .if1 .left)) (p .passes-limit .result) (p .passes-limit .ensures) (e .if2 .left) (d .accept .last .1 .1 .1 .1 .1 .1 .1 .0) (d .accept .last .1 .1 .1 .1 .1 .1 .1 .1 .0) (d .accept .result) (d .accept .ensures) (k .services-after .result) (k .services-after .ensures) (c .accepted .result) (c .accepted .ensures)
 
 pub receive-parsed-spec : {M : Type 1} → statement M
 receive-parsed-spec =
@@ -89,12 +127,16 @@ receive-parsed-spec =
     state-of-requires
     services-at-requires
     is-withheld-requires
-    words-needed-requires
+    tally-of-requires
+    forecast-for-requires
     refused-requires
     returns
+    passes-limit-requires
+    refused-requires-2
+    returns-2
     accept-requires
     services-after-requires
     accepted-requires
     same-length
     same-length-2
-    returns-2)
+    returns-3)

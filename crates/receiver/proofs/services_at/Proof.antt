@@ -1,5 +1,6 @@
 use mathlib.Core.Path.{_∙_}
 use Rattle.receiver.proofs.Withholding.{own-value, first-value, kept-value, forgotten-value}
+use native.Mathlib.Omega.{arith}
 use borrow.Author.Needs.{needs}
 use Rattle.receiver.proofs.services_at.Statement.{statement}
 use Rattle.receiver.proofs.services_at.Tie as tie
@@ -29,7 +30,7 @@ returns-2 : tie.Need-returns-2
 returns-2 c =
     let a = c .before .before .before .before .before .args in
     let k = c .before .before .before .before .keeps-services in
-    c .known-services2 .ensures ∙ first-value (a .range) (a .r) (a .head) (k .result) (k .ensures) (c .before .before .before .if1 .left) (c .before .if2 .taken)
+    c .known-services2 .ensures ∙ first-value (a .range) (a .r) (a .head) (k .result) (k .ensures) (c .before .before .before .if1 .left) (omega (arith, c .before .if2 .taken))
 
 in-sequence-requires : tie.Need-in-sequence-requires
 in-sequence-requires c κs = c .before .before .before .before .pre .0
@@ -40,7 +41,7 @@ returns-3 c =
     let a = p .args in
     let k = c .before .before .before .before .before .keeps-services in
     let s = c .before .in-sequence in
-    kept-value (a .range) (a .r) (a .head) (k .result) (k .ensures) (c .before .before .before .before .if1 .left) (c .before .before .if2 .left) (s .result) (s .ensures) (c .if3 .taken) (p .pre .1)
+    kept-value (a .range) (a .r) (a .head) (k .result) (k .ensures) (c .before .before .before .before .if1 .left) (omega (arith, c .before .before .if2 .left)) (s .result) (s .ensures) (c .if3 .taken) (p .pre .1)
 
 unknown-services-requires : tie.Need-unknown-services-requires
 unknown-services-requires c κs = search needs
@@ -50,7 +51,7 @@ returns-4 c =
     let a = c .before .before .before .before .before .before .before .args in
     let k = c .before .before .before .before .before .before .keeps-services in
     let s = c .before .before .in-sequence in
-    c .unknown-services .ensures ∙ forgotten-value (a .range) (a .r) (a .head) (k .result) (k .ensures) (c .before .before .before .before .before .if1 .left) (c .before .before .before .if2 .left) (s .result) (s .ensures) (c .before .if3 .left)
+    c .unknown-services .ensures ∙ forgotten-value (a .range) (a .r) (a .head) (k .result) (k .ensures) (c .before .before .before .before .before .if1 .left) (omega (arith, c .before .before .before .if2 .left)) (s .result) (s .ensures) (c .before .if3 .left)
 
 pub services-at-spec : {M : Type 1} → statement M
 services-at-spec =
