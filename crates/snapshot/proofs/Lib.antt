@@ -1,0 +1,12 @@
+pub mod Bytes
+pub mod Calls
+pub mod Counts
+pub mod Examples
+pub mod Fields
+pub mod Filling
+pub mod Forms
+pub mod Parts
+pub mod Reading
+pub mod Round
+pub mod Same
+pub mod Tests

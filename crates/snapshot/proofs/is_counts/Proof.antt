@@ -1,0 +1,71 @@
+use denote.Ref.{now}
+use native.Mathlib.Omega.{arith}
+use mathlib.Core.Path.{_≡_, sym, ap, _∙_}
+use lib.ListN.{length, take}
+use borrow.Author.Needs.{needs}
+use Rattle.snapshot.specs.Snapshot.{countWords}
+use Rattle.snapshot.specs.Steps.{beginsWith}
+use Rattle.snapshot.proofs.Calls.{taken-back}
+use Rattle.snapshot.proofs.Counts.{counts-few}
+use Rattle.snapshot.proofs.Reading.{same-begins, same-not}
+use Rattle.snapshot.proofs.is_counts.Statement.{statement}
+use Rattle.snapshot.proofs.is_counts.Tie as tie
+use Rattle.snapshot.proofs.is_counts.Reads as reads
+use Rattle.snapshot.proofs.is_counts.Lts as lts
+use Rattle.snapshot.proofs.begins.Reads as begins-reads
+use Rattle.snapshot.proofs.counts_length.Reads as counts-length-reads
+use Rattle.snapshot.proofs.put_counts.Reads as put-counts-reads
+
+abbrev begun : tie.After-counts-length → tie.Start
+begun c = c .before .before .before .before .before
+
+-- the words that were written
+written : (c : tie.After-counts-length) → take (c .counts-length .result) (c .before .before .put-counts .last .0) ≡ countWords (begun c .args .r)
+written c = taken-back _ (c .before .before .put-counts .last .0) (countWords (begun c .args .r)) (c .counts-length .result) (c .counts-length .ensures .0) (c .before .before .put-counts .ensures)
+
+slice-aggregate-put-counts : tie.Need-slice-aggregate-put-counts
+slice-aggregate-put-counts c = search needs
+
+put-counts-requires : tie.Need-put-counts-requires
+put-counts-requires c κs = omega (arith, counts-few (c .before .before .args .r))
+
+counts-length-requires : tie.Need-counts-length-requires
+counts-length-requires c κs = search needs
+
+returns : tie.Need-returns
+returns c =
+    let n = c .before in
+    let a = begun n .args in
+    same-not (countWords (a .r)) (now (a .words)) (λ e. omega (arith, c .if1 .taken, n .counts-length .ensures .0))
+
+array-share-prefix-counts : tie.Need-array-share-prefix-counts
+array-share-prefix-counts c = search needs
+
+slice-aggregate-begins : tie.Need-slice-aggregate-begins
+slice-aggregate-begins c =
+    let n = c .before .before in
+    n .counts-length .ensures .0 ∙ ap length (sym (written n))
+
+begins-requires : tie.Need-begins-requires
+begins-requires c κs = search needs
+
+returns-2 : tie.Need-returns-2
+returns-2 c =
+    let n = c .before .before .before in
+    let a = begun n .args in
+    c .begins .ensures
+    ∙ ap (λ l. beginsWith l (now (a .words))) (written n)
+    ∙ same-begins (countWords (a .r)) (now (a .words)) (omega (arith, c .before .before .if1 .left, n .counts-length .ensures .0))
+
+pub is-counts-spec : {M : Type 1} → statement M
+is-counts-spec =
+    tie.close
+    (tie.spec
+    slice-aggregate-put-counts
+    put-counts-requires
+    counts-length-requires
+    returns
+    array-share-prefix-counts
+    slice-aggregate-begins
+    begins-requires
+    returns-2)

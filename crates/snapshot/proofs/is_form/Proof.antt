@@ -1,0 +1,93 @@
+use denote.Ref.{now}
+use native.Mathlib.Omega.{arith}
+use mathlib.Core.Path.{_≡_, refl, sym, ap, _∙_}
+use mathlib.Core.List.{List}
+use Prim.Native.Nat.{ℕ, _-_}
+use lib.ListN.{length, drop, length-drop}
+use lib.Seq.{take-all, length-take-le}
+use borrow.Author.Needs.{needs}
+use borrow.Author.Tests.{not-true, not-false}
+use Rattle.snapshot.specs.Snapshot.{countWords, sameWords}
+use Rattle.snapshot.proofs.Calls.{form-not, form-yes}
+use Rattle.snapshot.proofs.is_form.Statement.{statement}
+use Rattle.snapshot.proofs.is_form.Tie as tie
+use Rattle.snapshot.proofs.is_form.Reads as reads
+use Rattle.snapshot.proofs.is_form.Lts as lts
+use Rattle.snapshot.proofs.has.Reads as has-reads
+use Rattle.snapshot.proofs.is_counts.Reads as is-counts-reads
+use Rattle.snapshot.proofs.is_front.Reads as is-front-reads
+use Rattle.snapshot.proofs.place_of.Reads as place-of-reads
+
+place-of-requires : tie.Need-place-of-requires
+place-of-requires c κs = search needs
+
+mul-is-counts : tie.Need-mul-is-counts
+mul-is-counts c = search needs
+
+sub-is-counts : tie.Need-sub-is-counts
+sub-is-counts c = search needs
+
+part-is-counts-start : tie.Need-part-is-counts-start
+part-is-counts-start c = search needs
+
+part-is-counts-end : tie.Need-part-is-counts-end
+part-is-counts-end c = search needs
+
+is-counts-requires : tie.Need-is-counts-requires
+is-counts-requires c κs = search needs
+
+-- the words from the place on
+counts-test : (c : tie.After-is-counts)
+    → c .is-counts .result ≡ sameWords (countWords (c .before .before .before .before .args .r)) (drop (c .before .before .place-of .result) (now (c .before .before .before .before .args .words)))
+counts-test c =
+    let p = c .before .before in
+    let a = p .before .before .args in
+    let e : List ℕ = drop (p .place-of .result) (now (a .words)) in
+    c .is-counts .ensures ∙ ap (sameWords (countWords (a .r))) (take-all (length (now (a .words)) - p .place-of .result) e (omega (arith, length-drop (p .place-of .result) (now (a .words)))))
+
+returns : tie.Need-returns
+returns c =
+    let q = c .before in
+    let p = q .before .before in
+    let s = p .before .before in
+    form-not (now (s .args .words)) (s .args .r) _ _ (s .pre) refl refl (p .place-of .result) (p .place-of .ensures .0) (p .place-of .ensures .1) (q .is-counts .result) (counts-test q) (not-true _ (c .if1 .taken))
+
+slice-aggregate-is-front : tie.Need-slice-aggregate-is-front
+slice-aggregate-is-front c =
+    let p = c .before .before .before .before in
+    sym (length-take-le (p .place-of .result) (now (p .before .before .args .words)) (p .place-of .ensures .1))
+
+has-requires : tie.Need-has-requires
+has-requires c κs = search needs
+
+has-requires-2 : tie.Need-has-requires-2
+has-requires-2 c κs = search needs
+
+is-front-requires : tie.Need-is-front-requires
+is-front-requires c κs = search needs
+
+returns-2 : tie.Need-returns-2
+returns-2 c =
+    let h = c .before in
+    let d = h .before .before .before in
+    let q = d .before in
+    let p = q .before .before in
+    let s = p .before .before in
+    form-yes (now (s .args .words)) (s .args .r) (h .before .has .result) (h .has2 .result) (s .pre) (h .before .has .ensures) (h .has2 .ensures) (p .place-of .result) (p .place-of .ensures .0) (p .place-of .ensures .1) (q .is-counts .result) (counts-test q) (c .is-front .result) (not-false _ (d .if1 .left)) (c .is-front .ensures)
+
+pub is-form-spec : {M : Type 1} → statement M
+is-form-spec =
+    tie.close
+    (tie.spec
+    place-of-requires
+    mul-is-counts
+    sub-is-counts
+    part-is-counts-start
+    part-is-counts-end
+    is-counts-requires
+    returns
+    slice-aggregate-is-front
+    has-requires
+    has-requires-2
+    is-front-requires
+    returns-2)

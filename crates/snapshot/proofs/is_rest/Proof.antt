@@ -1,0 +1,79 @@
+use denote.Ref.{now}
+use native.Mathlib.Omega.{arith}
+use mathlib.Core.Path.{_≡_, refl, sym, ap, _∙_}
+use lib.ListN.{length, drop}
+use Prim.Native.Nat.{ℕ, _-_}
+use borrow.Author.Needs.{needs}
+use Prim.Native.Nat.{_+_}
+use borrow.Author.Tests.{not-true, not-false}
+use Rattle.snapshot.specs.Steps.{isRest}
+use Rattle.snapshot.proofs.Reading.{rest-stop, rest-next, rest-end}
+use Rattle.snapshot.proofs.is_rest.Statement.{statement}
+use Rattle.snapshot.proofs.is_rest.Tie as tie
+use Rattle.snapshot.proofs.is_rest.Reads as reads
+use Rattle.snapshot.proofs.is_rest.Lts as lts
+use Rattle.snapshot.proofs.fits.Reads as fits-reads
+use Rattle.snapshot.proofs.left_after.Reads as left-after-reads
+
+abbrev Inv-loop : tie.InvT-loop
+Inv-loop words from held left₀ i₀ left i = isRest left (drop i words) ≡ isRest held (drop from words)
+
+abbrev μ-loop : tie.MeasureT-loop
+μ-loop words from held left₀ i₀ left i = length words - i
+
+loop-holds : tie.Need-loop-holds Inv-loop μ-loop
+loop-holds c = refl
+
+mul-fits : tie.Need-mul-fits Inv-loop μ-loop
+mul-fits c = search needs
+
+shared-slice-read-fits : tie.Need-shared-slice-read-fits Inv-loop μ-loop
+shared-slice-read-fits c = search needs
+
+fits-requires : tie.Need-fits-requires Inv-loop μ-loop
+fits-requires c κs = search needs
+
+returns : tie.Need-returns Inv-loop μ-loop
+returns c =
+    let p = c .before .before .before .before in
+    let a = p .before .before .args in
+    rest-stop (now (a .words)) (p .loop .i) (omega arith) (p .loop .left) (sym (c .before .fits2 .ensures) ∙ not-true _ (c .if1 .taken)) ∙ p .loop .inv
+
+left-after-requires : tie.Need-left-after-requires Inv-loop μ-loop
+left-after-requires c κs = search needs
+
+add-i : tie.Need-add-i Inv-loop μ-loop
+add-i c = search needs
+
+loop-less : tie.Need-loop-less Inv-loop μ-loop
+loop-less c = search needs
+
+loop-again : tie.Need-loop-again Inv-loop μ-loop
+loop-again c =
+    let p = c .before .before .before .before .before in
+    let a = p .before .before .args in
+    ap (λ (k : ℕ). isRest k (drop (p .loop .i + 1) (now (a .words)))) (c .left-after .ensures)
+    ∙ rest-next (now (a .words)) (p .loop .i) (omega arith) (p .loop .left) (sym (c .before .before .fits2 .ensures) ∙ not-false _ (c .before .if1 .left)) ∙ p .loop .inv
+
+returns-2 : tie.Need-returns-2 Inv-loop μ-loop
+returns-2 c =
+    let p = c .before in
+    let a = p .before .before .args in
+    rest-end (now (a .words)) (p .loop .i) (omega arith) (p .loop .left) ∙ p .loop .inv
+
+pub is-rest-spec : {M : Type 1} → statement M
+is-rest-spec =
+    tie.close
+    (tie.spec
+    Inv-loop
+    μ-loop
+    loop-holds
+    mul-fits
+    shared-slice-read-fits
+    fits-requires
+    returns
+    left-after-requires
+    add-i
+    loop-less
+    loop-again
+    returns-2)

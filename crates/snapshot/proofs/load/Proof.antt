@@ -1,0 +1,103 @@
+-- `snapshot::load` meets its contract.
+use denote.Ref.{now}
+use native.Mathlib.Omega.{arith}
+use mathlib.Core.Path.{sym, _∙_}
+use lib.Seq.{length-take-le}
+use borrow.Author.Needs.{needs}
+use Rattle.snapshot.proofs.Calls.{load-refused, carry-short, words-wrong, load-held, load-rest, load-done}
+use Rattle.snapshot.proofs.load.Statement.{statement}
+use Rattle.snapshot.proofs.load.Tie as tie
+use Rattle.snapshot.proofs.load.Reads as reads
+use Rattle.snapshot.proofs.load.Lts as lts
+
+-- where the function begins
+abbrev begun : tie.After-place-of → tie.Start
+begun p = p .before .before .before .before .before .before .before .before .before .before
+
+not-loaded-requires : tie.Need-not-loaded-requires
+not-loaded-requires c κs = search needs
+
+returns : tie.Need-returns
+returns c =
+    let a = c .before .before .before .before .args in
+    load-refused (now (a .words)) (now (a .carry)) 2 (c .not-loaded .result) (carry-short (now (a .words)) (now (a .carry)) (omega arith)) (λ z. omega arith) (c .not-loaded .ensures)
+
+receiver-in-requires : tie.Need-receiver-in-requires
+receiver-in-requires c κs = search needs
+
+is-wrong-requires : tie.Need-is-wrong-requires
+is-wrong-requires c κs = search needs
+
+not-loaded-requires-2 : tie.Need-not-loaded-requires-2
+not-loaded-requires-2 c κs = search needs
+
+returns-2 : tie.Need-returns-2
+returns-2 c =
+    let w = c .before .before in
+    let o = w .before .before in
+    let a = o .before .before .before .args in
+    load-refused (now (a .words)) (now (a .carry)) 25 (c .not-loaded2 .result) (words-wrong (now (a .words)) (now (a .carry)) (omega arith) (sym (w .is-wrong .ensures) ∙ c .before .if2 .taken)) (λ z. omega arith) (c .not-loaded2 .ensures)
+
+has-requires : tie.Need-has-requires
+has-requires c κs = search needs
+
+has-requires-2 : tie.Need-has-requires-2
+has-requires-2 c κs = search needs
+
+head-length-requires : tie.Need-head-length-requires
+head-length-requires c κs = search needs
+
+place-of-requires : tie.Need-place-of-requires
+place-of-requires c κs = search needs
+
+slice-aggregate-take-bytes : tie.Need-slice-aggregate-take-bytes
+slice-aggregate-take-bytes c =
+    let p = c .before .before in
+    sym (length-take-le (p .place-of .result) (now (begun p .args .words)) (p .place-of .ensures .1))
+
+cast-take-bytes : tie.Need-cast-take-bytes
+cast-take-bytes c = search needs
+
+take-bytes-requires : tie.Need-take-bytes-requires
+take-bytes-requires c κs =
+    let p = c .before .before .before in
+    let l = p .before in
+    let x = l .before .before in
+    let w = x .before .before in
+    let o = w .before .before in
+    let a = begun p .args in
+    (load-held (now (a .words)) (w .before .receiver-in .result) (x .has .result) (l .before .has2 .result) (w .before .receiver-in .ensures) (x .has .ensures) (l .before .has2 .ensures) (now (a .carry)) (omega arith) (sym (w .is-wrong .ensures) ∙ x .before .if2 .left) (l .head-length .result) (l .head-length .ensures .0) (p .place-of .result) (p .place-of .ensures .0) (p .place-of .ensures .1), load-rest (now (a .words)) (w .before .receiver-in .result) (x .has .result) (l .before .has2 .result) (w .before .receiver-in .ensures) (x .has .ensures) (l .before .has2 .ensures) (now (a .carry)) (omega arith) (sym (w .is-wrong .ensures) ∙ x .before .if2 .left) (l .head-length .result) (l .head-length .ensures .0) (p .place-of .result) (p .place-of .ensures .0) (p .place-of .ensures .1))
+
+same-length : tie.Need-same-length
+same-length c = search needs
+
+returns-3 : tie.Need-returns-3
+returns-3 c =
+    let t = c .before .before in
+    let p = t .before .before .before .before in
+    let l = p .before in
+    let x = l .before .before in
+    let w = x .before .before in
+    let o = w .before .before in
+    let a = begun p .args in
+    load-done (now (a .words)) (w .before .receiver-in .result) (x .has .result) (l .before .has2 .result) (w .before .receiver-in .ensures) (x .has .ensures) (l .before .has2 .ensures) (now (a .carry)) (omega arith) (sym (w .is-wrong .ensures) ∙ x .before .if2 .left) (l .head-length .result) (l .head-length .ensures .0) (p .place-of .result) (p .place-of .ensures .0) (p .place-of .ensures .1) (t .take-bytes .last .0) (t .take-bytes .ensures)
+
+pub load-spec : {M : Type 1} → statement M
+load-spec =
+    tie.close
+    (tie.spec
+    not-loaded-requires
+    returns
+    receiver-in-requires
+    is-wrong-requires
+    not-loaded-requires-2
+    returns-2
+    has-requires
+    has-requires-2
+    head-length-requires
+    place-of-requires
+    slice-aggregate-take-bytes
+    cast-take-bytes
+    take-bytes-requires
+    same-length
+    returns-3)
