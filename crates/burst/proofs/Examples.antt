@@ -1,18 +1,34 @@
 -- Bits and bursts, computed.
 use mathlib.Core.Path.{_≡_, refl}
-use mathlib.Core.List.{List, [], _∷_}
-use Prim.Native.Nat.{ℕ, zero, suc, _+_, _<_, _≤_}
+use mathlib.Core.List.{List, [], _∷_, _++_}
+use Prim.Native.Nat.{ℕ, zero, suc, _+_, _/_, _%_, _<_, _≤_}
 use native.Mathlib.Omega.{arith}
-use lib.ListN.{getD}
+use lib.ListN.{getD, replicate}
 use Rattle.crc.specs.Crc.{crcBit, crcBits, crcByte, crcFrom}
-use Rattle.burst.specs.Burst.{topBits, bitsOf, Burst}
+use Rattle.burst.specs.Burst.{topBits, bitsOf}
 
 -- top bit of each byte first
 pub top-first : bitsOf (0x34 ∷ 0x01 ∷ []) ≡ 0 ∷ 0 ∷ 1 ∷ 1 ∷ 0 ∷ 1 ∷ 0 ∷ 0 ∷ 0 ∷ 0 ∷ 0 ∷ 0 ∷ 0 ∷ 0 ∷ 0 ∷ 1 ∷ []
 unfolding bitsOf topBits
 top-first = refl
 
--- low bit of each byte first it would be seven bits, and its CRC is right: 34 01 for 00 00
+-- n bits of the byte b, from its bit 0 up, and those of bytes
+unfoldable pub lowBits : ℕ → ℕ → List ℕ
+lowBits zero b = []
+lowBits (suc n) b = b % 2 ∷ lowBits n (b / 2)
+
+unfoldable pub lowBitsOf : List ℕ → List ℕ
+lowBitsOf [] = []
+lowBitsOf (b ∷ bs) = lowBits 8 b ++ lowBitsOf bs
+
+-- low bit of each byte first 34 01 would be 00 00 altered inside seven bits, its places 2 to 8
+pub low-first-bits :
+    (lowBitsOf (0x00 ∷ 0x00 ∷ []) ≡ replicate 2 0 ++ (replicate 7 0 ++ replicate 7 0))
+    × (lowBitsOf (0x34 ∷ 0x01 ∷ []) ≡ replicate 2 0 ++ ((1 ∷ 0 ∷ 1 ∷ 1 ∷ 0 ∷ 0 ∷ 1 ∷ []) ++ replicate 7 0))
+unfolding lowBitsOf lowBits
+low-first-bits = (refl, refl)
+
+-- and its CRC is right
 pub low-first-pass : (crcFrom 0 (0x00 ∷ []) ≡ 0x00) × (crcFrom 0 (0x34 ∷ []) ≡ 0x01)
 unfolding crcFrom crcByte crcBits crcBit
 low-first-pass = (refl, refl)
@@ -25,19 +41,3 @@ nine-pass = (refl, refl)
 pub nine-bits : bitsOf (0x01 ∷ 0x31 ∷ []) ≡ 0 ∷ 0 ∷ 0 ∷ 0 ∷ 0 ∷ 0 ∷ 0 ∷ 1 ∷ 0 ∷ 0 ∷ 1 ∷ 1 ∷ 0 ∷ 0 ∷ 0 ∷ 1 ∷ []
 unfolding bitsOf topBits
 nine-bits = refl
-
--- the CRC byte counts: 01 for 00 is a burst, and with 31 after it the CRC is right
-pub burst-of-one : Burst (0x00 ∷ []) (0x01 ∷ [])
-unfolding bitsOf topBits
-burst-of-one = record { long = refl; from = 0; inside = λ k d. let h = within k d in (h .0, omega (arith, h .1)); hit = (7, λ e. absurd (omega (arith, e))) }
-  where
-    within : (k : ℕ) → ¬ (getD (bitsOf (0x01 ∷ [])) k 0 ≡ getD (bitsOf (0x00 ∷ [])) k 0) → (0 ≤ k) × (k < 0 + 8)
-    within zero d = (omega arith, omega arith)
-    within (suc zero) d = (omega arith, omega arith)
-    within (suc (suc zero)) d = (omega arith, omega arith)
-    within (suc (suc (suc zero))) d = (omega arith, omega arith)
-    within (suc (suc (suc (suc zero)))) d = (omega arith, omega arith)
-    within (suc (suc (suc (suc (suc zero))))) d = (omega arith, omega arith)
-    within (suc (suc (suc (suc (suc (suc zero)))))) d = (omega arith, omega arith)
-    within (suc (suc (suc (suc (suc (suc (suc zero))))))) d = (omega arith, omega arith)
-    within (suc (suc (suc (suc (suc (suc (suc (suc k)))))))) d = absurd (d refl)

@@ -42,7 +42,7 @@ right-leaves-zero r c p e = crc-append p (c ∷ []) r ∙ unfold crcFrom in ap (
 
 -- ---- bursts
 
-bits-long : (x y : List ℕ) → length x ≡ length y → length (bitsOf x) ≡ length (bitsOf y)
+pub bits-long : (x y : List ℕ) → length x ≡ length y → length (bitsOf x) ≡ length (bitsOf y)
 unfolding bitsOf topBits
 bits-long [] [] e = refl
 bits-long [] (b ∷ y) e = absurd (omega arith)
@@ -53,7 +53,7 @@ bits-long (a ∷ x) (b ∷ y) e = let h = bits-long x y (omega arith) in omega (
 pub no-burst : (r : ℕ) (x y : List ℕ) → crcFrom r x ≡ crcFrom r y → Burst x y → ⊥
 no-burst r x y e b =
     let s : stream r (bitsOf x) ≡ stream r (bitsOf y) = sym (crc-stream x r) ∙ e ∙ crc-stream y r in
-    let q : bitsOf x ≡ bitsOf y = inside-eight (bitsOf x) (bitsOf y) (b .from) r (all-bits x) (all-bits y) (bits-long x y (sym (b .long))) (λ k d. let h = b .inside k d in (h .0, omega (arith, h .1))) s in
+    let q : bitsOf x ≡ bitsOf y = inside-eight (bitsOf x) (bitsOf y) (b .within .from) r (all-bits x) (all-bits y) (bits-long x y (sym (b .within .long))) (λ k d. let h = b .within .inside k d in (h .0, omega (arith, h .1))) s in
     b .hit .1 (ap (λ (l : List ℕ). getD l (b .hit .0) 0) (sym q))
 
 -- the piece p with its CRC c, come as q and d

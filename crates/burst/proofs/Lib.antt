@@ -1,3 +1,4 @@
 pub mod Examples
 pub mod Found
 pub mod Streams
+pub mod Strings

@@ -11,7 +11,6 @@ use lib.ListN.{length, getD}
 use Rattle.crc.specs.Crc.{divisor, crcBit, crcBits, crcByte, crcFrom}
 use Rattle.bits.proofs.Xor.{by-bit, xor-assoc, xor-swap, bit-times, double, mod-xor}
 use Rattle.burst.specs.Burst.{topBits, bitsOf}
-use Rattle.burst.proofs.Examples.{top-first}
 
 -- ---- bits into the register, one by one
 

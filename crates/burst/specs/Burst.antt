@@ -18,9 +18,13 @@ bitsOf (b ∷ bs) = topBits 8 b ++ bitsOf bs
 abbrev pub DiffersAt : List ℕ → List ℕ → ℕ → Type 0
 DiffersAt x y k = ¬ (getD (bitsOf y) k 0 ≡ getD (bitsOf x) k 0)
 
--- y is x with altered bits, one at least, all inside eight consecutive bits
-pub record Burst (x y : List ℕ) : Type 0 where
+-- y is x, in which bits may be altered, all inside eight consecutive bits
+pub record InEight (x y : List ℕ) : Type 0 where
   pub long : length y ≡ length x
   pub from : ℕ
   pub inside : (k : ℕ) → DiffersAt x y k → (from ≤ k) × (k < from + 8)
+
+-- and one bit at least is altered
+pub record Burst (x y : List ℕ) : Type 0 where
+  pub within : InEight x y
   pub hit : (k : ℕ) × DiffersAt x y k

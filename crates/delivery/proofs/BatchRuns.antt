@@ -23,9 +23,10 @@ use Rattle.delivery.specs.Delivery.{joined, Behaviour, Station, Call, re
 use Rattle.delivery.specs.WrongReceivers.{forgetting}
 use Rattle.delivery.proofs.Channel.{Usable, made-right}
 use Rattle.delivery.proofs.Possible.{words, log-room, as-sent, first-batch, in-one, run-usable}
+use Rattle.delivery.proofs.Counted.{arrived-fit}
 use Rattle.delivery.proofs.Theorem.{delivers}
-use Rattle.delivery.proofs.WrongReceivers.{short, twice, writtenAt, two-made, short-right, short-order, shortSpans, short-spans, no-packet}
-use Rattle.delivery.proofs.SmallRuns.{three, six, opens, packets-right, in-order, carry, carry-room, fiveSpans, run-length, askedFor, asked-is, empty-number}
+use Rattle.delivery.proofs.WrongReceivers.{short, twice, writtenAt, two-made, short-right, short-order, short-few, shortSpans, short-spans, no-packet}
+use Rattle.delivery.proofs.SmallRuns.{three, three-few, six, opens, packets-right, in-order, carry, carry-room, fiveSpans, run-length, askedFor, asked-is, empty-number}
 
 -- ---- a batch of two with a third that is refused, and a batch of the other three
 
@@ -62,7 +63,7 @@ asked-of first count steps t = record { opens = opens; sized = packets-right; of
 
 -- the two are taken
 two-taken : answerOf fresh (batch (map length two) (joined two) long) .refusal ≡ 0
-two-taken = delivers 0 0 0 three six 0 2 carry (batches two long ∷ []) (asked-of 0 2 (batches two long ∷ []) (in-one defined fresh two long (usable 0 2) (let n = two-are in let l = long-is in omega (arith, n, l)))) .accepted .0 .0
+two-taken = delivers 0 0 0 three six 0 2 carry (batches two long ∷ []) (asked-of 0 2 (batches two long ∷ []) (in-one defined fresh two long (usable 0 2) (let n = two-are in let l = long-is in omega (arith, n, l)))) (arrived-fit 0 0 three six three-few 0 2 (receptions (batches two long ∷ []))) .accepted .0 .0
 
 -- a PDU of no bytes is refused
 module _ (x : Station) (log : List ℕ) where
@@ -104,7 +105,7 @@ batches-through =
 pub batch-run : packetWords (logsFrom defined fresh batchCalls) ≡ logWords (packet 0 (replicate 20 1) ∷ packet 1 (replicate 300 2) ∷ packet 2 (replicate 10 3) ∷ [])
 unfolding wholePackets
 batch-run =
-    delivers 0 0 0 three six 0 5 carry batchCalls (asked-of 0 5 batchCalls batches-through) .log
+    delivers 0 0 0 three six 0 5 carry batchCalls (asked-of 0 5 batchCalls batches-through) (arrived-fit 0 0 three six three-few 0 5 (receptions batchCalls)) .log
     ∙ ap₂ (λ (i j : ℕ). askedFor 0 5 (replicate i true ++ (replicate j true ++ []))) two-are others-are
     ∙ asked-is 0 5 (true ∷ true ∷ true ∷ true ∷ true ∷ []) (packet 0 (replicate 20 1) ∷ packet 1 (replicate 300 2) ∷ packet 2 (replicate 10 3) ∷ []) refl
 
@@ -127,7 +128,7 @@ both-usable = subst (All Usable) two-made (made-right 0 0 0 short twice opens sh
 module _ (b : Behaviour) (claim : Demand3For b) (first count : ℕ) (c : List ℕ) (steps : List Step) where
   claimed : 4096 ≤ length c → Through b (freshStation b 0 0 0 allPrograms c) (runOf first count both) steps → packetWords (logsFrom b (freshStation b 0 0 0 allPrograms c) steps) ≡ logWords (wholePackets (inReceived (runOf first count shortSpans) (receptions steps)) 0 0 short)
   claimed room t =
-      claim 0 0 0 short twice first count c steps (record { opens = opens; sized = short-right; offered = short-order; room = room; through = subst (λ (ps : List (List ℕ)). Through b (freshStation b 0 0 0 allPrograms c) (runOf first count ps) steps) (sym two-made) t }) .log
+      claim 0 0 0 short twice first count c steps (record { opens = opens; sized = short-right; offered = short-order; room = room; through = subst (λ (ps : List (List ℕ)). Through b (freshStation b 0 0 0 allPrograms c) (runOf first count ps) steps) (sym two-made) t }) (arrived-fit 0 0 short twice short-few first count (receptions steps)) .log
       ∙ ap (λ (l : List Span). logWords (wholePackets (inReceived (runOf first count l) (receptions steps)) 0 0 short)) short-spans
 
 -- what the batch leaves in the carry

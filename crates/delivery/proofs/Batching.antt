@@ -18,6 +18,7 @@ use Rattle.pieces.specs.Pieces.{total}
 use Rattle.log.specs.Log.{logWords}
 use Rattle.log.proofs.Packets.{FitAll}
 use Rattle.reassembly.specs.Rights.{Rights}
+use Rattle.reassembly.specs.Tally.{Countable}
 use Rattle.reassembly.specs.Holder.{Event, Holder, logged, after}
 use Rattle.refusal.specs.Refusal.{anyOf}
 use Rattle.receiver.specs.Receiving.{wrongState, pduAfter}
@@ -28,7 +29,7 @@ use Rattle.batch.proofs.Laws.{passes}
 use Rattle.batch.proofs.OneByOne.{followed-none, followed-twice, next-taken, first-stops}
 use Rattle.runs.specs.Transmissions.{Way, gone, here}
 use Rattle.runs.specs.Calls.{Speech, heard, Matching, Machine, Serves, Bridge, Step as Part, handed, waysOf, Through as Goes, logsFrom as logsOf, finally, AllGood}
-use Rattle.runs.proofs.General.{Served, serve}
+use Rattle.runs.proofs.General.{Served, serve, countable-less}
 use Rattle.delivery.specs.Delivery.{joined, Station, Call, receive, batch, pair, markLost, answerOf, logOf, defined, stationAfter, RefusedAfter, logCounts, loggedBy}
 use Rattle.delivery.specs.Copies.{Copy, causesFor}
 use Rattle.delivery.specs.Channel.{Came, pdusIn, Step, receives, pairs, batches, stops, loses, refuses, callOf, waysIn, NotRefused}
@@ -298,11 +299,13 @@ module _ (mode stream register entitled : ℕ) (m : Mode) (l : listing mode stre
   Spoken = Matching (Speaks mode stream register entitled m l range)
 
   -- the calls of a batch's PDUs serve their part of the run
-  module _ (x : Station) (y : Holder) (cs : List Came) (ps : List (List ℕ)) (ds : List Speech) (log : List ℕ) (s : Stands x y) (each : EachCopy register (m .width) ps cs) (big : 8400 * length cs ≤ length log) (g : Spoken ps ds) where
+  module _ (x : Station) (y : Holder) (cs : List Came) (ps : List (List ℕ)) (ds : List Speech) (log : List ℕ) (s : Stands x y) (each : EachCopy register (m .width) ps cs) (big : 8400 * length cs ≤ length log) (g : Spoken ps ds)
+      (fits : Countable (after rights (m .sequences) y (heard (waysIn cs) ds) .tally)) where
     alone : Served rights (m .sequences) stations one x y (singles x log cs ps) (heard (waysIn cs) ds)
     alone =
         subst (λ (ws : List Way). Served rights (m .sequences) stations one x y (singles x log cs ps) (heard ws ds)) (ways-are cs ps x log each)
-        (serve rights (m .sequences) stations one (singles x log cs ps) x y ds s (goes cs ps x log each big) (subst (λ (k : List (List ℕ)). Spoken k ds) (sym (handed-are cs ps x log each)) g) tt)
+        (serve rights (m .sequences) stations one (singles x log cs ps) x y ds s (goes cs ps x log each big) (subst (λ (k : List (List ℕ)). Spoken k ds) (sym (handed-are cs ps x log each)) g)
+        (subst (λ (ws : List Way). Countable (after rights (m .sequences) y (heard ws ds) .tally)) (sym (ways-are cs ps x log each)) fits))
 
     together : (s : Step) (lengths pdus : List ℕ) → callOf s ≡ batch lengths pdus log → Does x lengths pdus log (finally one x (singles x log cs ps)) (logsOf one x (singles x log cs ps))
         → Serves rights (m .sequences) steps Stands x y s (heard (waysIn cs) ds)
@@ -313,24 +316,24 @@ module _ (mode stream register entitled : ℕ) (m : Mode) (l : listing mode stre
     }
 
   pub serves : (x : Station) (y : Holder) (s : Step) (ps : List (List ℕ)) (ws : List Way) (ds : List Speech) → Stands x y → Handing x s ps ws → Spoken ps ds
-      → NotRefused x s × Serves rights (m .sequences) steps Stands x y s (heard ws ds)
-  serves x y s ps ws ds t (receiving {marks = n} {p = p} {q = q} {log = log} {sound = v} a b) g =
-      let r = one .serves x y (receive n q log) (p ∷ []) (here (causesFor v) ∷ []) ds t (copied a b) g tt in
+      → Countable (after rights (m .sequences) y (heard ws ds) .tally) → NotRefused x s × Serves rights (m .sequences) steps Stands x y s (heard ws ds)
+  serves x y s ps ws ds t (receiving {marks = n} {p = p} {q = q} {log = log} {sound = v} a b) g fits =
+      let r = one .serves x y (receive n q log) (p ∷ []) (here (causesFor v) ∷ []) ds t (copied a b) g fits in
       (r .0, record { log = r .1 .log; fit = r .1 .fit; stands = r .1 .stands })
-  serves x y s ps ws ds t (pairing {p = p} {q = q} {r = k} {log = log} {sound = u} {other = v} a b h) g =
-      let r = one .serves x y (pair q k log) (p ∷ []) (here (causesFor (λ n. u n || v n)) ∷ []) ds t (paired a b h) g tt in
+  serves x y s ps ws ds t (pairing {p = p} {q = q} {r = k} {log = log} {sound = u} {other = v} a b h) g fits =
+      let r = one .serves x y (pair q k log) (p ∷ []) (here (causesFor (λ n. u n || v n)) ∷ []) ds t (paired a b h) g fits in
       (r .0, record { log = r .1 .log; fit = r .1 .fit; stands = r .1 .stands })
-  serves x y s ps ws ds t (batching {cs = cs} {log = log} e b) g =
-      let k = alone x y cs ps ds log t e b g in
-      (batch-taken cs ps x log e (k .good) (t .right) (t .room), together x y cs ps ds log t e b g (batches cs log) _ _ refl (batch-does cs ps x log e (k .good) (t .right) (t .room)))
-  serves x y s ps ws ds t (stopping {cs = cs} {ls = ls} {bytes = bytes} {log = log} e b r) g =
-      let k = alone x y cs ps ds log t e b g in
-      (tt, together x y cs ps ds log t e b g (stops cs ls bytes log) _ _ refl (batch-stops cs ps x log e (k .good) ls bytes r))
-  serves x y s ps ws ds t (missing {p = p} {log = log} b) g =
-      let r = one .serves x y (markLost log) (p ∷ []) (gone ∷ []) ds t (losing b) g tt in
+  serves x y s ps ws ds t (batching {cs = cs} {log = log} e b) g fits =
+      let k = alone x y cs ps ds log t e b g fits in
+      (batch-taken cs ps x log e (k .good) (t .right) (t .room), together x y cs ps ds log t e b g fits (batches cs log) _ _ refl (batch-does cs ps x log e (k .good) (t .right) (t .room)))
+  serves x y s ps ws ds t (stopping {cs = cs} {ls = ls} {bytes = bytes} {log = log} e b r) g fits =
+      let k = alone x y cs ps ds log t e b g fits in
+      (tt, together x y cs ps ds log t e b g fits (stops cs ls bytes log) _ _ refl (batch-stops cs ps x log e (k .good) ls bytes r))
+  serves x y s ps ws ds t (missing {p = p} {log = log} b) g fits =
+      let r = one .serves x y (markLost log) (p ∷ []) (gone ∷ []) ds t (losing b) g fits in
       (r .0, record { log = r .1 .log; fit = r .1 .fit; stands = r .1 .stands })
-  serves x y s ps ws ds t (declining {c = c} h) g =
-      let r = one .serves x y c [] [] ds t (refusing h) g tt in
+  serves x y s ps ws ds t (declining {c = c} h) g fits =
+      let r = one .serves x y c [] [] ds t (refusing h) g fits in
       (tt, record { log = r .1 .log; fit = r .1 .fit; stands = r .1 .stands })
 
   abbrev pub stepping : Bridge rights (m .sequences) steps
@@ -340,8 +343,8 @@ module _ (mode stream register entitled : ℕ) (m : Mode) (l : listing mode stre
     Stands = Stands;
     Hands = Handing;
     Good = λ x s ps. NotRefused x s;
-    Within = λ t. Unit {0};
-    within-less = λ t u g w. tt;
+    Within = Countable;
+    within-less = countable-less;
     as-many = as-many;
-    serves = λ x y s ps ws ds t h g k. serves x y s ps ws ds t h g;
+    serves = serves;
   }

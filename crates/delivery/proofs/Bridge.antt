@@ -22,7 +22,8 @@ use Rattle.log.specs.Log.{Entry, logWords}
 use Rattle.log.proofs.Packets.{FitAll}
 use Rattle.reassembly.specs.Reassembly.{Said, Outcome, received}
 use Rattle.reassembly.specs.Rights.{Rights, Label, under}
-use Rattle.reassembly.specs.Holder.{Come, lost, came, Holder, saidTo, holderFor}
+use Rattle.reassembly.specs.Tally.{Tally, Countable}
+use Rattle.reassembly.specs.Holder.{Come, lost, came, Holder, saidTo, holderFor, after}
 use Rattle.reassembly.proofs.Fitting.{SaneSaid, fit-received}
 use Rattle.reassembly.proofs.Blind.{blankSaid}
 use Rattle.runs.proofs.Blind.{received-same, holder-same}
@@ -32,6 +33,7 @@ use Rattle.receiver.specs.declared.Received.{Received}
 use Rattle.runs.specs.Transmissions.{Way, gone, here}
 use Rattle.runs.specs.Calls.{Speech, heard, Matching, Machine, Serves, Bridge}
 use Rattle.runs.proofs.Bridges.{serves-one, serves-none}
+use Rattle.runs.proofs.General.{countable-less}
 use Rattle.batch.proofs.Single.{kept}
 use Rattle.batch.proofs.OneByOne.{none-taken}
 use Rattle.delivery.specs.Delivery.{Station, Call, receive, batch, pair, markLost, answerOf, stationAfter, takenBy, RefusedAfter, loggedBy, defined, HeaderAltered}
@@ -254,50 +256,52 @@ module _ (mode stream register entitled : ℕ) (m : Mode) (l : listing mode stre
   StandsFor = Shows mode stream register entitled m l range
 
   pub serves : (x : Station) (y : Holder) (c : Call) (ps : List (List ℕ)) (ws : List Way) (ds : List Speech) → StandsFor x y → Handing register (m .width) x c ps ws → Matching Speaks ps ds
-      → Accepted x c ps × Serves rights (m .sequences) stations StandsFor x y c (heard ws ds)
-  unfolding heard
-  serves x y c ps ws [] s (copied a b) g = absurd g
-  serves x y c ps ws (d ∷ e ∷ ds) s (copied a b) g = absurd (g .1)
-  serves x y c ps ws (d ∷ []) s (copied {marks = n} {p = p} {q = q} {log = log} {sound = sound} a big) g =
+      → Countable (after rights (m .sequences) y (heard ws ds) .tally) → Accepted x c ps × Serves rights (m .sequences) stations StandsFor x y c (heard ws ds)
+  unfolding heard after
+  serves x y c ps ws [] s (copied a b) g k = absurd g
+  serves x y c ps ws (d ∷ e ∷ ds) s (copied a b) g k = absurd (g .1)
+  serves x y c ps ws (d ∷ []) s (copied {marks = n} {p = p} {q = q} {log = log} {sound = sound} a big) g k =
       let u : Come = read p d (g .0) n q sound a in
       let b = all-bytes q (a .header .bytes) in
       let hq = heard-copy p d (g .0) n q sound a in
       let sn = sane-copy p d (g .0) n q sound a in
       let lo = copy-below p d (g .0) n q sound a in
       let na = copy-narrow p d (g .0) n q sound a in
-      let er = copy-received p d (g .0) n q sound a y in (
-        receive-accepted mode stream register entitled m l range x y s n q log u hq sn lo na b big,
+      let er = copy-received p d (g .0) n q sound a y in
+      let w = subst (λ (z : Holder). Countable (z .tally)) (sym (copy-holder p d (g .0) n q sound a y)) k in (
+        receive-accepted mode stream register entitled m l range x y s n q log u hq sn lo na b big w,
         serves-one rights (m .sequences) stations StandsFor x y (receive n q log) (came (d (causesFor sound)))
-            (receive-logged mode stream register entitled m l range x y s n q log u hq sn lo na b big ∙ ap (λ (o : Outcome). logWords (o .entries)) er)
+            (receive-logged mode stream register entitled m l range x y s n q log u hq sn lo na b big w ∙ ap (λ (o : Outcome). logWords (o .entries)) er)
             (subst (λ (o : Outcome). FitAll (o .entries)) er (fit-received (m .sequences) (y .memory) (saidTo rights (m .sequences) y u) (s .sane) (sane-shown rights (m .sequences) y u sn) .0))
-            (subst (λ (z : Holder). Shows mode stream register entitled m l range (stationAfter defined x (receive n q log)) z) (copy-holder p d (g .0) n q sound a y) (receive-shows mode stream register entitled m l range x y s n q log u hq sn lo na b big)),
+            (subst (λ (z : Holder). Shows mode stream register entitled m l range (stationAfter defined x (receive n q log)) z) (copy-holder p d (g .0) n q sound a y) (receive-shows mode stream register entitled m l range x y s n q log u hq sn lo na b big w)),
       )
-  serves x y c ps ws [] s (paired a b h) g = absurd g
-  serves x y c ps ws (d ∷ e ∷ ds) s (paired a b h) g = absurd (g .1)
-  serves x y c ps ws (d ∷ []) s (paired {p = p} {q = q} {r = r} {log = log} {sound = i} {other = j} a b big) g =
+  serves x y c ps ws [] s (paired a b h) g k = absurd g
+  serves x y c ps ws (d ∷ e ∷ ds) s (paired a b h) g k = absurd (g .1)
+  serves x y c ps ws (d ∷ []) s (paired {p = p} {q = q} {r = r} {log = log} {sound = i} {other = j} a b big) g fits =
       let u : Come = readPair p d (g .0) q r i j a b in
       let k = all-bytes q (a .header .bytes) in
       let h = copies-pass p d (g .0) q r i j a b x y log s in
       let sn = sane-readPair p d (g .0) q r i j a b in
       let lo = pair-below p d (g .0) q r i j a b in
       let na = pair-narrow p d (g .0) q r i j a b in
-      let er = pair-received p d (g .0) q r i j a b y in (
-        pair-accepted mode stream register entitled m l range x y s q r log u h refl sn lo na k big,
+      let er = pair-received p d (g .0) q r i j a b y in
+      let w = subst (λ (z : Holder). Countable (z .tally)) (sym (pair-holder p d (g .0) q r i j a b y)) fits in (
+        pair-accepted mode stream register entitled m l range x y s q r log u h refl sn lo na k big w,
         serves-one rights (m .sequences) stations StandsFor x y (pair q r log) (came (d (causesFor (λ n. i n || j n))))
-            (pair-logged mode stream register entitled m l range x y s q r log u h refl sn lo na k big ∙ ap (λ (o : Outcome). logWords (o .entries)) er)
+            (pair-logged mode stream register entitled m l range x y s q r log u h refl sn lo na k big w ∙ ap (λ (o : Outcome). logWords (o .entries)) er)
             (subst (λ (o : Outcome). FitAll (o .entries)) er (fit-received (m .sequences) (y .memory) (saidTo rights (m .sequences) y u) (s .sane) (sane-shown rights (m .sequences) y u sn) .0))
-            (subst (λ (z : Holder). Shows mode stream register entitled m l range (stationAfter defined x (pair q r log)) z) (pair-holder p d (g .0) q r i j a b y) (pair-shows mode stream register entitled m l range x y s q r log u h refl sn lo na k big)),
+            (subst (λ (z : Holder). Shows mode stream register entitled m l range (stationAfter defined x (pair q r log)) z) (pair-holder p d (g .0) q r i j a b y) (pair-shows mode stream register entitled m l range x y s q r log u h refl sn lo na k big w)),
       )
-  serves x y c ps ws [] s (losing b) g = absurd g
-  serves x y c ps ws (d ∷ e ∷ ds) s (losing b) g = absurd (g .1)
-  serves x y c ps ws (d ∷ []) s (losing {log = log} big) g = (
+  serves x y c ps ws [] s (losing b) g k = absurd g
+  serves x y c ps ws (d ∷ e ∷ ds) s (losing b) g k = absurd (g .1)
+  serves x y c ps ws (d ∷ []) s (losing {log = log} big) g k = (
     lost-accepted mode stream register entitled m l range x y s log big,
     serves-one rights (m .sequences) stations StandsFor x y (markLost log) lost
         (lost-logged mode stream register entitled m l range x y s log big)
         ((omega arith, omega arith), tt)
         (lost-shows mode stream register entitled m l range x y s log big),
   )
-  serves x y c ps ws ds s (refusing h) g =
+  serves x y c ps ws ds s (refusing h) g k =
       (tt, serves-none rights (m .sequences) stations StandsFor x y c (nothing-logged x c h) (subst (λ (t : Station). StandsFor t y) (sym (station-kept x c h)) s))
 
   abbrev pub bridge : Bridge rights (m .sequences) stations
@@ -307,8 +311,8 @@ module _ (mode stream register entitled : ℕ) (m : Mode) (l : listing mode stre
     Stands = StandsFor;
     Hands = Handing register (m .width);
     Good = Accepted;
-    Within = λ t. Unit {0};
-    within-less = λ t u g w. tt;
+    Within = Countable;
+    within-less = countable-less;
     as-many = as-many register (m .width);
-    serves = λ x y c ps ws ds s h g k. serves x y c ps ws ds s h g;
+    serves = serves;
   }

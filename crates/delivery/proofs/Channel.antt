@@ -21,25 +21,25 @@ use Rattle.modes.proofs.Listable.{listable}
 use Rattle.log.specs.Log.{Entry, logWords, packetWords}
 use Rattle.pdu.specs.Reading.{modeIn}
 use Rattle.reassembly.specs.Reassembly.{Piece, following}
-use Rattle.reassembly.specs.Tally.{Countable, noTally, tallied}
+use Rattle.reassembly.specs.Tally.{Tally, noTally, tallied}
 use Rattle.reassembly.specs.Holder.{opened}
 use Rattle.writer.specs.Writing.{opened as writerOpened, openedAs as writerOpenedAs}
 use Rattle.writer.specs.RoundTrip.{Bytes}
 use Rattle.writer.specs.declared.Writer.{Writer}
 use Rattle.receiver.specs.Entitling.{allowedPrograms, maskOf}
-use Rattle.receiver.specs.Receiving.{fresh as freshFor, openingNumber, openedFor, memoryOf, wrongState}
+use Rattle.receiver.specs.Receiving.{fresh as freshFor, openingNumber, openedFor, memoryOf, tallyOf, wrongState}
 use Rattle.receiver.specs.declared.Receiver.{Receiver}
 use Rattle.runs.specs.Model.{cut, sentAfter, Sized}
-use Rattle.runs.specs.Transmissions.{Way, gone, here}
+use Rattle.runs.specs.Transmissions.{Way, gone, here, Close, AddsUp}
 use Rattle.runs.specs.Spans.{Span, bytesIn}
-use Rattle.runs.specs.Promise.{arrived}
-use Rattle.runs.specs.Calls.{Load, labelsOf, LoadsFit, spansFrom as spansOfLoads, speechesFrom, Matching, Bridge, Step as Part, handed, waysOf, Through as Goes, logsFrom as logsOf, AllGood}
+use Rattle.runs.specs.Promise.{arrived, indices}
+use Rattle.runs.specs.Calls.{Load, labelsOf, LoadsFit, Machine, spansFrom as spansOfLoads, speechesFrom, Matching, Bridge, Step as Part, handed, waysOf, Through as Goes, logsFrom as logsOf, finally as lastOf, AllGood}
 use Rattle.runs.proofs.General.{Asked as RunAsked, general}
-use Rattle.runs.proofs.Promised.{promised}
-use Rattle.delivery.specs.Delivery.{Packets, Writing, pdusFrom, spansFrom, InOrder, Station, Call, receive, pair, markLost, answerOf, defined, freshStation, stationAfter, loggedBy, runOf, made as madeBy, spans as spansOf}
+use Rattle.runs.proofs.Promised.{arrivals-told, promised}
+use Rattle.delivery.specs.Delivery.{Packets, Writing, pdusFrom, spansFrom, InOrder, Station, Call, receive, pair, markLost, answerOf, defined, freshStation, stationAfter, loggedBy, runOf, made as madeBy, spans as spansOf, CountsFit}
 use Rattle.delivery.specs.Copies.{causesFor}
-use Rattle.delivery.specs.Channel.{Came, Step, receives, pairs, batches, stops, loses, refuses, callOf, AllCopies, Through, waysIn, ways, logsFrom, NoneRefused, Asked, Delivered, ChannelDelivery}
-use Rattle.delivery.specs.Entitlement.{labelsFrom, rightsFor, due}
+use Rattle.delivery.specs.Channel.{Came, Step, receives, pairs, batches, stops, loses, refuses, callOf, AllCopies, Through, waysIn, ways, logsFrom, finally, NoneRefused, Asked, Delivered, ChannelDelivery}
+use Rattle.delivery.specs.Entitlement.{labelsFrom, rightsFor, due, dueIndices}
 use Rattle.delivery.proofs.Counting.{stands-first}
 use Rattle.delivery.proofs.Calling.{stateAt, next-in-range}
 use Rattle.delivery.proofs.Made.{SaneLabel, sized-of}
@@ -50,6 +50,7 @@ use Rattle.delivery.proofs.Bridge.{Speaks}
 use Rattle.delivery.proofs.Batching.{EachCopy, Handing, receiving, pairing, batching, stopping, missing, declining, steps as stepMachine, stepping}
 use Rattle.delivery.proofs.Copies.{struck-read}
 use Rattle.delivery.proofs.Lies.{Following}
+use Rattle.delivery.proofs.Counted.{adds-along}
 use Rattle.delivery.proofs.Examples.{second-missing}
 
 -- a PDU that can be received
@@ -118,6 +119,7 @@ module _ (mode stream register entitled : ℕ) (m : Mode) (l : listing mode stre
     pdus′ : handed all gs ≡ pdus
     ways : waysOf all gs ≡ ways ss
     logs : logsOf all x gs ≡ logsFrom x ss
+    final : lastOf all x gs ≡ finally x ss
     good : AllGood all x gs → NoneRefused x ss
 
   -- a call, and those after it
@@ -128,12 +130,13 @@ module _ (mode stream register entitled : ℕ) (m : Mode) (l : listing mode stre
       pdus′ = ap (λ (k : List (List ℕ)). ps ++ k) (r .pdus′) ∙ e;
       ways = ap (λ (k : List Way). ws ++ k) (r .ways) ∙ sym f;
       logs = ap (λ (w : List ℕ). loggedBy defined x (callOf s) ++ w) (r .logs);
+      final = r .final;
       good = λ g. (g .0, r .good (g .1));
     }
 
   parted : (ss : List Step) (x : Station) (pdus : List (List ℕ)) → Through register (m .width) x pdus ss → Parted x ss pdus (parts ss pdus)
   unfolding parts
-  parted [] x [] t = record { through = tt; pdus′ = refl; ways = refl; logs = refl; good = λ g. tt }
+  parted [] x [] t = record { through = tt; pdus′ = refl; ways = refl; logs = refl; final = refl; good = λ g. tt }
   parted [] x (p ∷ pdus) t = absurd t
   parted (receives n q log v ∷ ss) x [] t = absurd t
   parted (receives n q log v ∷ ss) x (p ∷ pdus) t =
@@ -182,7 +185,7 @@ pub shows-fresh : (mode stream register entitled : ℕ) (m : Mode) (l : listing 
 unfolding memoryOf
 shows-fresh mode stream register entitled m l range carry big =
     let q : leb (m .sequences) 0 ≡ false = lt-leb (m .sequences) 0 range in
-    record { sameMode = refl; sameStream = refl; sameRegister = refl; sameEntitled = refl; right = rw (l, q); room = big; memory = refl; kept = refl; sane = tt; fair = tt }
+    record { sameMode = refl; sameStream = refl; sameRegister = refl; sameEntitled = refl; right = rw (l, q); room = big; memory = refl; kept = refl; tally = refl; sane = tt; fair = tt; counted = record { last = omega arith; none = λ e. (refl, refl) } }
 
 -- ---- the calls of a run
 
@@ -230,7 +233,29 @@ module _ (mode stream register : ℕ) (programs : List ℕ) (packets : List (Lis
   split : Parted mode stream register mask m (x .listed) range station steps (runOf first count made) gs
   split = parted mode stream register mask m (x .listed) range steps station (runOf first count made) through
 
-  asked : RunAsked (rightsBy mask stream m) (m .sequences) (stepMachine mode stream register mask m (x .listed) range) bridge packets cs made first count station gs
+  -- the rights by the mask are those by the list
+  rights-are : rightsBy mask stream m ≡ rightsFor mode stream programs
+  rights-are =
+      let e : Listed m ≡ listing mode stream = sym (x .listed) in
+      λ i. record { entitled = mask-lists programs (d .allowed) i; keeps = eqb stream 0 && eqb (modeIn (e i) .sequences) 8 }
+
+  spans-told : spansOfLoads 0 0 packets cs ≡ spansFrom mode stream packets 0 writings
+  spans-told = sym (spans-are mode stream register m packets (whole .course))
+
+  due-are : arrived (rightsBy mask stream m) (m .sequences) first packets (spansOfLoads 0 0 packets cs) (labelsOf cs) (waysOf bridge gs) ≡ due mode stream programs packets writings first (ways steps)
+  due-are =
+      let e : Listed m ≡ listing mode stream = sym (x .listed) in
+      λ i. arrived (rights-are i) (modeIn (e i) .sequences) first packets (spans-told i) (whole .labelled i) (split .ways i)
+
+  indices-are : indices (rightsBy mask stream m) (m .sequences) first packets (spansOfLoads 0 0 packets cs) (labelsOf cs) (waysOf bridge gs) ≡ dueIndices mode stream programs packets writings first (ways steps)
+  indices-are =
+      let e : Listed m ≡ listing mode stream = sym (x .listed) in
+      λ i. indices (rights-are i) (modeIn (e i) .sequences) first packets (spans-told i) (whole .labelled i) (split .ways i)
+
+  abbrev machine : Machine
+  machine = stepMachine mode stream register mask m (x .listed) range
+
+  asked : RunAsked (rightsBy mask stream m) (m .sequences) machine bridge packets cs made first count station gs
   asked = record {
     sized = sized;
     fits = loads-fit mode stream register m packets (whole .course);
@@ -238,28 +263,26 @@ module _ (mode stream register : ℕ) (programs : List ℕ) (packets : List (Lis
     run = split .pdus′;
     fresh = shows-fresh mode stream register mask m (x .listed) range carry (d .room);
     through = split .through;
-    countable = tt;
+    countable = subst CountsFit (sym (arrivals-told (rightsBy mask stream m) (m .sequences) machine bridge packets cs made first count station gs ∙ due-are)) (d .countable);
   }
 
-  -- the rights by the mask are those by the list
-  rights-are : rightsBy mask stream m ≡ rightsFor mode stream programs
-  rights-are =
-      let e : Listed m ≡ listing mode stream = sym (x .listed) in
-      λ i. record { entitled = mask-lists programs (d .allowed) i; keeps = eqb stream 0 && eqb (modeIn (e i) .sequences) 8 }
-
-  due-are : arrived (rightsBy mask stream m) (m .sequences) first packets (spansOfLoads 0 0 packets cs) (labelsOf cs) (waysOf bridge gs) ≡ due mode stream programs packets writings first (ways steps)
-  due-are =
-      let e : Listed m ≡ listing mode stream = sym (x .listed) in
-      let f : spansOfLoads 0 0 packets cs ≡ spansFrom mode stream packets 0 writings = sym (spans-are mode stream register m packets (whole .course)) in
-      λ i. arrived (rights-are i) (modeIn (e i) .sequences) first packets (f i) (whole .labelled i) (split .ways i)
+  -- the receiver's counts at the end
+  counts-are : tallyOf (finally (freshStation defined mode stream register programs carry) steps .receiver)
+      ≡ general (rightsBy mask stream m) (m .sequences) machine bridge packets cs made first count station gs asked .last .tally
+  counts-are =
+      ap (λ (s : Station). tallyOf (finally s steps .receiver)) station-is
+      ∙ ap (λ (s : Station). tallyOf (s .receiver)) (sym (split .final))
+      ∙ general (rightsBy mask stream m) (m .sequences) machine bridge packets cs made first count station gs asked .stands .tally
 
   delivered : Delivered mode stream register programs packets writings first count carry steps
   delivered = record {
-    accepted = subst (λ (s : Station). NoneRefused s steps) (sym station-is) (split .good (general (rightsBy mask stream m) (m .sequences) (stepMachine mode stream register mask m (x .listed) range) bridge packets cs made first count station gs asked .good));
+    accepted = subst (λ (s : Station). NoneRefused s steps) (sym station-is) (split .good (general (rightsBy mask stream m) (m .sequences) machine bridge packets cs made first count station gs asked .good));
     log = ap (λ (s : Station). packetWords (logsFrom s steps)) station-is
         ∙ ap packetWords (sym (split .logs))
-        ∙ promised (rightsBy mask stream m) (m .sequences) (stepMachine mode stream register mask m (x .listed) range) bridge packets cs made first count station gs asked .holds
+        ∙ promised (rightsBy mask stream m) (m .sequences) machine bridge packets cs made first count station gs asked .holds
         ∙ ap logWords due-are;
+    counts = counts-are ∙ promised (rightsBy mask stream m) (m .sequences) machine bridge packets cs made first count station gs asked .counted ∙ ap (tallied noTally) due-are;
+    adds-up = adds-along indices-are (sym counts-are) (promised (rightsBy mask stream m) (m .sequences) machine bridge packets cs made first count station gs asked .adds-up);
   }
 
 -- no call for a PDU of the run is refused, and the packet log holds exactly the packets that arrived whole in sound pieces and begin in a PDU not withheld

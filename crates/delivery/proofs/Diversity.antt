@@ -28,7 +28,7 @@ use Rattle.correction.proofs.Answers.{no-marks-pdu}
 use Rattle.pdu.specs.Reading.{modeIn, listingOf, correctedTests, readerTests, judged, uncorrectable}
 use Rattle.reassembly.specs.Reassembly.{Outcome, received, remembered}
 use Rattle.reassembly.specs.Rights.{keptAfter}
-use Rattle.reassembly.specs.Tally.{noTally}
+use Rattle.reassembly.specs.Tally.{Countable}
 use Rattle.reassembly.specs.Holder.{Come, came, Holder, valueFor, saidTo, holderFor}
 use Rattle.reassembly.specs.Run.{bytesOf}
 use Rattle.reassembly.proofs.Fitting.{SaneSaid, fit-received}
@@ -37,13 +37,13 @@ use Rattle.receiver.specs.Steps.{stateTests, streamTests}
 use Rattle.receiver.specs.declared.Receiver.{Receiver}
 use Rattle.receiver.specs.declared.Received.{Received}
 use Rattle.batch.proofs.Single.{kept}
-use Rattle.diversity.specs.Diversity.{correctable, sameBytes, pairSaid, pairCome, frontOf, copyNumber, differ, Result, unchanged, firstAlone, secondAlone, come, said, outcome, pairWords, memoryAfter, keptServices, pairNumber, together, receivedBy, pairReceived}
+use Rattle.diversity.specs.Diversity.{correctable, sameBytes, pairSaid, pairCome, frontOf, copyNumber, differ, Result, unchanged, firstAlone, secondAlone, come, said, outcome, pairWords, memoryAfter, keptServices, tallyAfter, pairNumber, together, receivedBy, pairReceived}
 use Rattle.diversity.proofs.Bytes.{same-itself}
 use Rattle.pair.proofs.Enough.{Passes, taken, passes-taken, passes-most}
 use Rattle.delivery.specs.Delivery.{Station, Call, pair, answerOf, ofOne, stationAfter, loggedBy, defined}
 use Rattle.delivery.proofs.Copies.{same-slice}
 use Rattle.delivery.proofs.Made.{Heard}
-use Rattle.delivery.proofs.Serving.{rightsBy, Shows, mode-is, taking, outcome-is, taking-shows, loggedAlone}
+use Rattle.delivery.proofs.Serving.{rightsBy, Shows, mode-is, taking, outcome-is, tally-is, taking-shows, loggedAlone}
 
 -- ---- a refused pair leaves receiver and carry
 
@@ -133,7 +133,7 @@ module _ (mode stream register entitled : ℕ) (m : Mode) (l : listing mode stre
 
     module _ (p q log : List ℕ) (d : Come) (h : Passes (x .carry) p q log (x .receiver))
         (comes : pairCome register (m .width) (controlAt (correctedPdu p)) (correctedPdu p) (correctedPdu q) ≡ d) (s : SaneSaid (d .said)) (below : d .said .sequence < m .sequences)
-        (narrow : d .label .services < 8) (bytes : (i : ℕ) → getD p i 0 < 256) (big : 8400 ≤ length log) where
+        (narrow : d .label .services < 8) (bytes : (i : ℕ) → getD p i 0 < 256) (big : 8400 ≤ length log) (within : Countable (holderFor (rightsBy entitled stream m) (m .sequences) y (came d) .tally)) where
       abbrev r : Receiver
       r = x .receiver
 
@@ -143,8 +143,11 @@ module _ (mode stream register entitled : ℕ) (m : Mode) (l : listing mode stre
       come-is : come carry p q log r ≡ d
       come-is = ap₂ (λ (i : ℕ) (t : Mode). pairCome i (t .width) (controlAt (correctedPdu p)) (correctedPdu p) (correctedPdu q)) (v .sameRegister) (ap modeIn (mode-is mode stream register entitled m l range r (v .sameMode) (v .sameStream))) ∙ comes
 
+      not-over : Countable (tallyAfter carry p q log r)
+      not-over = subst Countable (sym (tally-is mode stream register entitled m l range x y v (come carry p q log r) d come-is)) within
+
       all-taken : pairReceived carry p q log r ≡ taken carry p q log r
-      all-taken = passes-taken carry p q log r h (let n = passes-most carry p q log r h bytes in omega (arith, n, big))
+      all-taken = passes-taken carry p q log r h (let n = passes-most carry p q log r h bytes in omega (arith, n, big)) not-over
 
       pub pair-accepted : answerOf x (pair p q log) .refusal ≡ 0
       pair-accepted = ap (λ (z : Result). z .answer .refusal) all-taken

@@ -14,12 +14,13 @@ use Rattle.reassembly.specs.Rights.{Rights, Label}
 use Rattle.receiver.specs.Entitling.{allPrograms}
 use Rattle.runs.specs.Model.{Fate, Mark, verdicts}
 use Rattle.runs.specs.Transmissions.{Way, gone}
-use Rattle.runs.specs.Spans.{packetAt, Span, within, lies, wholePackets}
+use Rattle.runs.specs.Spans.{packetAt, Span, within, lies, wholePackets, wholeIndices}
 use Rattle.runs.specs.Calls.{plainFate, plainFates, AllEntitled}
+use Rattle.runs.specs.Promise.{fates}
 use Rattle.runs.proofs.Bridges.{entitled-plain}
 use Rattle.runs.proofs.Looking.{told-is}
 use Rattle.delivery.specs.Delivery.{Writing, spans}
-use Rattle.delivery.specs.Entitlement.{labelsFrom, rightsFor, due}
+use Rattle.delivery.specs.Entitlement.{labelsFrom, rightsFor, due, dueIndices}
 use Rattle.delivery.proofs.Made.{SaneLabel}
 use Rattle.delivery.proofs.Entitling.{all-listed}
 use Rattle.delivery.proofs.Channel.{MadeRight}
@@ -37,13 +38,23 @@ lies-plain ps (s ∷ ss) (l ∷ ls) [] j n = refl
 lies-plain ps (s ∷ ss) (l ∷ ls) (w ∷ ws) j n =
     ap (λ (x : Mark). cond (within s j) (verdicts (plainFate w) (packetAt ps j - packetAt ps (s .from))) x) (lies-plain ps ss ls ws j (omega (arith, n)))
 
--- so all packets that arrived whole are due
-pub all-due : (mode stream register : ℕ) (packets : List (List ℕ)) (writings : List Writing) (first : ℕ) (ws : List Way) → MadeRight mode stream register packets writings
-    → due mode stream allPrograms packets writings first ws ≡ wholePackets (lies packets (spans mode stream packets writings) (map plainFate (replicate first gone ++ ws))) 0 0 packets
-all-due mode stream register packets writings first ws h =
+-- so what came of each byte is told by the ways alone
+all-marks : (mode stream register : ℕ) (packets : List (List ℕ)) (writings : List Writing) (first : ℕ) (ws : List Way) → MadeRight mode stream register packets writings
+    → lies packets (spans mode stream packets writings) (fates (rightsFor mode stream allPrograms) (modeIn (listing mode stream) .sequences) first packets (spans mode stream packets writings) (labelsFrom mode stream packets 0 writings) ws)
+    ≡ lies packets (spans mode stream packets writings) (map plainFate (replicate first gone ++ ws))
+all-marks mode stream register packets writings first ws h =
     let rights : Rights = rightsFor mode stream allPrograms in
     let range : ℕ = modeIn (listing mode stream) .sequences in
     let ls : List Label = labelsFrom mode stream packets 0 writings in
     let all : List Way = replicate first gone ++ ws in
-    ap (λ (fs : List Fate). wholePackets (lies packets (spans mode stream packets writings) fs) 0 0 packets) (told-is rights range ls all ∙ entitled-plain rights range ls all 0 none (every-entitled mode stream ls (h .labels)))
-    ∙ ap (λ (f : ℕ → Mark). wholePackets f 0 0 packets) (fun-ext (λ j. lies-plain packets (spans mode stream packets writings) ls all j (h .labelled)))
+    ap (lies packets (spans mode stream packets writings)) (told-is rights range ls all ∙ entitled-plain rights range ls all 0 none (every-entitled mode stream ls (h .labels)))
+    ∙ fun-ext (λ j. lies-plain packets (spans mode stream packets writings) ls all j (h .labelled))
+
+-- and all packets that arrived whole are due
+pub all-due : (mode stream register : ℕ) (packets : List (List ℕ)) (writings : List Writing) (first : ℕ) (ws : List Way) → MadeRight mode stream register packets writings
+    → due mode stream allPrograms packets writings first ws ≡ wholePackets (lies packets (spans mode stream packets writings) (map plainFate (replicate first gone ++ ws))) 0 0 packets
+all-due mode stream register packets writings first ws h = ap (λ (f : ℕ → Mark). wholePackets f 0 0 packets) (all-marks mode stream register packets writings first ws h)
+
+pub all-indices : (mode stream register : ℕ) (packets : List (List ℕ)) (writings : List Writing) (first : ℕ) (ws : List Way) → MadeRight mode stream register packets writings
+    → dueIndices mode stream allPrograms packets writings first ws ≡ wholeIndices (lies packets (spans mode stream packets writings) (map plainFate (replicate first gone ++ ws))) 0 0 packets
+all-indices mode stream register packets writings first ws h = ap (λ (f : ℕ → Mark). wholeIndices f 0 0 packets) (all-marks mode stream register packets writings first ws h)

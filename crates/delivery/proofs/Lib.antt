@@ -1,9 +1,13 @@
+pub mod Accepted
 pub mod BatchRuns
 pub mod Batching
 pub mod Bridge
+pub mod BurstRuns
+pub mod BurstTheorem
 pub mod Calling
 pub mod Channel
 pub mod Copies
+pub mod Counted
 pub mod Counting
 pub mod Course
 pub mod Diversity
@@ -11,6 +15,10 @@ pub mod Entitled
 pub mod EntitledRuns
 pub mod Entitling
 pub mod Examples
+pub mod Held
+pub mod Interrupted
+pub mod InterruptedDelivery
+pub mod InterruptedRuns
 pub mod Lies
 pub mod Made
 pub mod ManyPieces
@@ -21,9 +29,10 @@ pub mod Pairs
 pub mod Possible
 pub mod ReadBack
 pub mod Registers
-pub mod Saving
+pub mod Running
 pub mod Serving
 pub mod SmallRuns
 pub mod Theorem
+pub mod WrongBursts
 pub mod WrongReceivers
 pub mod WrongRights

@@ -10,8 +10,8 @@ use lib.Dec.{ltb, leb}
 use lib.ListN.{length, take, drop, replicate}
 use Rattle.log.specs.Log.{Entry, packet}
 use Rattle.runs.specs.Model.{Fate, lose, read, Mark, verdicts, Sized}
-use Rattle.runs.specs.Spans.{packetAt, Span, within, nowhere, lies, every as everyMark, wholePackets as wholeByMarks}
-use Rattle.delivery.specs.Delivery.{inReceived, every, wholePackets, runOf}
+use Rattle.runs.specs.Spans.{packetAt, Span, within, nowhere, lies, every as everyMark, wholePackets as wholeByMarks, wholeIndices as indicesByMarks}
+use Rattle.delivery.specs.Delivery.{inReceived, every, wholePackets, wholeIndices, runOf}
 use Rattle.delivery.proofs.Examples.{second-lost}
 
 -- received, with every piece taken, or lost
@@ -101,3 +101,8 @@ pub whole-same : (f : ℕ → Bool) (o i : ℕ) (ps : List (List ℕ)) → Sized
 unfolding wholeByMarks wholePackets
 whole-same f o i [] z = refl
 whole-same f o i (p ∷ ps) z = rw (due-same f o (length p) (z .0), whole-same f (o + length p) (suc i) ps (z .2))
+
+pub indices-same : (f : ℕ → Bool) (o i : ℕ) (ps : List (List ℕ)) → Sized ps → indicesByMarks (λ j. marked (f j)) o i ps ≡ wholeIndices f o i ps
+unfolding indicesByMarks wholeIndices
+indices-same f o i [] z = refl
+indices-same f o i (p ∷ ps) z = rw (due-same f o (length p) (z .0), indices-same f (o + length p) (suc i) ps (z .2))

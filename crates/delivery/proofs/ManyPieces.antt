@@ -16,10 +16,11 @@ use Rattle.log.specs.Log.{Entry, packet, logWords, packetWords}
 use Rattle.writer.specs.Writing.{writeAnswer}
 use Rattle.receiver.specs.Entitling.{allPrograms}
 use Rattle.runs.specs.Spans.{Span}
-use Rattle.delivery.specs.Delivery.{Packets, Writing, spansFrom, InOrder, defined, Step, freshStation, inReceived, wholePackets, logsFrom, runOf, made, spans, Asked}
+use Rattle.delivery.specs.Delivery.{Packets, Writing, spansFrom, InOrder, defined, Step, freshStation, receptions, inReceived, wholePackets, logsFrom, runOf, made, spans, Asked}
 use Rattle.delivery.proofs.Channel.{made-right}
 use Rattle.delivery.proofs.Possible.{stepsFor, told-receptions, goes-through, run-usable}
 use Rattle.delivery.proofs.SmallRuns.{offering, opens, carry, carry-room, altered, headers-altered}
+use Rattle.delivery.proofs.Counted.{arrived-fit}
 use Rattle.delivery.proofs.Theorem.{delivers}
 
 -- 70 packets of one byte, and two calls, each for a PDU of 300 bytes
@@ -65,7 +66,7 @@ logged-is bs es n e =
       room = carry-room;
       through = goes-through [] altered defined headers-altered [] (runOf 0 2 (made 0 0 0 two)) bs _ (λ y. tt) (run-usable 0 0 0 seventy two opens (right 70) in-order 0 2);
     } in
-    delivers 0 0 0 seventy two 0 2 carry (calls bs) asked .log
+    delivers 0 0 0 seventy two 0 2 carry (calls bs) asked (arrived-fit 0 0 seventy two (let n : length seventy ≡ 70 = refl in omega (arith, n)) 0 2 (receptions (calls bs))) .log
     ∙ ap (λ (rs : List Bool). logWords (wholePackets (inReceived (runOf 0 2 (spans 0 0 seventy two)) rs) 0 0 seventy)) (told-receptions [] altered [] (runOf 0 2 (made 0 0 0 two)) bs refl (n ∙ sym both-made))
     ∙ ap (λ (l : List Span). logWords (wholePackets (inReceived (runOf 0 2 l) bs) 0 0 seventy)) spans-are
     ∙ ap logWords e

@@ -35,12 +35,13 @@ use Rattle.runs.specs.Calls.{plainFate}
 use Rattle.diversity.specs.Diversity.{Choice, neither, theFirst, theSecond, choiceOf, sameBytes, pairReceived}
 use Rattle.delivery.specs.Delivery.{Packets, Writing, bufferAfter, pdusFrom, spansFrom, InOrder, Behaviour, Station, Call, receive, pair, answerOf, logOf, defined, freshStation, RefusedAfter, loggedBy, runOf, made, spans, HeaderAltered, Correctable}
 use Rattle.delivery.specs.Copies.{bytesAt, crcAt, pieceAt, causesFor}
-use Rattle.delivery.specs.Diversity.{asSent, ComesAs, Step, pairs, receives, loses, refuses, Through, ways, NoneRefused, logsFrom, arrived, Delivered, PairDeliveryFor}
+use Rattle.delivery.specs.Diversity.{asSent, ComesAs, Step, pairs, receives, loses, refuses, Through, ways, NoneRefused, logsFrom, arrived, arrivedIndices, Delivered, PairDeliveryFor}
 use Rattle.delivery.specs.WrongReceivers.{chosen, choosing}
 use Rattle.delivery.proofs.Channel.{Usable, made-right}
 use Rattle.delivery.proofs.Copies.{corrected-back}
 use Rattle.delivery.proofs.Serving.{loggedAlone}
 use Rattle.delivery.proofs.Possible.{words, log-room}
+use Rattle.delivery.proofs.Counted.{marks-fit}
 use Rattle.delivery.proofs.SmallRuns.{offering, bytes-same, opens, carry, carry-room, altered, altered-four, headers-altered, empty-number}
 use Rattle.delivery.proofs.Registers.{gets, gets-all}
 use Rattle.delivery.proofs.PairTheorem.{drop-taken, pairs-deliver}
@@ -52,7 +53,7 @@ packets = replicate 100 1 ∷ replicate 40 2 ∷ replicate 50 3 ∷ []
 abbrev pub two : List Writing
 two = offering 200 (take 2 packets) ∷ offering 200 (drop 2 packets) ∷ []
 
-right : Packets packets
+pub right : Packets packets
 right = (
   omega arith,
   omega arith,
@@ -60,14 +61,14 @@ right = (
   (omega arith, omega arith, bytes-same 40 2 (omega arith), (omega arith, omega arith, bytes-same 50 3 (omega arith), tt)),
 )
 
-in-order : InOrder 0 0 packets 0 two
+pub in-order : InOrder 0 0 packets 0 two
 unfolding writeAnswer listing fieldsFor expansionBytes chained total largestUpTo mostPieces fit wholesFrom partAfter partFrom
 in-order = ((2, refl, refl), ((1, refl, refl), tt))
 
-abbrev twoSpans : List Span
+abbrev pub twoSpans : List Span
 twoSpans = record { from = 0; count = 140 } ∷ record { from = 140; count = 50 } ∷ []
 
-spans-are : spans 0 0 packets two ≡ twoSpans
+pub spans-are : spans 0 0 packets two ≡ twoSpans
 unfolding spansFrom writeAnswer listing fieldsFor expansionBytes chained total largestUpTo mostPieces fit wholesFrom partAfter partFrom
 spans-are = refl
 
@@ -78,11 +79,11 @@ abbrev front : List ℕ
 front = 0 ∷ 0 ∷ 0 ∷ 0 ∷ 4 ∷ 17 ∷ 118 ∷ 0 ∷ 159 ∷ 0 ∷ replicate 99 1
 
 -- the first packet's CRC, and the second packet but for its last byte
-abbrev between : List ℕ
+abbrev pub between : List ℕ
 between = crcFrom 0 (replicate 100 1) ∷ replicate 39 2
 
 -- the second packet's CRC, and zeros
-abbrev end : List ℕ
+abbrev pub end : List ℕ
 end = crcFrom 0 (replicate 40 2) ∷ replicate 40 0
 
 -- before its parity is written
@@ -92,25 +93,25 @@ base = replicate 8 0 ++ (front ++ (1 ∷ (between ++ (2 ∷ end))))
 abbrev header : List ℕ
 header = gets 8 (parityOf base) ++ front
 
-abbrev pdu : ℕ → ℕ → List ℕ
+abbrev pub pdu : ℕ → ℕ → List ℕ
 pdu x y = header ++ (x ∷ (between ++ (y ∷ end)))
 
-abbrev sent : List ℕ
+abbrev pub sent : List ℕ
 sent = pdu 1 2
 
-abbrev other : List ℕ
+abbrev pub other : List ℕ
 other = bufferAfter (record { mode = 0; stream = 0; register = 0; sequence = 1; number = 2; sent = 0 }) (offering 200 (drop 2 packets))
 
 written-is : made 0 0 0 two ≡ withParity base ∷ other ∷ []
 unfolding pdusFrom writerOpened writeAnswer writtenPdu pduOf listing fieldsFor expansionBytes chained total largestUpTo mostPieces fit wholesFrom partAfter partFrom cutBy pieceBytes locatorsFrom controlBytes bytes16
 written-is = refl
 
-made-is : made 0 0 0 two ≡ sent ∷ other ∷ []
+pub made-is : made 0 0 0 two ≡ sent ∷ other ∷ []
 made-is =
     written-is
     ∙ ap (λ (p : List ℕ). p ∷ other ∷ []) (parity-written base (unfold lengthRefusal in refl) ∙ ap (λ (l : List ℕ). l ++ (front ++ (1 ∷ (between ++ (2 ∷ end))))) (gets-all 8 (parityOf base) (parity-length base)))
 
-usable : Usable sent
+pub usable : Usable sent
 usable = subst (All Usable) made-is (made-right 0 0 0 packets two opens right in-order .usable) .0
 
 -- ---- copies of it with four bytes of the header altered
@@ -121,14 +122,14 @@ another [] b v w h z = (h, z .1)
 another (x ∷ a) b v w h z = (z .0, another a b v w h (z .1))
 
 -- the pieces that are as sent
-abbrev sound : ℕ → ℕ → ℕ → Bool
+abbrev pub sound : ℕ → ℕ → ℕ → Bool
 sound x y k = sameBytes (pieceAt 16 sent (pdu x y) k) (pieceAt 16 sent sent k)
 
 module _ (x y : ℕ) (bytes : Bytes (pdu x y)) where
-  alters : HeaderAltered [] (pdu x y) (altered (pdu x y))
+  pub alters : HeaderAltered [] (pdu x y) (altered (pdu x y))
   alters = headers-altered (pdu x y) (bytes, usable .1, usable .2, usable .3)
 
-  within : Correctable [] sent (altered (pdu x y))
+  pub within : Correctable [] sent (altered (pdu x y))
   within = record { allowed = alters .header .allowed; bytes = alters .header .bytes; long = alters .header .long; few = alters .header .few }
 
   corrected : correctedPdu (altered (pdu x y)) ≡ pdu x y
@@ -155,20 +156,20 @@ module _ (x y : ℕ) (bytes : Bytes (pdu x y)) where
 abbrev first : List ℕ
 first = altered (pdu 9 2)
 
-abbrev second : List ℕ
+abbrev pub second : List ℕ
 second = altered (pdu 1 9)
 
 first-bytes : Bytes (pdu 9 2)
 first-bytes = another header (between ++ (2 ∷ end)) 1 9 (omega arith) (usable .0)
 
-second-bytes : Bytes (pdu 1 9)
+pub second-bytes : Bytes (pdu 1 9)
 second-bytes = another (header ++ (1 ∷ between)) end 2 9 (omega arith) (usable .0)
 
 first-sound : (sound 9 2 0 ≡ false) × (sound 9 2 1 ≡ true)
 unfolding controlOf locator16 sameBytes crcFrom crcByte crcBits crcBit
 first-sound = (refl, refl)
 
-second-sound : (sound 1 9 0 ≡ true) × (sound 1 9 1 ≡ false)
+pub second-sound : (sound 1 9 0 ≡ true) × (sound 1 9 1 ≡ false)
 unfolding controlOf locator16 sameBytes crcFrom crcByte crcBits crcBit
 second-sound = (refl, refl)
 
@@ -201,12 +202,12 @@ second-comes = comes 1 9 second-bytes second-damaged
 -- ---- the run
 
 -- causes that are these for the first two pieces
-abbrev firstTwo : ℕ → ℕ → (ℕ → ℕ) → ℕ → ℕ
+abbrev pub firstTwo : ℕ → ℕ → (ℕ → ℕ) → ℕ → ℕ
 firstTwo a b f zero = a
 firstTwo a b f (suc zero) = b
 firstTwo a b f (suc (suc k)) = f (suc (suc k))
 
-two-are : (a b : ℕ) (f : ℕ → ℕ) → f 0 ≡ a → f 1 ≡ b → f ≡ firstTwo a b f
+pub two-are : (a b : ℕ) (f : ℕ → ℕ) → f 0 ≡ a → f 1 ≡ b → f ≡ firstTwo a b f
 two-are a b f g h = fun-ext each
   where
     each : (k : ℕ) → f k ≡ firstTwo a b f k
@@ -220,15 +221,18 @@ askedFor ws = logWords (wholePackets (lies packets twoSpans (map plainFate ws)) 
 
 -- the claim for so many of these PDUs
 module _ (b : Behaviour) (claim : PairDeliveryFor b) (count : ℕ) (steps : List Step) (t : Through b 0 16 (freshStation b 0 0 0 allPrograms carry) (runOf 0 count (sent ∷ other ∷ [])) steps) where
-  claimed : Delivered b 0 0 0 allPrograms packets two 0 count carry steps (arrived 0 0 packets two 0 (ways 16 (runOf 0 count (made 0 0 0 two)) steps))
+  claimed : Delivered b 0 0 0 allPrograms packets two 0 count carry steps (arrived 0 0 packets two 0 (ways 16 (runOf 0 count (made 0 0 0 two)) steps)) (arrivedIndices 0 0 packets two 0 (ways 16 (runOf 0 count (made 0 0 0 two)) steps))
   unfolding listing
-  claimed = claim 0 0 0 packets two 0 count carry steps (record {
-    opens = opens;
-    sized = right;
-    offered = in-order;
-    room = carry-room;
-    through = subst (λ (ps : List (List ℕ)). Through b 0 16 (freshStation b 0 0 0 allPrograms carry) (runOf 0 count ps) steps) (sym made-is) t;
-  })
+  claimed =
+      claim 0 0 0 packets two 0 count carry steps
+      (record {
+        opens = opens;
+        sized = right;
+        offered = in-order;
+        room = carry-room;
+        through = subst (λ (ps : List (List ℕ)). Through b 0 16 (freshStation b 0 0 0 allPrograms carry) (runOf 0 count ps) steps) (sym made-is) t;
+      })
+      (marks-fit (lies packets (spans 0 0 packets two) (map plainFate (ways 16 (runOf 0 count (made 0 0 0 two)) steps))) packets (let n : length packets ≡ 3 = refl in omega (arith, n)))
 
   logged : packetWords (logsFrom b (freshStation b 0 0 0 allPrograms carry) steps) ≡ askedFor (ways 16 (runOf 0 count (sent ∷ other ∷ [])) steps)
   unfolding listing

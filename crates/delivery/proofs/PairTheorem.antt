@@ -17,17 +17,20 @@ use Rattle.correction.specs.Marks.{marksRefusal}
 use Rattle.correction.proofs.Answers.{no-marks-pdu}
 use Rattle.correction.proofs.Marking.{unmarked-adopted}
 use Rattle.pdu.specs.Reading.{modeIn}
+use Rattle.reassembly.specs.Tally.{noTally, tallied}
 use Rattle.receiver.specs.Entitling.{allPrograms}
+use Rattle.receiver.specs.Receiving.{tallyOf}
 use Rattle.runs.specs.Transmissions.{Way, gone, here}
 use Rattle.diversity.proofs.Bytes.{same-true}
-use Rattle.delivery.specs.Delivery.{joined, Station, Call, receive, batch, pair, markLost, answerOf, defined, freshStation, stationAfter, takenBy, RefusedAfter, loggedBy, runOf, made, spans, Correctable}
+use Rattle.delivery.specs.Delivery.{joined, Station, Call, receive, batch, pair, markLost, answerOf, defined, freshStation, stationAfter, takenBy, RefusedAfter, loggedBy, runOf, made, spans, CountsFit, Correctable}
 use Rattle.delivery.specs.Copies.{frontLength, restored, bytesAt, crcAt, pieceAt, Copy, causesFor, wrong}
-use Rattle.delivery.specs.Channel.{Came, pdusIn, Step as ChannelStep, receives as takes, pairs as takesBoth, batches as takesAll, stops as takesSome, loses as misses, refuses as declines, callOf as channelCall, AllCopies, Through as Goes, waysIn as channelWaysIn, ways as channelWays, logsFrom as channelLogs, NotRefused as ChannelTakes, NoneRefused as ChannelAccepted}
-use Rattle.delivery.specs.Diversity.{asSent, ComesAs, AllComeAs, Step, pairs, receives, batches, stops, loses, refuses, callOf, Through, waysIn, ways, logsFrom, NotRefused, NoneRefused, PairDelivery, EntitledPairDelivery}
-use Rattle.delivery.specs.Entitlement.{due}
+use Rattle.delivery.specs.Channel.{Came, pdusIn, Step as ChannelStep, receives as takes, pairs as takesBoth, batches as takesAll, stops as takesSome, loses as misses, refuses as declines, callOf as channelCall, AllCopies, Through as Goes, waysIn as channelWaysIn, ways as channelWays, logsFrom as channelLogs, finally as channelFinally, NotRefused as ChannelTakes, NoneRefused as ChannelAccepted}
+use Rattle.delivery.specs.Diversity.{asSent, ComesAs, AllComeAs, Step, pairs, receives, batches, stops, loses, refuses, callOf, Through, waysIn, ways, logsFrom, finally, NotRefused, NoneRefused, arrived, PairDelivery, EntitledPairDelivery}
+use Rattle.delivery.specs.Entitlement.{due, dueIndices}
+use Rattle.delivery.proofs.Counted.{adds-along}
 use Rattle.delivery.proofs.Channel.{Usable, channel-delivers, made-right}
 use Rattle.delivery.proofs.Entitling.{all-allowed}
-use Rattle.delivery.proofs.Entitled.{all-due}
+use Rattle.delivery.proofs.Entitled.{all-due, all-indices}
 use Rattle.delivery.proofs.Copies.{corrected-back}
 use Rattle.delivery.proofs.Possible.{all-drop, run-usable}
 
@@ -43,7 +46,7 @@ drop-taken (suc a) (suc n) [] = go (suc n - suc a)
     go (suc k) = refl
 drop-taken (suc a) (suc n) (b ∷ l) = let e : suc n - suc a ≡ n - a = omega arith in rw e (drop-taken a n l)
 
-last-same : (a b : List ℕ) (x y : ℕ) → a ++ (x ∷ []) ≡ b ++ (y ∷ []) → (a ≡ b) × (x ≡ y)
+pub last-same : (a b : List ℕ) (x y : ℕ) → a ++ (x ∷ []) ≡ b ++ (y ∷ []) → (a ≡ b) × (x ≡ y)
 last-same [] [] x y e = (refl, cc)
 last-same [] (j ∷ []) x y e = let z : _≡_ {A = ℕ} 0 1 = cc in absurd (omega arith)
 last-same [] (j ∷ k ∷ b) x y e = let z : _≡_ {A = ℕ} 0 1 = cc in absurd (omega arith)
@@ -56,7 +59,7 @@ last-same (i ∷ a) (j ∷ b) x y e =
     (ap₂ _∷_ h (r .0), r .1)
 
 -- the first n bytes of a PDU whose header is p's and whose bytes from 96 on are q's
-front-of : (n : ℕ) (p q : List ℕ) → 96 ≤ length p → drop 96 (take n q) ≡ drop 96 (take n p) → take n (restored p q) ≡ take n p
+pub front-of : (n : ℕ) (p q : List ℕ) → 96 ≤ length p → drop 96 (take n q) ≡ drop 96 (take n p) → take n (restored p q) ≡ take n p
 front-of n p q h e = go (decLe n 96)
   where
     long : length (take 96 p) ≡ 96
@@ -156,6 +159,7 @@ module _ (register width : ℕ) where
   record Same (x : Station) (ps : List (List ℕ)) (ss : List Step) (ts : List ChannelStep) : Type 0 where
     goes : Goes register width x ps ts
     logs : channelLogs x ts ≡ logsFrom defined x ss
+    final : channelFinally x ts ≡ finally defined x ss
     accepted : ChannelAccepted x ts → NoneRefused defined x ss
 
   -- a call, and those after it
@@ -167,6 +171,7 @@ module _ (register width : ℕ) where
     with-call ps g f = record {
       goes = g;
       logs = ap (λ (c : Call). loggedBy defined x c ++ channelLogs (stationAfter defined x c) ts) e ∙ ap (λ (l : List ℕ). loggedBy defined x (callOf s) ++ l) (r .logs);
+      final = ap (λ (c : Call). channelFinally (stationAfter defined x c) ts) e ∙ r .final;
       accepted = λ a. (f (a .0), r .accepted (subst (λ (c : Call). ChannelAccepted (stationAfter defined x c) ts) e (a .1)));
     }
 
@@ -174,7 +179,7 @@ module _ (register width : ℕ) where
   pair-room ss x p q k log ps t = let n = t .2 in omega (arith, n)
 
   same : (ss : List Step) (x : Station) (ps : List (List ℕ)) → All Usable ps → Through defined register width x ps ss → Same x ps ss (over width ps ss)
-  same [] x [] u t = record { goes = tt; logs = refl; accepted = λ a. tt }
+  same [] x [] u t = record { goes = tt; logs = refl; final = refl; accepted = λ a. tt }
   same [] x (p ∷ ps) u t = absurd t
   same (refuses c ∷ ss) x ps u t =
       let r = same ss (stationAfter defined x c) ps u (t .1) in
@@ -219,23 +224,31 @@ module _ (register width : ℕ) where
 -- document 02, Ask 10: no call for a PDU of the run is refused, and the packet log holds exactly the packets each of whose pieces is, once corrected, as sent in
 -- one copy at least, that begin in a pair not withheld
 pub entitled-pairs-deliver : EntitledPairDelivery
-entitled-pairs-deliver mode stream register programs packets writings first count carry steps a d =
+entitled-pairs-deliver mode stream register programs packets writings first count carry steps a d k =
     let ps : List (List ℕ) = runOf first count (made mode stream register writings) in
     let n : ℕ = modeIn (listing mode stream) .width in
     let x : Station = freshStation defined mode stream register programs carry in
     let s = same register n steps x ps (run-usable mode stream register packets writings (d .opens) (d .sized) (d .offered) first count) (d .through) in
-    let r = channel-delivers mode stream register programs packets writings first count carry (over n ps steps) (record { opens = d .opens; allowed = a; sized = d .sized; offered = d .offered; room = d .room; through = s .goes }) in
+    let e = same-ways n steps ps in
+    let last = ap (λ (z : Station). tallyOf (z .receiver)) (s .final) in
+    let r = channel-delivers mode stream register programs packets writings first count carry (over n ps steps) (record { opens = d .opens; allowed = a; sized = d .sized; offered = d .offered; room = d .room; through = s .goes; countable = subst (λ (ws : List Way). CountsFit (due mode stream programs packets writings first ws)) (sym e) k }) in
     record {
       accepted = s .accepted (r .accepted);
-      log = ap packetWords (sym (s .logs)) ∙ r .log ∙ ap (λ (ws : List Way). logWords (due mode stream programs packets writings first ws)) (same-ways n steps ps);
+      log = ap packetWords (sym (s .logs)) ∙ r .log ∙ ap (λ (ws : List Way). logWords (due mode stream programs packets writings first ws)) e;
+      counts = sym last ∙ r .counts ∙ ap (λ (ws : List Way). tallied noTally (due mode stream programs packets writings first ws)) e;
+      adds-up = adds-along (ap (dueIndices mode stream programs packets writings first) e) last (r .adds-up);
     }
 
 -- Ask 5: a receiver that is entitled to all programs
 pub pairs-deliver : PairDelivery
-pairs-deliver mode stream register packets writings first count carry steps d =
-    let r = entitled-pairs-deliver mode stream register allPrograms packets writings first count carry steps all-allowed d in
+pairs-deliver mode stream register packets writings first count carry steps d k =
     let ws : List Way = ways (modeIn (listing mode stream) .width) (runOf first count (made mode stream register writings)) steps in
+    let right = made-right mode stream register packets writings (d .opens) (d .sized) (d .offered) in
+    let e = all-due mode stream register packets writings first ws right in
+    let r = entitled-pairs-deliver mode stream register allPrograms packets writings first count carry steps all-allowed d (subst CountsFit (sym e) k) in
     record {
       accepted = r .accepted;
-      log = r .log ∙ ap logWords (all-due mode stream register packets writings first ws (made-right mode stream register packets writings (d .opens) (d .sized) (d .offered)));
+      log = r .log ∙ ap logWords e;
+      counts = r .counts ∙ ap (tallied noTally) e;
+      adds-up = adds-along (all-indices mode stream register packets writings first ws right) refl (r .adds-up);
     }

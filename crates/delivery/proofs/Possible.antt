@@ -15,7 +15,7 @@ use Rattle.writer.specs.RoundTrip.{Bytes, Altered}
 use Rattle.correction.proofs.Marking.{unmarked-self, unmarked-adopted}
 use Rattle.receiver.specs.Receiving.{receiveTests, receiveNumber}
 use Rattle.receiver.specs.declared.Receiver.{Receiver}
-use Rattle.delivery.specs.Delivery.{Packets, Writing, InOrder, Behaviour, Station, receive, markLost, AllAltered, Step, receives, batches, loses, callOf, receptions, stationAfter, HeaderAltered, Through, runOf, made, Asked}
+use Rattle.delivery.specs.Delivery.{Packets, Writing, InOrder, Behaviour, Station, receive, markLost, AllCome, Step, receives, batches, loses, callOf, receptions, stationAfter, HeaderAltered, Through, runOf, made, Asked}
 use Rattle.delivery.proofs.Channel.{Usable, made-right}
 
 -- a log of 8,400 words
@@ -82,17 +82,17 @@ module _ (marks : List ℕ) (alter : List ℕ → List ℕ) where
 
 -- ---- all in one batch (document 02, Ask 1)
 
-all-unaltered : (ps more : List (List ℕ)) → All Usable ps → AllAltered (ps ++ more) ps
+all-unaltered : (ps more : List (List ℕ)) → All Usable ps → AllCome HeaderAltered (ps ++ more) ps
 all-unaltered [] more h = tt
 all-unaltered (p ∷ ps) more h = (unaltered p (h .0 .0), all-unaltered ps more (h .1))
 
 -- a batch of PDUs as they were written, and those that are left
-pub first-batch : (ps more : List (List ℕ)) → All Usable ps → AllAltered (ps ++ more) ps × (drop (length ps) (ps ++ more) ≡ more)
+pub first-batch : (ps more : List (List ℕ)) → All Usable ps → AllCome HeaderAltered (ps ++ more) ps × (drop (length ps) (ps ++ more) ≡ more)
 first-batch ps more h = (all-unaltered ps more h, drop-append-seam ps more)
 
 pub in-one : (b : Behaviour) (x : Station) (ps : List (List ℕ)) (log : List ℕ) → All Usable ps → 8400 * length ps ≤ length log → Through b x ps (batches ps log ∷ [])
 in-one b x ps log h big = (
-  subst (λ (l : List (List ℕ)). AllAltered l ps) (append-nil ps) (all-unaltered ps [] h),
+  subst (λ (l : List (List ℕ)). AllCome HeaderAltered l ps) (append-nil ps) (all-unaltered ps [] h),
   big,
   subst (λ (l : List (List ℕ)). Through b (stationAfter b x (callOf (batches ps log))) l []) (sym (drop-length ps)) tt,
 )

@@ -32,6 +32,7 @@ use Rattle.delivery.specs.Delivery.{Packets, Writing, bufferAfter, pdusF
 use Rattle.delivery.specs.Copies.{wrong, restored, bytesAt, crcAt, Damage, Copy}
 use Rattle.delivery.specs.Channel.{receives as takes, ways, Through}
 use Rattle.delivery.specs.WrongReceivers.{zeroed}
+use Rattle.delivery.proofs.Counted.{arrived-fit, due-fit}
 use Rattle.delivery.proofs.Channel.{Usable, made-right, channel-delivers}
 use Rattle.delivery.proofs.Entitling.{all-allowed}
 use Rattle.delivery.proofs.Entitled.{all-due}
@@ -128,6 +129,9 @@ copy = record {
   found = λ k h e. damaged k h;
 }
 
+one-few : length one ≤ 4294967295
+one-few = let n : length one ≡ 1 = refl in omega (arith, n)
+
 abbrev logged : List ℕ
 logged = packetWords (logsFrom defined (freshStation defined 0 0 0 allPrograms carry) (receives [] (pdu 255) words ∷ []))
 
@@ -143,6 +147,7 @@ none-logged =
       offered = in-order;
       room = carry-room;
       through = subst (λ (ps : List (List ℕ)). Through 0 16 (freshStation defined 0 0 0 allPrograms carry) (runOf 0 1 ps) (takes [] (pdu 255) words (λ k. false) ∷ [])) (sym (made-is 0)) (copy, log-room, tt);
+      countable = due-fit 0 0 one once one-few allPrograms 0 (ways (takes [] (pdu 255) words (λ k. false) ∷ []));
     }) .log
     ∙ ap logWords (all-due 0 0 0 one once 0 (ways (takes [] (pdu 255) words (λ k. false) ∷ [])) (made-right 0 0 0 one once (opens 0) one-right in-order))
     ∙ ap (λ (l : List Span). logWords (wholeByMarks (lies one l (map plainFate (ways (takes [] (pdu 255) words (λ k. false) ∷ [])))) 0 0 one)) spans-are
@@ -154,7 +159,7 @@ zeroed-wrong claim =
     let asked : Asked zeroed 0 0 255 allPrograms one once 0 1 carry (receives [] (pdu 255) words ∷ []) =
     subst (λ (ps : List (List ℕ)). Asked zeroed 0 0 255 allPrograms one once 0 1 carry (stepsFor [] asSent [] (runOf 0 1 ps) (true ∷ []))) (made-is 255) (possible 0 0 255 one once (opens 255) one-right in-order zeroed allPrograms 0 1 carry (true ∷ []) carry-room) in
     let found : logged ≡ logWords (packet 0 (replicate 100 2) ∷ []) =
-    claim 0 0 255 one once 0 1 carry (receives [] (pdu 255) words ∷ []) asked .log
+    claim 0 0 255 one once 0 1 carry (receives [] (pdu 255) words ∷ []) asked (arrived-fit 0 0 one once one-few 0 1 (true ∷ [])) .log
     ∙ ap (λ (l : List Span). logWords (wholePackets (inReceived (runOf 0 1 l) (true ∷ [])) 0 0 one)) spans-are in
     let h : _≡_ {A = ℕ} 0 35 = ap length (sym none-logged ∙ found) in
     absurd (omega (arith, h))

@@ -6,7 +6,7 @@ use mathlib.Core.Option.{Option, none, some}
 use Prim.Native.Nat.{ℕ, zero, suc, _+_, _<_, _≤_}
 use native.Mathlib.Omega.{arith}
 use lib.Dec.{eqb, ltb, leb, eqb·suc-zero}
-use borrow.Author.Tests.{le-ltb, lt-leb, eq-eqb, ltb-false, leb-true}
+use borrow.Author.Tests.{le-ltb, lt-leb, eq-eqb, eqb-true, ltb-false, leb-true}
 use lib.ListN.{length, getD, take, drop}
 use Rattle.refusal.specs.Refusal.{firstOf, anyOf}
 use Rattle.modes.specs.Modes.{listing, numberOf}
@@ -21,13 +21,14 @@ use Rattle.correction.specs.Marks.{marksRefusal, correctedWith, correctedPduWit
 use Rattle.pdu.specs.Reading.{modeIn, listingOf, correctedTests, readerTests, judged, uncorrectable}
 use Rattle.reassembly.specs.Reassembly.{Partial, nothing, beginning, Memory, Outcome, inSequence, received, remembered, lostEntries, forgotten}
 use Rattle.reassembly.specs.Rights.{Rights, forgetting, inForce, keptAfter}
-use Rattle.reassembly.specs.Tally.{noTally}
+use Rattle.reassembly.specs.Tally.{Tally, tallied, passesLimit, Countable}
 use Rattle.reassembly.specs.Holder.{Come, came, lost, Holder, valueFor, saidTo, holderFor}
 use Rattle.reassembly.specs.Run.{bytesOf, numberOf as partialNumber, partialOf, lastOf}
 use Rattle.reassembly.proofs.Fitting.{SanePartial, SaneSaid, fit-received}
 use Rattle.reassembly.proofs.Runs.{partial-kept}
+use Rattle.reassembly.proofs.Tallies.{FairTally, fair-tallied, not-passed}
 use Rattle.receiver.specs.Entitling.{entitles}
-use Rattle.receiver.specs.Receiving.{comeBy, memoryOf, keptOf, remembering, isKnown, orZero, keepsServices, shown, keptBy, modeOf, wrongState, come, outcome, receivedWords, memoryAfter, keptServices, refusedAnswer, receiveTests, receiveNumber, receiveAnswer, carryAfter, logAfter, lostNumber, lostAnswer, logAfterLost}
+use Rattle.receiver.specs.Receiving.{comeBy, memoryOf, keptOf, tallyOf, remembering, isKnown, orZero, keepsServices, shown, keptBy, modeOf, wrongState, come, outcome, receivedWords, memoryAfter, keptServices, tallyAfter, refusedAnswer, receiveTests, receiveNumber, receiveAnswer, carryAfter, logAfter, lostNumber, lostAnswer, logAfterLost}
 use Rattle.receiver.specs.declared.Receiver.{Receiver}
 use Rattle.receiver.specs.declared.Received.{Received}
 use Rattle.refusal.proofs.Rows.{past, row-off, rest-off}
@@ -49,9 +50,9 @@ held-none : (h : Partial) → SanePartial h → length (bytesOf h) ≡ 0 → h �
 held-none nothing s e = refl
 held-none (beginning n b) s e = absurd (omega (arith, s .1, e))
 
-memory-back : (r : Receiver) (z : Memory) (k : Option ℕ) (carry : List ℕ) → SanePartial (z .partial) → memoryOf (remembering r z k) (putAt carry 0 (bytesOf (z .partial))) ≡ z
+memory-back : (r : Receiver) (z : Memory) (k : Option ℕ) (t : Tally) (carry : List ℕ) → SanePartial (z .partial) → memoryOf (remembering r z k t) (putAt carry 0 (bytesOf (z .partial))) ≡ z
 unfolding memoryOf remembering
-memory-back r z k carry s =
+memory-back r z k t carry s =
     ap₂ (λ (a : Option ℕ) (b : Partial). record { last = a; partial = b }) (last-back (z .last)) (partial-kept (z .partial) carry (held-none (z .partial) s))
 
 -- a sequence that is known is in its range
@@ -88,6 +89,17 @@ held-right nothing s = (refl, refl, refl)
 held-right (beginning n []) s = absurd (omega (arith, s .1))
 held-right (beginning n (x ∷ b)) s = (le-ltb 4096 (suc (length b)) (s .2), le-ltb 63 n (omega (arith, s .3)), ap (λ (t : Bool). t && not (eqb n 0)) (eqb·suc-zero (length b)))
 
+-- a tally within its ranges
+tally-right : (t : Tally) → FairTally t
+    → (ltb 63 (t .last) ≡ false) × ((eqb (t .delivered) 0 && not (eqb (t .missing) 0)) ≡ false) × ((eqb (t .delivered) 0 && not (eqb (t .last) 0)) ≡ false)
+tally-right t f = go (eqb (t .delivered) 0) refl
+  where
+    go : (b : Bool) → eqb (t .delivered) 0 ≡ b → (ltb 63 (t .last) ≡ false) × ((b && not (eqb (t .missing) 0)) ≡ false) × ((b && not (eqb (t .last) 0)) ≡ false)
+    go false e = (le-ltb 63 (t .last) (f .last), refl, refl)
+    go true e =
+        let n = f .none (eqb-true (t .delivered) 0 e) in
+        (le-ltb 63 (t .last) (f .last), ap not (eq-eqb (t .missing) 0 (n .0)), ap not (eq-eqb (t .last) 0 (n .1)))
+
 held-long : (h : Partial) → SanePartial h → length (bytesOf h) ≤ 4096
 held-long nothing s = omega arith
 held-long (beginning n b) s = s .2
@@ -108,15 +120,17 @@ module _ (mode stream register entitled : ℕ) (m : Mode) (l : listing mode stre
   abbrev pub keeping : Bool
   keeping = rightsBy entitled stream m .keeps
 
-  state-right : (r : Receiver) (z : Memory) (k : Option ℕ) → r .mode ≡ mode → r .stream ≡ stream → Below (m .sequences) (z .last) → SanePartial (z .partial) → Fair keeping k → anyOf (wrongState (remembering r z k)) ≡ false
+  state-right : (r : Receiver) (z : Memory) (k : Option ℕ) (t : Tally) → r .mode ≡ mode → r .stream ≡ stream → Below (m .sequences) (z .last) → SanePartial (z .partial) → Fair keeping k → FairTally t
+      → anyOf (wrongState (remembering r z k t)) ≡ false
   unfolding remembering
-  state-right r z k a b w s f =
+  state-right r z k t a b w s f g =
       let q = sequence-right (m .sequences) (z .last) range w in
       let h = held-right (z .partial) s in
       let v = services-right keeping k f in
+      let n = tally-right t g in
       let e : keepsServices (m .sequences) r ≡ keeping = ap (λ (i : ℕ). eqb i 0 && eqb (m .sequences) 8) b in
       let u : (isKnown k && not (keepsServices (m .sequences) r)) ≡ false = ap (λ (t : Bool). isKnown k && not t) e ∙ v .2 in
-      rw (mode-is r a b, q .0, q .1, h .0, h .1, h .2, v .0, v .1, u)
+      rw (mode-is r a b, q .0, q .1, h .0, h .1, h .2, v .0, v .1, u, n .0, n .1, n .2)
 
   -- ---- a station stands for what a receiver holds
 
@@ -129,26 +143,31 @@ module _ (mode stream register entitled : ℕ) (m : Mode) (l : listing mode stre
     pub room : 4096 ≤ length (x .carry)
     pub memory : memoryOf (x .receiver) (x .carry) ≡ y .memory
     pub kept : keptOf (x .receiver) ≡ y .kept
+    pub tally : tallyOf (x .receiver) ≡ y .tally
     pub sane : SanePartial (y .memory .partial)
     pub fair : Fair keeping (y .kept)
+    pub counted : FairTally (y .tally)
 
-  -- the station that remembers z, and keeps k
-  abbrev pub put : Receiver → List ℕ → Memory → Option ℕ → Station
-  put r carry z k = record { receiver = remembering r z k; carry = putAt carry 0 (bytesOf (z .partial)) }
+  -- the station that remembers z, keeps k and counted t
+  abbrev pub put : Receiver → List ℕ → Memory → Option ℕ → Tally → Station
+  put r carry z k t = record { receiver = remembering r z k t; carry = putAt carry 0 (bytesOf (z .partial)) }
 
   pub shows-put : (r : Receiver) (carry : List ℕ) (y : Holder) → r .mode ≡ mode → r .stream ≡ stream → r .register ≡ register → r .entitled ≡ entitled → 4096 ≤ length carry
-      → Below (m .sequences) (y .memory .last) → SanePartial (y .memory .partial) → Fair keeping (y .kept) → Shows (put r carry (y .memory) (y .kept)) y
-  shows-put r carry y a b g t big w s f = record {
+      → Below (m .sequences) (y .memory .last) → SanePartial (y .memory .partial) → Fair keeping (y .kept) → FairTally (y .tally)
+      → Shows (put r carry (y .memory) (y .kept) (y .tally)) y
+  shows-put r carry y a b g t big w s f c = record {
     sameMode = unfold remembering in a;
     sameStream = unfold remembering in b;
     sameRegister = unfold remembering in g;
     sameEntitled = unfold remembering in t;
-    right = state-right r (y .memory) (y .kept) a b w s f;
+    right = state-right r (y .memory) (y .kept) (y .tally) a b w s f c;
     room = (let e = put-length carry 0 (bytesOf (y .memory .partial)) (let h = held-long (y .memory .partial) s in omega (arith, h, big)) in omega (arith, e, big));
-    memory = memory-back r (y .memory) (y .kept) carry s;
+    memory = memory-back r (y .memory) (y .kept) (y .tally) carry s;
     kept = unfold remembering in last-back (y .kept);
+    tally = unfold remembering in refl;
     sane = s;
     fair = f;
+    counted = c;
   }
 
   -- ---- a PDU that comes to a station
@@ -159,7 +178,8 @@ module _ (mode stream register entitled : ℕ) (m : Mode) (l : listing mode stre
       let r = x .receiver in
       let n = modeOf r .sequences in
       let d = shown n r (x .carry) c in
-      record { receiver = remembering r (remembered n (memoryOf r (x .carry)) d) (keptBy n r (x .carry) c); carry = putAt (x .carry) 0 (bytesOf (received n (memoryOf r (x .carry)) d .partial)) }
+      let o = received n (memoryOf r (x .carry)) d in
+      record { receiver = remembering r (remembered n (memoryOf r (x .carry)) d) (keptBy n r (x .carry) c) (tallied (tallyOf r) (o .entries)); carry = putAt (x .carry) 0 (bytesOf (o .partial)) }
 
   -- of a station that stands for y, where the PDU is d
   module _ (x : Station) (y : Holder) (v : Shows x y) (c d : Come) (e : c ≡ d) where
@@ -167,7 +187,7 @@ module _ (mode stream register entitled : ℕ) (m : Mode) (l : listing mode stre
     mode-here = ap modeIn (mode-is (x .receiver) (v .sameMode) (v .sameStream))
 
     shown-is : shown (modeOf (x .receiver) .sequences) (x .receiver) (x .carry) c ≡ saidTo (rightsBy entitled stream m) (m .sequences) y d
-    shown-is = λ i. saidTo (rightsBy (v .sameEntitled i) (v .sameStream i) (mode-here i)) (mode-here i .sequences) (record { memory = v .memory i; kept = v .kept i; tally = noTally }) (e i)
+    shown-is = λ i. saidTo (rightsBy (v .sameEntitled i) (v .sameStream i) (mode-here i)) (mode-here i .sequences) (record { memory = v .memory i; kept = v .kept i; tally = v .tally i }) (e i)
 
     pub outcome-is : received (modeOf (x .receiver) .sequences) (memoryOf (x .receiver) (x .carry)) (shown (modeOf (x .receiver) .sequences) (x .receiver) (x .carry) c)
         ≡ received (m .sequences) (y .memory) (saidTo (rightsBy entitled stream m) (m .sequences) y d)
@@ -176,24 +196,30 @@ module _ (mode stream register entitled : ℕ) (m : Mode) (l : listing mode stre
     kept-is : keptBy (modeOf (x .receiver) .sequences) (x .receiver) (x .carry) c ≡ holderFor (rightsBy entitled stream m) (m .sequences) y (came d) .kept
     kept-is =
         λ i. keptAfter (rightsBy (v .sameEntitled i) (v .sameStream i) (mode-here i) .keeps)
-        (valueFor (rightsBy (v .sameEntitled i) (v .sameStream i) (mode-here i)) (mode-here i .sequences) (record { memory = v .memory i; kept = v .kept i; tally = noTally }) (e i))
+        (valueFor (rightsBy (v .sameEntitled i) (v .sameStream i) (mode-here i)) (mode-here i .sequences) (record { memory = v .memory i; kept = v .kept i; tally = v .tally i }) (e i))
+
+    pub tally-is : tallied (tallyOf (x .receiver)) (received (modeOf (x .receiver) .sequences) (memoryOf (x .receiver) (x .carry)) (shown (modeOf (x .receiver) .sequences) (x .receiver) (x .carry) c) .entries)
+        ≡ holderFor (rightsBy entitled stream m) (m .sequences) y (came d) .tally
+    tally-is = λ i. tallied (v .tally i) (outcome-is i .entries)
 
     -- the station after it stands for what the receiver holds after it
     pub taking-shows : SaneSaid (d .said) → d .said .sequence < m .sequences → d .label .services < 8 → Shows (taking x c) (holderFor (rightsBy entitled stream m) (m .sequences) y (came d))
     unfolding remembered
     taking-shows s below narrow =
         let z = holderFor (rightsBy entitled stream m) (m .sequences) y (came d) in
-        let p : taking x c ≡ put (x .receiver) (x .carry) (z .memory) (z .kept) =
-        (λ i. record { receiver = remembering (x .receiver) (remembered (mode-here i .sequences) (v .memory i) (shown-is i)) (kept-is i); carry = putAt (x .carry) 0 (bytesOf (outcome-is i .partial)) }) in
+        let f = fit-received (m .sequences) (y .memory) (saidTo (rightsBy entitled stream m) (m .sequences) y d) (v .sane) (sane-shown (rightsBy entitled stream m) (m .sequences) y d s) in
+        let p : taking x c ≡ put (x .receiver) (x .carry) (z .memory) (z .kept) (z .tally) =
+        (λ i. record { receiver = remembering (x .receiver) (remembered (mode-here i .sequences) (v .memory i) (shown-is i)) (kept-is i) (tally-is i); carry = putAt (x .carry) 0 (bytesOf (outcome-is i .partial)) }) in
         subst (λ (t : Station). Shows t z) (sym p)
         (shows-put (x .receiver) (x .carry) z (v .sameMode) (v .sameStream) (v .sameRegister) (v .sameEntitled) (v .room) below
-        (fit-received (m .sequences) (y .memory) (saidTo (rightsBy entitled stream m) (m .sequences) y d) (v .sane) (sane-shown (rightsBy entitled stream m) (m .sequences) y d s) .1)
-        (fair-after keeping (m .sequences) (d .said .sequence) (d .label .services) (y .memory .last) (y .kept) (v .fair) narrow))
+        (f .1)
+        (fair-after keeping (m .sequences) (d .said .sequence) (d .label .services) (y .memory .last) (y .kept) (v .fair) narrow)
+        (fair-tallied (received (m .sequences) (y .memory) (saidTo (rightsBy entitled stream m) (m .sequences) y d) .entries) (y .tally) (f .0) (v .counted)))
 
   -- ---- receiving
 
   module _ (x : Station) (y : Holder) (v : Shows x y) (marks q log : List ℕ) (d : Come) (h : Heard mode stream register (m .width) marks q d) (s : SaneSaid (d .said)) (below : d .said .sequence < m .sequences)
-      (narrow : d .label .services < 8) (bytes : (i : ℕ) → getD q i 0 < 256) (big : 8400 ≤ length log) where
+      (narrow : d .label .services < 8) (bytes : (i : ℕ) → getD q i 0 < 256) (big : 8400 ≤ length log) (within : Countable (holderFor (rightsBy entitled stream m) (m .sequences) y (came d) .tally)) where
     abbrev r : Receiver
     r = x .receiver
 
@@ -224,9 +250,11 @@ module _ (mode stream register entitled : ℕ) (m : Mode) (l : listing mode stre
     accepts =
         let n = most marks carry q log r bytes first-twelve in
         let z : ltb (length log) (length (receivedWords marks carry q log r)) ≡ false = le-ltb (length log) (length (receivedWords marks carry q log r)) (omega (arith, n, big)) in
-        past (firstTwelve marks carry q log r) ((ltb (length log) (length (receivedWords marks carry q log r)), 13) ∷ []) refl first-twelve ∙ ap (λ (b : Bool). cond b 13 0) z
+        let w : passesLimit (tallyAfter marks carry q log r) ≡ false = ap passesLimit (tally-is x y v (come marks carry q log r) d come-is) ∙ not-passed (holderFor (rightsBy entitled stream m) (m .sequences) y (came d) .tally) within in
+        past (firstTwelve marks carry q log r) ((ltb (length log) (length (receivedWords marks carry q log r)), 13) ∷ (passesLimit (tallyAfter marks carry q log r), 27) ∷ []) refl first-twelve
+        ∙ ap₂ (λ (a b : Bool). cond a 13 (cond b 27 0)) z w
 
-    answer-is : receiveAnswer marks carry q log r ≡ record { refusal = 0; wrong = 0; words = length (receivedWords marks carry q log r); receiver = remembering r (memoryAfter marks carry q log r) (keptServices marks carry q log r) }
+    answer-is : receiveAnswer marks carry q log r ≡ record { refusal = 0; wrong = 0; words = length (receivedWords marks carry q log r); receiver = remembering r (memoryAfter marks carry q log r) (keptServices marks carry q log r) (tallyAfter marks carry q log r) }
     unfolding receiveAnswer
     answer-is = let t : eqb (receiveNumber marks carry q log r) 0 ≡ true = eq-eqb (receiveNumber marks carry q log r) 0 accepts in rw t
 
@@ -251,10 +279,15 @@ module _ (mode stream register entitled : ℕ) (m : Mode) (l : listing mode stre
         ∙ take-put log (receivedWords marks carry q log r)
         ∙ words-are
 
+    receive-station : stationAfter defined x (receive marks q log) ≡ taking x (come marks carry q log r)
+    receive-station = ap₂ (λ (a : Received) (c : List ℕ). record { receiver = a .receiver; carry = c }) answer-is carry-is
+
     pub receive-shows : Shows (stationAfter defined x (receive marks q log)) (holderFor (rightsBy entitled stream m) (m .sequences) y (came d))
-    receive-shows =
-        let e : stationAfter defined x (receive marks q log) ≡ taking x (come marks carry q log r) = ap₂ (λ (a : Received) (c : List ℕ). record { receiver = a .receiver; carry = c }) answer-is carry-is in
-        subst (λ (t : Station). Shows t (holderFor (rightsBy entitled stream m) (m .sequences) y (came d))) (sym e) (taking-shows x y v (come marks carry q log r) d come-is s below narrow)
+    receive-shows = subst (λ (t : Station). Shows t (holderFor (rightsBy entitled stream m) (m .sequences) y (came d))) (sym receive-station) (taking-shows x y v (come marks carry q log r) d come-is s below narrow)
+
+    -- the station after it, of a PDU that comes as d
+    pub receive-takes : stationAfter defined x (receive marks q log) ≡ taking x d
+    receive-takes = receive-station ∙ ap (taking x) come-is
 
   -- ---- marking lost
 
@@ -266,11 +299,11 @@ module _ (mode stream register entitled : ℕ) (m : Mode) (l : listing mode stre
     unfolding lostNumber logWords entryWords
     lost-zero = let z : ltb (length log) 1 ≡ false = le-ltb (length log) 1 (omega (arith, big)) in rw (v .right, z)
 
-    lost-answer : lostAnswer log r′ ≡ record { refusal = 0; wrong = 0; words = length (logWords lostEntries); receiver = remembering r′ forgotten none }
+    lost-answer : lostAnswer log r′ ≡ record { refusal = 0; wrong = 0; words = length (logWords lostEntries); receiver = remembering r′ forgotten none (tallyOf r′) }
     unfolding lostAnswer
     lost-answer =
         let t : eqb (lostNumber log r′) 0 ≡ true = eq-eqb (lostNumber log r′) 0 lost-zero in
-        ap (λ (b : Bool). cond b (record { refusal = 0; wrong = 0; words = length (logWords lostEntries); receiver = remembering r′ forgotten none }) (refusedAnswer r′ (lostNumber log r′) 0)) t
+        ap (λ (b : Bool). cond b (record { refusal = 0; wrong = 0; words = length (logWords lostEntries); receiver = remembering r′ forgotten none (tallyOf r′) }) (refusedAnswer r′ (lostNumber log r′) 0)) t
 
     lost-log : logAfterLost log r′ ≡ putAt log 0 (logWords lostEntries)
     unfolding logAfterLost
@@ -287,8 +320,10 @@ module _ (mode stream register entitled : ℕ) (m : Mode) (l : listing mode stre
         ∙ take-put log (logWords lostEntries)
 
     pub lost-shows : Shows (stationAfter defined x (markLost log)) (holderFor (rightsBy entitled stream m) (m .sequences) y lost)
+    unfolding tallied
     lost-shows =
         let z = holderFor (rightsBy entitled stream m) (m .sequences) y lost in
-        let e : stationAfter defined x (markLost log) ≡ record { receiver = remembering r′ forgotten none; carry = x .carry } = ap (λ (a : Received). record { receiver = a .receiver; carry = x .carry }) lost-answer in
-        let p : put r′ (x .carry) forgotten none ≡ record { receiver = remembering r′ forgotten none; carry = x .carry } = ap (λ (c : List ℕ). record { receiver = remembering r′ forgotten none; carry = c }) (put-nil (x .carry) 0) in
-        subst (λ (t : Station). Shows t z) (p ∙ sym e) (shows-put r′ (x .carry) z (v .sameMode) (v .sameStream) (v .sameRegister) (v .sameEntitled) (v .room) tt tt tt)
+        let e : stationAfter defined x (markLost log) ≡ record { receiver = remembering r′ forgotten none (tallyOf r′); carry = x .carry } = ap (λ (a : Received). record { receiver = a .receiver; carry = x .carry }) lost-answer in
+        let p : put r′ (x .carry) forgotten none (z .tally) ≡ record { receiver = remembering r′ forgotten none (tallyOf r′); carry = x .carry } =
+        ap₂ (λ (t : Tally) (c : List ℕ). record { receiver = remembering r′ forgotten none t; carry = c }) (sym (v .tally)) (put-nil (x .carry) 0) in
+        subst (λ (t : Station). Shows t z) (p ∙ sym e) (shows-put r′ (x .carry) z (v .sameMode) (v .sameStream) (v .sameRegister) (v .sameEntitled) (v .room) tt tt tt (v .counted))

@@ -33,6 +33,7 @@ use Rattle.runs.specs.Spans.{Span}
 use Rattle.delivery.specs.Delivery.{Packets, joined, Writing, spansFrom, InOrder, Station, Call, receive, markLost, answerOf, defined, Step, refuses, receptions, freshStation, stationAfter, RefusedAfter, inReceived, wholePackets, logsFrom, runOf, made, spans, arrived, Asked}
 use Rattle.delivery.proofs.Channel.{Usable, made-right}
 use Rattle.delivery.proofs.Possible.{four-altered, Alters, asSent, as-sent, stepsFor, told-receptions, goes-through, run-usable, stepsOf, possible}
+use Rattle.delivery.proofs.Counted.{arrived-fit}
 use Rattle.delivery.proofs.Theorem.{delivers}
 
 -- plain settings: no expansion fields
@@ -56,7 +57,7 @@ abbrev pub fiveSpans : List Span
 fiveSpans =
     record { from = 0; count = 76 } ∷ record { from = 76; count = 79 } ∷ record { from = 155; count = 79 } ∷ record { from = 234; count = 79 } ∷ record { from = 313; count = 17 } ∷ []
 
-spans-are : spans 0 0 three six ≡ fiveSpans
+pub spans-are : spans 0 0 three six ≡ fiveSpans
 unfolding spansFrom writeAnswer listing fieldsFor expansionBytes chained total largestUpTo mostPieces fit wholesFrom partAfter partFrom
 spans-are = refl
 
@@ -107,6 +108,9 @@ asked-is first count bs es e = ap logWords (ap (λ (l : List Span). wholePackets
 
 -- ---- what the receiver logs, each PDU as it was written or marked lost
 
+pub three-few : length three ≤ 4294967295
+three-few = let n : length three ≡ 3 = refl in omega (arith, n)
+
 abbrev pub calls : ℕ → ℕ → List Bool → List Step
 calls first count bs = stepsOf 0 0 0 three six opens packets-right in-order first count bs
 
@@ -119,7 +123,8 @@ told first count bs n = told-receptions [] asSent [] (runOf first count (made 0 
 logged-is : (first count : ℕ) (bs : List Bool) (es : List Entry) → length (runOf first count fiveSpans) ≡ length bs
     → wholePackets (inReceived (runOf first count fiveSpans) bs) 0 0 three ≡ es → loggedIn first count bs ≡ logWords es
 logged-is first count bs es n e =
-    delivers 0 0 0 three six first count carry (calls first count bs) (possible 0 0 0 three six opens packets-right in-order defined allPrograms first count carry bs carry-room) .log
+    delivers 0 0 0 three six first count carry (calls first count bs) (possible 0 0 0 three six opens packets-right in-order defined allPrograms first count carry bs carry-room)
+    (arrived-fit 0 0 three six three-few first count (receptions (calls first count bs))) .log
     ∙ ap (askedFor first count) (told first count bs n)
     ∙ asked-is first count bs es e
 
@@ -162,7 +167,7 @@ flipped zero = 1
 flipped (suc x) = 0
 
 -- other bytes where these say so
-unfoldable alterAt : List Bool → List ℕ → List ℕ
+unfoldable pub alterAt : List Bool → List ℕ → List ℕ
 alterAt [] l = l
 alterAt (b ∷ bs) [] = []
 alterAt (b ∷ bs) (x ∷ l) = cond b (flipped x) x ∷ alterAt bs l
@@ -175,7 +180,7 @@ howMany (b ∷ bs) = cond b (suc (howMany bs)) (howMany bs)
 abbrev four : List Bool
 four = true ∷ (replicate 12 false ++ (true ∷ (replicate 36 false ++ (true ∷ (replicate 44 false ++ (true ∷ []))))))
 
-pub altered : List ℕ → List ℕ
+unfoldable pub altered : List ℕ → List ℕ
 altered p = alterAt four p
 
 flipped-byte : (b : Bool) (x : ℕ) → x < 256 → cond b (flipped x) x < 256
@@ -292,7 +297,7 @@ module _ (marks : List ℕ) (alter : List ℕ → List ℕ) (right : Alters mark
   pub altered-run : packetWords (logsFrom defined (freshStation defined 0 0 0 allPrograms carry) alteredCalls) ≡ logWords (packet 0 (replicate 20 1) ∷ packet 2 (replicate 10 3) ∷ [])
   unfolding wholePackets
   altered-run =
-      delivers 0 0 0 three six 0 5 carry alteredCalls altered-asked .log
+      delivers 0 0 0 three six 0 5 carry alteredCalls altered-asked (arrived-fit 0 0 three six three-few 0 5 (receptions alteredCalls)) .log
       ∙ ap (askedFor 0 5) (told-receptions marks alter (refuses noLog ∷ []) (runOf 0 5 (made 0 0 0 six)) fourOfFive refl (sym (run-length 0 5 5 refl)))
       ∙ asked-is 0 5 fourOfFive (packet 0 (replicate 20 1) ∷ packet 2 (replicate 10 3) ∷ []) refl
 

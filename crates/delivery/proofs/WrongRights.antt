@@ -20,7 +20,7 @@ use Rattle.log.specs.Log.{Entry, packet, dataWords, entryWords, logWords, packe
 use Rattle.log.proofs.Packets.{FitAll}
 use Rattle.reassembly.specs.Reassembly.{Piece, lostEntries, forgotten, received, remembered, contentsStep, sequenceStep, beginningStep, psdEntries, piecesStep, pieceStep, joined as joinedStep, finished}
 use Rattle.reassembly.specs.Rights.{Label}
-use Rattle.reassembly.specs.Tally.{noTally, tallied}
+use Rattle.reassembly.specs.Tally.{Tally, noTally, counted, tallied, Countable}
 use Rattle.reassembly.specs.Holder.{Holder, opened, logged, after}
 use Rattle.writer.specs.Writing.{opened as writerOpened, writerTests, endedOf, partOf, pduOf, writeAnswer, writtenPdu}
 use Rattle.receiver.specs.Entitling.{allowedPrograms, maskOf, entitles}
@@ -43,6 +43,7 @@ use Rattle.delivery.proofs.Serving.{rightsBy, Shows, shows-put, lost-ac
 use Rattle.delivery.proofs.Bridge.{asSent as allTaken, Speaks, StandsFor, copied, altered-copy, serves}
 use Rattle.delivery.proofs.Channel.{fresh-receiver, shows-fresh}
 use Rattle.delivery.proofs.Possible.{words, log-room, asSent, as-sent, stepsFor, possible}
+use Rattle.delivery.proofs.Counted.{due-fit}
 use Rattle.delivery.proofs.SmallRuns.{carry, carry-room}
 use Rattle.delivery.proofs.EntitledRuns.{paid, sending, triple, triplesFrom, triples-right, opens}
 
@@ -133,14 +134,14 @@ module _ (v : ℕ) (small : v < 8) (bytes : List ℕ) (next : take 1 (drop v thr
   }
 
   -- by a station that stands for y
-  module _ (x : Station) (y : Holder) (s : Shows 1 0 0 mask m listed range x y) where
+  module _ (x : Station) (y : Holder) (s : Shows 1 0 0 mask m listed range x y) (fits : Countable (after (rightsBy mask 0 m) 8 y (heard came (speech v ∷ [])) .tally)) where
     abbrev entries : List Entry
     entries = logged (rightsBy mask 0 m) 8 y (heard came (speech v ∷ []))
 
     all : (loggedBy defined x (receive [] (pduAt v) words) ≡ logWords entries) × FitAll entries × Shows 1 0 0 mask m listed range (stationAfter defined x (receive [] (pduAt v) words)) (after (rightsBy mask 0 m) 8 y (heard came (speech v ∷ [])))
     all =
         let r = serves 1 0 0 mask m listed range x y (receive [] (pduAt v) words) (pduAt v ∷ []) came (speech v ∷ []) s
-        (copied (altered-copy 0 12 [] (pduAt v) (pduAt v) (as-sent (pduAt v) (says .bytes, says .least, says .most, says .code))) log-room) (speaks, tt) in
+        (copied (altered-copy 0 12 [] (pduAt v) (pduAt v) (as-sent (pduAt v) (says .bytes, says .least, says .most, says .code))) log-room) (speaks, tt) fits in
         (r .1 .log, r .1 .fit, r .1 .stands)
 
 -- the first and the third
@@ -158,23 +159,33 @@ Logs v x y =
     (loggedBy defined x (receive [] (pduAt v) words) ≡ logWords (logged (rightsBy mask 0 m) 8 y (heard came (speech v ∷ [])))) × FitAll (logged (rightsBy mask 0 m) 8 y (heard came (speech v ∷ [])))
     × Shows 1 0 0 mask m listed range (stationAfter defined x (receive [] (pduAt v) words)) (after (rightsBy mask 0 m) 8 y (heard came (speech v ∷ [])))
 
-first-logs : (x : Station) (y : Holder) → Shows 1 0 0 mask m listed range x y → Logs 0 x y
-first-logs x y s = all 0 (omega arith) (triple 0) refl refl (omega arith) (passes .0) (ends 0 .0) (ends 0 .1) x y s
+-- one packet delivered, of number 0
+abbrev one : Tally
+one = record { delivered = 1; missing = 0; last = 0 }
 
-third-logs : (x : Station) (y : Holder) → Shows 1 0 0 mask m listed range x y → Logs 2 x y
-third-logs x y s = all 2 (omega arith) (triple 2) refl refl (omega arith) (passes .1) (ends 2 .0) (ends 2 .1) x y s
+-- a receiver that knows the value 0, and has counted so far
+abbrev knowing : Tally → Holder
+knowing t = record { memory = forgotten; kept = some 0; tally = t }
 
--- a receiver that knows the value 0, and nothing else
-abbrev knowing : Holder
-knowing = record { memory = forgotten; kept = some 0; tally = noTally }
-
-third-given : logged (rightsBy mask 0 m) 8 knowing (heard came (speech 2 ∷ [])) ≡ packet 2 (triple 2) ∷ []
-unfolding logged heard received contentsStep remembered sequenceStep beginningStep psdEntries piecesStep pieceStep joinedStep finished readPieces cut entitles maskOf
-third-given = refl
+third-given : (t : Tally) → (logged (rightsBy mask 0 m) 8 (knowing t) (heard came (speech 2 ∷ [])) ≡ packet 2 (triple 2) ∷ []) × (after (rightsBy mask 0 m) 8 (knowing t) (heard came (speech 2 ∷ [])) .tally ≡ counted t 2)
+unfolding logged after heard received contentsStep remembered sequenceStep beginningStep psdEntries piecesStep pieceStep joinedStep finished readPieces cut entitles maskOf tallied
+third-given t = (refl, refl)
 
 first-given : (logged (rightsBy mask 0 m) 8 opened (heard came (speech 0 ∷ [])) ≡ packet 0 (triple 0) ∷ []) × (after (rightsBy mask 0 m) 8 opened (heard came (speech 0 ∷ [])) .kept ≡ some 0)
-unfolding logged after heard received contentsStep remembered sequenceStep beginningStep psdEntries piecesStep pieceStep joinedStep finished readPieces cut entitles maskOf
-first-given = (refl, refl)
+    × (after (rightsBy mask 0 m) 8 opened (heard came (speech 0 ∷ [])) .tally ≡ one)
+unfolding logged after heard received contentsStep remembered sequenceStep beginningStep psdEntries piecesStep pieceStep joinedStep finished readPieces cut entitles maskOf tallied counted
+first-given = (refl, refl, refl)
+
+first-logs : (x : Station) → Shows 1 0 0 mask m listed range x opened → Logs 0 x opened
+first-logs x s = all 0 (omega arith) (triple 0) refl refl (omega arith) (passes .0) (ends 0 .0) (ends 0 .1) x opened s (subst Countable (sym (first-given .2)) (omega arith, omega arith))
+
+third-logs : (x : Station) (t : Tally) → Shows 1 0 0 mask m listed range x (knowing t) → Countable (counted t 2) → Logs 2 x (knowing t)
+third-logs x t s c = all 2 (omega arith) (triple 2) refl refl (omega arith) (passes .1) (ends 2 .0) (ends 2 .1) x (knowing t) s (subst Countable (sym (third-given t .1)) c)
+
+-- the third packet as the first delivery, or after the packet of number 0
+few-counted : Countable (counted noTally 2) × Countable (counted one 2)
+unfolding counted
+few-counted = ((omega arith, omega arith), (omega arith, omega arith))
 
 -- ---- the claim
 
@@ -183,7 +194,8 @@ module _ (b : Behaviour) (claim : EntitledDeliveryFor b) (first count : ℕ) (bs
   steps = stepsFor [] asSent [] (runOf first count (pduAt 0 ∷ pduAt 1 ∷ pduAt 2 ∷ [])) bs
 
   claimed : packetWords (logsFrom b (freshStation b 1 0 0 [] carry) steps) ≡ logWords (due 1 0 [] three calls first (waysBy (receptions steps)))
-  claimed = claim 1 0 0 [] three calls first count carry steps none-allowed (subst (λ (ps : List (List ℕ)). Asked b 1 0 0 [] three calls first count carry (stepsFor [] asSent [] (runOf first count ps) bs)) three-made (possible 1 0 0 three calls opens right in-order b [] first count carry bs carry-room)) .log
+  claimed = claim 1 0 0 [] three calls first count carry steps none-allowed (subst (λ (ps : List (List ℕ)). Asked b 1 0 0 [] three calls first count carry (stepsFor [] asSent [] (runOf first count ps) bs)) three-made (possible 1 0 0 three calls opens right in-order b [] first count carry bs carry-room))
+      (due-fit 1 0 three calls (let n : length three ≡ 3 = refl in omega (arith, n)) [] first (waysBy (receptions steps))) .log
 
 abbrev fresh : Station
 fresh = record { receiver = freshFor 1 0 0 mask; carry = carry }
@@ -193,9 +205,9 @@ fresh-is = ap (λ (r : Receiver). record { receiver = r; carry = carry }) (fresh
 
 -- ---- unknown counts as 0: the third PDU alone
 
-assumed-shows : Shows 1 0 0 mask m listed range (assumed fresh) knowing
+assumed-shows : Shows 1 0 0 mask m listed range (assumed fresh) (knowing noTally)
 unfolding listing memoryOf
-assumed-shows = record { sameMode = refl; sameStream = refl; sameRegister = refl; sameEntitled = refl; right = refl; room = carry-room; memory = refl; kept = refl; sane = tt; fair = (omega arith, refl) }
+assumed-shows = record { sameMode = refl; sameStream = refl; sameRegister = refl; sameEntitled = refl; right = refl; room = carry-room; memory = refl; kept = refl; tally = refl; sane = tt; fair = (omega arith, refl); counted = record { last = omega arith; none = λ e. (refl, refl) } }
 
 -- nothing is asked for, and its packet is logged
 pub supposing-wrong : ¬ EntitledDeliveryFor supposing
@@ -203,7 +215,7 @@ unfolding stepsFor logWords entryWords dataWords packetWordsAfter
 supposing-wrong claim =
     let asked : packetWords (loggedBy defined (assumed fresh) (receive [] (pduAt 2) words) ++ []) ≡ [] =
     ap (λ (x : Station). packetWords (loggedBy defined (assumed x) (receive [] (pduAt 2) words) ++ [])) (sym fresh-is) ∙ claimed supposing claim 2 1 (true ∷ []) ∙ ap logWords last-due in
-    let found : loggedBy defined (assumed fresh) (receive [] (pduAt 2) words) ≡ logWords (packet 2 (triple 2) ∷ []) = third-logs (assumed fresh) knowing assumed-shows .0 ∙ ap logWords third-given in
+    let found : loggedBy defined (assumed fresh) (receive [] (pduAt 2) words) ≡ logWords (packet 2 (triple 2) ∷ []) = third-logs (assumed fresh) noTally assumed-shows (few-counted .0) .0 ∙ ap logWords (third-given noTally .0) in
     let h : _≡_ {A = ℕ} 2 0 = ap length (ap (λ (l : List ℕ). packetWords (l ++ [])) (sym found) ∙ asked) in
     absurd (omega (arith, h))
 
@@ -217,15 +229,15 @@ abbrev kept : Station → Station
 kept x = record { receiver = servicesKept (begun x); carry = begun x .carry }
 
 begun-shows : Shows 1 0 0 mask m listed range (begun fresh) (after (rightsBy mask 0 m) 8 opened (heard came (speech 0 ∷ [])))
-begun-shows = first-logs fresh opened (shows-fresh 1 0 0 mask m listed range carry carry-room) .2
+begun-shows = first-logs fresh (shows-fresh 1 0 0 mask m listed range carry carry-room) .2
 
-kept-shows : Shows 1 0 0 mask m listed range (kept fresh) knowing
+kept-shows : Shows 1 0 0 mask m listed range (kept fresh) (knowing one)
 kept-shows =
     let s = begun-shows in
     let r : Receiver = begun fresh .receiver in
-    let e : remembering r forgotten (some 0) ≡ servicesKept (begun fresh) = ap (remembering r forgotten) (sym (s .kept ∙ first-given .1)) in
-    subst (λ (x : Station). Shows 1 0 0 mask m listed range x knowing) (ap₂ (λ (a : Receiver) (c : List ℕ). record { receiver = a; carry = c }) e (put-nil (begun fresh .carry) 0))
-    (shows-put 1 0 0 mask m listed range r (begun fresh .carry) knowing (s .sameMode) (s .sameStream) (s .sameRegister) (s .sameEntitled) (s .room) tt tt (omega arith, refl))
+    let e : remembering r forgotten (some 0) one ≡ servicesKept (begun fresh) = ap₂ (remembering r forgotten) (sym (s .kept ∙ first-given .1)) (sym (s .tally ∙ first-given .2)) in
+    subst (λ (x : Station). Shows 1 0 0 mask m listed range x (knowing one)) (ap₂ (λ (a : Receiver) (c : List ℕ). record { receiver = a; carry = c }) e (put-nil (begun fresh .carry) 0))
+    (shows-put 1 0 0 mask m listed range r (begun fresh .carry) (knowing one) (s .sameMode) (s .sameStream) (s .sameRegister) (s .sameEntitled) (s .room) tt tt (omega arith, refl) (record { last = omega arith; none = λ e. absurd (omega (arith, e)) }))
 
 -- the first packet is asked for, and the third is logged too
 pub keeping-wrong : ¬ EntitledDeliveryFor keeping
@@ -235,8 +247,8 @@ keeping-wrong claim =
     ap (λ (x : Station). packetWords (loggedBy defined x (receive [] (pduAt 0) words) ++ (loggedBy defined (begun x) (markLost words) ++ (loggedBy defined (kept x) (receive [] (pduAt 2) words) ++ [])))) (sym fresh-is)
     ∙ claimed keeping claim 0 3 (true ∷ false ∷ true ∷ [])
     ∙ ap logWords first-due in
-    let a : loggedBy defined fresh (receive [] (pduAt 0) words) ≡ logWords (packet 0 (triple 0) ∷ []) = first-logs fresh opened (shows-fresh 1 0 0 mask m listed range carry carry-room) .0 ∙ ap logWords (first-given .0) in
+    let a : loggedBy defined fresh (receive [] (pduAt 0) words) ≡ logWords (packet 0 (triple 0) ∷ []) = first-logs fresh (shows-fresh 1 0 0 mask m listed range carry carry-room) .0 ∙ ap logWords (first-given .0) in
     let b : loggedBy defined (begun fresh) (markLost words) ≡ logWords lostEntries = lost-logged 1 0 0 mask m listed range (begun fresh) _ begun-shows words log-room in
-    let c : loggedBy defined (kept fresh) (receive [] (pduAt 2) words) ≡ logWords (packet 2 (triple 2) ∷ []) = third-logs (kept fresh) knowing kept-shows .0 ∙ ap logWords third-given in
+    let c : loggedBy defined (kept fresh) (receive [] (pduAt 2) words) ≡ logWords (packet 2 (triple 2) ∷ []) = third-logs (kept fresh) one kept-shows (few-counted .1) .0 ∙ ap logWords (third-given one .0) in
     let h : _≡_ {A = ℕ} 4 2 = ap length (sym (λ i. packetWords (a i ++ (b i ++ (c i ++ [])))) ∙ asked) in
     absurd (omega (arith, h))

@@ -9,11 +9,13 @@ use lib.ListN.{length, drop}
 use Rattle.modes.specs.Modes.{listing}
 use Rattle.pdu.specs.Reading.{modeIn}
 use Rattle.log.specs.Log.{logWords, packetWords}
+use Rattle.reassembly.specs.Tally.{noTally, tallied}
 use Rattle.writer.specs.Writing.{opened as writerOpened}
 use Rattle.receiver.specs.Entitling.{allowedPrograms}
-use Rattle.runs.specs.Transmissions.{Way, gone, here}
-use Rattle.delivery.specs.Delivery.{Packets, joined, Writing, InOrder, Station, Call, receive, batch, pair, markLost, answerOf, defined, freshStation, stationAfter, takenBy, RefusedAfter, loggedBy, runOf, made}
-use Rattle.delivery.specs.Entitlement.{due}
+use Rattle.receiver.specs.Receiving.{tallyOf}
+use Rattle.runs.specs.Transmissions.{Way, gone, here, Close, AddsUp}
+use Rattle.delivery.specs.Delivery.{Packets, joined, Writing, InOrder, Station, Call, receive, batch, pair, markLost, answerOf, defined, freshStation, stationAfter, takenBy, RefusedAfter, loggedBy, runOf, made, CountsFit}
+use Rattle.delivery.specs.Entitlement.{due, dueIndices}
 use Rattle.delivery.specs.Copies.{Copy, causesFor}
 
 -- a PDU as it came in a batch, and which of its pieces are sound
@@ -85,6 +87,11 @@ abbrev pub logsFrom : Station → List Step → List ℕ
 logsFrom x [] = []
 logsFrom x (s ∷ ss) = loggedBy defined x (callOf s) ++ logsFrom (stationAfter defined x (callOf s)) ss
 
+-- receiver and carry after them
+abbrev pub finally : Station → List Step → Station
+finally x [] = x
+finally x (s ∷ ss) = finally (stationAfter defined x (callOf s)) ss
+
 -- a call for PDUs of the run alone is not refused, and a batch of them takes them all
 abbrev pub NotRefused : Station → Step → Type 0
 NotRefused x (receives marks q log s) = answerOf x (receive marks q log) .refusal ≡ 0
@@ -99,7 +106,7 @@ NoneRefused x [] = Unit {0}
 NoneRefused x (s ∷ ss) = NotRefused x s × NoneRefused (stationAfter defined x (callOf s)) ss
 
 module _ (mode stream register : ℕ) (programs : List ℕ) (packets : List (List ℕ)) (writings : List Writing) (first count : ℕ) (carry : List ℕ) (steps : List Step) where
-  -- what is asked of the calls; the list of programs is not refused with 22
+  -- what is asked of the calls; the list of programs is not refused with 22, and neither count would pass its limit (document 02, Ask 14)
   pub record Asked : Type 0 where
     pub opens : writerOpened mode stream register .refusal ≡ 0
     pub allowed : allowedPrograms programs ≡ true
@@ -107,11 +114,15 @@ module _ (mode stream register : ℕ) (programs : List ℕ) (packets : List (Lis
     pub offered : InOrder mode stream packets 0 writings
     pub room : 4096 ≤ length carry
     pub through : Through register (modeIn (listing mode stream) .width) (freshStation defined mode stream register programs carry) (runOf first count (made mode stream register writings)) steps
+    pub countable : CountsFit (due mode stream programs packets writings first (ways steps))
 
   -- what is promised of them
   pub record Delivered : Type 0 where
     pub accepted : NoneRefused (freshStation defined mode stream register programs carry) steps
     pub log : packetWords (logsFrom (freshStation defined mode stream register programs carry) steps) ≡ logWords (due mode stream programs packets writings first (ways steps))
+    pub counts : tallyOf (finally (freshStation defined mode stream register programs carry) steps .receiver) ≡ tallied noTally (due mode stream programs packets writings first (ways steps))
+    pub adds-up : Close (dueIndices mode stream programs packets writings first (ways steps))
+        → AddsUp (dueIndices mode stream programs packets writings first (ways steps)) (tallyOf (finally (freshStation defined mode stream register programs carry) steps .receiver))
 
 abbrev pub ChannelDelivery : Type 0
 ChannelDelivery =

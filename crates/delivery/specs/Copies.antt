@@ -1,6 +1,7 @@
 -- How a copy of a PDU may come: its first 96 bytes altered and marked within the bound (Delivery.antt, `Correctable`), bytes 96 to La as
--- sent, and each piece with its CRC byte either as sent or damaged. One notion for demand 3, for marks (document 02, Ask 3), for two copies of a PDU
--- (Ask 5) and for bursts (Ask 12), by whatever register the CRCs start with (Ask 2).
+-- sent, and each piece with its CRC byte either as sent or damaged. What may happen to a received PDU is this one notion, by whatever register the CRCs start
+-- with (document 02, Ask 2), and each promise is the case in which the rest is empty: demand 3 and marks (Ask 3), no damage (Delivery.antt, `HeaderAltered`); two
+-- copies of a PDU (Ask 5), no marks and wrong CRCs (Diversity.antt, `ComesAs`); bursts (Ask 12), no other damage (Bursts.antt, `Bursts`).
 use mathlib.Core.Path.{_≡_}
 use mathlib.Core.Bool.{Bool, true, false, not, cond}
 use mathlib.Core.List.{List, [], _∷_, _++_}

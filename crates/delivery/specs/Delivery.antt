@@ -2,11 +2,12 @@
 -- opening and writing as writer/specs/Writing.antt defines them. `Demand3` is its case at the receiver of receiver/specs/Receiving.antt: the
 -- contracts say that the code does what these two define. Calls have marked places (document 02, Ask 3), and batches of PDUs stand among them (Ask 1); without
 -- both it is document 00's claim. A refused call may be of any kind, a pair (Ask 5) too; runs of pairs are claimed in Diversity.antt. The receiver is
--- entitled to all programs; Entitlement.antt has the claim for any list of them (Ask 10).
+-- entitled to all programs; Entitlement.antt has the claim for any list of them (Ask 10), and Bursts.antt that for pieces with altered bits (Ask 12). The receiver
+-- counts what it delivers and what is missing, in 32 bits (Ask 14): each claim is for runs in which neither count would pass 4,294,967,295.
 use mathlib.Core.Path.{_≡_}
 use mathlib.Core.Bool.{Bool, true, false, not, _&&_, _||_, cond}
 use mathlib.Core.List.{List, [], _∷_, _++_, map}
-use Prim.Native.Nat.{ℕ, zero, suc, _+_, _-_, _*_, _%_, _<_, _≤_}
+use Prim.Native.Nat.{ℕ, zero, suc, _+_, _-_, _*_, _%_, _≤_}
 use lib.Dec.{eqb, ltb, leb}
 use lib.ListN.{length, take, drop, replicate}
 use Rattle.correction.specs.Marks.{marksRefusal, unmarkedDistance}
@@ -15,13 +16,15 @@ use Rattle.pdu.specs.Reading.{modeIn}
 use Rattle.pieces.specs.Pieces.{total}
 use Rattle.settings.specs.declared.Settings.{Settings}
 use Rattle.log.specs.Log.{Entry, packet, logWords, packetWords}
+use Rattle.reassembly.specs.Tally.{noTally, tallied, Countable}
 use Rattle.runs.specs.Spans.{Span}
+use Rattle.runs.specs.Transmissions.{Close, AddsUp}
 use Rattle.writer.specs.Writing.{opened as writerOpened, placed, writeAnswer, writtenPdu}
 use Rattle.writer.specs.RoundTrip.{Bytes}
 use Rattle.writer.specs.declared.Writer.{Writer}
 use Rattle.writer.specs.declared.Written.{Written}
 use Rattle.receiver.specs.Entitling.{allPrograms}
-use Rattle.receiver.specs.Receiving.{openedFor, receiveAnswer, carryAfter, logAfter, lostAnswer, logAfterLost}
+use Rattle.receiver.specs.Receiving.{openedFor, tallyOf, receiveAnswer, carryAfter, logAfter, lostAnswer, logAfterLost}
 use Rattle.receiver.specs.declared.Receiver.{Receiver}
 use Rattle.receiver.specs.declared.Received.{Received}
 use Rattle.batch.specs.Batches.{received}
@@ -179,11 +182,15 @@ pub record HeaderAltered (marks p q : List ℕ) : Type 0 where
   pub header : Correctable marks p q
   pub rest : drop 96 q ≡ drop 96 p
 
+-- how a PDU p may come as q, with these places marked: `HeaderAltered`, or what document 02 adds to it (Bursts.antt)
+abbrev pub Coming : Type 1
+Coming = (marks p q : List ℕ) → Type 0
+
 -- the first ones of ps, as many as these are, come as these, with no marks
-abbrev pub AllAltered : List (List ℕ) → List (List ℕ) → Type 0
-AllAltered ps [] = Unit {0}
-AllAltered [] (q ∷ qs) = ⊥
-AllAltered (p ∷ ps) (q ∷ qs) = HeaderAltered [] p q × AllAltered ps qs
+abbrev pub AllCome : Coming → List (List ℕ) → List (List ℕ) → Type 0
+AllCome comes ps [] = Unit {0}
+AllCome comes [] (q ∷ qs) = ⊥
+AllCome comes (p ∷ ps) (q ∷ qs) = comes [] p q × AllCome comes ps qs
 
 -- A call of the list: for the next PDU of the run, received or marked lost; a batch of the next ones; a batch that has others after the next ones, of these
 -- lengths and with these bytes, and is refused at the first of those; or another call, a refused one
@@ -230,17 +237,22 @@ module _ (b : Behaviour) where
   RefusedAfter n x c = (¬ (b .answer x c .refusal ≡ 0)) × (takenBy x c ≡ n)
 
   -- the calls go through these PDUs in order: each PDU has one call, with a log that suffices
+  abbrev pub ThroughBy : Coming → Station → List (List ℕ) → List Step → Type 0
+  ThroughBy comes x ps (refuses c ∷ ss) = RefusedAfter 0 x c × ThroughBy comes (stationAfter x c) ps ss
+  ThroughBy comes x ps (batches qs log ∷ ss) =
+      AllCome comes ps qs × (8400 * length qs ≤ length log) × ThroughBy comes (stationAfter x (callOf (batches qs log))) (drop (length qs) ps) ss
+  ThroughBy comes x ps (stops qs lengths bytes log ∷ ss) =
+      AllCome comes ps qs × (8400 * length qs ≤ length log) × RefusedAfter (length qs) x (callOf (stops qs lengths bytes log))
+      × ThroughBy comes (stationAfter x (callOf (stops qs lengths bytes log))) (drop (length qs) ps) ss
+  ThroughBy comes x [] [] = Unit {0}
+  ThroughBy comes x (p ∷ ps) [] = ⊥
+  ThroughBy comes x [] (receives marks q log ∷ ss) = ⊥
+  ThroughBy comes x (p ∷ ps) (receives marks q log ∷ ss) = comes marks p q × (8400 ≤ length log) × ThroughBy comes (stationAfter x (receive marks q log)) ps ss
+  ThroughBy comes x [] (loses log ∷ ss) = ⊥
+  ThroughBy comes x (p ∷ ps) (loses log ∷ ss) = (8400 ≤ length log) × ThroughBy comes (stationAfter x (markLost log)) ps ss
+
   abbrev pub Through : Station → List (List ℕ) → List Step → Type 0
-  Through x ps (refuses c ∷ ss) = RefusedAfter 0 x c × Through (stationAfter x c) ps ss
-  Through x ps (batches qs log ∷ ss) = AllAltered ps qs × (8400 * length qs ≤ length log) × Through (stationAfter x (callOf (batches qs log))) (drop (length qs) ps) ss
-  Through x ps (stops qs lengths bytes log ∷ ss) =
-      AllAltered ps qs × (8400 * length qs ≤ length log) × RefusedAfter (length qs) x (callOf (stops qs lengths bytes log)) × Through (stationAfter x (callOf (stops qs lengths bytes log))) (drop (length qs) ps) ss
-  Through x [] [] = Unit {0}
-  Through x (p ∷ ps) [] = ⊥
-  Through x [] (receives marks q log ∷ ss) = ⊥
-  Through x (p ∷ ps) (receives marks q log ∷ ss) = HeaderAltered marks p q × (8400 ≤ length log) × Through (stationAfter x (receive marks q log)) ps ss
-  Through x [] (loses log ∷ ss) = ⊥
-  Through x (p ∷ ps) (loses log ∷ ss) = (8400 ≤ length log) × Through (stationAfter x (markLost log)) ps ss
+  Through = ThroughBy HeaderAltered
 
   -- a call for PDUs of the run alone is not refused, and a batch of them takes them all
   abbrev pub NotRefused : Station → Step → Type 0
@@ -267,6 +279,11 @@ module _ (b : Behaviour) where
   logsFrom x [] = []
   logsFrom x (s ∷ ss) = loggedBy x (callOf s) ++ logsFrom (stationAfter x (callOf s)) ss
 
+  -- receiver and carry after them
+  abbrev pub finally : Station → List Step → Station
+  finally x [] = x
+  finally x (s ∷ ss) = finally (stationAfter x (callOf s)) ss
+
 -- ---- what the log must hold
 
 -- byte j of the joined packets lies in a received PDU
@@ -285,6 +302,11 @@ every f o (suc n) = f o && every f (suc o) n
 unfoldable pub wholePackets : (ℕ → Bool) → ℕ → ℕ → List (List ℕ) → List Entry
 wholePackets f o i [] = []
 wholePackets f o i (p ∷ ps) = cond (every f o (length p)) (packet (i % 64) p ∷ []) [] ++ wholePackets f (o + length p) (suc i) ps
+
+-- their indices
+unfoldable pub wholeIndices : (ℕ → Bool) → ℕ → ℕ → List (List ℕ) → List ℕ
+wholeIndices f o i [] = []
+wholeIndices f o i (p ∷ ps) = cond (every f o (length p)) (i ∷ []) [] ++ wholeIndices f (o + length p) (suc i) ps
 
 -- ---- the claim
 
@@ -305,28 +327,43 @@ module _ (mode stream : ℕ) (packets : List (List ℕ)) (writings : List Writin
   abbrev pub arrived : (first count : ℕ) (received : List Bool) → List Entry
   arrived first count received = wholePackets (inReceived (runOf first count spans) received) 0 0 packets
 
+  abbrev pub arrivedIndices : (first count : ℕ) (received : List Bool) → List ℕ
+  arrivedIndices first count received = wholeIndices (inReceived (runOf first count spans) received) 0 0 packets
+
+-- document 02, Ask 14: the counts of a receiver that delivers these packets do not pass 4,294,967,295
+abbrev pub CountsFit : List Entry → Type 0
+CountsFit due = Countable (tallied noTally due)
+
 -- writer and receiver are opened for one mode and stream, and with one register that CRCs start with, whatever it is (document 02, Ask 2); the receiver
 -- with a list of entitled programs
 module _ (b : Behaviour) (mode stream register : ℕ) (programs : List ℕ) (packets : List (List ℕ)) (writings : List Writing) (first count : ℕ) (carry : List ℕ) (steps : List Step) where
   -- what is asked of the calls
-  pub record Asked : Type 0 where
+  pub record AskedBy (comes : Coming) : Type 0 where
     pub opens : writerOpened mode stream register .refusal ≡ 0
     pub sized : Packets packets
     pub offered : InOrder mode stream packets 0 writings
     pub room : 4096 ≤ length carry
-    pub through : Through b (freshStation b mode stream register programs carry) (runOf first count (made mode stream register writings)) steps
+    pub through : ThroughBy b comes (freshStation b mode stream register programs carry) (runOf first count (made mode stream register writings)) steps
 
-  -- what is promised of them: each PDU made has its span, none of the run is refused, and the joined logs hold exactly these packets
-  pub record Delivered (due : List Entry) : Type 0 where
+  abbrev pub Asked : Type 0
+  Asked = AskedBy HeaderAltered
+
+  -- what is promised of them: each PDU made has its span, none of the run is refused, and the joined logs hold exactly these packets, which have these indices.
+  -- The receiver's counts are theirs; if fewer than 64 packets are missing between one delivered and the next, delivered plus missing is the number of
+  -- packets from the first delivered to the last
+  pub record Delivered (due : List Entry) (indices : List ℕ) : Type 0 where
     pub as-many : length (spans mode stream packets writings) ≡ length (made mode stream register writings)
     pub accepted : NoneRefused b (freshStation b mode stream register programs carry) steps
     pub log : packetWords (logsFrom b (freshStation b mode stream register programs carry) steps) ≡ logWords due
+    pub counts : tallyOf (finally b (freshStation b mode stream register programs carry) steps .receiver) ≡ tallied noTally due
+    pub adds-up : Close indices → AddsUp indices (tallyOf (finally b (freshStation b mode stream register programs carry) steps .receiver))
 
 abbrev pub Demand3For : Behaviour → Type 0
 Demand3For b =
     (mode stream register : ℕ) (packets : List (List ℕ)) (writings : List Writing) (first count : ℕ) (carry : List ℕ) (steps : List Step)
     → Asked b mode stream register allPrograms packets writings first count carry steps
-    → Delivered b mode stream register allPrograms packets writings first count carry steps (arrived mode stream packets writings first count (receptions steps))
+    → CountsFit (arrived mode stream packets writings first count (receptions steps))
+    → Delivered b mode stream register allPrograms packets writings first count carry steps (arrived mode stream packets writings first count (receptions steps)) (arrivedIndices mode stream packets writings first count (receptions steps))
 
 -- demand 3
 abbrev pub Demand3 : Type 0

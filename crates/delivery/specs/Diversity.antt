@@ -13,15 +13,17 @@ use Rattle.layout.specs.Control.{controlAt}
 use Rattle.correction.specs.Correction.{correctedPdu}
 use Rattle.pdu.specs.Reading.{modeIn}
 use Rattle.log.specs.Log.{Entry, logWords, packetWords}
+use Rattle.reassembly.specs.Tally.{noTally, tallied}
 use Rattle.writer.specs.Writing.{opened as writerOpened}
 use Rattle.writer.specs.RoundTrip.{Bytes}
 use Rattle.receiver.specs.Entitling.{allPrograms, allowedPrograms}
-use Rattle.runs.specs.Transmissions.{Way, gone, here}
+use Rattle.receiver.specs.Receiving.{tallyOf}
+use Rattle.runs.specs.Transmissions.{Way, gone, here, Close, AddsUp}
 use Rattle.runs.specs.Calls.{plainFate}
-use Rattle.runs.specs.Spans.{lies, wholePackets}
+use Rattle.runs.specs.Spans.{lies, wholePackets, wholeIndices}
 use Rattle.diversity.specs.Diversity.{sameBytes}
-use Rattle.delivery.specs.Delivery.{Packets, joined, Writing, InOrder, Station, Call, receive, batch, pair, markLost, Behaviour, defined, freshStation, stationAfter, takenBy, RefusedAfter, loggedBy, runOf, made, spans}
-use Rattle.delivery.specs.Entitlement.{due}
+use Rattle.delivery.specs.Delivery.{Packets, joined, Writing, InOrder, Station, Call, receive, batch, pair, markLost, Behaviour, defined, freshStation, stationAfter, takenBy, RefusedAfter, loggedBy, runOf, made, spans, CountsFit}
+use Rattle.delivery.specs.Entitlement.{due, dueIndices}
 use Rattle.delivery.specs.Copies.{frontLength, bytesAt, crcAt, pieceAt, causesFor}
 
 -- ---- a copy q of a PDU p with locators of a width
@@ -120,6 +122,11 @@ module _ (b : Behaviour) where
   logsFrom x [] = []
   logsFrom x (s ∷ ss) = loggedBy b x (callOf s) ++ logsFrom (stationAfter b x (callOf s)) ss
 
+  -- receiver and carry after them
+  abbrev pub finally : Station → List Step → Station
+  finally x [] = x
+  finally x (s ∷ ss) = finally (stationAfter b x (callOf s)) ss
+
 -- ---- the claim
 
 module _ (b : Behaviour) (mode stream register : ℕ) (programs : List ℕ) (packets : List (List ℕ)) (writings : List Writing) (first count : ℕ) (carry : List ℕ) (steps : List Step) where
@@ -138,21 +145,29 @@ module _ (b : Behaviour) (mode stream register : ℕ) (programs : List ℕ) (pac
     pub room : 4096 ≤ length carry
     pub through : Through b register width (freshStation b mode stream register programs carry) run steps
 
-  -- what is promised of them: none of the run is refused, and the joined logs hold exactly these packets
-  pub record Delivered (packetsDue : List Entry) : Type 0 where
+  -- what is promised of them: none of the run is refused, and the joined logs hold exactly these packets, which have these indices; the receiver's counts are
+  -- theirs, and add up (document 02, Ask 14), as in Delivery.antt
+  pub record Delivered (packetsDue : List Entry) (indices : List ℕ) : Type 0 where
     pub accepted : NoneRefused b (freshStation b mode stream register programs carry) steps
     pub log : packetWords (logsFrom b (freshStation b mode stream register programs carry) steps) ≡ logWords packetsDue
+    pub counts : tallyOf (finally b (freshStation b mode stream register programs carry) steps .receiver) ≡ tallied noTally packetsDue
+    pub adds-up : Close indices → AddsUp indices (tallyOf (finally b (freshStation b mode stream register programs carry) steps .receiver))
 
 -- the packets with every byte in PDUs of the run, each of whose pieces is, once corrected, as sent in one copy at least; PDUs before the run count as lost
 abbrev pub arrived : (mode stream : ℕ) (packets : List (List ℕ)) (writings : List Writing) (first : ℕ) → List Way → List Entry
 arrived mode stream packets writings first ws = wholePackets (lies packets (spans mode stream packets writings) (map plainFate (replicate first gone ++ ws))) 0 0 packets
 
+-- their indices
+abbrev pub arrivedIndices : (mode stream : ℕ) (packets : List (List ℕ)) (writings : List Writing) (first : ℕ) → List Way → List ℕ
+arrivedIndices mode stream packets writings first ws = wholeIndices (lies packets (spans mode stream packets writings) (map plainFate (replicate first gone ++ ws))) 0 0 packets
+
 abbrev pub PairDeliveryFor : Behaviour → Type 0
 PairDeliveryFor b =
     (mode stream register : ℕ) (packets : List (List ℕ)) (writings : List Writing) (first count : ℕ) (carry : List ℕ) (steps : List Step)
     → Asked b mode stream register allPrograms packets writings first count carry steps
-    → Delivered b mode stream register allPrograms packets writings first count carry steps
-    (arrived mode stream packets writings first (ways (modeIn (listing mode stream) .width) (runOf first count (made mode stream register writings)) steps))
+    → let came = ways (modeIn (listing mode stream) .width) (runOf first count (made mode stream register writings)) steps in
+    CountsFit (arrived mode stream packets writings first came)
+    → Delivered b mode stream register allPrograms packets writings first count carry steps (arrived mode stream packets writings first came) (arrivedIndices mode stream packets writings first came)
 
 -- the promise over a run of pairs, for a receiver that is entitled to all programs
 abbrev pub PairDelivery : Type 0
@@ -163,8 +178,9 @@ abbrev pub EntitledPairDeliveryFor : Behaviour → Type 0
 EntitledPairDeliveryFor b =
     (mode stream register : ℕ) (programs : List ℕ) (packets : List (List ℕ)) (writings : List Writing) (first count : ℕ) (carry : List ℕ) (steps : List Step) → allowedPrograms programs ≡ true
     → Asked b mode stream register programs packets writings first count carry steps
-    → Delivered b mode stream register programs packets writings first count carry steps
-    (due mode stream programs packets writings first (ways (modeIn (listing mode stream) .width) (runOf first count (made mode stream register writings)) steps))
+    → let came = ways (modeIn (listing mode stream) .width) (runOf first count (made mode stream register writings)) steps in
+    CountsFit (due mode stream programs packets writings first came)
+    → Delivered b mode stream register programs packets writings first count carry steps (due mode stream programs packets writings first came) (dueIndices mode stream programs packets writings first came)
 
 abbrev pub EntitledPairDelivery : Type 0
 EntitledPairDelivery = EntitledPairDeliveryFor defined

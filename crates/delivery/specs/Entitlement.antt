@@ -14,8 +14,8 @@ use Rattle.log.specs.Log.{Entry}
 use Rattle.reassembly.specs.Rights.{Rights, Label}
 use Rattle.receiver.specs.Entitling.{isListed, allowedPrograms}
 use Rattle.runs.specs.Transmissions.{Way, gone, here}
-use Rattle.runs.specs.Promise.{arrived}
-use Rattle.delivery.specs.Delivery.{Writing, refusedAt, placedAt, Step, receptions, Behaviour, defined, spans, Asked, Delivered}
+use Rattle.runs.specs.Promise.{arrived, indices}
+use Rattle.delivery.specs.Delivery.{Writing, refusedAt, placedAt, Step, receptions, Behaviour, defined, spans, CountsFit, Asked, Delivered}
 
 -- ---- what is sent with the PDUs
 
@@ -42,6 +42,11 @@ module _ (mode stream : ℕ) (programs : List ℕ) (packets : List (List ℕ)) (
   due first ways =
       arrived (rightsFor mode stream programs) (modeIn (listing mode stream) .sequences) first packets (spans mode stream packets writings) (labelsFrom mode stream packets 0 writings) ways
 
+  -- their indices
+  abbrev pub dueIndices : (first : ℕ) (ways : List Way) → List ℕ
+  dueIndices first ways =
+      indices (rightsFor mode stream programs) (modeIn (listing mode stream) .sequences) first packets (spans mode stream packets writings) (labelsFrom mode stream packets 0 writings) ways
+
 -- ---- the claim
 
 -- received with every piece taken, or marked lost
@@ -58,7 +63,8 @@ abbrev pub EntitledDeliveryFor : Behaviour → Type 0
 EntitledDeliveryFor b =
     (mode stream register : ℕ) (programs : List ℕ) (packets : List (List ℕ)) (writings : List Writing) (first count : ℕ) (carry : List ℕ) (steps : List Step) → allowedPrograms programs ≡ true
     → Asked b mode stream register programs packets writings first count carry steps
-    → Delivered b mode stream register programs packets writings first count carry steps (due mode stream programs packets writings first (waysBy (receptions steps)))
+    → CountsFit (due mode stream programs packets writings first (waysBy (receptions steps)))
+    → Delivered b mode stream register programs packets writings first count carry steps (due mode stream programs packets writings first (waysBy (receptions steps))) (dueIndices mode stream programs packets writings first (waysBy (receptions steps)))
 
 -- a run with lost PDUs
 abbrev pub EntitledDelivery : Type 0

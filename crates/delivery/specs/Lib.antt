@@ -1,6 +1,9 @@
+pub mod Bursts
 pub mod Channel
 pub mod Copies
 pub mod Delivery
 pub mod Diversity
 pub mod Entitlement
+pub mod Interruptions
 pub mod WrongReceivers
+pub mod WrongSnapshots

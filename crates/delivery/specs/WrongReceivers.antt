@@ -1,16 +1,18 @@
 -- The receivers that document 01 wants thrown out by demand 3, one that delivers a packet for a PDU marked lost, one that joins across a lost PDU, one that
--- does not take the register it is given, one whose batches forget, and one that takes the whole of the better copy. Each is the receiver of document 01 but for
--- what its line says; demand 3 is shown false of `zeroed` in proofs/Registers.antt, of `forgetting` in proofs/BatchRuns.antt, and of the others in
--- proofs/WrongReceivers.antt, but the promise over runs of pairs of `choosing`, in proofs/PairRuns.antt, and the promise for entitled programs of `supposing` and
--- `keeping`, in proofs/WrongRights.antt.
+-- does not take the register it is given, one whose batches forget, one that takes the whole of the better copy, one that looks at no CRC, and one whose counts
+-- marking lost sets back. Each is the receiver of document 01 but for what its line says; demand 3 is shown false of `zeroed` in proofs/Registers.antt, of `forgetting` in proofs/BatchRuns.antt, and of the others in
+-- proofs/WrongReceivers.antt, but the promise over runs of pairs of `choosing`, in proofs/PairRuns.antt, the promise for entitled programs of `supposing` and
+-- `keeping`, in proofs/WrongRights.antt, and the promise over bursts of `trusting`, in proofs/WrongBursts.antt.
 use mathlib.Core.Bool.{Bool, true, false, _||_, cond}
-use mathlib.Core.List.{List, [], _∷_}
+use mathlib.Core.List.{List, [], _∷_, map}
 use Prim.Native.Nat.{ℕ}
+use lib.Dec.{eqb}
 use lib.ListN.{length}
 use Rattle.buffer.specs.Buffer.{putAt}
-use Rattle.log.specs.Log.{packet, logWords}
-use Rattle.reassembly.specs.Reassembly.{forgotten}
-use Rattle.receiver.specs.Receiving.{keptOf, remembering, keepsServices, modeOf}
+use Rattle.log.specs.Log.{Entry, packet, logWords}
+use Rattle.reassembly.specs.Reassembly.{Piece, received, forgotten}
+use Rattle.reassembly.specs.Holder.{Come}
+use Rattle.receiver.specs.Receiving.{memoryOf, keptOf, tallyOf, remembering, keepsServices, shown, modeOf, come}
 use Rattle.receiver.specs.declared.Receiver.{Receiver}
 use Rattle.diversity.specs.Diversity.{Choice, neither, theFirst, theSecond, choiceOf}
 use Rattle.delivery.specs.Delivery.{Behaviour, Answer, Station, Call, receive, batch, pair, markLost, answerOf, carryOf, logOf, defined}
@@ -137,6 +139,9 @@ assuming r = record {
   number = r .number;
   serviced = r .serviced || keepsServices (modeOf r .sequences) r;
   services = r .services;
+  delivered = r .delivered;
+  missing = r .missing;
+  last = r .last;
 }
 
 abbrev pub assumed : Station → Station
@@ -147,7 +152,7 @@ supposing = record { opening = defined .opening; answer = λ x c. answerOf (assu
 
 -- marking lost keeps the applied services
 abbrev pub servicesKept : Station → Receiver
-servicesKept x = remembering (x .receiver) forgotten (keptOf (x .receiver))
+servicesKept x = remembering (x .receiver) forgotten (keptOf (x .receiver)) (tallyOf (x .receiver))
 
 abbrev pub keepingAnswer : Station → Call → Answer
 keepingAnswer x (receive marks pdu log) = answerOf x (receive marks pdu log)
@@ -157,3 +162,77 @@ keepingAnswer x (markLost log) = withReceiver (servicesKept x) (answerOf x (mark
 
 abbrev pub keeping : Behaviour
 keeping = record { opening = defined .opening; answer = keepingAnswer; carry = carryOf; log = logOf }
+
+-- ---- document 02, Ask 12: by single calls it logs a PDU as if the CRC of each piece were right
+
+abbrev pub pieceTaken : Piece → Piece
+pieceTaken p = record { cause = 0; bytes = p .bytes }
+
+abbrev pub allTaken : Come → Come
+allTaken d = record {
+  said = record {
+    sequence = d .said .sequence;
+    pfirst = d .said .pfirst;
+    plast = d .said .plast;
+    start = d .said .start;
+    psdBytes = d .said .psdBytes;
+    pieces = map pieceTaken (d .said .pieces);
+    withheld = d .said .withheld;
+  };
+  label = d .label;
+}
+
+module _ (x : Station) (marks pdu log : List ℕ) where
+  abbrev pub trustedEntries : List Entry
+  trustedEntries =
+      let r = x .receiver in
+      received (modeOf r .sequences) (memoryOf r (x .carry)) (shown (modeOf r .sequences) r (x .carry) (allTaken (come marks (x .carry) pdu log r))) .entries
+
+  abbrev pub trustedWords : List ℕ
+  trustedWords = logWords trustedEntries
+
+abbrev pub trustingAnswer : Station → Call → Answer
+trustingAnswer x (receive marks pdu log) =
+    let a = answerOf x (receive marks pdu log) in
+    withWords (cond (eqb (a .refusal) 0) (length (trustedWords x marks pdu log)) 0) a
+trustingAnswer x (batch lengths pdus log) = answerOf x (batch lengths pdus log)
+trustingAnswer x (pair first second log) = answerOf x (pair first second log)
+trustingAnswer x (markLost log) = answerOf x (markLost log)
+
+abbrev pub trustingLog : Station → Call → List ℕ
+trustingLog x (receive marks pdu log) = cond (eqb (answerOf x (receive marks pdu log) .refusal) 0) (putAt log 0 (trustedWords x marks pdu log)) log
+trustingLog x (batch lengths pdus log) = logOf x (batch lengths pdus log)
+trustingLog x (pair first second log) = logOf x (pair first second log)
+trustingLog x (markLost log) = logOf x (markLost log)
+
+abbrev pub trusting : Behaviour
+trusting = record { opening = defined .opening; answer = trustingAnswer; carry = carryOf; log = trustingLog }
+
+-- ---- document 02, Ask 14
+
+-- marking lost sets the counts back to 0
+abbrev pub uncounted : Receiver → Receiver
+uncounted r = record {
+  mode = r .mode;
+  stream = r .stream;
+  register = r .register;
+  entitled = r .entitled;
+  known = r .known;
+  sequence = r .sequence;
+  held = r .held;
+  number = r .number;
+  serviced = r .serviced;
+  services = r .services;
+  delivered = 0;
+  missing = 0;
+  last = 0;
+}
+
+abbrev pub resettingAnswer : Station → Call → Answer
+resettingAnswer x (receive marks pdu log) = answerOf x (receive marks pdu log)
+resettingAnswer x (batch lengths pdus log) = answerOf x (batch lengths pdus log)
+resettingAnswer x (pair first second log) = answerOf x (pair first second log)
+resettingAnswer x (markLost log) = withReceiver (uncounted (answerOf x (markLost log) .receiver)) (answerOf x (markLost log))
+
+abbrev pub resetting : Behaviour
+resetting = record { opening = defined .opening; answer = resettingAnswer; carry = carryOf; log = logOf }
