@@ -1,0 +1,13 @@
+pub mod Fields
+pub mod Tests
+pub mod Entries
+pub mod Reading
+pub mod Scanning
+pub mod Joining
+pub mod Places
+pub mod Order
+pub mod Agreeing
+pub mod Refusing
+pub mod Logs
+pub mod Examples
+pub mod Enough

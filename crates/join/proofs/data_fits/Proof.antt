@@ -1,0 +1,50 @@
+use mathlib.Core.Path.{ap, sym, _∙_}
+use Prim.Native.Nat.{ℕ, _/_}
+use Rattle.join.proofs.Tests.{other-kind, other-count, right-count}
+use Rattle.join.specs.Scan.{unusedZero}
+use borrow.Author.Needs.{needs}
+use Rattle.join.proofs.data_fits.Statement.{statement}
+use Rattle.join.proofs.data_fits.Tie as tie
+use Rattle.join.proofs.data_fits.Reads as reads
+use Rattle.join.proofs.data_fits.Lts as lts
+use Rattle.join.proofs.high.Reads as high-reads
+use Rattle.join.proofs.kind.Reads as kind-reads
+use Rattle.join.proofs.low.Reads as low-reads
+use Rattle.join.proofs.unused_zero.Reads as unused-zero-reads
+
+kind-requires : tie.Need-kind-requires
+kind-requires c κs = search needs
+
+returns : tie.Need-returns
+returns c = other-kind (c .before .before .args .n) (c .before .before .args .w) (λ e. c .if1 .taken (c .before .kind .ensures ∙ e))
+
+high-requires : tie.Need-high-requires
+high-requires c κs = search needs
+
+returns-2 : tie.Need-returns-2
+returns-2 c = other-count (c .before .before .before .before .args .n) (c .before .before .before .before .args .w) (sym (c .before .before .before .kind .ensures) ∙ c .before .before .if1 .left) (λ e. c .if2 .taken (ap (λ (h : ℕ). h / 256) (c .before .high .ensures) ∙ e))
+
+low-requires : tie.Need-low-requires
+low-requires c κs = search needs
+
+unused-zero-requires : tie.Need-unused-zero-requires
+unused-zero-requires c κs = search needs
+
+returns-3 : tie.Need-returns-3
+returns-3 c =
+    let a = c .before .before .before .before .before .before .args in
+    c .unused-zero .ensures ∙ ap (unusedZero (a .n)) (c .before .low .ensures .0)
+    ∙ right-count (a .n) (a .w) (sym (c .before .before .before .before .before .kind .ensures) ∙ c .before .before .before .before .if1 .left)
+    (ap (λ (h : ℕ). h / 256) (sym (c .before .before .before .high .ensures)) ∙ c .before .before .if2 .left)
+
+pub data-fits-spec : {M : Type 1} → statement M
+data-fits-spec =
+    tie.close
+    (tie.spec
+    kind-requires
+    returns
+    high-requires
+    returns-2
+    low-requires
+    unused-zero-requires
+    returns-3)

@@ -1,0 +1,70 @@
+use Rattle.join.proofs.Scanning.{numbers-next}
+use Rattle.join.specs.Scan.{numbers}
+use borrow.Author.Needs.{needs}
+use native.Mathlib.Omega.{arith}
+use mathlib.Core.Path.{_≡_, refl, sym, _∙_}
+use Prim.Native.Nat.{_-_, _≤_}
+use lib.ListN.{length, drop}
+use Rattle.join.proofs.next_packet.Statement.{statement}
+use Rattle.join.proofs.next_packet.Tie as tie
+use Rattle.join.proofs.next_packet.Reads as reads
+use Rattle.join.proofs.next_packet.Lts as lts
+use Rattle.join.proofs.is_packet.Reads as is-packet-reads
+
+abbrev Inv-loop : tie.InvT-loop
+Inv-loop log from i₀ i = (from ≤ i) × (i ≤ length log) × (numbers (drop i log) ≡ numbers (drop from log))
+
+abbrev μ-loop : tie.MeasureT-loop
+μ-loop log from i₀ i = length log - i
+
+loop-holds : tie.Need-loop-holds Inv-loop μ-loop
+loop-holds c = (omega arith, omega arith, refl)
+
+mul-is-packet : tie.Need-mul-is-packet Inv-loop μ-loop
+mul-is-packet c = search needs
+
+shared-slice-read-is-packet : tie.Need-shared-slice-read-is-packet Inv-loop μ-loop
+shared-slice-read-is-packet c = search needs
+
+is-packet-requires : tie.Need-is-packet-requires Inv-loop μ-loop
+is-packet-requires c κs = search needs
+
+returns : tie.Need-returns Inv-loop μ-loop
+returns c =
+    let l = c .before .before .before .before .loop in
+    let a = c .before .before .before .before .before .before .args in
+    ((omega arith, omega arith), (l .inv .2, λ h. sym (c .before .is-packet .ensures) ∙ c .if1 .taken))
+
+add-i : tie.Need-add-i Inv-loop μ-loop
+add-i c = search needs
+
+loop-less : tie.Need-loop-less Inv-loop μ-loop
+loop-less c = search needs
+
+loop-again : tie.Need-loop-again Inv-loop μ-loop
+loop-again c =
+    let l = c .before .before .before .before .loop in
+    let a = c .before .before .before .before .before .before .args in
+    (omega arith, omega arith, numbers-next (a .log .now) (l .i) (omega arith) (sym (c .before .is-packet .ensures) ∙ c .if1 .left) ∙ l .inv .2)
+
+returns-2 : tie.Need-returns-2 Inv-loop μ-loop
+returns-2 c =
+    let l = c .before .loop in
+    let a = c .before .before .before .args in
+    ((omega arith, omega arith), (l .inv .2, λ h. absurd (omega arith)))
+
+pub next-packet-spec : {M : Type 1} → statement M
+next-packet-spec =
+    tie.close
+    (tie.spec
+    Inv-loop
+    μ-loop
+    loop-holds
+    mul-is-packet
+    shared-slice-read-is-packet
+    is-packet-requires
+    returns
+    add-i
+    loop-less
+    loop-again
+    returns-2)

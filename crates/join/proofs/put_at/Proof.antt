@@ -1,0 +1,129 @@
+use native.Mathlib.Omega.{arith}
+use mathlib.Core.Path.{_≡_, refl, ap, sym, _∙_}
+use Prim.Native.Nat.{ℕ, _+_, _-_}
+use lib.ListN.{length, take, drop, getD}
+use mathlib.Core.List.{List, _++_}
+use Rattle.join.proofs.Joining.{first-none, first-some, first-size, part, part-length, put-none}
+use Rattle.join.specs.Join.{number}
+use Rattle.join.specs.Scan.{partner, firstJoined}
+use borrow.Author.Tests.{not-true, not-false}
+use mathlib.Core.Path.{ap₂}
+use Rattle.buffer.specs.Buffer.{putAt}
+use Rattle.buffer.proofs.Laws.{put-then}
+use borrow.Author.Needs.{needs}
+use Rattle.join.proofs.put_at.Statement.{statement}
+use Rattle.join.proofs.put_at.Tie as tie
+use Rattle.join.proofs.put_at.Reads as reads
+use Rattle.join.proofs.put_at.Lts as lts
+use Rattle.join.proofs.is_packet.Reads as is-packet-reads
+use Rattle.join.proofs.number.Reads as number-reads
+use Rattle.join.proofs.put_partner.Reads as put-partner-reads
+use Rattle.join.proofs.put_words.Reads as put-words-reads
+use Rattle.join.proofs.run_end.Reads as run-end-reads
+
+mul-w : tie.Need-mul-w
+mul-w c = search needs
+
+shared-slice-read-w : tie.Need-shared-slice-read-w
+shared-slice-read-w c = search needs
+
+is-packet-requires : tie.Need-is-packet-requires
+is-packet-requires c κs = search needs
+
+returns : tie.Need-returns
+returns c =
+    let a = c .before .before .before .before .before .before .before .args in
+    put-none (a .result .now) (firstJoined (a .enhanced .now) (drop (a .i) (a .core .now))) (a .at)
+    (first-none (a .core .now) (a .enhanced .now) (a .i) (omega arith) (sym (c .before .is-packet .ensures) ∙ not-true _ (c .if1 .taken)))
+
+add-run-end : tie.Need-add-run-end
+add-run-end c = search needs
+
+run-end-requires : tie.Need-run-end-requires
+run-end-requires c κs = search needs
+
+mul-put-words : tie.Need-mul-put-words
+mul-put-words c = search needs
+
+sub-put-words : tie.Need-sub-put-words
+sub-put-words c = search needs
+
+part-put-words-start : tie.Need-part-put-words-start
+part-put-words-start c = search needs
+
+part-put-words-end : tie.Need-part-put-words-end
+part-put-words-end c = search needs
+
+put-words-requires : tie.Need-put-words-requires
+put-words-requires c κs =
+    let a = c .before .before .before .before .before .before .before .before .before .before .args in
+    let e = c .before .before .run-end in
+    let w = number (getD (a .core .now) (a .i) 0) in
+    let s = first-size (a .core .now) (a .enhanced .now) (a .i) (omega arith) (e .result) (length (partner (a .enhanced .now) w)) (omega arith) (omega arith)
+    (sym (c .before .before .before .before .is-packet .ensures) ∙ not-false _ (c .before .before .before .if1 .left)) (e .ensures .1) refl in
+    let p = part-length (a .i) (e .result) (a .core .now) (omega arith) (omega arith) in
+    omega arith
+
+sub-put-partner : tie.Need-sub-put-partner
+sub-put-partner c = search needs
+
+add-put-partner : tie.Need-add-put-partner
+add-put-partner c = search needs
+
+number-requires : tie.Need-number-requires
+number-requires c κs = search needs
+
+put-partner-requires : tie.Need-put-partner-requires
+put-partner-requires c κs =
+    let a = c .before .before .before .before .before .before .before .before .before .before .before .before .before .before .before .args in
+    let e = c .before .before .before .before .before .before .before .run-end in
+    let w = number (getD (a .core .now) (a .i) 0) in
+    let s = first-size (a .core .now) (a .enhanced .now) (a .i) (omega arith) (e .result) (length (partner (a .enhanced .now) w)) (omega arith) (omega arith)
+    (sym (c .before .before .before .before .before .before .before .before .before .is-packet .ensures) ∙ not-false _ (c .before .before .before .before .before .before .before .before .if1 .left)) (e .ensures .1) refl in
+    let q = ap (λ (n : ℕ). length (partner (a .enhanced .now) n)) (c .number .ensures .0) in
+    let k = c .before .before .before .before .put-words .kept .0 in
+    (omega arith, (c .number .ensures .1, c .before .before .before .before .before .before .before .before .before .before .before .before .before .before .before .pre .1 .1))
+
+same-length : tie.Need-same-length
+same-length c = search needs
+
+returns-2 : tie.Need-returns-2
+returns-2 c =
+    let a = c .before .before .before .before .before .before .before .before .before .before .before .before .before .before .before .before .before .before .args in
+    let e = c .before .before .before .before .before .before .before .before .before .before .run-end in
+    let w = number (getD (a .core .now) (a .i) 0) in
+    let p = sym (c .before .before .before .before .before .before .before .before .before .before .before .before .is-packet .ensures) ∙ not-false _ (c .before .before .before .before .before .before .before .before .before .before .before .if1 .left) in
+    let g = c .before .before .put-partner in
+    let n = c .before .before .before .number in
+    let s = first-size (a .core .now) (a .enhanced .now) (a .i) (omega arith) (e .result) (length (partner (a .enhanced .now) w)) (omega arith) (omega arith) p (e .ensures .1) refl in
+    let q : length (partner (a .enhanced .now) (n .result)) ≡ length (partner (a .enhanced .now) w) = ap (λ (k : ℕ). length (partner (a .enhanced .now) k)) (n .ensures .0) in
+    let v : List ℕ = take (e .result - a .i) (drop (a .i) (a .core .now)) in
+    let k : length v ≡ e .result - a .i = part-length (a .i) (e .result) (a .core .now) (omega arith) (omega arith) in (
+      omega arith,
+      put-then (a .result .now) _ _ v (partner (a .enhanced .now) (n .result)) (a .at) (a .at + (e .result - a .i)) (omega arith) (omega arith) (c .before .before .before .before .before .before .before .put-words .ensures) (g .ensures .1)
+          ∙ ap (putAt (a .result .now) (a .at))
+          (ap₂ _++_ (part (a .i) (e .result) (a .core .now) (omega arith)) (ap (partner (a .enhanced .now)) (n .ensures .0))
+          ∙ first-some (a .core .now) (a .enhanced .now) (a .i) (omega arith) (e .result) (omega arith) (omega arith) p (e .ensures .1)),
+    )
+
+pub put-at-spec : {M : Type 1} → statement M
+put-at-spec =
+    tie.close
+    (tie.spec
+    mul-w
+    shared-slice-read-w
+    is-packet-requires
+    returns
+    add-run-end
+    run-end-requires
+    mul-put-words
+    sub-put-words
+    part-put-words-start
+    part-put-words-end
+    put-words-requires
+    sub-put-partner
+    add-put-partner
+    number-requires
+    put-partner-requires
+    same-length
+    returns-2)

@@ -1,0 +1,19 @@
+-- What calls logged, computed.
+use mathlib.Core.Path.{_≡_, refl}
+use mathlib.Core.Bool.{true}
+use mathlib.Core.List.{List, [], _∷_}
+use Rattle.buffer.specs.Buffer.{putAt}
+use Rattle.modes.specs.Modes.{listing}
+use Rattle.log.specs.Log.{dataWords, entryWords, logWords}
+use Rattle.receiver.specs.Receiving.{fresh, lostNumber, lostAnswer, logAfterLost}
+use Rattle.join.specs.Join.{bytesOf, dataOf, entryAt, entriesOf, sized, allSized, sameWords, isLog}
+use Rattle.joinable.specs.Joinable.{Call, markLost, logsOf}
+
+-- a PDU marked lost, with a log of two words of which the second is a data word, as it was lent
+abbrev lost : List Call
+lost = markLost (0 ∷ 0x41440000 ∷ []) ∷ []
+
+-- its log is the word that its answer counts
+pub lost-counted : isLog (logsOf (fresh 1 0 0 255) [] lost) ≡ true
+unfolding listing lostNumber lostAnswer logAfterLost putAt logWords entryWords dataWords bytesOf dataOf entryAt entriesOf sized allSized sameWords isLog logsOf
+lost-counted = refl
