@@ -6,22 +6,23 @@ ghost use Prim.Native.Nat.{_≤_};
 const CARRY: usize = 4096;
 
 // The places of a row of counts, of which there are three too. After the counts of `counts` stands what the receiver remembers that has its file alone.
-const ROW: usize = 42;
+const ROW: usize = 54;
 
-const KNOWN: usize = 36;
+const KNOWN: usize = 48;
 
-const SEQUENCE: usize = 37;
+const SEQUENCE: usize = 49;
 
-const HELD: usize = 38;
+const HELD: usize = 50;
 
-const NUMBER: usize = 39;
+const NUMBER: usize = 51;
 
-const SERVICED: usize = 40;
+const SERVICED: usize = 52;
 
-const SERVICES: usize = 41;
+const SERVICES: usize = 53;
 
 // The receiver of a row, opened as the pair's is.
 fn remembered(row: &[u64], r: Receiver) -> Receiver {
+    let l = counts::loss(row);
     Receiver {
         mode: r.mode,
         stream: r.stream,
@@ -33,28 +34,24 @@ fn remembered(row: &[u64], r: Receiver) -> Receiver {
         number: (counts::at(row, NUMBER) % 256) as u8,
         serviced: counts::at(row, SERVICED) != 0,
         services: (counts::at(row, SERVICES) % 256) as u8,
+        delivered: l.delivered,
+        missing: l.missing,
+        last: l.last,
     }
-}
-
-fn set(row: &mut [u64], place: usize, value: u64) {
-    if row.len() <= place {
-        return;
-    }
-    row[place] = value;
 }
 
 // Keeps in a row the applied services in force (document 02, Ask 10).
 fn remember_services(row: &mut [u64], r: Receiver) {
-    set(row, SERVICED, r.serviced as u64);
-    set(row, SERVICES, r.services as u64);
+    counts::set(row, SERVICED, r.serviced as u64);
+    counts::set(row, SERVICES, r.services as u64);
 }
 
 // Keeps in a row the sequence and the held beginning.
 fn remember_step(row: &mut [u64], r: Receiver) {
-    set(row, KNOWN, r.known as u64);
-    set(row, SEQUENCE, r.sequence as u64);
-    set(row, HELD, r.held as u64);
-    set(row, NUMBER, r.number as u64);
+    counts::set(row, KNOWN, r.known as u64);
+    counts::set(row, SEQUENCE, r.sequence as u64);
+    counts::set(row, HELD, r.held as u64);
+    counts::set(row, NUMBER, r.number as u64);
 }
 
 // Keeps in a row what a receiver remembers.
@@ -70,8 +67,19 @@ fn alone(receiver: Receiver, carry: &mut [u8], pdu: &mut [u8], log: &mut [u32], 
     let o = outcome::of_record(own, carry, &mut *pdu, b"", &mut *log);
     header::put_front(pdu, &before);
     counts::add_outcome(row, o);
-    counts::add_log(row, logging::written(log, o.words));
+    counts::add_log(row, words::written(log, o.words));
     remember(row, o.receiver);
+}
+
+// The row of a file, the first or the second; nothing where there is none.
+pub fn row_of(rows: &[u64], number: usize) -> &[u64]
+    requires { ⌜ number ≤ 2 ⌝ }
+{
+    let row = number * ROW;
+    if rows.len() < row + ROW {
+        return &rows[0..0];
+    }
+    &rows[row..row + ROW]
 }
 
 // The same with the carry and the row of a file, the first or the second.

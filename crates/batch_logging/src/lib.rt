@@ -136,19 +136,20 @@ fn kept(
     let before = header::header_of(came);
     let after = header::header_of(pdu);
     let corrected = header::difference(&before, &after);
+    let l = loss::after(counts::loss(counts), log);
     let o = Outcome {
         kind: outcome::RECEIVED,
         number: corrected,
         wrong: 0,
         length: pdu.len(),
         words: log.len(),
-        receiver: receiver,
+        receiver: loss::in_record(receiver, l),
     };
     if !output::keep(sink, run.pdus, o, log, block) {
         return logging::run_of(logging::UNWRITTEN, receiver, run.pdus);
     }
     let word = layout::control_word(pdu);
-    counts::add_received(counts, corrected, word.nop as u64, log);
+    counts::add_received(counts, corrected, word.nop as u64, log, l);
     logging::run_of(
         records::WHOLE,
         receiver,
@@ -310,6 +311,7 @@ fn progress(before: u64, pdus: u64) {
 // All turns, counted down as in a run without batches.
 fn all_turns(
     task: Task,
+    path: &[u8],
     carry: &mut [u8],
     came: &mut [u8],
     frame: &mut [u8],
@@ -336,7 +338,7 @@ fn all_turns(
             counts,
             run,
         );
-        run = next;
+        run = logging::saved(task, path, carry, before, next);
         if run.status != records::WHOLE {
             return run;
         }
@@ -359,9 +361,16 @@ fn words() -> [u32; 50000]
     [0; 50000]
 }
 
-// Logs all PDUs by frames of so many records. What stopped it before the end, its status says, and errno with that.
-fn log_frames(task: Task, many: usize, receiver: Receiver, counts: &mut [u64]) -> Run {
-    let mut carry = [0u8; 4096];
+// Logs all PDUs by frames of so many records, and saves how the run stands in the file of a path after each, if there is one. What stopped it before the end, its
+// status says, and errno with that.
+fn log_frames(
+    task: Task,
+    path: &[u8],
+    many: usize,
+    carry: &mut [u8],
+    start: Run,
+    counts: &mut [u64],
+) -> Run {
     let mut came = bytes();
     let mut frame = bytes();
     let mut lengths = [0usize; 64];
@@ -369,14 +378,14 @@ fn log_frames(task: Task, many: usize, receiver: Receiver, counts: &mut [u64]) -
     let mut ends = [0usize; 64];
     let mut log = words();
     let mut block = io::large_buffer();
-    let sink = task.sink;
-    if !output::begin(sink, &mut block) {
-        return logging::run_of(logging::UNWRITTEN, receiver, 0);
+    let receiver = start.receiver;
+    if !logging::begin(task, &mut block) {
+        return logging::run_of(logging::UNWRITTEN, receiver, start.pdus);
     }
-    let start = logging::run_of(records::WHOLE, receiver, 0);
     let run = all_turns(
         task,
-        &mut carry,
+        path,
+        carry,
         &mut came,
         &mut frame,
         &mut lengths[..n],
@@ -386,13 +395,21 @@ fn log_frames(task: Task, many: usize, receiver: Receiver, counts: &mut [u64]) -
         counts,
         start,
     );
+    let sink = task.sink;
     logging::ended(sink, &mut block, run)
 }
 
 // Logs all PDUs: each by a call of its own where no frames are asked for, else by frames of so many records, at most 64.
-pub fn log_all(task: Task, many: usize, receiver: Receiver, counts: &mut [u64]) -> Run {
+pub fn log_all(
+    task: Task,
+    path: &[u8],
+    many: usize,
+    carry: &mut [u8],
+    start: Run,
+    counts: &mut [u64],
+) -> Run {
     if many == 0 {
-        return logging::log_all(task, receiver, counts);
+        return logging::log_all(task, path, carry, start, counts);
     }
-    log_frames(task, many, receiver, counts)
+    log_frames(task, path, many, carry, start, counts)
 }

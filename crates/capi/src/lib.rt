@@ -1,6 +1,7 @@
 // The C library: each public operation with C's types, and the core's contract. include/barzhilup.h declares them.
 use batch::Batch;
 use correction::Correction;
+use join::Joined;
 use latency::Answer;
 use latency::Shown;
 use latency::Trial;
@@ -8,6 +9,7 @@ use pdu::Reading;
 use receiver::Received;
 use receiver::Receiver;
 use settings::Settings;
+use snapshot::Saved;
 use writer::Opened;
 use writer::Writer;
 use writer::Written;
@@ -23,8 +25,10 @@ ghost use Rattle.writer.specs.Writing.{opened, writeAnswer, writtenPdu};
 ghost use Rattle.receiver.specs.Receiving.{opened as receiverOpened, openedFor, receiveAnswer, carryAfter, pduAfter, logAfter, lostAnswer, logAfterLost};
 ghost use Rattle.batch.specs.Batches.{received};
 ghost use Rattle.diversity.specs.Diversity.{choiceOf, numberOf as choiceNumber, pairReceived};
+ghost use Rattle.snapshot.specs.Snapshot.{saved, wordsAfter, loaded, carryLoaded};
 ghost use Rattle.correction.specs.Marks.{correctionWith, correctedPduWith};
 ghost use Rattle.correction.specs.Correction.{correctionOf, correctedPdu, numberOf, countOf};
+ghost use Rattle.join.specs.Join.{joined, resultAfter};
 ghost use Rattle.latency.specs.Latency.{answer, numberOf as refusalOf, latencyOf, isFound, trial, shown, rowAfter};
 
 // S1 to S8.
@@ -239,7 +243,7 @@ pub extern "C" fn barzhilup_open_receiver_entitled(
 }
 
 // Receives a PDU: its header is corrected in place, what is held stands first in the carry, and the log is written from its first word on; or
-// it is refused with 1 to 13, and nothing is changed.
+// it is refused with 1 to 13, or 27, and nothing is changed.
 #[no_mangle]
 pub extern "C" fn barzhilup_receive(
     receiver: Receiver,
@@ -255,7 +259,7 @@ pub extern "C" fn barzhilup_receive(
     receiver.receive(carry, pdu, log)
 }
 
-// Receives a PDU with a list of marked header places; or it is refused with 1 to 13 or 19, and nothing is changed.
+// Receives a PDU with a list of marked header places; or it is refused with 1 to 13, 19 or 27, and nothing is changed.
 #[no_mangle]
 pub extern "C" fn barzhilup_receive_marked(
     receiver: Receiver,
@@ -300,7 +304,7 @@ pub extern "C" fn barzhilup_choose(first: &[u8], second: &[u8]) -> u32
 }
 
 // Receives a pair of PDUs, two copies of one: each header that can be corrected is left corrected, and each piece is taken from a copy in which its CRC is
-// right. Where only one can be corrected, that one is received alone. It is refused with 1, 2, 4 to 12, 20 or 13, and nothing is changed.
+// right. Where only one can be corrected, that one is received alone. It is refused with 1, 2, 4 to 12, 20, 13 or 27, and nothing is changed.
 #[no_mangle]
 pub extern "C" fn barzhilup_receive_pair(
     receiver: Receiver,
@@ -318,13 +322,37 @@ pub extern "C" fn barzhilup_receive_pair(
     pair::receive(receiver, carry, first, second, log)
 }
 
-// Marks a PDU lost: note 6, and the receiver forgets; or it is refused with 1 or 13, and nothing is changed.
+// Marks a PDU lost: note 6, and the receiver forgets, but keeps its counts; or it is refused with 1 or 13, and nothing is changed.
 #[no_mangle]
 pub extern "C" fn barzhilup_mark_lost(receiver: Receiver, log: &mut [u32]) -> Received
     ensures { λ r. ⌜ r ≡ lostAnswer (now (log .entry)) receiver ⌝ }
     ensures { λ _. ⌜ now (log .exit) ≡ logAfterLost (now (log .entry)) receiver ⌝ }
 {
     receiver.mark_lost(log)
+}
+
+// Writes a receiver out as words, from the first of the buffer on, with the bytes that it holds in the carry (document 02, Ask 13); or refuses with 1, 2 or 26,
+// and nothing is written.
+#[no_mangle]
+pub extern "C" fn barzhilup_save_receiver(
+    receiver: Receiver,
+    carry: &[u8],
+    words: &mut [u32],
+) -> Saved
+    ensures { λ r. ⌜ r ≡ saved (now (carry .entry)) (now (words .entry)) receiver ⌝ }
+    ensures { λ _. ⌜ now (words .exit) ≡ wordsAfter (now (carry .entry)) (now (words .entry)) receiver ⌝ }
+{
+    snapshot::save(receiver, carry, words)
+}
+
+// Reads a receiver again from its words: the bytes that it holds are put first into the carry, and the rest of it stays; or refuses with 2 or 25, and nothing is
+// changed.
+#[no_mangle]
+pub extern "C" fn barzhilup_load_receiver(words: &[u32], carry: &mut [u8]) -> receiver::Opened
+    ensures { λ r. ⌜ r ≡ loaded (now (words .entry)) (now (carry .entry)) ⌝ }
+    ensures { λ _. ⌜ now (carry .exit) ≡ carryLoaded (now (words .entry)) (now (carry .entry)) ⌝ }
+{
+    snapshot::load(words, carry)
 }
 
 // The refusal number, 0 where there is none; the smallest latency without a dry tick, 0 where none was found; and whether one was.
@@ -393,4 +421,14 @@ pub extern "C" fn barzhilup_waiting_packets(
     ensures { λ _. ⌜ now (waiting .exit) ≡ rowAfter mode stream (now (counts .entry)) latency first (now (waiting .entry)) ⌝ }
 {
     latency::show_waiting(mode, stream, counts, latency, first, waiting)
+}
+
+// Joins two logs of one frame by packet number: each core packet's words, and after them those of the enhanced one of its number, bit 29 set in its
+// first; or refuses with 23 (words that are no log), 24 (numbers that do not rise) or 13, and leaves the result buffer as it was.
+#[no_mangle]
+pub extern "C" fn barzhilup_join(core: &[u32], enhanced: &[u32], result: &mut [u32]) -> Joined
+    ensures { λ r. ⌜ r ≡ joined (now (core .entry)) (now (enhanced .entry)) (length (now (result .entry))) ⌝ }
+    ensures { λ _. ⌜ now (result .exit) ≡ resultAfter (now (core .entry)) (now (enhanced .entry)) (now (result .entry)) ⌝ }
+{
+    join::join(core, enhanced, result)
 }

@@ -1,4 +1,4 @@
-// A PDU in the picture: its cell, the copies that it is taken from, its bar, and the tick where packets are missing.
+// A PDU in the picture: its cell, which is hollow where it was withheld, the copies that it is taken from, its bar, and the tick where packets are missing.
 use csv::entry;
 use drive::Pdu;
 use page::Shape;
@@ -45,6 +45,21 @@ fn put_cell(out: &mut [u8], at: usize, pdu: Pdu, x: u64, y: u64) -> usize
             cell,
         ),
         &[x, y, x + 2, y + mark],
+    )
+}
+
+// The white inside of a cell whose PDU was withheld (document 02, Ask 10): its edge still tells what was corrected.
+fn put_hollow(out: &mut [u8], at: usize, withheld: bool, x: u64, y: u64) -> usize
+    requires { ⌜ (x < 1000000000000) × (y < 1000000000000) ⌝ }
+{
+    if !withheld {
+        return at;
+    }
+    text::fill(
+        out,
+        at,
+        b"<rect class=\"i\" fill=\"#fff\" x=\"@\" y=\"@\" width=\"5\" height=\"8\"/>\n",
+        &[x + 2, y + 3],
     )
 }
 
@@ -105,15 +120,9 @@ fn put_wrong(out: &mut [u8], at: usize, crcs: u32, x: u64, y: u64) -> usize
     )
 }
 
-// Which tick a PDU has: 0 none; packets are missing before its own, 1 to 3 by how long their number is, since a long one is written smaller and so
-// keeps clear of its neighbours; 4 a gap is not known, 5 one is not known and packets are missing besides.
-fn tick_of(missing: u32, unknown: u32) -> u32 {
-    if 0 < unknown {
-        if missing == 0 {
-            return 4;
-        }
-        return 5;
-    }
+// Which tick a PDU has: 0 none; 1 to 3 by how long the number of packets is that are missing before its own, since a long one is written smaller and so
+// keeps clear of its neighbours.
+fn tick_of(missing: u32) -> u32 {
     if missing == 0 {
         return 0;
     }
@@ -127,15 +136,15 @@ fn tick_of(missing: u32, unknown: u32) -> u32 {
 }
 
 // The tick where packets are missing before those of a PDU, and how many.
-fn put_tick(out: &mut [u8], at: usize, tick: u32, missing: u32, x: u64, y: u64) -> usize
+fn put_tick(out: &mut [u8], at: usize, missing: u32, x: u64, y: u64) -> usize
     requires { ⌜ (x < 1000000000000) × (y < 1000000000000) ⌝ }
 {
     text::fill(
         out,
         at,
         text::entry(
-            b"\0<path class=\"m\" d=\"M@ @v22\"/>\n<text class=\"n\" x=\"@\" y=\"@\">@</text>\n\0<path class=\"m\" d=\"M@ @v22\"/>\n<text class=\"o\" x=\"@\" y=\"@\">@</text>\n\0<path class=\"m\" d=\"M@ @v22\"/>\n<text class=\"k\" x=\"@\" y=\"@\">@</text>\n\0<path class=\"u\" d=\"M@ @v22\"/>\n<text class=\"n\" x=\"@\" y=\"@\">?</text>\n\0<path class=\"u\" d=\"M@ @v22\"/>\n<text class=\"k\" x=\"@\" y=\"@\">?+@</text>\n\0",
-            tick,
+            b"\0<path class=\"m\" d=\"M@ @v22\"/>\n<text class=\"n\" x=\"@\" y=\"@\">@</text>\n\0<path class=\"m\" d=\"M@ @v22\"/>\n<text class=\"o\" x=\"@\" y=\"@\">@</text>\n\0<path class=\"m\" d=\"M@ @v22\"/>\n<text class=\"k\" x=\"@\" y=\"@\">@</text>\n\0",
+            tick_of(missing),
         ),
         &[x, y + page::STRIP, x, y + 46, missing as u64],
     )
@@ -163,20 +172,21 @@ fn put_row(out: &mut [u8], at: usize, shape: Shape, number: u32, x: u64, y: u64)
     )
 }
 
+// A PDU's cell, with what stands in it.
+fn put_face(out: &mut [u8], at: usize, pdu: Pdu, x: u64, y: u64) -> usize
+    requires { ⌜ (x < 1000000000000) × (y < 1000000000000) ⌝ }
+{
+    let mut n = put_cell(out, at, pdu, x, y);
+    n = put_hollow(out, n, pdu.withheld, x, y);
+    n = put_copy(out, n, pdu.copy, x, y);
+    put_wrong(out, n, pdu.crcs, x, y)
+}
+
 // A PDU, after the beginning of its row where it is the first there.
 pub fn put_pdu(out: &mut [u8], at: usize, shape: Shape, number: u32, pdu: Pdu) -> usize {
     let p = page::place_of(shape, number);
     let mut n = put_row(out, at, shape, number, p.x, p.y);
-    n = put_cell(out, n, pdu, p.x, p.y);
-    n = put_copy(out, n, pdu.copy, p.x, p.y);
-    n = put_wrong(out, n, pdu.crcs, p.x, p.y);
+    n = put_face(out, n, pdu, p.x, p.y);
     n = put_bar(out, n, shape, pdu.packets, p.x, p.y);
-    put_tick(
-        out,
-        n,
-        tick_of(pdu.missing, pdu.unknown),
-        pdu.missing,
-        p.x,
-        p.y,
-    )
+    put_tick(out, n, pdu.missing, p.x, p.y)
 }

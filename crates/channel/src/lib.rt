@@ -1,10 +1,10 @@
-// A channel for a file of PDUs: some PDUs are lost, in bursts, and some of those that come through have bytes of the header changed.
+// A channel for a file of PDUs: some PDUs are lost, in bursts, and some of those that come through have bytes of the header changed, or bits of pieces
+// flipped.
 mod arguments;
 mod report;
 mod sending;
 
 use arguments::Job;
-use damage::dice;
 use sending::Run;
 use sending::Task;
 ghost use Rattle.io.specs.Counts.{Counts};
@@ -94,7 +94,7 @@ fn with_marks(job: Job, from: &[u8], input: i32, marking: &[u8], marks: i32) -> 
         marks: marks,
         channel: channel,
     };
-    let run = sending::send_all(task, dice::seeded(job.seed));
+    let run = sending::send_all(task, job.seed);
     report::ends(run.status, from, &onto[..n], marking, run.pdus);
     finish(run, task, &onto[..n], marking)
 }
@@ -104,6 +104,10 @@ fn finish(run: Run, task: Task, onto: &[u8], marking: &[u8]) -> bool {
     let closed = files::close(task.output, onto);
     let kept = close_marks(task.marks, marking);
     report::summary(run.pdus, run.missing, run.lost, run.damaged, run.altered);
+    let channel = task.channel;
+    if 0 < channel.bursts {
+        report::bursts(run.hit);
+    }
     (run.status == records::END) & closed & kept
 }
 

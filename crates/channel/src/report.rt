@@ -30,6 +30,18 @@ pub fn summary(pdus: u64, missing: u64, lost: u64, damaged: u64, altered: u64) {
     say(&line[..n]);
 }
 
+// How many pieces were hit by bursts.
+pub fn bursts(hit: u64) {
+    let mut line = [0u8; 256];
+    let n = text::fill(
+        &mut line,
+        0,
+        b"barzhilup channel: pieces hit by bursts @\n",
+        &[hit],
+    );
+    say(&line[..n]);
+}
+
 // How far the work is, where somebody looks on.
 pub fn progress(pdus: u64) {
     files::progress(&PROGRAM, b": PDUs ", pdus);
@@ -42,9 +54,10 @@ pub fn usage() -> bool {
         b"usage: barzhilup channel [--in FILE] [--out FILE] [OPTION]...
 
 Damages a file of PDUs: PDUs are lost in bursts, and of those that come through
-some have bytes of the header changed. A record of either file is its length in
-two bytes, low byte first, and then its bytes; a record of length 0 is a PDU
-marked lost, and stays so. The same seed gives the same damage.
+some have bytes of the header changed, or bits of pieces flipped. A record of
+either file is its length in two bytes, low byte first, and then its bytes; a
+record of length 0 is a PDU marked lost, and stays so. The same seed gives the
+same damage.
 
   --in FILE     PDUs (standard input, also for -)
   --out FILE    the PDUs that come through (standard output, also for -)
@@ -55,11 +68,16 @@ marked lost, and stays so. The same seed gives the same damage.
   --seed N      0 to 4294967295 (1)
   --loss N      how many PDUs in a thousand begin a burst of lost ones,
                 0 to 1000 (50)
-  --burst N     the longest burst, 1 to 64: each has 1 to N PDUs (4)
+  --burst N     the longest burst, 1 to 64: each has 1 to N PDUs (4); for
+                flipped bits see --bursts
   --damage N    how many PDUs in a thousand have a damaged header, 0 to 1000
                 (500)
   --bytes N     the most bytes changed in a damaged header, 0 to 96: each has
                 1 to N among the PDU's first 96 bytes (4)
+  --bursts N    how many pieces in a thousand have flipped bits, 0 to 1000 (0),
+                of those that reach beyond the PDU's first 96 bytes: each 1 to
+                8 of them, inside eight consecutive bits of the piece with its
+                CRC byte, and none in these 96 bytes; for lost PDUs see --burst
   --help        prints this and does nothing else (also -h)
 
 Standard error has the counts, and if not all PDUs are sent the last line

@@ -1,14 +1,17 @@
 // PDUs sent over a channel.
 use crate::report;
+use damage::dice;
 use damage::dice::Dice;
+use noise::Noise;
 
 // How bad the channel is: how many PDUs in a thousand begin a burst of lost ones, the longest burst, how many PDUs in a thousand have a damaged
-// header, and the most bytes that are altered in one.
+// header, the most bytes that are altered in one, and how many pieces in a thousand have bits flipped (document 02, Ask 12).
 pub struct Channel {
     pub loss: u64,
     pub burst: u64,
     pub damage: u64,
     pub bytes: u64,
+    pub bursts: u64,
 }
 
 // Where PDUs come from, where they and the places of their altered bytes go, and the channel between.
@@ -27,17 +30,20 @@ pub const UNWRITTEN: u8 = 5;
 
 pub const UNMARKED: u8 = 6;
 
-// A run so far: what came of the last reading, with END where all PDUs are sent, or of writing; the dice, and how many more PDUs the burst takes.
+// A run so far: what came of the last reading, with END where all PDUs are sent, or of writing; the dice,
+// those of the bits that are flipped, and how many more PDUs the burst takes.
 pub struct Run {
     pub status: u8,
     pub dice: Dice,
+    pub noise: Dice,
     pub burst: u64,
-    // How many PDUs there were, were marked lost before, were lost and were damaged, and how many bytes were altered.
+    // How many PDUs there were, were marked lost before, were lost and were damaged, how many bytes were altered, and how many pieces hit.
     pub pdus: u64,
     pub missing: u64,
     pub lost: u64,
     pub damaged: u64,
     pub altered: u64,
+    pub hit: u64,
 }
 
 // What becomes of a PDU: how many PDUs a burst takes from this one on, 0 where it is not lost; how many bytes of its header are to be altered
@@ -48,31 +54,37 @@ struct Fate {
     dice: Dice,
 }
 
-// What one PDU adds to the counts: 1 or 0 PDUs that were marked lost before, 1 or 0 lost, and bytes altered.
+// What one PDU adds to the counts: 1 or 0 PDUs that were marked lost before, 1 or 0 lost, bytes altered, and pieces hit.
 struct Share {
     missing: u64,
     lost: u64,
     altered: u64,
+    hit: u64,
 }
 
-fn begin(dice: Dice) -> Run {
+// The bits that are flipped have dice of their own: what is lost and what is altered of headers is the same with them or without.
+fn begin(seed: u32) -> Run {
+    let dice = dice::seeded(seed);
+    let noise = dice::seeded(u32::MAX - seed);
     Run {
         status: records::WHOLE,
         dice: dice,
+        noise: noise,
         burst: 0,
         pdus: 0,
         missing: 0,
         lost: 0,
         damaged: 0,
         altered: 0,
+        hit: 0,
     }
 }
 
 // Sends every PDU over the channel. They are counted down from a number that no run uses up, since a proved loop has to end, and nothing says that
 // a file does.
-pub fn send_all(task: Task, dice: Dice) -> Run {
+pub fn send_all(task: Task, seed: u32) -> Run {
     let mut pdu = io::large_buffer();
-    let mut run = begin(dice);
+    let mut run = begin(seed);
     let mut turns = u64::MAX;
     while 0 < turns {
         let next = turn(task, &mut pdu, run);
@@ -95,27 +107,54 @@ fn turn(task: Task, buf: &mut [u8], run: Run) -> Run {
     sent(task, &mut buf[..r.length], run)
 }
 
-// Sends a PDU: it is lost, or damaged, or comes through as it is.
+// Sends a PDU: it is lost, or comes through.
 fn sent(task: Task, pdu: &mut [u8], run: Run) -> Run {
     let channel = task.channel;
     let before = run.dice;
+    let noise = run.noise;
     let fate = fate_of(channel, run.burst, before);
     let dice = fate.dice;
     if pdu.len() == 0 {
-        let next = after(run, fate.burst, dice, came(1, 0, 0));
+        let next = after(run, fate.burst, dice, noise, came(1, 0));
         return kept(task, b"", b"", run, next);
     }
     if 0 < fate.burst {
-        let next = after(run, fate.burst, dice, came(0, 1, 0));
+        let next = after(run, fate.burst, dice, noise, came(0, 1));
         return kept(task, b"", b"", run, next);
     }
-    let done = damage::damaged(pdu, fate.bytes, dice);
+    let hits = noise::hit_pieces(&mut *pdu, channel.bursts, noise);
+    damaged(task, pdu, run, fate.bytes, dice, hits)
+}
+
+// Sends a PDU whose pieces are hit, or none of them: so many bytes of its header are altered.
+fn damaged(task: Task, pdu: &mut [u8], run: Run, bytes: u64, dice: Dice, hits: Noise) -> Run {
+    let done = damage::damaged(pdu, bytes, dice);
     let last = done.dice;
     let marks = done.marks;
     let places = marks.places;
     let n = marks.count;
-    let next = after(run, 0, last, came(0, 0, done.altered));
-    kept(task, pdu, &places[..n], run, next)
+    through(task, pdu, &places[..n], run, last, done.altered, hits)
+}
+
+// A PDU that comes through, with the places of so many altered bytes.
+fn through(
+    task: Task,
+    pdu: &[u8],
+    marks: &[u8],
+    run: Run,
+    dice: Dice,
+    altered: u64,
+    hits: Noise,
+) -> Run {
+    let noise = hits.dice;
+    let share = Share {
+        missing: 0,
+        lost: 0,
+        altered: altered,
+        hit: hits.hit,
+    };
+    let next = after(run, 0, dice, noise, share);
+    kept(task, pdu, marks, run, next)
 }
 
 // Draws a PDU's fate: four draws for each PDU, also where not all of them count.
@@ -149,11 +188,13 @@ fn bytes_of(channel: Channel, damaged: Dice, count: Dice) -> u64 {
     0
 }
 
-fn came(missing: u64, lost: u64, altered: u64) -> Share {
+// What a PDU adds that is lost, before or here.
+fn came(missing: u64, lost: u64) -> Share {
     Share {
         missing: missing,
         lost: lost,
-        altered: altered,
+        altered: 0,
+        hit: 0,
     }
 }
 
@@ -178,16 +219,18 @@ fn any(n: u64) -> u64 {
 }
 
 // The run after a PDU in a burst that takes so many from it on.
-fn after(run: Run, burst: u64, dice: Dice, share: Share) -> Run {
+fn after(run: Run, burst: u64, dice: Dice, noise: Dice, share: Share) -> Run {
     Run {
         status: records::WHOLE,
         dice: dice,
+        noise: noise,
         burst: fewer(burst),
         pdus: add(run.pdus, 1),
         missing: add(run.missing, share.missing),
         lost: add(run.lost, share.lost),
         damaged: add(run.damaged, any(share.altered)),
         altered: add(run.altered, share.altered),
+        hit: add(run.hit, share.hit),
     }
 }
 
@@ -208,14 +251,17 @@ fn kept(task: Task, pdu: &[u8], marks: &[u8], before: Run, next: Run) -> Run {
 // The run at its end, and how it stands.
 fn stopped(run: Run, status: u8) -> Run {
     let dice = run.dice;
+    let noise = run.noise;
     Run {
         status: status,
         dice: dice,
+        noise: noise,
         burst: run.burst,
         pdus: run.pdus,
         missing: run.missing,
         lost: run.lost,
         damaged: run.damaged,
         altered: run.altered,
+        hit: run.hit,
     }
 }

@@ -26,6 +26,9 @@ fn run(word: &[u8]) -> i32 {
     if check::same(word, b"latency") {
         return files::with_hint(b"barzhilup latency", trials::program());
     }
+    if check::same(word, b"join") {
+        return files::with_hint(b"barzhilup join", joiner::program());
+    }
     about(word)
 }
 
@@ -61,6 +64,7 @@ of reception.
   log        receives PDUs and writes the packet log
   coverage   draws a packet log
   latency    tries latencies before going on air
+  join       joins the logs of core and enhanced by packet number
 
   --help     prints this (also -h); barzhilup SUBCOMMAND --help says more
   --version  prints the version
@@ -84,6 +88,6 @@ fn unknown(word: &[u8]) {
     }
     io::write_all(
         STDERR_FILENO,
-        b"usage: barzhilup generate|channel|log|coverage|latency [OPTION]...\n",
+        b"usage: barzhilup generate|channel|log|coverage|latency|join [OPTION]...\n",
     );
 }

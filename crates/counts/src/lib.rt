@@ -1,5 +1,7 @@
 // What a run counts, as one row of numbers with a place for each count, and the lines that sum it up.
+use loss::Loss;
 use outcome::Outcome;
+use receiver::Receiver;
 use words::Word;
 ghost use mathlib.Core.Path.{_≡_};
 ghost use Prim.Native.Nat.{_<_};
@@ -29,31 +31,43 @@ const OTHERS: usize = 12;
 const DIFFERING: usize = 26;
 
 // How many numbers there are of refusals.
-const REFUSALS: u32 = 21;
+const REFUSALS: u32 = 28;
 
 // The place for the notes of cause 0; those of the other causes follow.
-const NOTES: usize = 27;
+const NOTES: usize = 34;
 
 // How many causes there are of notes.
-const CAUSES: u32 = 8;
+const CAUSES: u32 = 9;
 
-// The places for the notes 2, 3, 5 and 7: a wrong CRC, nothing held, too long, right in both copies and different.
-const WRONG_CRCS: usize = 29;
+// The places for the notes 2, 3, 5, 7 and 8: a wrong CRC, nothing held, too long, right in both copies and different, withheld.
+const WRONG_CRCS: usize = 36;
 
-const NOTHING_HELD: usize = 30;
+const NOTHING_HELD: usize = 37;
 
-const TOO_LONG: usize = 32;
+const TOO_LONG: usize = 39;
 
-const RIGHT_IN_BOTH: usize = 34;
+const RIGHT_IN_BOTH: usize = 41;
+
+const WITHHELD: usize = 42;
 
 // PDUs whose last piece was held.
-const HELD: usize = 35;
+const HELD: usize = 43;
+
+// 1 where a beginning is held after the last PDU, else 0.
+const HOLDS: usize = 44;
+
+// The loss column after the last PDU (document 02, Ask 14), and the last delivered number.
+const DELIVERED: usize = 45;
+
+const MISSING: usize = 46;
+
+const LAST: usize = 47;
 
 // Every count 0.
-pub fn none() -> [u64; 36]
-    ensures { λ r. ⌜ 36 ≡ length r ⌝ }
+pub fn none() -> [u64; 48]
+    ensures { λ r. ⌜ 48 ≡ length r ⌝ }
 {
-    [0; 36]
+    [0; 48]
 }
 
 // The count at a place, 0 where there is none.
@@ -72,9 +86,17 @@ pub fn add(counts: &mut [u64], place: usize, more: u64) {
     counts[place] = std::num::wrapping_add_u64(counts[place], more);
 }
 
+// Puts a number at a place, if there is one.
+pub fn set(counts: &mut [u64], place: usize, number: u64) {
+    if counts.len() <= place {
+        return;
+    }
+    counts[place] = number;
+}
+
 // The place of a number among so many that follow a place.
 fn place_of(first: usize, number: u32, many: u32) -> usize
-    requires { ⌜ first < 34 ⌝ }
+    requires { ⌜ first < 48 ⌝ }
 {
     if number < many {
         return first + number as usize;
@@ -90,8 +112,39 @@ fn add_corrected(counts: &mut [u64], bytes: u32) {
     }
 }
 
-// Counts what came of a PDU.
+// Counts a PDU whose last piece is held, 1, or is not, 0.
+fn hold(counts: &mut [u64], held: u64) {
+    set(counts, HOLDS, held);
+    add(counts, HELD, held);
+}
+
+// Keeps the loss column.
+fn set_loss(counts: &mut [u64], l: Loss) {
+    set(counts, DELIVERED, l.delivered as u64);
+    set(counts, MISSING, l.missing as u64);
+    set(counts, LAST, l.last as u64);
+}
+
+// The loss column that was kept.
+pub fn loss(counts: &[u64]) -> Loss {
+    Loss {
+        delivered: (at(counts, DELIVERED) % 4294967296) as u32,
+        missing: (at(counts, MISSING) % 4294967296) as u32,
+        last: (at(counts, LAST) % 256) as u8,
+    }
+}
+
+// Begins to count after what a receiver's record has: a beginning that is held, or none, and the loss column.
+pub fn begin(counts: &mut [u64], receiver: Receiver) {
+    set(counts, HOLDS, (receiver.held != 0) as u64);
+    set_loss(counts, loss::of_record(receiver));
+}
+
+// Counts what came of a PDU. After one that is lost or refused nothing is held.
 pub fn add_outcome(counts: &mut [u64], o: Outcome) {
+    let receiver = o.receiver;
+    set_loss(counts, loss::of_record(receiver));
+    hold(counts, (receiver.held != 0) as u64);
     if o.kind == outcome::LOST {
         add(counts, LOST, 1);
         return;
@@ -100,9 +153,7 @@ pub fn add_outcome(counts: &mut [u64], o: Outcome) {
         add(counts, place_of(REFUSED, o.number, REFUSALS), 1);
         return;
     }
-    let receiver = o.receiver;
     add(counts, RECEIVED, 1);
-    add(counts, HELD, (receiver.held != 0) as u64);
     add_corrected(counts, o.number);
 }
 
@@ -133,19 +184,21 @@ fn settled(counts: &[u64]) -> u64 {
 }
 
 // Counts a PDU that was received with others in one call, whose receiver after it is not known: the bytes of its header that were corrected, its pieces, and the
-// entries of its log. A piece that is neither delivered nor noted is held (document 01, "Receiver", step 4).
-pub fn add_received(counts: &mut [u64], corrected: u32, pieces: u64, log: &[u32]) {
+// entries of its log, with the loss column after it. A piece that was looked at and is neither delivered nor noted is held (document 01, "Receiver", step 4).
+pub fn add_received(counts: &mut [u64], corrected: u32, pieces: u64, log: &[u32], l: Loss) {
+    set_loss(counts, l);
     add(counts, RECEIVED, 1);
     add_corrected(counts, corrected);
+    let looked = words::looked_at(pieces, at(counts, HOLDS) != 0, log);
     let before = settled(counts);
     add_log(counts, log);
     let more = std::num::wrapping_sub_u64(settled(counts), before);
-    add(counts, HELD, std::num::wrapping_sub_u64(pieces, more));
+    hold(counts, std::num::wrapping_sub_u64(looked, more));
 }
 
 // The sum of so many counts from a place on.
 fn sum(counts: &[u64], first: usize, many: u32) -> u64
-    requires { ⌜ first < 34 ⌝ }
+    requires { ⌜ first < 48 ⌝ }
 {
     let mut total: u64 = 0;
     let mut k: u32 = 0;
@@ -238,7 +291,7 @@ fn put_line(out: &mut [u8], at: usize, first: usize, number: u32, count: u64) ->
 
 // A line for each count but 0 of so many from a place on: refusals, or notes.
 fn put_lines(out: &mut [u8], start: usize, counts: &[u64], first: usize, many: u32) -> usize
-    requires { ⌜ first < 34 ⌝ }
+    requires { ⌜ first < 48 ⌝ }
     ensures { λ r. ⌜ Counts r (now (out .exit)) ⌝ }
 {
     let mut n = text::put(out, start, b"");
@@ -250,6 +303,17 @@ fn put_lines(out: &mut [u8], start: usize, counts: &[u64], first: usize, many: u
     n
 }
 
+// How many of the received PDUs were withheld (document 02, Ask 10), within a line; nothing where none was.
+fn put_withheld(out: &mut [u8], start: usize, counts: &[u64]) -> usize
+    ensures { λ r. ⌜ Counts r (now (out .exit)) ⌝ }
+{
+    let count = at(counts, WITHHELD);
+    if count == 0 {
+        return text::put(out, start, b"");
+    }
+    text::fill(out, start, b", of these withheld @", &[count])
+}
+
 // The counts of PDUs, and those of refusals.
 fn put_pdus(out: &mut [u8], pdus: u64, counts: &[u64]) -> usize
     ensures { λ r. ⌜ Counts r (now (out .exit)) ⌝ }
@@ -257,15 +321,17 @@ fn put_pdus(out: &mut [u8], pdus: u64, counts: &[u64]) -> usize
     let n = text::fill(
         out,
         0,
-        b"barzhilup log: PDUs @: received @, lost @, refused @\n",
-        &[
-            pdus,
-            at(counts, RECEIVED),
-            at(counts, LOST),
-            refused(counts),
-        ],
+        b"barzhilup log: PDUs @: received @",
+        &[pdus, at(counts, RECEIVED)],
     );
-    put_lines(out, n, counts, REFUSED, REFUSALS)
+    let m = put_withheld(out, n, counts);
+    let k = text::fill(
+        out,
+        m,
+        b", lost @, refused @\n",
+        &[at(counts, LOST), refused(counts)],
+    );
+    put_lines(out, k, counts, REFUSED, REFUSALS)
 }
 
 // The counts of what was corrected and of what was logged, and those of notes.
@@ -289,12 +355,25 @@ barzhilup log: packets @, PSD entries @, notes @
     put_lines(out, n, counts, NOTES, CAUSES)
 }
 
+// The loss column after the last PDU, and when it is exact.
+fn put_loss(out: &mut [u8], start: usize, counts: &[u64]) -> usize
+    ensures { λ r. ⌜ Counts r (now (out .exit)) ⌝ }
+{
+    text::fill(
+        out,
+        start,
+        b"barzhilup log: delivered @, missing @; missing is exact where PDUs come once and in turn, and fewer than 64 packets are missing between two delivered\n",
+        &[at(counts, DELIVERED), at(counts, MISSING)],
+    )
+}
+
 // What was received and logged.
 pub fn put_summary(out: &mut [u8], pdus: u64, counts: &[u64]) -> usize
     ensures { λ r. ⌜ Counts r (now (out .exit)) ⌝ }
 {
     let n = put_pdus(out, pdus, counts);
-    put_logged(out, n, counts)
+    let k = put_logged(out, n, counts);
+    put_loss(out, k, counts)
 }
 
 // What a receiver got by itself, in a line with its name.
@@ -302,16 +381,25 @@ pub fn put_alone(out: &mut [u8], start: usize, name: &[u8], counts: &[u64]) -> u
     ensures { λ r. ⌜ Counts r (now (out .exit)) ⌝ }
 {
     let n = text::put(out, start, name);
-    text::fill(
+    let m = text::fill(
         out,
         n,
-        b" alone: PDUs came @, received @; headers corrected @, bytes corrected @; packets @\n",
+        b" alone: PDUs came @, received @",
         &[
             std::num::wrapping_add_u64(at(counts, RECEIVED), refused(counts)),
             at(counts, RECEIVED),
+        ],
+    );
+    let k = put_withheld(out, m, counts);
+    text::fill(
+        out,
+        k,
+        b"; headers corrected @, bytes corrected @; packets @, missing @\n",
+        &[
             at(counts, HEADERS),
             at(counts, BYTES),
             at(counts, PACKETS),
+            at(counts, MISSING),
         ],
     )
 }

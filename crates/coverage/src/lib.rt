@@ -103,17 +103,20 @@ fn said(run: Run, counted: u32, from: &[u8]) -> bool {
     let d = run.drive;
     let same = d.count == counted;
     if run.state == drawing::READ {
-        said_of_log(d.whole, same, from);
+        said_of_log(d.whole, d.counted, same, from);
     }
     picture::tally::say(d);
     same
 }
 
-fn said_of_log(whole: bool, same: bool, from: &[u8]) {
+fn said_of_log(whole: bool, counted: bool, same: bool, from: &[u8]) {
     if !same {
         files::say(from, b": changed while it was read\n");
     }
     if !whole {
         files::say(from, b": has no last line: the log is not whole\n");
+    }
+    if !counted {
+        files::say(from, b": has no loss column: no packets are counted\n");
     }
 }

@@ -25,7 +25,7 @@ fn wrong_line(label: &[u8], number: u64, wrong: u8) {
         &mut line,
         n,
         text::entry(
-            b"\0not pdu,kind,number,length,cause\n\0over 200 bytes\n\0fewer than five fields\n\0kind is none of received, lost, refused, packet, psd, note\n\0pdu, number or length is not a number\n\0packet number over 63\n\0pdu is out of order\n\0not ,end,N,,whole\n\0not the count of PDUs\n\0after the last line\n\0",
+            b"\0not pdu,kind,number,length,cause,delivered,missing\n\0over 200 bytes\n\0fewer fields than the first line has\n\0kind is none of received, lost, refused, packet, psd, note\n\0pdu, number or length is not a number\n\0packet number over 63\n\0pdu is out of order\n\0not ,end,N,,whole with the fields of the first line\n\0not the count of PDUs\n\0after the last line\n\0delivered and missing are not two numbers for a PDU and empty for others\n\0delivered or missing is less than before\n\0",
             wrong as u32,
         ),
     );
@@ -53,11 +53,17 @@ pub fn usage() -> bool {
 Draws a drive as SVG from the CSV of barzhilup log: a cell for each PDU,
 received, received with a corrected header, lost or refused, with a mark where
 a CRC is wrong; under it a bar for the packets that it delivered, and a tick
-where packets are missing before those, by their numbers; and totals. Where
-PDUs may have come twice or out of turn, it is not known how many packets are
-missing: such gaps are counted apart. In the log of two recordings (log
---second) a stroke at a cell's upper edge tells that pieces are taken from the
-first copy, one at its lower edge that they are from the second.
+where packets are missing before those; and totals. A withheld PDU (log
+--entitled) has a hollow cell. In the log of two recordings (log --second) a
+stroke at a cell's upper edge tells that pieces are taken from the first copy,
+one at its lower edge that they are from the second.
+
+Delivered and missing are those of the receiver's record, as the CSV has them;
+a tick stands where missing grew. Withheld packets and those with a damaged
+piece count as missing; what is missing before the first one delivered does
+not. Missing is exact where PDUs come once and in turn, and fewer than 64
+packets are missing between two delivered. A CSV without these two columns is
+drawn without them.
 
   --in FILE     the CSV (standard input, also for -); it is read twice, so no
                 pipe

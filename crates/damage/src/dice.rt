@@ -33,7 +33,7 @@ impl Dice {
     }
 
     // The number that lies on top, from 0 to before n; it stays until the dice are turned.
-    pub(crate) fn below(self, n: u64) -> u64
+    pub fn below(self, n: u64) -> u64
         requires { ⌜ 0 < n ⌝ }
         ensures { λ r. ⌜ r < n ⌝ }
     {

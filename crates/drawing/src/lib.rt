@@ -85,7 +85,7 @@ fn drawn(task: Task, block: &mut [u8], d: Drive, at: usize) -> Waiting {
         return Waiting { ok: true, at: at };
     }
     let shape = task.shape;
-    let pdu = d.pdu;
+    let pdu = drive::last(d);
     let n = cells::put_pdu(
         block,
         at,
@@ -126,7 +126,7 @@ fn taken(task: Task, block: &mut [u8], run: Run, ahead: Lines, e: Entry) -> Run 
         return stopped(run, WRONG, wrong);
     }
     let next = drive::taken(before, e);
-    if !drive::is_pdu(e) {
+    if !entry::is_pdu(e.kind) {
         return onward(
             run,
             ahead,
@@ -159,11 +159,16 @@ fn ended(task: Task, block: &mut [u8], run: Run, status: u8) -> Run {
     last
 }
 
-// Whether a line is the beginning of one, with which the file is cut: it lacks its end and says nothing, the first line is there, and the last is
-// not.
+// Whether a line may say less than it did: it says nothing, or ends with a number.
+fn is_part(e: Entry) -> bool {
+    (e.wrong != 0) | (e.counted & entry::is_pdu(e.kind))
+}
+
+// Whether a line is the beginning of one, with which the file is cut: it lacks its end and may say less than it did, the first line is there, and the last
+// is not.
 fn is_cut(run: Run, ended: bool, e: Entry) -> bool {
     let d = run.drive;
-    !ended & (e.wrong != 0) & (run.count != 0) & !d.whole
+    !ended & is_part(e) & (run.count != 0) & !d.whole
 }
 
 // Reads a line and takes it; one that is cut is left out.
@@ -174,7 +179,8 @@ fn turn(task: Task, buf: &mut [u8], block: &mut [u8], run: Run) -> Run {
         return ended(task, block, run, l.status);
     }
     let ahead = l.rest;
-    let e = entry::read(lines::part(buf, l.from, l.to), run.count);
+    let d = run.drive;
+    let e = entry::read(lines::part(buf, l.from, l.to), run.count, d.counted);
     if is_cut(run, l.ended, e) {
         return ended(task, block, run, lines::END);
     }

@@ -1,32 +1,32 @@
 // A drive, as the lines of its log tell it.
 use csv::entry;
 use csv::entry::Entry;
-use gaps::Before;
 
-// A PDU: what became of it, how many bytes of its header were corrected, how many of its pieces have a wrong CRC, how many packets it delivered,
-// and before those, how many packets are missing and how many gaps are not known; and the copy that its pieces are taken from, 0 where it came as one.
+// A PDU: what became of it, the copy that its pieces are taken from, 0 where it came as one, whether it was withheld (document 02, Ask 10), how many bytes of
+// its header were corrected, how many of its pieces have a wrong CRC, how many packets it delivered, and how many are missing before these: by so many the
+// loss column grew (document 02, Ask 14).
 pub struct Pdu {
     pub kind: u32,
     pub copy: u32,
+    pub withheld: bool,
     pub corrected: u32,
     pub crcs: u32,
     pub packets: u32,
     pub missing: u32,
-    pub unknown: u32,
 }
 
-// How many PDUs were received, were received with a corrected header, were lost and were refused; how many pieces have a wrong CRC; how many
-// packets were delivered and are missing, and how many gaps are not known; and the most packets that one PDU delivered.
+// How many PDUs were received, were received with a corrected header, were withheld, were lost and were refused; how many pieces have a wrong CRC; the
+// most packets that one PDU delivered; and the loss column after the last PDU.
 pub struct Totals {
     pub received: u64,
     pub corrected: u64,
+    pub withheld: u64,
     pub lost: u64,
     pub refused: u64,
     pub crcs: u64,
-    pub packets: u64,
-    pub missing: u64,
-    pub unknown: u64,
     pub most: u32,
+    pub delivered: u32,
+    pub missing: u32,
 }
 
 // How many PDUs that came as two copies are taken from the first, from the second, from both, and from either.
@@ -37,13 +37,12 @@ pub struct Copies {
     pub either: u64,
 }
 
-// A drive so far: whether its last line is there, how many PDUs there are, the last of them, what is known before the next packet, the
-// totals, and the copies.
+// A drive so far: whether its last line is there, whether its log has a loss column, how many PDUs there are, the last of them, the totals, and the copies.
 pub struct Drive {
     pub whole: bool,
+    pub counted: bool,
     pub count: u32,
     pub pdu: Pdu,
-    pub before: Before,
     pub totals: Totals,
     pub copies: Copies,
 }
@@ -51,24 +50,19 @@ pub struct Drive {
 pub fn begin() -> Drive {
     Drive {
         whole: false,
+        counted: false,
         count: 0,
-        pdu: fresh(0, 0, 0),
-        before: Before {
-            any: false,
-            last: 0,
-            broken: false,
-            missed: false,
-        },
+        pdu: fresh(0, 0, 0, 0),
         totals: Totals {
             received: 0,
             corrected: 0,
+            withheld: 0,
             lost: 0,
             refused: 0,
             crcs: 0,
-            packets: 0,
-            missing: 0,
-            unknown: 0,
             most: 0,
+            delivered: 0,
+            missing: 0,
         },
         copies: Copies {
             first: 0,
@@ -80,26 +74,21 @@ pub fn begin() -> Drive {
 }
 
 // A PDU that has delivered nothing yet.
-fn fresh(kind: u32, copy: u32, corrected: u32) -> Pdu {
+fn fresh(kind: u32, copy: u32, corrected: u32, missing: u32) -> Pdu {
     Pdu {
         kind: kind,
         copy: copy,
+        withheld: false,
         corrected: corrected,
         crcs: 0,
         packets: 0,
-        missing: 0,
-        unknown: 0,
+        missing: missing,
     }
-}
-
-// Whether a line tells what became of a PDU.
-pub fn is_pdu(e: Entry) -> bool {
-    (e.kind == entry::RECEIVED) | (e.kind == entry::LOST) | (e.kind == entry::REFUSED)
 }
 
 // Whether a line of a PDU is in its place: PDUs are counted from 0, and what else is told belongs to the last one.
 fn is_next(d: Drive, e: Entry) -> bool {
-    if is_pdu(e) {
+    if entry::is_pdu(e.kind) {
         return e.pdu == d.count;
     }
     if d.count == 0 {
@@ -115,6 +104,20 @@ fn unless(right: bool, wrong: u8) -> u8 {
     wrong
 }
 
+// Whether the loss column of a line does not fall: no count of a receiver does.
+fn is_growing(d: Drive, e: Entry) -> bool {
+    let t = d.totals;
+    !entry::is_pdu(e.kind) | ((t.delivered <= e.delivered) & (t.missing <= e.missing))
+}
+
+// What is wrong with a line of a PDU, after others.
+fn fault_of_pdu(d: Drive, e: Entry) -> u8 {
+    if !is_next(d, e) {
+        return entry::OUT_OF_ORDER;
+    }
+    unless(is_growing(d, e), entry::FALLING)
+}
+
 // What is wrong with the next line of a drive, 0 for nothing.
 pub fn fault(d: Drive, e: Entry) -> u8 {
     if e.wrong != 0 {
@@ -127,7 +130,7 @@ pub fn fault(d: Drive, e: Entry) -> u8 {
     match kind {
         entry::TITLE => 0,
         entry::END => unless(e.number == d.count, entry::NOT_THE_COUNT),
-        _ => unless(is_next(d, e), entry::OUT_OF_ORDER),
+        _ => fault_of_pdu(d, e),
     }
 }
 
@@ -158,8 +161,9 @@ pub fn taken(d: Drive, e: Entry) -> Drive {
     let kind = e.kind;
     match kind {
         entry::RECEIVED | entry::LOST | entry::REFUSED => begun(d, e),
-        entry::PACKET => delivered(d, e.number),
+        entry::PACKET => delivered(d),
         entry::NOTE => noted(d, e.cause),
+        entry::TITLE => titled(d, e.counted),
         entry::END => ended(d),
         _ => d,
     }
@@ -188,73 +192,77 @@ pub fn is_of_copies(c: Copies) -> bool {
     (c.first != 0) | (c.second != 0) | (c.both != 0) | (c.either != 0)
 }
 
-// The drive with one more PDU: one that is lost or refused is missed.
+// How many packets are missing before those of the last PDU. Of a receiver that had delivered packets before a log's first PDU the log does not tell how many were
+// missing by then.
+fn missing_before(d: Drive) -> u32 {
+    let p = d.pdu;
+    let t = d.totals;
+    if (d.count == 1) & (t.delivered != p.packets) {
+        return 0;
+    }
+    p.missing
+}
+
+// The last PDU, all of whose lines are taken.
+pub fn last(d: Drive) -> Pdu {
+    let mut p = d.pdu;
+    p.missing = missing_before(d);
+    p
+}
+
+// How many packets were delivered or are missing.
+pub fn both(t: Totals) -> u64 {
+    add(t.delivered as u64, t.missing)
+}
+
+// The drive with its first line.
+fn titled(d: Drive, counted: bool) -> Drive {
+    let mut next = d;
+    next.counted = counted;
+    next
+}
+
+// The drive with one more PDU.
 fn begun(d: Drive, e: Entry) -> Drive {
     let t = d.totals;
-    let mut before = d.before;
     let copies = d.copies;
     let copy = copy_of(e);
     let received = e.kind == entry::RECEIVED;
-    before.missed = before.missed | !received;
     Drive {
         whole: false,
+        counted: d.counted,
         count: more(d.count, 1),
-        pdu: fresh(e.kind, copy, e.number),
-        before: before,
+        pdu: fresh(
+            e.kind,
+            copy,
+            e.number,
+            std::num::wrapping_sub_u32(e.missing, t.missing),
+        ),
         totals: Totals {
             received: add(t.received, one_if(received)),
             corrected: add(t.corrected, one_if(received & (0 < e.number))),
+            withheld: t.withheld,
             lost: add(t.lost, one_if(e.kind == entry::LOST)),
             refused: add(t.refused, one_if(e.kind == entry::REFUSED)),
             crcs: t.crcs,
-            packets: t.packets,
-            missing: t.missing,
-            unknown: t.unknown,
             most: t.most,
+            delivered: e.delivered,
+            missing: e.missing,
         },
         copies: with_copy(copies, copy),
     }
 }
 
 // The drive with one more packet.
-fn delivered(d: Drive, number: u32) -> Drive {
-    let t = d.totals;
-    let p = d.pdu;
-    let before = d.before;
-    let copies = d.copies;
-    let packets = more(p.packets, 1);
-    let gap = gaps::gap_before(before, number);
-    Drive {
-        whole: false,
-        count: d.count,
-        pdu: Pdu {
-            kind: p.kind,
-            copy: p.copy,
-            corrected: p.corrected,
-            crcs: p.crcs,
-            packets: packets,
-            missing: more(p.missing, gap.missing),
-            unknown: more(p.unknown, gap.unknown),
-        },
-        before: Before {
-            any: true,
-            last: number,
-            broken: false,
-            missed: false,
-        },
-        totals: Totals {
-            received: t.received,
-            corrected: t.corrected,
-            lost: t.lost,
-            refused: t.refused,
-            crcs: t.crcs,
-            packets: add(t.packets, 1),
-            missing: add(t.missing, gap.missing),
-            unknown: add(t.unknown, gap.unknown),
-            most: greatest(t.most, packets),
-        },
-        copies: copies,
-    }
+fn delivered(d: Drive) -> Drive {
+    let mut p = d.pdu;
+    let mut t = d.totals;
+    p.packets = more(p.packets, 1);
+    t.most = greatest(t.most, p.packets);
+    let mut next = d;
+    next.pdu = p;
+    next.totals = t;
+    next
 }
 
 // Whether a note tells that a piece has a wrong CRC, or is treated as one that has: right in both copies and different.
@@ -262,44 +270,25 @@ fn is_wrong(cause: u32) -> bool {
     (cause == entry::WRONG_CRC) | (cause == entry::COPIES_DIFFER)
 }
 
-// Whether a note tells that something was missed.
-fn is_missed(cause: u32) -> bool {
-    is_wrong(cause) | (cause == entry::PIECE_TOO_LONG) | (cause == entry::PDU_LOST)
-}
-
-// The drive with one more note: one for the sequence breaks it, one for a wrong CRC is counted.
+// The drive with one more note: one for a wrong CRC is counted, and so is one for a withheld PDU, once for each that was received.
 fn noted(d: Drive, cause: u32) -> Drive {
     let mut p = d.pdu;
     let mut t = d.totals;
-    let mut before = d.before;
-    let copies = d.copies;
     let wrong = one_if(is_wrong(cause));
+    let withheld = (cause == entry::WITHHELD) & (p.kind == entry::RECEIVED) & !p.withheld;
     p.crcs = more(p.crcs, wrong);
+    p.withheld = p.withheld | withheld;
     t.crcs = add(t.crcs, wrong);
-    before.broken = before.broken | (cause == entry::SEQUENCE);
-    before.missed = before.missed | is_missed(cause);
-    Drive {
-        whole: false,
-        count: d.count,
-        pdu: p,
-        before: before,
-        totals: t,
-        copies: copies,
-    }
+    t.withheld = add(t.withheld, one_if(withheld));
+    let mut next = d;
+    next.pdu = p;
+    next.totals = t;
+    next
 }
 
 // The drive with its last line.
 fn ended(d: Drive) -> Drive {
-    let p = d.pdu;
-    let before = d.before;
-    let t = d.totals;
-    let copies = d.copies;
-    Drive {
-        whole: true,
-        count: d.count,
-        pdu: p,
-        before: before,
-        totals: t,
-        copies: copies,
-    }
+    let mut next = d;
+    next.whole = true;
+    next
 }

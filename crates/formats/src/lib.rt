@@ -1,4 +1,4 @@
-// The formats of the packet log: its words, text for people, or comma-separated values.
+// The formats of the packet log: its words, text for people, comma-separated values, or records of each PDU's words.
 mod columns;
 mod people;
 
@@ -12,7 +12,9 @@ pub const TEXT: u8 = 1;
 
 pub const CSV: u8 = 2;
 
-pub const NO_FORMAT: u8 = 3;
+pub const RECORDS: u8 = 3;
+
+pub const NO_FORMAT: u8 = 4;
 
 // No word of a log takes more bytes in any format.
 pub const MOST: usize = 128;
@@ -32,7 +34,10 @@ pub fn put_title(out: &mut [u8], format: u8) -> usize
     text::put(
         out,
         0,
-        text::entry(b"\0\0pdu,kind,number,length,cause\n\0", format as u32),
+        text::entry(
+            b"\0\0pdu,kind,number,length,cause,delivered,missing\n\0",
+            format as u32,
+        ),
     )
 }
 
@@ -43,9 +48,16 @@ pub fn put_end(out: &mut [u8], format: u8, pdus: u64) -> usize
     text::fill(
         out,
         0,
-        text::entry(b"\0\0,end,@,,whole\n\0", format as u32),
+        text::entry(b"\0\0,end,@,,whole,,\n\0", format as u32),
         &[pdus],
     )
+}
+
+// The length of a record that has so many words, in two bytes, low byte first. A PDU's log has at most 8,400.
+fn put_length(out: &mut [u8], words: usize) -> usize
+    ensures { λ r. ⌜ Counts r (now (out .exit)) ⌝ }
+{
+    text::put(out, 0, &[(words % 64 * 4) as u8, (words / 64 % 256) as u8])
 }
 
 // What stands for a PDU, counted from 0, before the words of its log.
@@ -55,6 +67,7 @@ pub fn put_pdu(out: &mut [u8], format: u8, pdu: u64, o: Outcome) -> usize
     match format {
         TEXT => people::put_pdu(out, pdu, o),
         CSV => columns::put_pdu(out, pdu, o),
+        RECORDS => put_length(out, o.words),
         _ => text::put(out, 0, b""),
     }
 }

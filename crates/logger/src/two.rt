@@ -1,7 +1,5 @@
 // The log of a drive that two receivers recorded (document 02, Ask 5).
-use crate::arguments;
-use crate::arguments::Job;
-use crate::report;
+use job::Job;
 use logging::output::Sink;
 use receiver::Receiver;
 use recordings::Run;
@@ -28,8 +26,8 @@ fn with_both(
     second: i32,
 ) -> bool {
     let mut onto = files::label_buffer();
-    let n = files::put_output_label(&mut onto, b"barzhilup log", &arguments::KNOWN);
-    let output = files::open_output(&arguments::KNOWN, b"out", &onto[..n]);
+    let n = files::put_output_label(&mut onto, b"barzhilup log", &job::KNOWN);
+    let output = files::open_output(&job::KNOWN, b"out", &onto[..n]);
     if output < 0 {
         return false;
     }
@@ -41,26 +39,19 @@ fn with_both(
             format: job.format,
         },
     };
-    logged(job, task, receiver, from, other, &onto[..n])
+    logged(task, receiver, from, other, &onto[..n])
 }
 
 // Logs, closes the file of the log, and says what was received.
-fn logged(
-    job: Job,
-    task: Task,
-    receiver: Receiver,
-    from: &[u8],
-    other: &[u8],
-    onto: &[u8],
-) -> bool {
+fn logged(task: Task, receiver: Receiver, from: &[u8], other: &[u8], onto: &[u8]) -> bool {
     let mut rows = recordings::no_counts();
     let run = recordings::log_all(task, receiver, &mut rows);
     ends(run, from, other, onto, &rows);
     let sink = task.sink;
     let closed = files::close(sink.fd, onto);
-    report::summary(run.pdus, &rows);
-    report::copies(&rows);
-    ask(job, &rows);
+    remarks::summary(run.pdus, &rows);
+    remarks::copies(&rows);
+    ask(receiver, &rows);
     (run.status == records::END) & closed
 }
 
@@ -71,14 +62,14 @@ fn ends(run: Run, from: &[u8], other: &[u8], onto: &[u8], rows: &[u64]) {
     }
     let one = counts::at(rows, recordings::FIRST_RECORDS);
     let two = counts::at(rows, recordings::SECOND_RECORDS);
-    report::side_ends(run.first, from, one, run.pdus);
-    report::side_ends(run.second, other, two, run.pdus);
+    remarks::side_ends(run.first, from, one, run.pdus);
+    remarks::side_ends(run.second, other, two, run.pdus);
 }
 
 // What is asked of one file, and whether both have a record for each PDU, where the pairs speak against it.
-fn ask(job: Job, counts: &[u64]) {
-    crate::ask(job, counts);
+fn ask(receiver: Receiver, counts: &[u64]) {
+    crate::ask(receiver, counts);
     if counts::is_out_of_step(counts) {
-        report::out_of_step();
+        remarks::out_of_step();
     }
 }

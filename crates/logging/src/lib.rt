@@ -5,20 +5,24 @@ pub mod output;
 use outcome::Outcome;
 use output::Sink;
 use receiver::Receiver;
+use saved_state::State;
 ghost use Rattle.io.specs.Counts.{Counts};
 
-// Where PDUs come from, where their marks do, and where their log goes.
+// Where PDUs come from, where their marks do, where their log goes, and how many bytes of it were written before this run.
 pub struct Task {
     pub input: i32,
     pub marks: i32,
     pub sink: Sink,
+    pub bytes: u64,
 }
 
-// How a run stands where the log could not be written.
+// How a run stands where the log could not be written, and where its state could not be saved.
 pub const UNWRITTEN: u8 = 5;
 
-// A run so far: what came of the last reading, with END where all PDUs are read and logged, or UNWRITTEN, or how it stands by its marks; its
-// receiver, and how many PDUs were logged.
+pub const UNSAVED: u8 = 10;
+
+// A run so far: what came of the last reading, with END where all PDUs are read and logged, or UNWRITTEN, UNSAVED, or how it stands by its
+// marks; its receiver, and how many PDUs are logged, with those before this run.
 pub struct Run {
     pub status: u8,
     pub receiver: Receiver,
@@ -33,29 +37,62 @@ pub fn run_of(status: u8, receiver: Receiver, pdus: u64) -> Run {
     }
 }
 
-// The words that were written to a log, which are its first ones.
-pub fn written(log: &[u32], words: usize) -> &[u32] {
-    if words < log.len() {
-        return &log[0..words];
+// Writes what stands before all PDUs, if nothing of the log is written yet. Answers whether that went well.
+pub fn begin(task: Task, block: &mut [u8]) -> bool {
+    if task.bytes != 0 {
+        return true;
     }
-    log
+    let sink = task.sink;
+    output::begin(sink, block)
 }
 
-// Logs all PDUs. What stopped it before the end, its status says, and errno with that.
-pub fn log_all(task: Task, receiver: Receiver, counts: &mut [u64]) -> Run {
-    let mut carry = [0u8; 4096];
+// A place in a file as a count of bytes, 0 where there are no places.
+fn bytes_before(place: i64) -> u64 {
+    if place > 0 {
+        return place as u64;
+    }
+    0
+}
+
+// Saves how a run stands after so many PDUs in the file of a path, if there is one, and more are logged and all of their log is written (document 02, Ask 13).
+pub fn saved(task: Task, path: &[u8], carry: &[u8], before: u64, run: Run) -> Run {
+    if path.len() == 0 {
+        return run;
+    }
+    if run.pdus == before {
+        return run;
+    }
+    if run.status == UNWRITTEN {
+        return run;
+    }
+    let receiver = run.receiver;
+    let sink = task.sink;
+    let state = State {
+        receiver: receiver,
+        pdus: run.pdus,
+        bytes: std::num::wrapping_add_u64(task.bytes, bytes_before(files::place(sink.fd))),
+    };
+    if saved_state::save(path, state, carry) {
+        return run;
+    }
+    run_of(UNSAVED, receiver, run.pdus)
+}
+
+// Logs all PDUs, and saves how the run stands in the file of a path after each, if there is one. What stopped it before the end, its status says, and errno with
+// that.
+pub fn log_all(task: Task, path: &[u8], carry: &mut [u8], start: Run, counts: &mut [u64]) -> Run {
     let mut pdu = [0u8; 65535];
     let mut places = [0u8; 65535];
     let mut log = [0u32; 8400];
     let mut block = io::large_buffer();
-    let sink = task.sink;
-    if !output::begin(sink, &mut block) {
-        return run_of(UNWRITTEN, receiver, 0);
+    let receiver = start.receiver;
+    if !begin(task, &mut block) {
+        return run_of(UNWRITTEN, receiver, start.pdus);
     }
-    let start = run_of(records::WHOLE, receiver, 0);
     let run = all_turns(
         task,
-        &mut carry,
+        path,
+        carry,
         &mut pdu,
         &mut places,
         &mut log,
@@ -63,6 +100,7 @@ pub fn log_all(task: Task, receiver: Receiver, counts: &mut [u64]) -> Run {
         counts,
         start,
     );
+    let sink = task.sink;
     ended(sink, &mut block, run)
 }
 
@@ -86,6 +124,7 @@ pub fn progress(pdus: u64) {
 // All turns. They are counted down from a number that no run uses up, since a proved loop has to end, and nothing says that a file does.
 fn all_turns(
     task: Task,
+    path: &[u8],
     carry: &mut [u8],
     pdu: &mut [u8],
     places: &mut [u8],
@@ -97,8 +136,9 @@ fn all_turns(
     let mut run = start;
     let mut turns = u64::MAX;
     while 0 < turns {
+        let before = run.pdus;
         let next = turn(task, carry, pdu, places, log, block, counts, run);
-        run = next;
+        run = saved(task, path, carry, before, next);
         if run.status != records::WHOLE {
             return run;
         }
@@ -195,7 +235,7 @@ fn taken(
     pdu: u64,
 ) -> Run {
     let receiver = o.receiver;
-    let words = written(log, o.words);
+    let words = words::written(log, o.words);
     if !output::keep(sink, pdu, o, words, block) {
         return run_of(UNWRITTEN, receiver, pdu);
     }

@@ -239,7 +239,7 @@ fn length_wrong(i: usize, length: usize) -> u32 {
     if 0 < length {
         return RIGHT;
     }
-    if kind_at(b"in=\0out=\0second=\0psd=\0marks=\0svg=\0", i) == VALUED {
+    if kind_at(b"in=\0out=\0second=\0psd=\0marks=\0svg=\0enhanced=\0", i) == VALUED {
         return MISSING;
     }
     RIGHT
@@ -319,7 +319,7 @@ fn is_right(program: &[u8], known: &[u8], i: usize) -> bool
 }
 
 // Whether every argument is a known option, given once, with a value of at most 4,096 bytes where it takes one, or such a value; one that names
-// a file, `in`, `out`, `second`, `psd`, `marks` or `svg`, is not empty. Says what is wrong with each that is not.
+// a file, `in`, `out`, `second`, `psd`, `marks`, `svg` or `enhanced`, is not empty. Says what is wrong with each that is not.
 pub fn check(program: &[u8], known: &[u8]) -> bool {
     let count = os::arg_count();
     let mut right = true;

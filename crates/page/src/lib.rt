@@ -27,7 +27,7 @@ pub const STRIP: u64 = 17;
 pub const BAR: u64 = 20;
 
 // The legend's height, and the width that it takes at the least.
-pub const LEGEND: u64 = 198;
+const LEGEND: u64 = 216;
 
 const LEAST: u64 = 736;
 
@@ -36,6 +36,11 @@ pub struct Shape {
     pub columns: u32,
     pub pdus: u32,
     pub most: u32,
+}
+
+// The picture's height.
+pub fn height(s: Shape) -> u64 {
+    top_of(rows(s)) + LEGEND
 }
 
 // Where a PDU's cell has its upper left corner.

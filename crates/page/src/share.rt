@@ -1,11 +1,11 @@
 // A share of a whole, in per cent with one decimal.
 
-// A share in tenths of a per cent; 0 where it is none.
+// A share in tenths of a per cent; 0 where it is none. The whole is a count, or the sum of two.
 fn tenths(part: u64, whole: u64) -> u64 {
     if whole == 0 {
         return 0;
     }
-    if 4294967295 < whole {
+    if 8589934590 < whole {
         return 0;
     }
     if whole < part {

@@ -14,8 +14,8 @@ fn put_tag(out: &mut [u8], width: u64, height: u64) -> usize {
 }
 
 // From the picture's name to its title: the classes, and white paper. Cells r received, c1 to c4 corrected, l lost, f refused; x their marks,
-// w that of a wrong CRC; b bars, s their ground; m ticks, u those of unknown gaps, n, o and k their numbers; h the title, q numbers of rows, g of
-// columns, t words, e numbers of totals, z a warning, v a line. The cells' colours differ in brightness too, each from the next.
+// w that of a wrong CRC; b bars, s their ground; m ticks, n, o and k their numbers; h the title, q numbers of rows, g of columns, t words, e numbers
+// of totals, z a warning, v a line. The cells' colours differ in brightness too, each from the next.
 fn put_style(out: &mut [u8], at: usize, width: u64, height: u64, size: u64) -> usize {
     text::fill(
         out,
@@ -24,7 +24,7 @@ fn put_style(out: &mut [u8], at: usize, width: u64, height: u64, size: u64) -> u
 <style>
 .r{fill:#2a9d74}.c1{fill:#fbe98a}.c2{fill:#f5d24a}.c3{fill:#e6b422}.c4{fill:#cf9a10}.l{fill:#8c0d1a}.f{fill:#6e6e6e}
 .x{stroke:#fff;stroke-width:1.4;fill:none}.w{fill:#111;stroke:#fff}
-.b{fill:#4a78b5}.s{fill:#f0f0f0}.m,.u{stroke:#c00018;stroke-width:2;fill:none}.u{stroke-dasharray:3 2}
+.b{fill:#4a78b5}.s{fill:#f0f0f0}.m{stroke:#c00018;stroke-width:2;fill:none}
 .n,.o,.k{fill:#a00014;text-anchor:middle;font-size:7px}.o{font-size:5px}.k{font-size:3.8px}
 .h{fill:#222;font-weight:bold}.q{fill:#444;text-anchor:end}.g{fill:#666;font-size:8px}
 .t{fill:#222}.e{fill:#222;text-anchor:end}.z{fill:#a00014;font-weight:bold}.v{fill:#bbb}
@@ -65,7 +65,7 @@ fn put_ruler(out: &mut [u8], at: usize, columns: u32) -> usize {
 // All that stands above the rows, from the block's start on.
 pub fn put_head(out: &mut [u8], shape: Shape, text: &[u8]) -> usize {
     let width = page::width(shape);
-    let height = page::top_of(page::rows(shape)) + page::LEGEND;
+    let height = page::height(shape);
     let size = title::size(text, width - page::LEFT - page::RIGHT);
     let mut n = put_tag(out, width, height);
     n = title::put(out, n, text);

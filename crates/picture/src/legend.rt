@@ -35,12 +35,6 @@ fn put_meanings(out: &mut [u8], base: u64, width: u64, most: u32) -> usize {
 <rect class=\"b\" x=\"74\" y=\"107\" width=\"9\" height=\"14\"/>
 <rect class=\"b\" x=\"84\" y=\"112\" width=\"9\" height=\"9\"/>
 <text class=\"t\" x=\"114\" y=\"118\">packets delivered in a PDU; full height: @</text>
-<path class=\"m\" d=\"M69 125v14\"/>
-<text class=\"n\" x=\"80\" y=\"136\">12</text>
-<text class=\"t\" x=\"114\" y=\"136\">packets missing before, modulo 64 (ends not counted)</text>
-<path class=\"u\" d=\"M69 143v14\"/>
-<text class=\"n\" x=\"80\" y=\"154\">?</text>
-<text class=\"t\" x=\"114\" y=\"154\">gap before, not known: PDUs may be out of turn</text>
 ",
         &[base, width, most as u64],
     )
@@ -54,15 +48,31 @@ fn put_copies(out: &mut [u8], at: usize, c: Copies) -> usize {
     text::fill(
         out,
         at,
-        b"<path class=\"r\" d=\"M64 161h9v14h-9zm10 0h9v14h-9zm10 0h9v14h-9z\"/>
-<path class=\"a\" stroke=\"#111\" stroke-width=\"2\" d=\"M64 162h9m1 12h9m1 0h9m-9-12h9\"/>
-<text class=\"t\" x=\"114\" y=\"172\">from the first copy @, second @, both @</text>
+        b"<path class=\"r\" d=\"M64 143h9v14h-9zm10 0h9v14h-9zm10 0h9v14h-9z\"/>
+<path class=\"a\" stroke=\"#111\" stroke-width=\"2\" d=\"M64 144h9m1 12h9m1 0h9m-9-12h9\"/>
+<text class=\"t\" x=\"114\" y=\"154\">from the first copy @, second @, both @</text>
 ",
         &[c.first, c.second, c.both],
     )
 }
 
-// The totals. Those of packets have no shares: packets that are missing by whole runs of 64, or at the drive's ends, are not known of.
+// What a hollow cell means, and how many PDUs have one; nothing where no PDU was withheld.
+fn put_withheld(out: &mut [u8], at: usize, withheld: u64) -> usize {
+    if withheld == 0 {
+        return at;
+    }
+    text::fill(
+        out,
+        at,
+        b"<path class=\"r\" d=\"M64 161h9v14h-9z\"/>
+<rect class=\"i\" fill=\"#fff\" x=\"66\" y=\"164\" width=\"5\" height=\"8\"/>
+<text class=\"t\" x=\"114\" y=\"172\">received, and withheld: @</text>
+",
+        &[withheld],
+    )
+}
+
+// The totals of PDUs and pieces.
 fn put_totals(out: &mut [u8], at: usize, all: u64, t: Totals) -> usize {
     text::fill(
         out,
@@ -79,25 +89,37 @@ fn put_totals(out: &mut [u8], at: usize, all: u64, t: Totals) -> usize {
 <text class=\"e\" x=\"580\" y=\"100\">@</text>
 <text class=\"t\" x=\"404\" y=\"118\">wrong CRCs</text>
 <text class=\"e\" x=\"580\" y=\"118\">@</text>
+",
+        &[all, t.received, t.corrected, t.lost, t.refused, t.crcs],
+    )
+}
+
+// The loss column after the last PDU (document 02, Ask 14): what a tick means, both counts, their share, and when that is exact. In its place, where the log has
+// none, a warning.
+fn put_loss(out: &mut [u8], at: usize, counted: bool, t: Totals) -> usize {
+    if !counted {
+        return text::put(
+            out,
+            at,
+            b"<text class=\"z\" x=\"404\" y=\"136\">the log has no loss column</text>\n",
+        );
+    }
+    let n = text::fill(
+        out,
+        at,
+        b"<path class=\"m\" d=\"M69 125v14\"/>
+<text class=\"n\" x=\"80\" y=\"136\">12</text>
+<text class=\"t\" x=\"114\" y=\"136\">packets missing before</text>
 <text class=\"t\" x=\"404\" y=\"136\">packets delivered</text>
 <text class=\"e\" x=\"580\" y=\"136\">@</text>
-<text class=\"t\" x=\"404\" y=\"154\">missing, by number</text>
+<text class=\"t\" x=\"404\" y=\"154\">missing</text>
 <text class=\"e\" x=\"580\" y=\"154\">@</text>
-<text class=\"t\" x=\"404\" y=\"172\">gaps unknown</text>
-<text class=\"e\" x=\"580\" y=\"172\">@</text>
+<text class=\"t\" x=\"64\" y=\"190\">Withheld packets and those with a damaged piece count as missing; those before the first one delivered do not.</text>
+<text class=\"t\" x=\"64\" y=\"204\">Missing is exact where PDUs come once and in turn, and fewer than 64 packets are missing between two delivered.</text>
 ",
-        &[
-            all,
-            t.received,
-            t.corrected,
-            t.lost,
-            t.refused,
-            t.crcs,
-            t.packets,
-            t.missing,
-            t.unknown,
-        ],
-    )
+        &[t.delivered as u64, t.missing as u64],
+    );
+    put_share(out, n, 4, t.missing as u64, drive::both(t))
 }
 
 // The share in a row of the totals, counted from 0.
@@ -106,7 +128,7 @@ fn put_share(out: &mut [u8], at: usize, row: u32, part: u64, whole: u64) -> usiz
         out,
         at,
         text::entry(
-            b"<text class=\"e\" x=\"628\" y=\"46\">@.@ %</text>\n<text class=\"t\" x=\"633\" y=\"46\">of PDUs</text>\n\0<text class=\"e\" x=\"628\" y=\"64\">@.@ %</text>\n<text class=\"t\" x=\"633\" y=\"64\">of the received</text>\n\0<text class=\"e\" x=\"628\" y=\"82\">@.@ %</text>\n<text class=\"t\" x=\"633\" y=\"82\">of PDUs</text>\n\0<text class=\"e\" x=\"628\" y=\"100\">@.@ %</text>\n<text class=\"t\" x=\"633\" y=\"100\">of PDUs</text>\n\0",
+            b"<text class=\"e\" x=\"628\" y=\"46\">@.@ %</text>\n<text class=\"t\" x=\"633\" y=\"46\">of PDUs</text>\n\0<text class=\"e\" x=\"628\" y=\"64\">@.@ %</text>\n<text class=\"t\" x=\"633\" y=\"64\">of the received</text>\n\0<text class=\"e\" x=\"628\" y=\"82\">@.@ %</text>\n<text class=\"t\" x=\"633\" y=\"82\">of PDUs</text>\n\0<text class=\"e\" x=\"628\" y=\"100\">@.@ %</text>\n<text class=\"t\" x=\"633\" y=\"100\">of PDUs</text>\n\0<text class=\"e\" x=\"628\" y=\"154\">@.@ %</text>\n<text class=\"t\" x=\"633\" y=\"154\">of both</text>\n\0",
             row,
         ),
         part,
@@ -148,7 +170,9 @@ pub fn put_legend(out: &mut [u8], shape: Shape, d: Drive) -> usize {
     let width = page::width(shape) - page::LEFT - page::RIGHT;
     let mut n = put_meanings(out, base, width, shape.most);
     n = put_copies(out, n, copies);
+    n = put_withheld(out, n, t.withheld);
     n = put_totals(out, n, shape.pdus as u64, t);
     n = put_shares(out, n, shape.pdus as u64, t);
+    n = put_loss(out, n, d.counted, t);
     put_end(out, n, d.whole)
 }

@@ -1,4 +1,4 @@
-// What is said of a drive: its totals in a line.
+// What is said of a drive: its totals in a line, and in another one when the loss column is exact.
 use drive::Copies;
 use drive::Drive;
 use drive::Totals;
@@ -19,6 +19,35 @@ fn put_received(out: &mut [u8], all: u64, t: Totals) -> usize {
     share::put(out, n, b" (@.@ % of the received)", t.corrected, t.received)
 }
 
+// How many of these were withheld, and their share; nothing where none was.
+fn put_withheld(out: &mut [u8], at: usize, t: Totals) -> usize {
+    if t.withheld == 0 {
+        return at;
+    }
+    let n = text::fill(out, at, b", withheld @", &[t.withheld]);
+    share::put(out, n, b" (@.@ % of the received)", t.withheld, t.received)
+}
+
+// The loss column after the last PDU (document 02, Ask 14), and its share; nothing where the log has none.
+fn put_loss(out: &mut [u8], at: usize, counted: bool, t: Totals) -> usize {
+    if !counted {
+        return at;
+    }
+    let n = text::fill(
+        out,
+        at,
+        b"; packets delivered @, missing @",
+        &[t.delivered as u64, t.missing as u64],
+    );
+    share::put(
+        out,
+        n,
+        b" (@.@ % of both)",
+        t.missing as u64,
+        drive::both(t),
+    )
+}
+
 // The line's end, with the copies where PDUs came as two.
 fn put_end(out: &mut [u8], at: usize, c: Copies) -> usize
     ensures { λ r. ⌜ Counts r (now (out .exit)) ⌝ }
@@ -34,18 +63,31 @@ fn put_end(out: &mut [u8], at: usize, c: Copies) -> usize
     )
 }
 
-// The totals of a drive in a line on standard error.
+// The totals of a drive on standard error.
 pub fn say(d: Drive) {
     let t = d.totals;
     let copies = d.copies;
     let mut line = [0u8; 512];
-    let n = put_received(&mut line, d.count as u64, t);
-    let k = text::fill(
+    let mut n = put_received(&mut line, d.count as u64, t);
+    n = put_withheld(&mut line, n, t);
+    n = text::fill(
         &mut line,
         n,
-        b", lost @, refused @; wrong CRCs @; packets delivered @, missing by number @, gaps unknown @",
-        &[t.lost, t.refused, t.crcs, t.packets, t.missing, t.unknown],
+        b", lost @, refused @; wrong CRCs @",
+        &[t.lost, t.refused, t.crcs],
     );
-    let end = put_end(&mut line, k, copies);
+    n = put_loss(&mut line, n, d.counted, t);
+    let end = put_end(&mut line, n, copies);
     io::write_all(STDERR_FILENO, &line[..end]);
+    say_exact(d.counted);
+}
+
+// What counts as missing, and when the count is exact, where there is one.
+fn say_exact(counted: bool) {
+    if counted {
+        io::write_all(
+            STDERR_FILENO,
+            b"barzhilup coverage: withheld packets and those with a damaged piece count as missing; missing is exact where PDUs come once and in turn, and fewer than 64 packets are missing between two delivered\n",
+        );
+    }
 }

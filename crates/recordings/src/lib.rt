@@ -13,21 +13,21 @@ ghost use Rattle.io.specs.Counts.{Counts};
 
 // After the three rows of `apart`: how many records of each file were read, and how many pieces are taken from the first copy alone, from the second alone, and
 // are alike in both.
-pub const FIRST_RECORDS: usize = 126;
+pub const FIRST_RECORDS: usize = 162;
 
-pub const SECOND_RECORDS: usize = 127;
+pub const SECOND_RECORDS: usize = 163;
 
-pub const FROM_FIRST: usize = 128;
+pub const FROM_FIRST: usize = 164;
 
-pub const FROM_SECOND: usize = 129;
+pub const FROM_SECOND: usize = 165;
 
-pub const ALIKE: usize = 130;
+pub const ALIKE: usize = 166;
 
 // Every count 0, and nothing remembered.
-pub fn no_counts() -> [u64; 131]
-    ensures { λ r. ⌜ 131 ≡ length r ⌝ }
+pub fn no_counts() -> [u64; 167]
+    ensures { λ r. ⌜ 167 ≡ length r ⌝ }
 {
-    [0; 131]
+    [0; 167]
 }
 
 // Where the two copies come from, and where the log goes.
@@ -185,7 +185,7 @@ fn add_copies(rows: &mut [u64], first: u8, second: u8, p: Pieces) {
 
 // Writes what came of a PDU and counts it in the first row. Answers whether it is written.
 fn kept(sink: Sink, o: Outcome, log: &[u32], block: &mut [u8], rows: &mut [u64], pdu: u64) -> bool {
-    let words = logging::written(log, o.words);
+    let words = words::written(log, o.words);
     if !output::keep(sink, pdu, o, words, block) {
         return false;
     }

@@ -42,3 +42,32 @@ pub fn bytes_of(word: u32) -> [u8; 4]
         (word / 0x1000000) as u8,
     ]
 }
+
+// The words that were written to a log, which are its first ones.
+pub fn written(log: &[u32], words: usize) -> &[u32] {
+    if words < log.len() {
+        return &log[0..words];
+    }
+    log
+}
+
+// Whether the word at a place of a PDU's log is note 8: the PDU is withheld (document 02, Ask 10).
+fn is_withheld_at(log: &[u32], at: usize) -> bool {
+    if log.len() <= at {
+        return false;
+    }
+    let w = split(log[at]);
+    (w.kind == NOTE) & (w.high == 8)
+}
+
+// How many of a PDU's pieces were looked at, by its log and by whether a beginning was held before it. Of a withheld one it is none but the piece that
+// continues what was held (document 02, Ask 10); before note 8 stands note 1 or 4 where that was dropped.
+pub fn looked_at(pieces: u64, held: bool, log: &[u32]) -> u64 {
+    if is_withheld_at(log, 0) {
+        return held as u64;
+    }
+    if is_withheld_at(log, 1) {
+        return 0;
+    }
+    pieces
+}

@@ -6,12 +6,19 @@ use Rattle.batch_logging.proofs.all_turns.Statement.{statement}
 use Rattle.batch_logging.proofs.all_turns.Tie as tie
 
 abbrev Inv-loop : tie.InvT-loop
-Inv-loop task carry₀ came₀ frame₀ lengths₀ ends₀ log₀ block₀ counts₀ run₀ turns₀ carry came frame lengths ends log block counts run turns =
+Inv-loop task path carry₀ came₀ frame₀ lengths₀ ends₀ log₀ block₀ counts₀ run₀ turns₀ carry came frame lengths ends log block counts run turns =
     (length carry ≡ length carry₀) × (length came ≡ length came₀) × (length frame ≡ length frame₀) × (length lengths ≡ length lengths₀) × (length ends ≡ length ends₀) × (length log ≡ length log₀) × (length block ≡ length block₀) × (length counts ≡ length counts₀)
 
 abbrev μ-loop : tie.MeasureT-loop
-μ-loop task carry₀ came₀ frame₀ lengths₀ ends₀ log₀ block₀ counts₀ run₀ turns₀ carry came frame lengths ends log block counts run turns =
+μ-loop task path carry₀ came₀ frame₀ lengths₀ ends₀ log₀ block₀ counts₀ run₀ turns₀ carry came frame lengths ends log block counts run turns =
     turns
+
+-- the turn before the state is saved, and the loop's head before it
+abbrev turned : tie.After-struct-known Inv-loop μ-loop → tie.After-turn Inv-loop μ-loop
+turned c = c .before .before .before .before .before .before .before .before .before .before .before .before .before .before .before .before .before .before .before
+
+abbrev head : tie.After-turn Inv-loop μ-loop → tie.At-loop Inv-loop μ-loop
+head c = c .before .before .before .before .before .before .before .before .before .before
 
 loop-holds : tie.Need-loop-holds Inv-loop μ-loop
 loop-holds c = search needs
@@ -19,29 +26,32 @@ loop-holds c = search needs
 turn-requires : tie.Need-turn-requires Inv-loop μ-loop
 turn-requires c κs = search needs
 
+saved-requires : tie.Need-saved-requires Inv-loop μ-loop
+saved-requires c κs = search needs
+
 same-length : tie.Need-same-length Inv-loop μ-loop
-same-length c = omega (arith, c .before .before .before .before .before .before .before .before .before .before .before .before .before .before .before .before .before .before .turn .kept .1 .0, c .before .before .before .before .before .before .before .before .before .before .before .before .before .before .before .before .before .before .before .before .before .before .before .before .before .before .before .before .loop .inv .0)
+same-length c = let t = turned (c .before) in omega (arith, t .turn .kept .1 .0, head t .loop .inv .0)
 
 same-length-2 : tie.Need-same-length-2 Inv-loop μ-loop
-same-length-2 c = omega (arith, c .before .before .before .before .before .before .before .before .before .before .before .before .before .before .before .before .before .before .turn .kept .1 .1 .0, c .before .before .before .before .before .before .before .before .before .before .before .before .before .before .before .before .before .before .before .before .before .before .before .before .before .before .before .before .loop .inv .1)
+same-length-2 c = let t = turned (c .before) in omega (arith, t .turn .kept .1 .1 .0, head t .loop .inv .1)
 
 same-length-3 : tie.Need-same-length-3 Inv-loop μ-loop
-same-length-3 c = omega (arith, c .before .before .before .before .before .before .before .before .before .before .before .before .before .before .before .before .before .before .turn .kept .1 .1 .1 .0, c .before .before .before .before .before .before .before .before .before .before .before .before .before .before .before .before .before .before .before .before .before .before .before .before .before .before .before .before .loop .inv .2)
+same-length-3 c = let t = turned (c .before) in omega (arith, t .turn .kept .1 .1 .1 .0, head t .loop .inv .2)
 
 same-length-4 : tie.Need-same-length-4 Inv-loop μ-loop
-same-length-4 c = omega (arith, c .before .before .before .before .before .before .before .before .before .before .before .before .before .before .before .before .before .before .turn .kept .1 .1 .1 .1 .0, c .before .before .before .before .before .before .before .before .before .before .before .before .before .before .before .before .before .before .before .before .before .before .before .before .before .before .before .before .loop .inv .3)
+same-length-4 c = let t = turned (c .before) in omega (arith, t .turn .kept .1 .1 .1 .1 .0, head t .loop .inv .3)
 
 same-length-5 : tie.Need-same-length-5 Inv-loop μ-loop
-same-length-5 c = omega (arith, c .before .before .before .before .before .before .before .before .before .before .before .before .before .before .before .before .before .before .turn .kept .1 .1 .1 .1 .1 .0, c .before .before .before .before .before .before .before .before .before .before .before .before .before .before .before .before .before .before .before .before .before .before .before .before .before .before .before .before .loop .inv .4)
+same-length-5 c = let t = turned (c .before) in omega (arith, t .turn .kept .1 .1 .1 .1 .1 .0, head t .loop .inv .4)
 
 same-length-6 : tie.Need-same-length-6 Inv-loop μ-loop
-same-length-6 c = omega (arith, c .before .before .before .before .before .before .before .before .before .before .before .before .before .before .before .before .before .before .turn .kept .1 .1 .1 .1 .1 .1 .0, c .before .before .before .before .before .before .before .before .before .before .before .before .before .before .before .before .before .before .before .before .before .before .before .before .before .before .before .before .loop .inv .5)
+same-length-6 c = let t = turned (c .before) in omega (arith, t .turn .kept .1 .1 .1 .1 .1 .1 .0, head t .loop .inv .5)
 
 same-length-7 : tie.Need-same-length-7 Inv-loop μ-loop
-same-length-7 c = omega (arith, c .before .before .before .before .before .before .before .before .before .before .before .before .before .before .before .before .before .before .turn .kept .1 .1 .1 .1 .1 .1 .1 .0, c .before .before .before .before .before .before .before .before .before .before .before .before .before .before .before .before .before .before .before .before .before .before .before .before .before .before .before .before .loop .inv .6)
+same-length-7 c = let t = turned (c .before) in omega (arith, t .turn .kept .1 .1 .1 .1 .1 .1 .1 .0, head t .loop .inv .6)
 
 same-length-8 : tie.Need-same-length-8 Inv-loop μ-loop
-same-length-8 c = omega (arith, c .before .before .before .before .before .before .before .before .before .before .before .before .before .before .before .before .before .before .turn .kept .1 .1 .1 .1 .1 .1 .1 .1 .0, c .before .before .before .before .before .before .before .before .before .before .before .before .before .before .before .before .before .before .before .before .before .before .before .before .before .before .before .before .loop .inv .7)
+same-length-8 c = let t = turned (c .before) in omega (arith, t .turn .kept .1 .1 .1 .1 .1 .1 .1 .1 .0, head t .loop .inv .7)
 
 returns : tie.Need-returns Inv-loop μ-loop
 returns c = search needs
@@ -50,48 +60,39 @@ progress-requires : tie.Need-progress-requires Inv-loop μ-loop
 progress-requires c κs = search needs
 
 sub-turns : tie.Need-sub-turns Inv-loop μ-loop
-sub-turns c = omega (arith, c .before .before .before .before .before .before .before .before .before .before .before .before .before .before .before .before .before .before .before .before .before .before .before .before .before .before .before .before .loop-test .taken)
+sub-turns c = omega (arith, (turned (c .before .before) .before .before .before .before .before .before .before .before .before) .loop-test .taken)
 
 loop-less : tie.Need-loop-less Inv-loop μ-loop
-loop-less c = omega (arith, c .before .before .before .before .before .before .before .before .before .before .before .before .before .before .before .before .before .before .before .before .before .before .before .before .before .before .before .before .loop-test .taken)
+loop-less c = omega (arith, (turned (c .before .before) .before .before .before .before .before .before .before .before .before) .loop-test .taken)
 
 loop-again : tie.Need-loop-again Inv-loop μ-loop
 loop-again c =
-    let t = c .before .before .before .before .before .before .before .before .before .before .before .before .before .before .before .before .before .before .before .turn .kept in
-    let v = c .before .before .before .before .before .before .before .before .before .before .before .before .before .before .before .before .before .before .before .before .before .before .before .before .before .before .before .before .before .loop .inv in (
-      omega (arith, t .1 .0, v .0),
-      omega (arith, t .1 .1 .0, v .1),
-      omega (arith, t .1 .1 .1 .0, v .2),
-      omega (arith, t .1 .1 .1 .1 .0, v .3),
-      omega (arith, t .1 .1 .1 .1 .1 .0, v .4),
-      omega (arith, t .1 .1 .1 .1 .1 .1 .0, v .5),
-      omega (arith, t .1 .1 .1 .1 .1 .1 .1 .0, v .6),
-      omega (arith, t .1 .1 .1 .1 .1 .1 .1 .1 .0, v .7),
-    )
+    let t = turned (c .before .before) in
+    (omega (arith, t .turn .kept .1 .0, head t .loop .inv .0), omega (arith, t .turn .kept .1 .1 .0, head t .loop .inv .1), omega (arith, t .turn .kept .1 .1 .1 .0, head t .loop .inv .2), omega (arith, t .turn .kept .1 .1 .1 .1 .0, head t .loop .inv .3), omega (arith, t .turn .kept .1 .1 .1 .1 .1 .0, head t .loop .inv .4), omega (arith, t .turn .kept .1 .1 .1 .1 .1 .1 .0, head t .loop .inv .5), omega (arith, t .turn .kept .1 .1 .1 .1 .1 .1 .1 .0, head t .loop .inv .6), omega (arith, t .turn .kept .1 .1 .1 .1 .1 .1 .1 .1 .0, head t .loop .inv .7))
 
 same-length-9 : tie.Need-same-length-9 Inv-loop μ-loop
-same-length-9 c = omega (arith, c .before .loop .inv .0)
+same-length-9 c = search needs
 
 same-length-10 : tie.Need-same-length-10 Inv-loop μ-loop
-same-length-10 c = omega (arith, c .before .loop .inv .1)
+same-length-10 c = search needs
 
 same-length-11 : tie.Need-same-length-11 Inv-loop μ-loop
-same-length-11 c = omega (arith, c .before .loop .inv .2)
+same-length-11 c = search needs
 
 same-length-12 : tie.Need-same-length-12 Inv-loop μ-loop
-same-length-12 c = omega (arith, c .before .loop .inv .3)
+same-length-12 c = search needs
 
 same-length-13 : tie.Need-same-length-13 Inv-loop μ-loop
-same-length-13 c = omega (arith, c .before .loop .inv .4)
+same-length-13 c = search needs
 
 same-length-14 : tie.Need-same-length-14 Inv-loop μ-loop
-same-length-14 c = omega (arith, c .before .loop .inv .5)
+same-length-14 c = search needs
 
 same-length-15 : tie.Need-same-length-15 Inv-loop μ-loop
-same-length-15 c = omega (arith, c .before .loop .inv .6)
+same-length-15 c = search needs
 
 same-length-16 : tie.Need-same-length-16 Inv-loop μ-loop
-same-length-16 c = omega (arith, c .before .loop .inv .7)
+same-length-16 c = search needs
 
 returns-2 : tie.Need-returns-2 Inv-loop μ-loop
 returns-2 c = search needs
@@ -104,6 +105,7 @@ all-turns-spec =
     μ-loop
     loop-holds
     turn-requires
+    saved-requires
     same-length
     same-length-2
     same-length-3

@@ -1,16 +1,24 @@
 use borrow.Author.Needs.{needs}
+use native.Mathlib.Omega.{arith}
 use mathlib.Core.Path.{_≡_}
 use lib.ListN.{length}
 use Rattle.logging.proofs.all_turns.Statement.{statement}
 use Rattle.logging.proofs.all_turns.Tie as tie
 
 abbrev Inv-loop : tie.InvT-loop
-Inv-loop task carry₀ pdu₀ places₀ log₀ block₀ counts₀ run₀ turns₀ carry pdu places log block counts run turns =
+Inv-loop task path carry₀ pdu₀ places₀ log₀ block₀ counts₀ run₀ turns₀ carry pdu places log block counts run turns =
     (length carry ≡ length carry₀) × (length pdu ≡ length pdu₀) × (length places ≡ length places₀) × (length log ≡ length log₀) × (length block ≡ length block₀) × (length counts ≡ length counts₀)
 
 abbrev μ-loop : tie.MeasureT-loop
-μ-loop task carry₀ pdu₀ places₀ log₀ block₀ counts₀ run₀ turns₀ carry pdu places log block counts run turns =
+μ-loop task path carry₀ pdu₀ places₀ log₀ block₀ counts₀ run₀ turns₀ carry pdu places log block counts run turns =
     turns
+
+-- the turn before the state is saved, and the loop's head before it
+abbrev turned : tie.After-struct-known Inv-loop μ-loop → tie.After-turn Inv-loop μ-loop
+turned c = c .before .before .before .before .before .before .before .before .before .before .before .before .before .before .before
+
+abbrev head : tie.After-turn Inv-loop μ-loop → tie.At-loop Inv-loop μ-loop
+head c = c .before .before .before .before .before .before .before .before
 
 loop-holds : tie.Need-loop-holds Inv-loop μ-loop
 loop-holds c = search needs
@@ -18,23 +26,26 @@ loop-holds c = search needs
 turn-requires : tie.Need-turn-requires Inv-loop μ-loop
 turn-requires c κs = search needs
 
+saved-requires : tie.Need-saved-requires Inv-loop μ-loop
+saved-requires c κs = search needs
+
 same-length : tie.Need-same-length Inv-loop μ-loop
-same-length c = search needs
+same-length c = let t = turned (c .before) in omega (arith, t .turn .kept .1 .0, head t .loop .inv .0)
 
 same-length-2 : tie.Need-same-length-2 Inv-loop μ-loop
-same-length-2 c = search needs
+same-length-2 c = let t = turned (c .before) in omega (arith, t .turn .kept .1 .1 .0, head t .loop .inv .1)
 
 same-length-3 : tie.Need-same-length-3 Inv-loop μ-loop
-same-length-3 c = search needs
+same-length-3 c = let t = turned (c .before) in omega (arith, t .turn .kept .1 .1 .1 .0, head t .loop .inv .2)
 
 same-length-4 : tie.Need-same-length-4 Inv-loop μ-loop
-same-length-4 c = search needs
+same-length-4 c = let t = turned (c .before) in omega (arith, t .turn .kept .1 .1 .1 .1 .0, head t .loop .inv .3)
 
 same-length-5 : tie.Need-same-length-5 Inv-loop μ-loop
-same-length-5 c = search needs
+same-length-5 c = let t = turned (c .before) in omega (arith, t .turn .kept .1 .1 .1 .1 .1 .0, head t .loop .inv .4)
 
 same-length-6 : tie.Need-same-length-6 Inv-loop μ-loop
-same-length-6 c = search needs
+same-length-6 c = let t = turned (c .before) in omega (arith, t .turn .kept .1 .1 .1 .1 .1 .1 .0, head t .loop .inv .5)
 
 returns : tie.Need-returns Inv-loop μ-loop
 returns c = search needs
@@ -43,13 +54,15 @@ progress-requires : tie.Need-progress-requires Inv-loop μ-loop
 progress-requires c κs = search needs
 
 sub-turns : tie.Need-sub-turns Inv-loop μ-loop
-sub-turns c = search needs
+sub-turns c = omega (arith, (turned (c .before .before) .before .before .before .before .before .before .before) .loop-test .taken)
 
 loop-less : tie.Need-loop-less Inv-loop μ-loop
-loop-less c = search needs
+loop-less c = omega (arith, (turned (c .before .before) .before .before .before .before .before .before .before) .loop-test .taken)
 
 loop-again : tie.Need-loop-again Inv-loop μ-loop
-loop-again c = search needs
+loop-again c =
+    let t = turned (c .before .before) in
+    (omega (arith, t .turn .kept .1 .0, head t .loop .inv .0), omega (arith, t .turn .kept .1 .1 .0, head t .loop .inv .1), omega (arith, t .turn .kept .1 .1 .1 .0, head t .loop .inv .2), omega (arith, t .turn .kept .1 .1 .1 .1 .0, head t .loop .inv .3), omega (arith, t .turn .kept .1 .1 .1 .1 .1 .0, head t .loop .inv .4), omega (arith, t .turn .kept .1 .1 .1 .1 .1 .1 .0, head t .loop .inv .5))
 
 same-length-7 : tie.Need-same-length-7 Inv-loop μ-loop
 same-length-7 c = search needs
@@ -80,6 +93,7 @@ all-turns-spec =
     μ-loop
     loop-holds
     turn-requires
+    saved-requires
     same-length
     same-length-2
     same-length-3

@@ -1,4 +1,5 @@
 use borrow.Author.Needs.{needs}
+use native.Mathlib.Omega.{arith}
 use mathlib.Core.Path.{_≡_}
 use lib.ListN.{length}
 use Rattle.recordings.proofs.all_turns.Statement.{statement}
@@ -49,7 +50,16 @@ loop-less : tie.Need-loop-less Inv-loop μ-loop
 loop-less c = search needs
 
 loop-again : tie.Need-loop-again Inv-loop μ-loop
-loop-again c = search needs
+loop-again c =
+    let t = c .before .before .before .before .before .before .before .before .before .before .before .before .before .before .before .turn .kept in
+    let v = c .before .before .before .before .before .before .before .before .before .before .before .before .before .before .before .before .before .before .before .before .before .before .before .loop .inv in (
+      omega (arith, t .1 .0, v .0),
+      omega (arith, t .1 .1 .0, v .1),
+      omega (arith, t .1 .1 .1 .0, v .2),
+      omega (arith, t .1 .1 .1 .1 .0, v .3),
+      omega (arith, t .1 .1 .1 .1 .1 .0, v .4),
+      omega (arith, t .1 .1 .1 .1 .1 .1 .0, v .5),
+    )
 
 same-length-7 : tie.Need-same-length-7 Inv-loop μ-loop
 same-length-7 c = search needs

@@ -5,10 +5,10 @@ use Rattle.channel.proofs.sending.send_all.Statement.{statement}
 use Rattle.channel.proofs.sending.send_all.Tie as tie
 
 abbrev Inv-loop : tie.InvT-loop
-Inv-loop task pdu₀ run₀ turns₀ pdu run turns = 65536 ≡ length pdu
+Inv-loop task seed pdu₀ run₀ turns₀ pdu run turns = 65536 ≡ length pdu
 
 abbrev μ-loop : tie.MeasureT-loop
-μ-loop task pdu₀ run₀ turns₀ pdu run turns = turns
+μ-loop task seed pdu₀ run₀ turns₀ pdu run turns = turns
 
 large-buffer-requires : tie.Need-large-buffer-requires Inv-loop μ-loop
 large-buffer-requires c κs = search needs

@@ -1,0 +1,136 @@
+// What the command line of `barzhilup log` asks for.
+use text::Number;
+ghost use Prim.Native.Nat.{_≤_};
+
+// The options that are known.
+pub const KNOWN: [u8; 104] =
+    *b"in=\0out=\0second=\0marks=\0save=\0resume=\0skip\0force\0mode=\0stream=\0crc-start=\0entitled=\0format=\0batch=\0help\0";
+
+// What is asked for; ok where mode, stream, the register that CRCs start with, the entitled programs, format and the records of a frame are given as they can
+// be, and the options go together.
+pub struct Job {
+    pub ok: bool,
+    pub mode: u8,
+    pub stream: u8,
+    pub register: u8,
+    pub format: u8,
+    // How many records are received in one call, 1 to 64; 0 where that is not asked for.
+    pub batch: usize,
+}
+
+// A number of one byte, 0 where its option is not given.
+fn number(name: &[u8]) -> Number
+    ensures { λ r. ⌜ r .value ≤ 255 ⌝ }
+{
+    options::number(b"barzhilup log", &KNOWN, name, 0, 0, 255)
+}
+
+fn format_named(name: &[u8]) -> u8 {
+    if check::same(name, b"words") {
+        return formats::WORDS;
+    }
+    if check::same(name, b"text") {
+        return formats::TEXT;
+    }
+    if check::same(name, b"csv") {
+        return formats::CSV;
+    }
+    if check::same(name, b"records") {
+        return formats::RECORDS;
+    }
+    formats::NO_FORMAT
+}
+
+// The format that is asked for; where there is no such format, says so.
+fn format_asked() -> u8 {
+    if !options::given(&KNOWN, b"format") {
+        return formats::TEXT;
+    }
+    let mut name = io::buffer();
+    let n = options::value(&KNOWN, b"format", &mut name);
+    let format = format_named(&name[..n]);
+    if format == formats::NO_FORMAT {
+        remarks::no_format(&name[..n]);
+    }
+    format
+}
+
+// How many records are received in one call, 0 where that is not asked for.
+fn batch_asked() -> Number {
+    options::number(b"barzhilup log", &KNOWN, b"batch", 0, 1, 64)
+}
+
+// Whether frames can be received in one call with what else is asked for (document 02, Ask 3: only mending and the single receive call take marks;
+// Ask 5: a pair is received by a call of its own); if not, says so.
+fn can_batch() -> bool {
+    if !options::given(&KNOWN, b"batch") {
+        return true;
+    }
+    if options::given(&KNOWN, b"marks") {
+        files::say(b"barzhilup log", b": --batch: a batch takes no marks\n");
+        return false;
+    }
+    if options::given(&KNOWN, b"second") {
+        files::say(b"barzhilup log", b": --batch: a batch takes no pairs\n");
+        return false;
+    }
+    true
+}
+
+// Whether the options go together: a second recording is not read from where the first is, and copies have no marks. If they do not, says why.
+fn can_pair() -> bool {
+    if !files::check(
+        b"barzhilup log",
+        &KNOWN,
+        b"second",
+        b"in",
+        b": --second: standard input has the PDUs\n",
+    ) {
+        return false;
+    }
+    if options::given(&KNOWN, b"second") {
+        if options::given(&KNOWN, b"marks") {
+            remarks::no_marks();
+            return false;
+        }
+    }
+    true
+}
+
+// Whether every option is one that is known, with its value, and the files go together; if not, says what is wrong.
+pub fn check() -> bool {
+    if !files::check(
+        b"barzhilup log",
+        &KNOWN,
+        b"marks",
+        b"in",
+        b": --marks: standard input has the PDUs\n",
+    ) {
+        return false;
+    }
+    can_pair()
+}
+
+pub fn asked() -> Job {
+    let mode = number(b"mode");
+    let stream = number(b"stream");
+    let register = number(b"crc-start");
+    let programs = opening::is_asked(b"barzhilup log", &KNOWN);
+    let format = format_asked();
+    let batch = batch_asked();
+    Job {
+        ok: mode.ok
+            & stream.ok
+            & register.ok
+            & programs
+            & (format != formats::NO_FORMAT)
+            & batch.ok
+            & can_batch()
+            & interruption::is_asked(&KNOWN),
+        mode: mode.value as u8,
+        stream: stream.value as u8,
+        register: register.value as u8,
+        format: format,
+        batch: batch.value as usize,
+    }
+}

@@ -1,0 +1,231 @@
+// What `barzhilup log` says on standard error, a line or more in one write, and how it is used.
+use libc::STDERR_FILENO;
+use logging::marks;
+
+fn say(line: &[u8]) {
+    io::write_all(STDERR_FILENO, line);
+}
+
+// Why no more PDUs are logged, after so many; nothing where all are, or where that is said already. PDUs are counted from 0.
+pub fn ends(status: u8, from: &[u8], marking: &[u8], onto: &[u8], pdus: u64) {
+    match status {
+        records::END | logging::UNSAVED => {}
+        records::CUT => files::say_number(from, b": ends inside the record of PDU ", pdus, b"\n"),
+        logging::UNWRITTEN => os::fail(onto),
+        marks::MISSING | marks::CUT | marks::UNREAD | marks::LEFT => {
+            marks_end(status, marking, pdus)
+        }
+        _ => os::fail(from),
+    }
+}
+
+// What is wrong with the file of marks, after so many PDUs.
+fn marks_end(status: u8, marking: &[u8], pdus: u64) {
+    match status {
+        marks::MISSING => {
+            files::say_number(marking, b": ends before the marks of PDU ", pdus, b"\n")
+        }
+        marks::CUT => files::say_number(marking, b": ends inside the marks of PDU ", pdus, b"\n"),
+        marks::LEFT => {
+            files::say_number(marking, b": has marks of more than the ", pdus, b" PDUs\n")
+        }
+        _ => os::fail(marking),
+    }
+}
+
+// What is wrong with one of two files, of which so many records were read and so many PDUs logged; nothing where it has a record for each.
+pub fn side_ends(status: u8, from: &[u8], records: u64, pdus: u64) {
+    match status {
+        records::WHOLE => {}
+        records::END => shorter(from, records, pdus),
+        records::CUT => {
+            files::say_number(from, b": ends inside the record of PDU ", records, b"\n")
+        }
+        _ => os::fail(from),
+    }
+}
+
+// A file that ends before the other one does.
+fn shorter(from: &[u8], records: u64, pdus: u64) {
+    if records == pdus {
+        return;
+    }
+    let mut line = [0u8; 4800];
+    let n = text::put(&mut line, 0, from);
+    let k = text::fill(
+        &mut line,
+        n,
+        b": has @ of @ PDUs: the others count as not come\n",
+        &[records, pdus],
+    );
+    say(&line[..k]);
+}
+
+// What each of two files gives alone, and where the pieces are taken from, by the counts of both.
+pub fn copies(rows: &[u64]) {
+    let mut lines = [0u8; 512];
+    let n = counts::put_alone(
+        &mut lines,
+        0,
+        b"barzhilup log: first copies",
+        apart::row_of(rows, 1),
+    );
+    let m = counts::put_alone(
+        &mut lines,
+        n,
+        b"barzhilup log: second copies",
+        apart::row_of(rows, 2),
+    );
+    let k = text::fill(
+        &mut lines,
+        m,
+        b"barzhilup log: pieces taken from the first copy @, from the second @, alike in both @\n",
+        &[
+            counts::at(rows, recordings::FROM_FIRST),
+            counts::at(rows, recordings::FROM_SECOND),
+            counts::at(rows, recordings::ALIKE),
+        ],
+    );
+    say(&lines[..k]);
+}
+
+// More pairs were refused with 20 than PDUs were received: the two files may not have a record for each PDU.
+pub fn out_of_step() {
+    say(
+        b"barzhilup log: most pairs were refused with 20: does each file have a record for each PDU, also for those that did not come?\n",
+    );
+}
+
+// Both a second file and marks are asked for.
+pub fn no_marks() {
+    say(b"barzhilup log: --second: a pair takes no marks\n");
+}
+
+pub fn no_format(name: &[u8]) {
+    let mut line = [0u8; 4736];
+    let mut n = text::put(
+        &mut line,
+        0,
+        b"barzhilup log: --format: not words, text, csv or records: ",
+    );
+    n = text::put(&mut line, n, name);
+    n = text::put(&mut line, n, b"\n");
+    say(&line[..n]);
+}
+
+// What was received and logged.
+pub fn summary(pdus: u64, counts: &[u64]) {
+    let mut lines = io::buffer();
+    let n = counts::put_summary(&mut lines, pdus, counts);
+    say(&lines[..n]);
+}
+
+// PDUs were refused, and none was received: the mode and the stream that are asked for may not be the file's.
+pub fn none_received(mode: u8, stream: u8) {
+    let mut line = [0u8; 128];
+    let n = text::fill(
+        &mut line,
+        0,
+        b"barzhilup log: no PDU was received: is this a file of PDUs of mode @, stream @?\n",
+        &[mode as u64, stream as u64],
+    );
+    say(&line[..n]);
+}
+
+// Every piece, or nearly every one, had a wrong CRC: the register that is asked for may not be the one that the file's CRCs start with.
+pub fn crcs_wrong(share: &[u8], register: u8) {
+    let mut line = [0u8; 128];
+    let mut n = text::put(&mut line, 0, b"barzhilup log: ");
+    n = text::put(&mut line, n, share);
+    n = text::fill(
+        &mut line,
+        n,
+        b" CRCs were wrong: is @ the start of this file's CRCs (--crc-start)?\n",
+        &[register as u64],
+    );
+    say(&line[..n]);
+}
+
+// How the program is used, on standard output.
+pub fn usage() -> bool {
+    files::print_usage(
+        b"barzhilup log",
+        b"usage: barzhilup log [--in FILE] [--out FILE] [OPTION]...
+
+Turns a file of PDUs into the packet log. A record of the file is a PDU's length
+in two bytes, low byte first, and then its bytes; a record of length 0 is a PDU
+that is marked lost.
+
+  --in FILE       PDUs (standard input, also for -)
+  --out FILE      the packet log (standard output, also for -)
+  --second FILE   the same drive by a second receiver (standard input for -)
+  --marks FILE    the places of doubtful header bytes (standard input for -)
+  --save FILE     how the drive stands, replaced after each PDU
+  --resume FILE   goes on where the FILE of --save stands
+  --skip          with --resume: the input has the PDUs that are logged too,
+                  and they are passed over
+  --force         an existing FILE of --out or --save is renamed FILE~ first
+  --mode N        0, 1, 2, 3, 10 or 13 (0)
+  --stream N      0 core, 1 enhanced (0)
+  --crc-start N   the register that CRCs start with, 0 to 255 (0; recordings
+                  off the air check with 255)
+  --entitled LIST the programs that the receiver is entitled to, as 0,3, or
+                  none (all)
+  --format F      words, text, csv or records (text)
+  --batch N       receives frames of N records, 1 to 64, in one call each; the
+                  log is the same for every N, and without it; no marks, and
+                  no second recording
+  --help          prints this and does nothing else (also -h)
+
+Marks: a record for each record of PDUs, in the same form; each of its bytes is
+a place, 0 to 95. Without marks up to four wrong header bytes are corrected;
+with s marked places, any values there and up to (8 - s) / 2 wrong bytes
+elsewhere. More than eight places, one over 95 or one twice: refused with 19.
+
+Second: a record for each record of PDUs, of length 0 for one that did not come
+there. Of two copies each piece is taken from one in which its CRC is right; a
+copy that came alone, or whose header alone can be corrected, is received by
+itself. Copies that differ up to La are refused with 20; a piece that is right
+in both and differs has a note. A file that is shorter counts as not come from
+there on. Not with --marks.
+
+Entitled: program numbers from 0 to 7, each once; others are refused with 22. A
+PDU of another program with applied services 1, or unknown ones, is withheld:
+its log has a note in place of the PSD, and no packet but one that began before
+it. Without the option no PDU is withheld.
+
+Save: the receiver's words and the counts of PDUs and of bytes logged, in two
+records of words. FILE is replaced by a new file, FILE.new, so it is whole at
+every moment. Needs --out FILE; not with --second.
+
+Resume: mode, stream, start of CRCs and programs are those of FILE; without
+--skip the input begins with the next PDU. PDUs are counted on. The log goes on
+after the count of bytes that is said: those bytes of the log before, and then
+this one, are the log of the whole drive. Other words are refused with 25.
+
+Formats:
+  words           the log's words, each in four bytes, low byte first
+  text            a line for each PDU, and one for each packet, PSD and note
+  csv             the same, in the columns pdu, kind, number, length, cause,
+                  delivered and missing; the last line is \",end,N,,whole,,\" if
+                  all N PDUs are logged; with --second the cause of a received
+                  PDU is the copy that it is taken from: first, second, both or
+                  either
+  records         for each PDU a record, as in the file of PDUs, with its log's
+                  words as above: what \"barzhilup join\" reads
+
+Delivered and missing are counts of packets, as the receiver's record has them
+after each PDU: the CSV has them on the line of each, and the counts on standard
+error have those after the last. Packets of lost and refused PDUs, those with a
+damaged piece and withheld ones are missing; what is missing before the first
+packet delivered is not counted. Missing is exact where PDUs come once and in
+turn, and fewer than 64 packets are missing between two delivered.
+
+A PDU that is refused is marked lost, also one of another mode or stream.
+Standard error has a line for each of the first five and for the first of
+another mode or stream, then the counts, and the last line
+\"barzhilup log: stopped early\" if not all PDUs are logged. The exit status is
+0 if all are logged, 1 if not, 2 if the usage is wrong.
+",
+    )
+}

@@ -1,0 +1,39 @@
+use borrow.Author.Needs.{needs}
+use native.Mathlib.Omega.{arith}
+use mathlib.Core.Path.{_≡_, refl, sym, _∙_}
+use Prim.Native.Nat.{ℕ, _*_, _/_, _≤_, _<_}
+use lib.ListN.{length}
+use denote.Ref.{now}
+use Rattle.io.proofs.Counting.{counts}
+use Rattle.word_bytes.proofs.Words.{no-words, left-over, no-room, all-words}
+use Rattle.word_bytes.proofs.get.Statement.{statement}
+use Rattle.word_bytes.proofs.get.Tie as tie
+use Rattle.word_bytes.proofs.get.Reads as reads
+use Rattle.word_bytes.proofs.get.Lts as lts
+use Rattle.word_bytes.proofs.get_words.Reads as get-words-reads
+
+returns : tie.Need-returns
+returns c =
+    let a = c .before .before .before .args in
+    (counts 0 (now (a .words)) (omega arith), no-words (now (a .words)) (now (a .bytes)) (left-over (now (a .words)) (now (a .bytes)) (c .if1 .taken)))
+
+returns-2 : tie.Need-returns-2
+returns-2 c =
+    let a = c .before .before .before .before .args in
+    (counts 0 (now (a .words)) (omega arith), no-words (now (a .words)) (now (a .bytes)) (no-room (now (a .words)) (now (a .bytes)) (c .before .if1 .left) (c .if2 .taken)))
+
+get-words-requires : tie.Need-get-words-requires
+get-words-requires c κs = search needs
+
+same-length : tie.Need-same-length
+same-length c = search needs
+
+returns-3 : tie.Need-returns-3
+returns-3 c =
+    let q = c .before .before in
+    let e = q .before .before in
+    let a = e .before .before .before .before .args in
+    (counts _ _ (omega (arith, q .get-words .kept .1 .0, e .if2 .left)), all-words (now (a .words)) _ (now (a .bytes)) (e .before .if1 .left) (e .if2 .left) (q .get-words .ensures))
+
+pub get-spec : {M : Type 1} → statement M
+get-spec = tie.close (tie.spec returns returns-2 get-words-requires same-length returns-3)

@@ -1,0 +1,81 @@
+use borrow.Author.Needs.{needs}
+use native.Mathlib.Omega.{arith}
+use mathlib.Core.Path.{_≡_, refl, ap, sym, _∙_}
+use Prim.Native.Nat.{ℕ, _+_, _-_, _*_, _/_, _≤_, _<_}
+use lib.ListN.{length, take, drop, getD, set, length-set, length-drop, drop-of-length-le}
+use mathlib.Core.List.{List, [], _∷_, _++_}
+use denote.Ref.{now}
+use Rattle.buffer.specs.Buffer.{putAt}
+use Rattle.buffer.proofs.Laws.{put-nil, put-length}
+use Rattle.word_bytes.specs.WordBytes.{wordsOf}
+use Rattle.word_bytes.proofs.Words.{word-turn, all-read}
+use Rattle.word_bytes.proofs.get_words.Statement.{statement}
+use Rattle.word_bytes.proofs.get_words.Tie as tie
+use Rattle.word_bytes.proofs.get_words.Reads as reads
+use Rattle.word_bytes.proofs.get_words.Lts as lts
+use Rattle.word_bytes.proofs.word_at.Reads as word-at-reads
+
+abbrev Inv-loop : tie.InvT-loop
+Inv-loop bytes words₀ i₀ words i = (i ≤ length bytes / 4) × (putAt words i (wordsOf (drop (4 * i) bytes)) ≡ putAt words₀ 0 (wordsOf bytes)) × (length words ≡ length words₀)
+
+abbrev μ-loop : tie.MeasureT-loop
+μ-loop bytes words₀ i₀ words i = length bytes / 4 - i
+
+loop-holds : tie.Need-loop-holds Inv-loop μ-loop
+loop-holds c = (omega arith, refl, refl)
+
+mul-word-at : tie.Need-mul-word-at Inv-loop μ-loop
+mul-word-at c = search needs
+
+word-at-requires : tie.Need-word-at-requires Inv-loop μ-loop
+word-at-requires c κs = search needs
+
+mul-words : tie.Need-mul-words Inv-loop μ-loop
+mul-words c = search needs
+
+slice-write-words : tie.Need-slice-write-words Inv-loop μ-loop
+slice-write-words c = search needs
+
+add-i : tie.Need-add-i Inv-loop μ-loop
+add-i c = search needs
+
+loop-less : tie.Need-loop-less Inv-loop μ-loop
+loop-less c = search needs
+
+loop-again : tie.Need-loop-again Inv-loop μ-loop
+loop-again c =
+    let p = c .before .before in
+    let s = p .before .before .before in
+    let a = s .args in (
+      omega arith,
+      word-turn (p .loop .words) (now (a .bytes)) (putAt (now (a .words)) 0 (wordsOf (now (a .bytes)))) (p .loop .i) (c .word-at .result)
+          (omega (arith, c .before .loop-test .taken)) (omega (arith, s .pre, p .loop .inv .2, c .before .loop-test .taken)) (c .word-at .ensures) (p .loop .inv .1),
+      simp length-set (p .loop .inv .2),
+    )
+
+same-length : tie.Need-same-length Inv-loop μ-loop
+same-length c = search needs
+
+returns : tie.Need-returns Inv-loop μ-loop
+returns c =
+    let p = c .before in
+    let a = p .before .before .before .args in
+    let n : length (drop (4 * p .loop .i) (now (a .bytes))) ≡ length (now (a .bytes)) - 4 * p .loop .i = length-drop (4 * p .loop .i) (now (a .bytes)) in
+    all-read (p .loop .words) (drop (4 * p .loop .i) (now (a .bytes))) _ (p .loop .i) (omega (arith, n, c .loop-test .left)) (p .loop .inv .1)
+
+pub get-words-spec : {M : Type 1} → statement M
+get-words-spec =
+    tie.close
+    (tie.spec
+    Inv-loop
+    μ-loop
+    loop-holds
+    mul-word-at
+    word-at-requires
+    mul-words
+    slice-write-words
+    add-i
+    loop-less
+    loop-again
+    same-length
+    returns)
