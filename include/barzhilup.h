@@ -16,9 +16,10 @@
  *  - A refused call returns a number of the table in document 01, "What is
  *    turned down", or of document 02, and leaves every byte lent to it as it
  *    was. If several causes apply, the lowest number is returned, except that 19
- *    comes directly after 3, 18 directly after 2, and 20 directly after 12. A
- *    batch of PDUs that stops at a refused one has received those before it
- *    (barzhilup_receive_batch).
+ *    comes directly after 3, 18 directly after 2, 20 directly after 12, and 27
+ *    directly after 13. A batch of PDUs that stops at a refused one has received
+ *    those before it (barzhilup_receive_batch). Joining two logs checks 23 and 24,
+ *    and then 13 (barzhilup_join).
  *
  * Where document 01 has a word of its own, these are the usual ones:
  *    correct        for "mend",
@@ -80,6 +81,10 @@ extern "C" {
 /* A log of so many words is long enough for every call. (Document 01,
  * "Receiver".) */
 #define BARZHILUP_LOG_WORDS 8400
+
+/* A buffer of so many words is long enough for every receiver that is saved.
+ * (Document 02, Asks 13 and 14.) */
+#define BARZHILUP_SNAPSHOT_WORDS 1376
 
 /* The most pieces of a PDU: as many as NOP's six bits can say. A list of so many
  * entries is long enough for every PDU. barzhilup_write says how many a writer
@@ -197,6 +202,32 @@ extern "C" {
 /* Opening a receiver: a program number over 7, or one repeated. Checked after
  * BARZHILUP_REFUSED_MODE. (Document 02, Ask 10.) */
 #define BARZHILUP_REFUSED_PROGRAMS 22
+
+/* Joining two logs: words that are no log. Data words are missing, left over,
+ * wrongly counted or not filled by threes up to the last; a bit is set that the
+ * layout leaves without meaning; a length is 0, or a packet's over 4,096.
+ * (Document 02, Ask 11.) */
+#define BARZHILUP_REFUSED_LOG_WORDS 23
+
+/* Joining two logs: packet numbers do not rise strictly within a log, counted from
+ * its own first packet, modulo 64. Checked after BARZHILUP_REFUSED_LOG_WORDS and
+ * before BARZHILUP_REFUSED_LOG_LENGTH, and not if there is no core packet.
+ * (Document 02, Ask 11.) */
+#define BARZHILUP_REFUSED_NUMBERS 24
+
+/* Loading a receiver: the words are not those of a receiver, or a field in them is
+ * outside its range. Checked after BARZHILUP_REFUSED_CARRY_LENGTH. (Document 02, Ask
+ * 13.) */
+#define BARZHILUP_REFUSED_WORDS 25
+
+/* Saving a receiver: the buffer has fewer words than the receiver takes. Checked
+ * after BARZHILUP_REFUSED_CARRY_LENGTH. (Document 02, Ask 13.) */
+#define BARZHILUP_REFUSED_WORD_BUFFER 26
+
+/* Receiving: `delivered` or `missing` of the receiver would pass 4,294,967,295.
+ * Checked directly after BARZHILUP_REFUSED_LOG_LENGTH. A PDU that delivers no packet
+ * is never refused with it, nor is marking lost. (Document 02, Ask 14.) */
+#define BARZHILUP_REFUSED_COUNT_LIMIT 27
 
 /* ---- Header code (document 01, "Header code"; 001, 5.2.3.1) -------------- */
 
@@ -597,6 +628,46 @@ barzhilup_written barzhilup_write(barzhilup_writer writer,
  * (Document 02, Ask 10.) */
 #define BARZHILUP_NOTE_WITHHELD 8
 
+/* ---- Core and enhanced side by side (document 02, Ask 11) ---------------- */
+
+/* Set in the first word of an enhanced packet in the result of barzhilup_join, and
+ * in no packet's first word of a log. So a result with a pair is no log, and joining
+ * it again is refused with BARZHILUP_REFUSED_LOG_WORDS; one without a pair is a
+ * log. */
+#define BARZHILUP_JOINED_ENHANCED 0x20000000u
+
+/* What came of joining two logs. */
+typedef struct {
+    /* BARZHILUP_ACCEPTED, BARZHILUP_REFUSED_LOG_WORDS, BARZHILUP_REFUSED_NUMBERS
+     * or BARZHILUP_REFUSED_LOG_LENGTH: the first of these that applies. */
+    uint32_t refusal;
+    /* How many words of the result were written, from its first on; 0 if
+     * refused. */
+    size_t words;
+} barzhilup_joined;
+
+/*
+ * Joins two logs of one frame, core and enhanced, by packet number: what was
+ * received of the core stream and of the enhanced one. Each may be one call's log,
+ * or several calls' joined. In the core's order the result has each core packet's
+ * words, and if the enhanced log has a packet of the same number, that packet's
+ * words after them, with BARZHILUP_JOINED_ENHANCED set in their first. An enhanced
+ * packet without core is dropped, PSD and notes are left off.
+ *
+ * Within each log the packets' numbers, counted from its own first packet, modulo
+ * 64, have to rise strictly, so a log has at most 64 packets. If there is no core
+ * packet, that is not looked at, and the result is empty. Core packets 62, 63 and
+ * 0 with enhanced packets 63 and 0 make a packet alone and two pairs.
+ *
+ * `core` and `enhanced` are only read, and may be the same. `result` may hold
+ * anything and must overlap neither; as many words as both logs have together are
+ * always enough. Words after the last one written stay as they are, and all of them
+ * if the call is refused.
+ */
+barzhilup_joined barzhilup_join(const uint32_t *core, size_t core_length,
+                                const uint32_t *enhanced, size_t enhanced_length,
+                                uint32_t *result, size_t result_length);
+
 /* ---- Receiver (document 01, "Receiver") ---------------------------------- */
 
 /* What a receiver was opened with and what it remembers. A caller keeps it
@@ -630,23 +701,57 @@ typedef struct {
     bool serviced;
     /* The applied services in force, 0 to 7; 0 if not known. */
     uint8_t services;
+    /* How many packets were delivered since the opening. Every packet that a call
+     * logs counts. Opening sets this and the next two fields to 0, and so does
+     * loading words that have no counts; marking lost keeps them. (Document 02, Ask
+     * 14.) */
+    uint32_t delivered;
+    /* How many packets are missing between those delivered, by their numbers, which
+     * run from 0 to 63 and from 0 again: from the second packet delivered on, each
+     * adds its number minus the last one's minus 1, modulo 64. Lost, damaged and
+     * withheld packets are missing alike. None is counted before the first
+     * packet delivered, nor after the last.
+     *
+     * Where each PDU of a writer is received or marked lost, once and in their order,
+     * and fewer than 64 packets are missing between each one delivered and the next,
+     * `delivered` plus `missing` is just how many packets the writer sent from the
+     * first delivered to the last. Where 64 or more are missing in one gap, their count
+     * is short by 64, or by a multiple of it. A packet whose number is that of the one
+     * delivered before it adds 63.
+     *
+     * With `delivered` 0 this has to be 0. */
+    uint32_t missing;
+    /* The number, 0 to 63, of the last packet delivered; with `delivered` 0 it has to
+     * be 0. */
+    uint8_t last;
 } barzhilup_receiver;
 
-/* What came of opening a receiver. */
+/* What came of opening a receiver, or of loading one. */
 typedef struct {
     /* BARZHILUP_ACCEPTED or BARZHILUP_REFUSED_MODE; with a list of programs also
-     * BARZHILUP_REFUSED_PROGRAMS. */
+     * BARZHILUP_REFUSED_PROGRAMS. From barzhilup_load_receiver: BARZHILUP_ACCEPTED,
+     * BARZHILUP_REFUSED_CARRY_LENGTH or BARZHILUP_REFUSED_WORDS. */
     uint32_t refusal;
-    /* No sequence and no applied services known, nothing held. If refused, a receiver
-     * of mode 255, which every call turns down with BARZHILUP_REFUSED_STATE. */
+    /* No sequence and no applied services known, nothing held, nothing delivered;
+     * loaded, what the words say. If refused, a receiver of mode 255, all else 0, which
+     * every call turns down with BARZHILUP_REFUSED_STATE. */
     barzhilup_receiver receiver;
 } barzhilup_receiver_opened;
 
+/* What came of saving a receiver. */
+typedef struct {
+    /* BARZHILUP_ACCEPTED, BARZHILUP_REFUSED_STATE, BARZHILUP_REFUSED_CARRY_LENGTH or
+     * BARZHILUP_REFUSED_WORD_BUFFER. */
+    uint32_t refusal;
+    /* How many words were written, from the buffer's first on. 0 if refused. */
+    uint32_t words;
+} barzhilup_saved;
+
 /* What came of receiving a PDU or a pair, or marking a PDU lost. */
 typedef struct {
-    /* BARZHILUP_ACCEPTED, or a BARZHILUP_REFUSED_ number: 1 to 13 for receiving,
-     * with marks also 19; 1, 2, 4 to 13 or 20 for a pair; 1 or 13 for marking
-     * lost. */
+    /* BARZHILUP_ACCEPTED, or a BARZHILUP_REFUSED_ number: 1 to 13 or 27 for
+     * receiving, with marks also 19; 1, 2, 4 to 13, 20 or 27 for a pair; 1 or 13 for
+     * marking lost. */
     uint32_t refusal;
     /* With BARZHILUP_REFUSED_LOCATOR, the number k of the first wrong locator,
      * from 0, for a pair the smallest over both copies; otherwise 0. (Document 02,
@@ -662,7 +767,7 @@ typedef struct {
 /* What came of receiving a batch of PDUs. */
 typedef struct {
     /* BARZHILUP_ACCEPTED, and all PDUs were received; or a BARZHILUP_REFUSED_
-     * number: 1, 2 or 18 of the whole call, or the one, 3 to 13, with which the
+     * number: 1, 2 or 18 of the whole call, or the one, 3 to 13 or 27, with which the
      * PDU after the first `taken` was refused. */
     uint32_t refusal;
     /* With BARZHILUP_REFUSED_LOCATOR, the number k of that PDU's first wrong
@@ -739,7 +844,10 @@ barzhilup_open_receiver_entitled(uint8_t mode, uint8_t stream, uint8_t crc_start
  *
  * In log order: note 1 or note 4, if due; the PSD, if any; and for each piece a
  * packet if one ends with it, a note if it is dropped, or nothing if it is held. For a
- * PDU that is withheld, barzhilup_open_receiver_entitled says what there is.
+ * PDU that is withheld, barzhilup_open_receiver_entitled says what there is. Each
+ * packet is counted in the receiver's `delivered`, and those that its number tells to
+ * be missing in `missing`. Where one of the two would pass 4,294,967,295 the call is
+ * refused with 27: to go on, write both down, and set them and `last` to 0.
  *
  * If the PDU is accepted, `pdu` is left corrected, the first `words` words of
  * `log` are written, and the first `held` bytes of `carry` are the bytes held
@@ -758,8 +866,8 @@ barzhilup_received barzhilup_receive(barzhilup_receiver receiver,
  * has its own list: those of the PDUs before make no difference. With `count` 0
  * this is barzhilup_receive.
  *
- * It is refused as barzhilup_receive is, in this order: 1, 2, 3, 19, 4, 5 to 13.
- * If it is refused, no byte and no word has changed.
+ * It is refused as barzhilup_receive is, in this order: 1, 2, 3, 19, 4, 5 to 13,
+ * 27. If it is refused, no byte and no word has changed.
  */
 barzhilup_received barzhilup_receive_marked(barzhilup_receiver receiver,
                                             uint8_t *carry, size_t carry_length,
@@ -779,7 +887,8 @@ barzhilup_received barzhilup_receive_marked(barzhilup_receiver receiver,
  * always long enough. The four buffers must not overlap.
  *
  * It stops at the first PDU that is refused, and `refusal` is that PDU's number; 13
- * is judged on what is left of the log. The PDUs before it, of which `taken` is the
+ * is judged on what is left of the log, 27 on the counts as the PDUs before it left
+ * them. The PDUs before it, of which `taken` is the
  * count, are received. It and those after it keep their bytes: to go on, deal with
  * it (barzhilup_mark_lost, where it stays refused) and hand over those after it.
  *
@@ -855,7 +964,7 @@ barzhilup_chosen(const uint8_t *first, size_t first_length,
  *    copy refuses the pair, however good the other is;
  *  - 20 where both can be corrected, and lengths or corrected bytes 8 to La
  *    differ: they are not of one PDU, or bytes 96 to La of one are damaged;
- *  - 13.
+ *  - 13, and then 27.
  *
  * If the pair is accepted, the header of each copy that can be corrected is left
  * corrected, the first `words` words of `log` are written, and the first `held`
@@ -870,12 +979,109 @@ barzhilup_received barzhilup_receive_pair(barzhilup_receiver receiver,
 
 /*
  * Marks a PDU lost, in its place in the row of PDUs: logs note 6, one word,
- * drops what is held and forgets the sequence and the applied services. The carry buffer is not needed
- * and stays as it is. `log` may hold anything; no other word of it has changed,
- * and none if the call is refused.
+ * drops what is held and forgets the sequence and the applied services. The counts
+ * and the last number delivered stay. The carry buffer is not needed and stays as it
+ * is. `log` may hold anything; no other word of it has changed, and none if the call
+ * is refused.
  */
 barzhilup_received barzhilup_mark_lost(barzhilup_receiver receiver,
                                        uint32_t *log, size_t log_length);
+
+/* ---- A receiver that goes on after a restart (document 02, Ask 13) -------- */
+
+/*
+ * A receiver is saved between two calls, as words of 32 bits, and loaded again by
+ * the program that goes on: the same one after a restart, or a later one. What it
+ * logs from there on is what it would have logged without the interruption,
+ * whatever the calls are, and however often it is saved and loaded.
+ *
+ * Bits 31-28 of a word are its kind. Kinds rise from word to word, and only kinds 5
+ * and 6 repeat. Bits that have no meaning here are zero.
+ *
+ *   kind  where            bits    what
+ *   0     always, first     3-0    the mode
+ *                           5-4    the stream
+ *   1     sequence known    2-0    the last PDU's sequence
+ *   2     bytes held      21-16    the number of the packet that they begin
+ *                          15-0    how many bytes are held, 1 to 4,096
+ *   3     always            7-0    the value that the CRC's register starts with
+ *   4     always            7-0    the entitled programs, bit p for program p
+ *                            11    1 if the applied services in force are known
+ *                          10-8    these; 0 if they are not known
+ *   5     bytes held      25-24    how many of them stand in this word, 1 to 3
+ *                         23-16    the first of them
+ *                          15-8    the second, or 0
+ *                           7-0    the third, or 0
+ *   6     any delivered    15-0    in five words: `delivered`, its high 16 bits and
+ *                                  its low ones, `missing` likewise, and `last`
+ *
+ * The words of kind 5 have the held bytes in their order; each has three but the
+ * last.
+ *
+ * A receiver of mode 1, core, with sequence 5 known, packet 9 held as far as the
+ * bytes 11 22 33 44, a register that starts at 255, programs 0 and 3 entitled, and
+ * applied services 1 in force is 0x00000001 0x10000005 0x20090004 0x300000ff
+ * 0x40000909 0x53112233 0x51440000. Once it has delivered 70,000 packets, the last of
+ * them number 8, with 3 missing between them, these follow: 0x60000001 0x60001170
+ * 0x60000000 0x60000003 0x60000008.
+ *
+ * Words that were saved before there was a kind 3, 4 or 6 lack it. They are loaded
+ * too: without kind 3 the register starts at 0, without kind 4 the receiver is
+ * entitled to no program and the applied services are unknown, and without kind 6
+ * nothing is delivered so far.
+ *
+ * Where the words are kept is for the caller to decide, and so is the order of a
+ * word's bytes there. The words have no check of their own: keep one with them
+ * where they can be damaged.
+ */
+
+/*
+ * Saves a receiver: writes its words into `words`, from the first on. `carry` is
+ * its carry buffer, of at least 4,096 bytes, as the receiver's last call left it;
+ * it is only read. `words` has room for `words_length` words and may hold anything;
+ * it must not overlap `carry`. Three words are written, one more if the sequence is
+ * known, five more if a packet was delivered, and if bytes are held one more and one
+ * for every three of these, or what is left of three: BARZHILUP_SNAPSHOT_WORDS at
+ * most.
+ *
+ * `refusal` is BARZHILUP_ACCEPTED, and the first `words` words of the buffer are
+ * written; those after them stay as they are. Or it is, the first of these that
+ * applies, BARZHILUP_REFUSED_STATE, BARZHILUP_REFUSED_CARRY_LENGTH or
+ * BARZHILUP_REFUSED_WORD_BUFFER, and no word has changed.
+ */
+barzhilup_saved barzhilup_save_receiver(barzhilup_receiver receiver,
+                                        const uint8_t *carry, size_t carry_length,
+                                        uint32_t *words, size_t words_length);
+
+/*
+ * Loads a receiver from the words that it was saved as. `words` has just these,
+ * `words_length` of them; it is only read. `carry` is the carry buffer for the
+ * calls that follow, of at least 4,096 bytes; it may hold anything and must not
+ * overlap `words`.
+ *
+ * `refusal` is BARZHILUP_ACCEPTED, the receiver is the one that was saved, and the
+ * bytes that it holds are the first ones of `carry`; those after them stay as they
+ * are. Or it is BARZHILUP_REFUSED_CARRY_LENGTH, or after this
+ * BARZHILUP_REFUSED_WORDS, and no byte has changed.
+ *
+ * The words are refused with BARZHILUP_REFUSED_WORDS if there are none; if kind 0
+ * is not the first, or a kind does not rise, repeats or is over 6; if a bit without
+ * meaning is set; if mode and stream are not in document 01's table, the sequence
+ * is outside their range, or the applied services are known for others than the
+ * core streams of modes 1, 2, 3 and 13; if applied services that are not known are
+ * not 0; if kind 2 says 0 bytes or over 4,096; and if the words of kind 5 have more
+ * or fewer bytes than kind 2 says, 0 where it is absent, or a word before the last
+ * has under three; and if there are words of kind 6 and these are not five, say that
+ * nothing is delivered, or have a last number over 63.
+ *
+ * PDUs that passed between saving and loading are marked lost, one call of
+ * barzhilup_mark_lost for each: their sequences may happen to fit, and then nothing
+ * else tells that they are missing.
+ */
+barzhilup_receiver_opened barzhilup_load_receiver(const uint32_t *words,
+                                                  size_t words_length,
+                                                  uint8_t *carry,
+                                                  size_t carry_length);
 
 /* ---- Bench for latency settings (document 02, Ask 7) --------------------- */
 
@@ -967,8 +1173,8 @@ typedef struct {
 /* What came of stepping a receiver in place: a barzhilup_received without the
  * receiver. */
 typedef struct {
-    /* BARZHILUP_ACCEPTED, or a BARZHILUP_REFUSED_ number: 1 to 13 for receiving,
-     * 1 or 13 for marking lost. */
+    /* BARZHILUP_ACCEPTED, or a BARZHILUP_REFUSED_ number: 1 to 13 or 27 for
+     * receiving, 1 or 13 for marking lost. */
     uint32_t refusal;
     /* With BARZHILUP_REFUSED_LOCATOR, the number k of the first wrong locator,
      * from 0; otherwise 0. (Document 02, Ask 6.) */

@@ -11,9 +11,11 @@
 use crate::{Piece, HEADER_BYTES, PARITY_BYTES};
 
 pub(crate) mod batches;
+pub(crate) mod joining;
 pub(crate) mod latency;
 pub(crate) mod pairs;
 pub(crate) mod shares;
+pub(crate) mod snapshots;
 
 /// Eight bytes: syndromes or parity.
 #[repr(C)]
@@ -133,9 +135,12 @@ pub(crate) struct Receiver {
     pub(crate) number: u8,
     pub(crate) serviced: bool,
     pub(crate) services: u8,
+    pub(crate) delivered: u32,
+    pub(crate) missing: u32,
+    pub(crate) last: u8,
 }
 
-/// What came of opening a receiver.
+/// What came of opening a receiver, or of loading one.
 #[repr(C)]
 pub(crate) struct ReceiverOpened {
     pub(crate) refusal: u32,
@@ -417,9 +422,9 @@ const _: () = {
     assert!(size_of::<WriterOpened>() == 12 && align_of::<WriterOpened>() == 4);
     assert!(size_of::<Settings>() == 20 && align_of::<Settings>() == 4);
     assert!(size_of::<Written>() == 16 && align_of::<Written>() == 4);
-    assert!(size_of::<Receiver>() == 12 && align_of::<Receiver>() == 2);
-    assert!(size_of::<ReceiverOpened>() == 16 && align_of::<ReceiverOpened>() == 4);
-    assert!(size_of::<Received>() == 24 && align_of::<Received>() == 4);
+    assert!(size_of::<Receiver>() == 24 && align_of::<Receiver>() == 4);
+    assert!(size_of::<ReceiverOpened>() == 28 && align_of::<ReceiverOpened>() == 4);
+    assert!(size_of::<Received>() == 36 && align_of::<Received>() == 4);
     assert!(size_of::<Piece>() == 6 && align_of::<Piece>() == 2);
 };
 

@@ -42,6 +42,18 @@
 //! [`Receiver::open_with`], and [`list_pieces`] is given it. Any byte will do, if
 //! both ends have the same.
 //!
+//! # A receiver that goes on after a restart
+//!
+//! [`Receiver::save`] writes a receiver out as words of 32 bits, and
+//! [`Receiver::load`] makes a receiver of them again, in this program or in a later
+//! one: its log goes on as if there had been no interruption.
+//!
+//! # Packets delivered and missing
+//!
+//! A receiver counts the packets that it delivers and, by their numbers, those that are
+//! missing between them: [`Receiver::delivered`], [`Receiver::missing`] and
+//! [`Receiver::last_number`].
+//!
 //! # Refusals
 //!
 //! A call that can't be done is refused: it answers with a [`Refusal`], which
@@ -49,8 +61,9 @@
 //! 02. A refused call changes nothing: the PDU, the list of pieces, the
 //! [`Writer`] and the [`Receiver`] are as they were. If several causes apply, the
 //! refusal has the lowest number, except that 19 comes directly after 3, 18
-//! directly after 2, and 20 directly after 12. A batch of PDUs stops at a refused
-//! one; those before it are received, and its [`Batch`] says so.
+//! directly after 2, 20 directly after 12, and 27 directly after 13. A batch of PDUs
+//! stops at a refused one; those before it are received, and its [`Batch`] says so.
+//! Joining two logs checks 23, 24 and then 13.
 //!
 //! Every call ends, on every input, and none panics.
 //!
@@ -67,6 +80,7 @@
 #[allow(unsafe_code)]
 mod ffi;
 mod header;
+mod joining;
 mod latency;
 mod log;
 mod mode;
@@ -80,6 +94,7 @@ mod writer;
 pub use header::{
     correct_header, correct_header_marked, crc8, crc8_from, parity, syndromes, write_parity,
 };
+pub use joining::{join, Joined, JoinedPacket, JoinedPackets, JOINED_ENHANCED};
 pub use latency::{smallest_latency, try_latency, waiting_packets, LatencyTrial};
 pub use log::{Bytes, Cause, Data, Entries, Entry, Log, MalformedLog};
 pub use mode::{Mode, Stream};
@@ -137,6 +152,10 @@ pub const CARRY_BYTES: usize = 4_096;
 /// A log of so many words is long enough for every call. (Document 01,
 /// "Receiver".)
 pub const LOG_WORDS: usize = 8_400;
+
+/// A buffer of so many words is long enough for every receiver that is saved.
+/// (Document 02, Asks 13 and 14.)
+pub const SNAPSHOT_WORDS: usize = 1_376;
 
 /// The most counts that a bench for latency settings takes. (Document 02, Ask 7.)
 pub const COUNTS_MAX: usize = 4_096;

@@ -199,6 +199,13 @@ pub struct Data<'a> {
 }
 
 impl<'a> Data<'a> {
+    /// So many bytes in the data words that these words begin with, and the words
+    /// after them; none if there are too few.
+    pub(crate) fn split(words: &'a [u32], length: usize) -> Option<(Data<'a>, &'a [u32])> {
+        let (words, rest) = words.split_at_checked(data_words(length))?;
+        Some((Data { words, length }, rest))
+    }
+
     /// How many bytes there are.
     pub fn len(&self) -> usize {
         self.length
@@ -308,13 +315,12 @@ fn split(words: &[u32]) -> Option<(Entry<'_>, &[u32])> {
     match first >> 30 {
         0 => {
             let number = (first >> 16 & 63) as u8;
-            let (words, rest) = rest.split_at_checked(data_words(length))?;
-            let data = Data { words, length };
+            let (data, rest) = Data::split(rest, length)?;
             Some((Entry::Packet { number, data }, rest))
         }
         2 => {
-            let (words, rest) = rest.split_at_checked(data_words(length))?;
-            Some((Entry::Psd(Data { words, length }), rest))
+            let (data, rest) = Data::split(rest, length)?;
+            Some((Entry::Psd(data), rest))
         }
         3 => {
             let cause = Cause::numbered(first >> 16 & 0x3FFF)?;

@@ -1,10 +1,12 @@
-//! The PDU receiver (document 01, "Receiver"; document 02, Asks 1 to 3, 5 and 10).
+//! The PDU receiver (document 01, "Receiver"; document 02, Asks 1 to 3, 5, 10, 13
+//! and 14).
 
 use crate::{ffi, Log, Mode, Refusal, Stream, CARRY_BYTES, CRC_START, LOG_WORDS};
 use std::fmt;
 
 mod batch;
 mod pair;
+mod snapshot;
 
 pub use batch::Batch;
 
@@ -34,6 +36,13 @@ pub struct ReceiverState {
     /// streams of modes 1, 2, 3 and 13, which keep them from one PDU to the next.
     /// (Document 02, Ask 10.)
     pub services: Option<u8>,
+    /// How many packets were delivered since the opening. (Document 02, Ask 14.)
+    pub delivered: u32,
+    /// How many packets are missing between those delivered, by their numbers
+    /// ([`Receiver::missing`]); 0 where none is delivered.
+    pub missing: u32,
+    /// The number, 0 to 63, of the last packet delivered; 0 where none is.
+    pub last: u8,
 }
 
 impl ReceiverState {
@@ -50,6 +59,9 @@ impl ReceiverState {
             number: self.number,
             serviced: self.services.is_some(),
             services: self.services.unwrap_or(0),
+            delivered: self.delivered,
+            missing: self.missing,
+            last: self.last,
         }
     }
 
@@ -64,6 +76,9 @@ impl ReceiverState {
             held: receiver.held,
             number: receiver.number,
             services: receiver.serviced.then_some(receiver.services),
+            delivered: receiver.delivered,
+            missing: receiver.missing,
+            last: receiver.last,
         }
     }
 }
@@ -85,7 +100,7 @@ pub struct Receiver {
 
 impl Receiver {
     /// Opens a receiver for a mode and stream: no sequence is known, nothing is
-    /// held. The register of its CRCs starts at [`CRC_START`], 0, as in document
+    /// held or delivered. The register of its CRCs starts at [`CRC_START`], 0, as in document
     /// 01's examples. It is entitled to programs 0 to 7: no PDU is withheld.
     ///
     /// # Errors
@@ -176,7 +191,7 @@ impl Receiver {
 
     /// A receiver that goes on from a state and a carry buffer that were kept.
     /// The first bytes of `carry`, as many as are held, are the beginning of the
-    /// unfinished packet.
+    /// unfinished packet. [`Receiver::save`] and [`Receiver::load`] keep both as words.
     ///
     /// # Errors
     ///
@@ -217,6 +232,57 @@ impl Receiver {
         &self.carry[..usize::from(self.state.held)]
     }
 
+    /// How many packets were delivered since the opening: those that the logs of all
+    /// calls had together. Marking lost keeps it, and so do [`Receiver::save`] and
+    /// [`Receiver::load`]. (Document 02, Ask 14.)
+    pub fn delivered(&self) -> u32 {
+        self.state.delivered
+    }
+
+    /// How many packets are missing between those delivered. It is told from their
+    /// numbers, which run from 0 to 63 and from 0 again: from the second packet
+    /// delivered on, each adds its number minus the last one's minus 1, modulo 64. Lost,
+    /// damaged and withheld packets are missing alike; none is counted before the first
+    /// packet delivered, nor after the last. (Document 02, Ask 14.)
+    ///
+    /// Where each PDU of a writer is received or marked lost, once and in their order,
+    /// and fewer than 64 packets are missing between each one delivered and the next,
+    /// [`Receiver::delivered`] plus this is just how many packets the writer sent from
+    /// the first delivered to the last. Where 64 or more are missing in one gap, their
+    /// count is short by 64, or by a multiple of it. A packet whose number is that of the
+    /// one delivered before it adds 63.
+    ///
+    /// # Example
+    ///
+    /// ```
+    /// use barzhilup::{Mode, Receiver, Settings, Stream, Writer};
+    ///
+    /// # fn main() -> Result<(), barzhilup::Refusal> {
+    /// let mut writer = Writer::open(Mode::M0, Stream::Core)?;
+    /// let mut receiver = Receiver::open(Mode::M0, Stream::Core)?;
+    /// let mut pdu = [0; 96];
+    /// for turn in 0..3 {
+    ///     writer.write(&Settings::default(), b"", &[b"one", b"two"], &mut pdu)?;
+    ///     match turn {
+    ///         1 => receiver.mark_lost()?, // packets 2 and 3 are lost
+    ///         _ => receiver.receive(&mut pdu)?,
+    ///     };
+    /// }
+    /// assert_eq!((receiver.delivered(), receiver.missing()), (4, 2));
+    /// assert_eq!(receiver.last_number(), Some(5));
+    /// # Ok(())
+    /// # }
+    /// ```
+    pub fn missing(&self) -> u32 {
+        self.state.missing
+    }
+
+    /// The number, 0 to 63, of the last packet delivered, if one was. (Document 02, Ask
+    /// 14.)
+    pub fn last_number(&self) -> Option<u8> {
+        (self.state.delivered > 0).then_some(self.state.last)
+    }
+
     /// Receives one PDU: corrects its header in place, joins its pieces to
     /// packets, and hands out the log of this call. In log order: a note on the
     /// sequence or on a beginning that is not continued, if due; the PSD, if any;
@@ -226,7 +292,8 @@ impl Receiver {
     ///
     /// # Errors
     ///
-    /// Refused with 3 to 12; then the receiver and the PDU are as they were.
+    /// Refused with 3 to 12, or with [`Refusal::CountLimit`] where a count of packets
+    /// would pass 4,294,967,295; then the receiver and the PDU are as they were.
     pub fn receive(&mut self, pdu: &mut [u8]) -> Result<Log<'_>, Refusal> {
         let answer = ffi::receive(self.state.to_c(), &mut self.carry, pdu, &mut self.log);
         self.step(answer)
@@ -243,7 +310,7 @@ impl Receiver {
     ///
     /// # Errors
     ///
-    /// Refused with 3, 19 or 4 to 12, in this order; then the receiver and the PDU
+    /// Refused with 3, 19, 4 to 12 or 27, in this order; then the receiver and the PDU
     /// are as they were.
     ///
     /// # Example
@@ -273,7 +340,7 @@ impl Receiver {
 
     /// Marks a PDU lost, in its place in the row of PDUs: logs
     /// [`Cause::Lost`](crate::Cause::Lost), drops what is held and forgets the
-    /// sequence and the applied services.
+    /// sequence and the applied services. The counts and the last number stay.
     ///
     /// # Errors
     ///

@@ -8,8 +8,9 @@ use std::fmt;
 ///
 /// A refused call has changed nothing. If several causes applied, this is the
 /// one with the lowest number, except that 19 comes directly after 3, 18 directly
-/// after 2, and 20 directly after 12. A batch that stopped at a refused PDU has received those
-/// before it: see [`Batch`](crate::Batch).
+/// after 2, 20 directly after 12, and 27 directly after 13. A batch that stopped at a
+/// refused PDU has received those before it: see [`Batch`](crate::Batch). Joining two
+/// logs checks 23, 24 and then 13.
 #[derive(Clone, Copy, Debug, PartialEq, Eq, Hash)]
 pub enum Refusal {
     /// 1: a field of a writer's or receiver's state is outside its range.
@@ -81,11 +82,27 @@ pub enum Refusal {
     /// 22: a list of entitled programs has a number over 7, or one repeated
     /// (document 02, Ask 10).
     Programs,
+    /// 23: words to be joined are no log (document 02, Ask 11).
+    LogWords,
+    /// 24: packet numbers do not rise strictly within a log to be joined, counted
+    /// from its own first packet, modulo 64 (document 02, Ask 11).
+    Numbers,
+    /// 25: the words that a receiver is loaded from are not those of a receiver, or a
+    /// field in them is outside its range (document 02, Ask 13).
+    Words,
+    /// 26: the buffer for a receiver's words is too short (document 02, Ask 13).
+    WordBuffer,
+    /// 27: [`Receiver::delivered`](crate::Receiver::delivered) or
+    /// [`Receiver::missing`](crate::Receiver::missing) would pass 4,294,967,295. A PDU
+    /// that delivers no packet is never refused with it. To go on, write both down and
+    /// [resume](crate::Receiver::resume) the state with `delivered`, `missing` and `last`
+    /// 0. (Document 02, Ask 14.)
+    CountLimit,
 }
 
 impl Refusal {
     /// The number in document 01's table, 1 to 17, or in document 02, 18 to
-    /// 22.
+    /// 27.
     pub const fn number(self) -> u32 {
         match self {
             Refusal::State => 1,
@@ -110,6 +127,11 @@ impl Refusal {
             Refusal::Pair => 20,
             Refusal::Counts => 21,
             Refusal::Programs => 22,
+            Refusal::LogWords => 23,
+            Refusal::Numbers => 24,
+            Refusal::Words => 25,
+            Refusal::WordBuffer => 26,
+            Refusal::CountLimit => 27,
         }
     }
 
@@ -140,6 +162,11 @@ impl Refusal {
             20 => Refusal::Pair,
             21 => Refusal::Counts,
             22 => Refusal::Programs,
+            23 => Refusal::LogWords,
+            24 => Refusal::Numbers,
+            25 => Refusal::Words,
+            26 => Refusal::WordBuffer,
+            27 => Refusal::CountLimit,
             _ => unreachable!("the library has no refusal {number}"),
         })
     }
@@ -173,6 +200,11 @@ impl Refusal {
             Refusal::Pair => "the two copies say different things before their pieces",
             Refusal::Counts => "no counts, more than 4,096, or one over 63",
             Refusal::Programs => "a program number is over 7, or repeated",
+            Refusal::LogWords => "the words are not a log's",
+            Refusal::Numbers => "packet numbers do not rise within a log",
+            Refusal::Words => "the words are not those of a receiver",
+            Refusal::WordBuffer => "the buffer is too short for the receiver's words",
+            Refusal::CountLimit => "a count of packets would pass 4,294,967,295",
         }
     }
 }

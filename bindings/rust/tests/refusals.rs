@@ -149,6 +149,9 @@ fn n1_receiver_state() {
         held: 4096,
         number: 63,
         services: None,
+        delivered: 1,
+        missing: u32::MAX,
+        last: 63,
     };
     let carry = [6; 4096];
     let receiver = Receiver::resume(right, &carry).unwrap();
@@ -179,6 +182,18 @@ fn n1_receiver_state() {
         ReceiverState {
             mode: Mode::M1,
             services: Some(8),
+            ..right
+        },
+        ReceiverState { last: 64, ..right },
+        // Where nothing is delivered, nothing is missing and there is no last number.
+        ReceiverState {
+            delivered: 0,
+            last: 0,
+            ..right
+        },
+        ReceiverState {
+            delivered: 0,
+            missing: 0,
             ..right
         },
     ];

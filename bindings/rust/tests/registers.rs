@@ -121,6 +121,9 @@ fn every_value_opens() {
                 held: 0,
                 number: 0,
                 services: None,
+                delivered: 0,
+                missing: 0,
+                last: 0,
             };
             assert_eq!(receiver.state(), state);
             assert_eq!(Receiver::resume(state, receiver.carry()), Ok(receiver));

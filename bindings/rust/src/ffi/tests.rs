@@ -91,7 +91,10 @@ fn receivers() -> Vec<String> {
             held,
             number,
             serviced,
-            services
+            services,
+            delivered,
+            missing,
+            last
         ),
         layout!(
             "barzhilup_receiver_opened",
@@ -107,6 +110,7 @@ fn receivers() -> Vec<String> {
             words,
             receiver
         ),
+        layout!("barzhilup_saved", snapshots::Saved, refusal, words),
         layout!(
             "barzhilup_batch",
             batches::Batch,
@@ -231,6 +235,16 @@ fn latencies() -> Vec<String> {
     .concat()
 }
 
+/// The answer to joining two logs, and the bit of an enhanced packet.
+fn joinings() -> Vec<String> {
+    let mut lines = layout!("barzhilup_joined", joining::Joined, refusal, words);
+    lines.push(holds(
+        "BARZHILUP_JOINED_ENHANCED",
+        crate::JOINED_ENHANCED as usize,
+    ));
+    lines
+}
+
 #[test]
 fn structs_lie_as_in_c() {
     let parts = [
@@ -240,6 +254,7 @@ fn structs_lie_as_in_c() {
         control_words(),
         readings(),
         latencies(),
+        joinings(),
     ];
     let (right, messages) = compile(&parts.concat());
     assert!(right, "{messages}");
@@ -265,6 +280,7 @@ fn sizes_are_as_in_c() {
         ("PIECES_MAX", crate::PIECES_MAX),
         ("CARRY_BYTES", crate::CARRY_BYTES),
         ("LOG_WORDS", crate::LOG_WORDS),
+        ("SNAPSHOT_WORDS", crate::SNAPSHOT_WORDS),
         ("CRC_START", crate::CRC_START.into()),
         ("CRC_START_OFF_AIR", crate::CRC_START_OFF_AIR.into()),
         ("COUNTS_MAX", crate::COUNTS_MAX),
@@ -294,7 +310,7 @@ fn c_name(refusal: Refusal) -> String {
 #[test]
 fn refusals_are_numbered_as_in_c() {
     let mut lines = Vec::new();
-    for number in 1..=21 {
+    for number in 1..=27 {
         let refusal = Refusal::check(number, 3).expect_err("a refusal");
         assert_eq!(refusal.number(), number);
         let name = c_name(refusal);
@@ -322,6 +338,7 @@ fn causes_are_numbered_as_in_c() {
         ("NOTE_TOO_LONG", TooLong),
         ("NOTE_LOST", Lost),
         ("NOTE_COPIES_DIFFER", CopiesDiffer),
+        ("NOTE_WITHHELD", Withheld),
     ];
     let lines =
         causes.map(|(name, cause)| holds(&format!("BARZHILUP_{name}"), cause.number() as usize));

@@ -11,8 +11,8 @@ pub struct Batch<'a> {
     pub taken: usize,
     /// Their logs, one after another.
     pub log: Log<'a>,
-    /// Why the PDU after them was refused, if one was: 3 to 12. It and those after
-    /// it are as they were.
+    /// Why the PDU after them was refused, if one was: 3 to 12 or 27. It and those
+    /// after it are as they were.
     pub refusal: Option<Refusal>,
 }
 

@@ -21,8 +21,9 @@ impl Receiver {
     /// that applies to a copy that can be corrected, however good the other is, and
     /// 11 with the smallest k over both; or with [`Refusal::Pair`] where both can be
     /// corrected, and lengths or corrected bytes 8 to La differ: they are not of one
-    /// PDU, or bytes 96 to La of one are damaged. Then the receiver and both PDUs are
-    /// as they were, and a copy can still be received alone.
+    /// PDU, or bytes 96 to La of one are damaged; or with 27 where a count of packets
+    /// would pass 4,294,967,295. Then the receiver and both PDUs are as they were, and a
+    /// copy can still be received alone.
     ///
     /// # Example
     ///
