@@ -6,7 +6,9 @@
 //! (Ask 2), header bytes marked doubtful with refusal 19 (Ask 3), two copies of a
 //! PDU with refusal 20 and note 7 (Ask 5), a bench for latency settings with
 //! refusal 21 (Ask 7), parity as bytes arrive (Ask 8), up to 63 pieces (Ask 9),
-//! and paid programs with refusal 22 and note 8 (Ask 10):
+//! paid programs with refusal 22 and note 8 (Ask 10), two logs joined with refusals
+//! 23 and 24 (Ask 11), a receiver saved as words and loaded again with refusals 25
+//! and 26 (Ask 13), and packets delivered and missing with refusal 27 (Ask 14):
 //!
 //! - `field`: the bytes as elements of GF(256);
 //! - `linear`: systems of linear equations over them;
@@ -24,17 +26,21 @@
 //! - `log`: the words of the packet log;
 //! - `receiver`: the receiver, opened, receiving and marking lost;
 //! - `entitlement`: the entitled programs, and which PDUs are withheld;
+//! - `counts`: packets delivered and missing, and the last delivered number;
 //! - `batches`: PDUs received in one call;
 //! - `pairs`: two copies of a PDU, one chosen, or both received in one call;
+//! - `snapshot`: a receiver written out as words, and read again;
 //! - `refusal`: the numbers of the table of refusals, and their causes;
 //! - `encode`: PDUs made of any parts, for the writer and the tests;
 //! - `latency`: the bench for latency settings;
+//! - `joining`: the logs of core and enhanced side by side;
 //! - `rng`: repeatable random numbers for the tests.
 
 #![forbid(unsafe_code)]
 
 pub mod batches;
 pub mod control;
+pub mod counts;
 pub mod crc;
 pub mod encode;
 pub mod entitlement;
@@ -42,6 +48,7 @@ pub mod erasures;
 pub mod expansion;
 pub mod field;
 pub mod header;
+pub mod joining;
 pub mod latency;
 pub mod linear;
 pub mod locators;
@@ -56,4 +63,5 @@ pub mod rng;
 pub mod search;
 pub mod settings;
 pub mod shares;
+pub mod snapshot;
 pub mod writer;

@@ -1,10 +1,11 @@
 //! The receiver (document 01, "Receiver"; the CRC's register, document 02, Ask
-//! 2; with marks, Ask 3; with entitled programs, Ask 10), with the refusals 1 to
-//! 13, 19 and 22. All causes for a
+//! 2; with marks, Ask 3; with entitled programs, Ask 10; packets counted, Ask 14), with
+//! the refusals 1 to 13, 19, 22 and 27. All causes for a
 //! refusal are gathered first; of their numbers the one checked first is the
 //! answer. `pairs` receives two copies of a PDU by the same steps.
 
 use crate::control::{self, ControlWord};
+use crate::counts::{self, Counts};
 use crate::crc::crc8_from;
 use crate::entitlement::{self, Entitled};
 use crate::erasures;
@@ -41,6 +42,11 @@ pub struct Receiver {
     /// sequence range 0-7.
     pub serviced: bool,
     pub services: u8,
+    /// How many packets are delivered, and how many are missing between them.
+    pub delivered: u32,
+    pub missing: u32,
+    /// The last delivered number; with delivered 0 the other two are 0.
+    pub last: u8,
 }
 
 /// Opens a receiver for a mode and stream, or answers the refusal's number. The
@@ -148,7 +154,7 @@ pub fn receive_marked(
 }
 
 /// Marks a PDU lost: logs note 6, drops the beginning and forgets the sequence
-/// and the applied services.
+/// and the applied services. The counts stay.
 pub fn mark_lost(receiver: Receiver, log: &mut [u32]) -> Answer {
     let words = Entry::Note(Note::Lost).words();
     let mut causes = state_causes(&receiver);
@@ -166,6 +172,9 @@ pub fn mark_lost(receiver: Receiver, log: &mut [u32]) -> Answer {
             stream: receiver.stream,
             register: receiver.register,
             entitled: receiver.entitled,
+            delivered: receiver.delivered,
+            missing: receiver.missing,
+            last: receiver.last,
             ..Receiver::default()
         },
     }
@@ -204,6 +213,7 @@ pub(crate) fn state_causes(receiver: &Receiver) -> Vec<ReceiverCause> {
         causes.push(ReceiverCause::NumberNotHeld);
     }
     causes.extend(services_causes(receiver));
+    causes.extend(counts::state_causes(receiver));
     causes
 }
 
@@ -446,11 +456,13 @@ impl Heard {
         }
     }
 
-    /// The answer, with words and held bytes where they belong; or 13, and
+    /// The answer, with words and held bytes where they belong; or 13 or 27, and
     /// nothing is changed.
     pub(crate) fn answer(self, receiver: Receiver, carry: &mut [u8], log: &mut [u32]) -> Answer {
         let words = log::words(&self.entries);
-        let causes = log_causes(words.len(), log.len());
+        let counts = Counts::of(&receiver).after(&self.entries);
+        let mut causes = log_causes(words.len(), log.len());
+        causes.extend(counts.causes());
         if !causes.is_empty() {
             return refused(receiver, causes);
         }
@@ -462,7 +474,7 @@ impl Heard {
             refusal: 0,
             causes,
             words: words.len(),
-            receiver: self.next(&receiver),
+            receiver: counts.put(self.next(&receiver)),
         }
     }
 
@@ -470,7 +482,7 @@ impl Heard {
         self.entries.push(Entry::Note(note));
     }
 
-    /// The receiver after the PDU.
+    /// The receiver after the PDU, with the counts as they were.
     fn next(&self, receiver: &Receiver) -> Receiver {
         let (held, number) = match &self.held {
             Some(beginning) => (beginning.bytes.len(), beginning.number),
@@ -487,6 +499,7 @@ impl Heard {
             number,
             serviced: self.services.is_some(),
             services: self.services.unwrap_or(0),
+            ..*receiver
         }
     }
 }
@@ -953,9 +966,73 @@ mod tests {
                 }
                 assert_eq!(got.entries(), wanted);
                 assert_eq!(got.answer.receiver.register, register);
-                let lost = mark_lost(got.answer.receiver, &mut [0]);
-                assert_eq!(lost.receiver, opened);
+                let counted = match register == written {
+                    true => (3, 0, 2),
+                    false => (0, 0, 0),
+                };
+                let next = got.answer.receiver;
+                assert_eq!((next.delivered, next.missing, next.last), counted);
+                let lost = mark_lost(next, &mut [0]);
+                let wanted = Receiver {
+                    delivered: counted.0,
+                    missing: counted.1,
+                    last: counted.2,
+                    ..opened
+                };
+                assert_eq!(lost.receiver, wanted);
             }
+        }
+    }
+
+    /// A receiver with these counts.
+    fn counted(delivered: u32, missing: u32, last: u8) -> Receiver {
+        Receiver {
+            delivered,
+            missing,
+            last,
+            ..open(0, 0).unwrap()
+        }
+    }
+
+    /// Packets 4 and 5 in one PDU: refused with 27 where a count would pass, after 13.
+    #[test]
+    fn counts_at_their_limits() {
+        use ReceiverCause::{DeliveredPasses, LogTooShort, MissingPasses};
+        let pdu = pdu(word(0, false, false, 4), &[], &[(&[1], 0), (&[2], 0)]);
+        let most = u32::MAX;
+        for (receiver, causes) in [
+            (counted(most - 2, 0, 3), vec![]),
+            (counted(most - 1, 0, 3), vec![DeliveredPasses]),
+            (counted(most, most, 3), vec![DeliveredPasses]),
+            (counted(1, most - 63, 4), vec![]),
+            (counted(1, most - 62, 4), vec![MissingPasses]),
+            (counted(most, most, 0), vec![DeliveredPasses, MissingPasses]),
+        ] {
+            let got = once(receiver, &carry_with(&[]), &pdu, 4);
+            assert_eq!(got.answer.causes, causes);
+            let short = once(receiver, &carry_with(&[]), &pdu, 3);
+            assert_eq!(short.answer.refusal, refusal::LOG);
+            assert_eq!(short.answer.causes[0], LogTooShort);
+        }
+        let got = once(counted(0, 0, 0), &carry_with(&[]), &pdu, 4);
+        let next = got.answer.receiver;
+        assert_eq!((next.delivered, next.missing, next.last), (2, 0, 5));
+    }
+
+    #[test]
+    fn refusals_of_the_counts() {
+        use ReceiverCause::{Last, LastOfNone, MissingOfNone};
+        for (receiver, causes) in [
+            (counted(1, 0, 63), vec![]),
+            (counted(1, u32::MAX, 0), vec![]),
+            (counted(1, 0, 64), vec![Last]),
+            (counted(0, 1, 0), vec![MissingOfNone]),
+            (counted(0, 0, 3), vec![LastOfNone]),
+            (counted(0, 1, 64), vec![Last, MissingOfNone, LastOfNone]),
+        ] {
+            assert_eq!(state_causes(&receiver), causes);
+            let lost = mark_lost(receiver, &mut [0]);
+            assert_eq!(lost.refusal, u32::from(!causes.is_empty()));
         }
     }
 

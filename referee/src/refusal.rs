@@ -1,6 +1,6 @@
 //! The numbers of the table of refusals, and the causes its rows name. Where
-//! several apply, the lowest number is answered, but 19 directly after 3 and 20
-//! directly after 12; and a refusal changes nothing that was lent.
+//! several apply, the lowest number is answered, but 19 directly after 3, 20 directly
+//! after 12 and 27 directly after 13; and a refusal changes nothing that was lent.
 
 /// A field of a lent state is outside its range.
 pub const STATE: u32 = 1;
@@ -79,12 +79,30 @@ pub const COUNTS: u32 = 21;
 /// Ask 10).
 pub const PROGRAMS: u32 = 22;
 
-/// Which of these numbers is answered: the lowest, but 19 directly after 3 and 20
-/// directly after 12.
+/// Words to be joined are no log (document 02, Ask 11).
+pub const LOG_WORDS: u32 = 23;
+
+/// Packet numbers of a log, counted from its first packet, do not rise strictly
+/// (document 02, Ask 11).
+pub const NUMBERS: u32 = 24;
+
+/// Words that a receiver is read from are not of their form, or a field is outside its
+/// range (document 02, Ask 13).
+pub const WORDS: u32 = 25;
+
+/// The buffer for a receiver's words is too short (document 02, Ask 13).
+pub const WORD_BUFFER: u32 = 26;
+
+/// A count of packets would pass 4,294,967,295 (document 02, Ask 14).
+pub const COUNT_LIMIT: u32 = 27;
+
+/// Which of these numbers is answered: the lowest, but 19 directly after 3, 20 directly
+/// after 12 and 27 directly after 13.
 pub fn first(numbers: impl Iterator<Item = u32>) -> Option<u32> {
     numbers.min_by_key(|&number| match number {
         MARKS => (LENGTH, MARKS),
         COPIES => (DISPLACEMENT, COPIES),
+        COUNT_LIMIT => (LOG, COUNT_LIMIT),
         other => (other, 0),
     })
 }
@@ -247,6 +265,11 @@ pub enum ReceiverCause {
     ServicesOver7,
     ServicesNotKnown,
     ServicesNotKept,
+    /// The last delivered number is over 63; missing or it is not 0 where nothing is
+    /// delivered (document 02, Ask 14).
+    Last,
+    MissingOfNone,
+    LastOfNone,
     CarryUnder4096,
     Marks(MarksCause),
     /// What reading the PDU without a receiver turns down.
@@ -257,6 +280,9 @@ pub enum ReceiverCause {
     /// They have other mended bytes 8 to La.
     BytesDiffer,
     LogTooShort,
+    /// Delivered or missing would pass 4,294,967,295 (document 02, Ask 14).
+    DeliveredPasses,
+    MissingPasses,
 }
 
 impl ReceiverCause {
@@ -265,13 +291,73 @@ impl ReceiverCause {
         use ReceiverCause::*;
         match self {
             ModeAndStream | Sequence | Held | Number | SequenceNotKnown | NumberNotHeld
-            | ServicesOver7 | ServicesNotKnown | ServicesNotKept => STATE,
+            | ServicesOver7 | ServicesNotKnown | ServicesNotKept | Last | MissingOfNone
+            | LastOfNone => STATE,
             CarryUnder4096 => CARRY,
             Marks(_) => MARKS,
             Pdu(cause) => cause.number(),
             NotThoseOpened => NOT_THOSE_OPENED,
             LengthsDiffer | BytesDiffer => COPIES,
             LogTooShort => LOG,
+            DeliveredPasses | MissingPasses => COUNT_LIMIT,
+        }
+    }
+}
+
+/// Each single cause for turning down a receiver that is written out, or words that are
+/// read (document 02, Asks 13 and 14).
+#[derive(Clone, Copy, Debug, PartialEq, Eq, PartialOrd, Ord)]
+pub enum SnapshotCause {
+    /// The state of the receiver that is written out, or the carry.
+    Receiver(ReceiverCause),
+    BufferTooShort,
+    Words(WordsCause),
+}
+
+/// Each single cause for turning words down, some with the kind of the word.
+#[derive(Clone, Copy, Debug, PartialEq, Eq, PartialOrd, Ord)]
+pub enum WordsCause {
+    /// No word of kind 0, or no word at all.
+    NoMode,
+    UnknownKind(u32),
+    /// A kind that comes again and isn't 5 or 6.
+    Repeated(u32),
+    /// A kind under the one before it.
+    NotRising(u32),
+    UnusedBit(u32),
+    ModeAndStream,
+    Sequence,
+    /// Kind 2 with length 0.
+    NothingHeld,
+    HeldOver4096,
+    /// Kind 2 without kind 5.
+    NoBytes,
+    /// Kind 5 without kind 2.
+    BytesOfNothing,
+    /// Other bytes in number than kind 2 says.
+    OtherCount,
+    /// A word of no bytes.
+    CountZero,
+    /// Under three bytes in another word than the last.
+    ShortBeforeLast,
+    /// Applied services that are not 0 and not known, or known where none are kept.
+    ServicesNotKnown,
+    ServicesNotKept,
+    /// Kind 6 in another number of words than five.
+    NotFive,
+    /// Kind 6 with nothing delivered.
+    NothingDelivered,
+    /// Kind 6 with a last number over 63.
+    Last,
+}
+
+impl SnapshotCause {
+    /// The number of this cause.
+    pub fn number(self) -> u32 {
+        match self {
+            SnapshotCause::Receiver(cause) => cause.number(),
+            SnapshotCause::BufferTooShort => WORD_BUFFER,
+            SnapshotCause::Words(_) => WORDS,
         }
     }
 }

@@ -804,7 +804,7 @@ fn drive(
     list: &List,
     run: &Range<usize>,
     lost: &[bool],
-) -> Vec<u32> {
+) -> (Vec<u32>, Receiver) {
     let line = list.line;
     let carry = some_carry(rng);
     let receiver =
@@ -839,7 +839,7 @@ fn drive(
             index += count;
         }
     }
-    road.joined
+    (road.joined, road.receiver)
 }
 
 /// Whole drives over all modes and streams, with any register.
@@ -856,8 +856,10 @@ fn driving() {
         let run = drives::some_run(&mut rng, list.pdus.len());
         let range = usize::from(line.sequences);
         let lost = drives::some_lost(&mut rng, run.len(), range);
-        let joined = drive(&mut rng, &mut roads, &list, &run, &lost);
-        drives::check(seen.drives, &list, &run, &lost, true, &joined);
+        let (joined, left) = drive(&mut rng, &mut roads, &list, &run, &lost);
+        let (drives, sums) = (seen.drives, &mut seen.sums);
+        let left = drives::counts(&left);
+        drives::check(drives, sums, &list, &run, &lost, true, &joined, left);
         drives::count(&mut seen, &list, &run, &lost, true);
     }
     roads.batches.report("drives in batches");
@@ -876,6 +878,8 @@ fn driving() {
         "drives in batches: stopped at a refused PDU, by how many were received {:?}",
         roads.stopped
     );
+    seen.sums.report("drives in batches");
+    assert!(seen.sums.with_missing >= 1_000);
     assert_eq!(roads.lost, seen.lost);
     assert_eq!(roads.batches.taken + roads.single, seen.received);
     assert!(roads.stopped[&2] >= 100 && roads.refused >= 1_000);

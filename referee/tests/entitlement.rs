@@ -755,9 +755,12 @@ fn driving() {
         let is_so = product::receiver::open_entitled(line.mode, line.stream, register, &lent);
         let opened = opened.expect("a line of the table and programs");
         assert_eq!((is_so.refusal, is_so.receiver), (0, receiver_for(&opened)));
-        let (came, joined) = roads::drive(&mut rng, &mut roads, &list, &run, &lost, opened, true);
+        let (came, joined, left) =
+            roads::drive(&mut rng, &mut roads, &list, &run, &lost, opened, true);
         let withheld = list.withheld(&run, &lost, &programs);
-        drives::check_served(roads.drives, &list, &run, &came, &withheld, &joined);
+        let (drives, sums) = (roads.drives, &mut roads.sums);
+        let left = drives::counts(&left);
+        drives::check_served(drives, sums, &list, &run, &came, &withheld, &joined, left);
         roads.drives += 1;
         roads.packets += list.count() as u64;
         *roads.lines.entry((line.mode, line.stream)).or_default() += 1;
@@ -806,6 +809,8 @@ fn driving() {
         "entitled, drives: refused pairs by number {:?}, single calls {}, batches {}",
         roads.refused_pairs, roads.refused_single, roads.refused_batches
     );
+    roads.sums.report("entitled, drives");
+    assert!(roads.sums.with_missing >= 1_000);
     assert_eq!(roads.lines.len(), TABLE.len());
     // The promise has no place for these notes.
     assert!([1, 4, 5, 7]

@@ -826,6 +826,7 @@ fn report_drives(class: &attempt::Class, seen: &Seen) {
         "received with 42 pieces or more by altered bytes of the header {:?}",
         seen.altered_many
     );
+    seen.sums.report("drives with many pieces");
     assert_eq!(seen.lines.len(), TABLE.len());
     // Nothing but marks of lost PDUs and pieces whose beginning is missing.
     let notes: Vec<u32> = class.outcomes.notes.keys().copied().collect();

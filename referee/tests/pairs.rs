@@ -28,7 +28,7 @@ mod told;
 
 use attempt::against_product::receiver_for;
 use copies::{compare, Copy, Double, Loan, Tally, Told};
-use drives::{Came, List, STYLES};
+use drives::{Came, List, Sums, STYLES};
 use lent::{Lent, LentLog, LentSizes};
 use noise::Noise;
 use receptions::{some_carry, some_line, spoil_state, spoiled_pdu, Reception};
@@ -438,6 +438,7 @@ fn choosing() {
 #[derive(Default)]
 struct Roads {
     drives: u64,
+    sums: Sums,
     pairs: Tally,
     /// PDUs by single calls, those of them with marks, PDUs in batches, batches,
     /// those of them that stopped after these PDUs, and PDUs marked lost.
@@ -859,7 +860,7 @@ fn drive(
     list: &List,
     run: &Range<usize>,
     lost: &[bool],
-) -> (Vec<Came>, Vec<u32>) {
+) -> (Vec<Came>, Vec<u32>, Receiver) {
     let line = list.line;
     let carry = some_carry(rng);
     let receiver =
@@ -887,7 +888,7 @@ fn drive(
             in_a_row => came.extend(road.next(list, index, in_a_row)),
         }
     }
-    (came, road.joined)
+    (came, road.joined, road.receiver)
 }
 
 /// Whole drives over all modes and streams, with any register: the log holds exactly
@@ -904,14 +905,18 @@ fn driving() {
         let list = List::random(&mut rng, line, style, register);
         let run = drives::some_run(&mut rng, list.pdus.len());
         let lost = drives::some_lost(&mut rng, run.len(), usize::from(line.sequences));
-        let (came, joined) = drive(&mut rng, &mut roads, &list, &run, &lost);
-        drives::check_came(roads.drives, &list, &run, &came, &joined);
+        let (came, joined, left) = drive(&mut rng, &mut roads, &list, &run, &lost);
+        let (drives, sums) = (roads.drives, &mut roads.sums);
+        let left = drives::counts(&left);
+        drives::check_came(drives, sums, &list, &run, &came, &joined, left);
         roads.drives += 1;
         roads.packets += list.count() as u64;
         roads.logged += list.wanted(&run, &came).0 as u64;
         *roads.lines.entry((line.mode, line.stream)).or_default() += 1;
     }
     roads.pairs.report("drives of pairs");
+    roads.sums.report("drives of pairs");
+    assert!(roads.sums.with_missing >= 2_000);
     println!(
         "drives of pairs: {} drives, {} pairs received, {} single calls, {} with marks, {} batches \
          that took {} PDUs, of which {} then stopped, {} lost, {} of {} packets logged",

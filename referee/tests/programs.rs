@@ -976,14 +976,51 @@ impl Came {
     }
 }
 
-/// A record by the reference: what becomes of it, and its log.
+/// The packets delivered, and those missing between them (document 02, Ask 14).
+#[derive(Clone, Copy, Debug, Default)]
+struct Loss {
+    delivered: usize,
+    missing: usize,
+    /// The number of the last packet delivered.
+    last: Option<usize>,
+}
+
+impl Loss {
+    /// The counts after a log's packets too: after the first, each adds its
+    /// number minus the last one's minus 1, modulo 64, to those missing.
+    fn after(mut self, entries: &[Entry]) -> Loss {
+        for entry in entries {
+            let Entry::Packet(number, _) = entry else {
+                continue;
+            };
+            let number = usize::from(*number);
+            self.missing += self.last.map_or(0, |last| (64 + number - last - 1) % 64);
+            self.delivered += 1;
+            self.last = Some(number);
+        }
+        self
+    }
+}
+
+/// A record by the reference: what becomes of it, its log, and the packets
+/// delivered and missing after it.
 struct Logged {
     came: Came,
     length: usize,
     /// How many pieces it has, if it is received.
     pieces: usize,
     entries: Vec<Entry>,
+    loss: Loss,
 }
+
+/// The packets delivered and missing after the last record.
+fn last_loss(logged: &[Logged]) -> Loss {
+    logged.last().map_or(Loss::default(), |one| one.loss)
+}
+
+/// Where what is missing is exact.
+const EXACT: &str = "missing is exact where PDUs come once and in turn, and fewer \
+                     than 64 packets are missing between two delivered";
 
 /// A whole file by the reference. A refused PDU is marked lost.
 fn heard(end: &End, records: &[Vec<u8>]) -> Vec<Logged> {
@@ -992,6 +1029,7 @@ fn heard(end: &End, records: &[Vec<u8>]) -> Vec<Logged> {
     let mut receiver = opened.expect("a line of the table");
     let mut carry = vec![0; CARRY_BYTES];
     let mut log = vec![0; LOG_WORDS];
+    let mut loss = Loss::default();
     let mut all = Vec::new();
     for record in records {
         let mut pdu = record.clone();
@@ -1009,11 +1047,14 @@ fn heard(end: &End, records: &[Vec<u8>]) -> Vec<Logged> {
             Came::Received(_) => nop(&pdu),
             _ => 0,
         };
+        let entries = log::entries(&log[..answer.words]).expect("words of a log");
+        loss = loss.after(&entries);
         all.push(Logged {
             came,
             length: record.len(),
             pieces,
-            entries: log::entries(&log[..answer.words]).expect("words of a log"),
+            entries,
+            loss,
         });
     }
     all
@@ -1078,7 +1119,7 @@ fn refused_line(beginning: &str, came: &Came) -> String {
 fn lines(logged: &[Logged], csv: bool, whole: bool) -> Vec<String> {
     let mut lines = Vec::new();
     if csv {
-        lines.push("pdu,kind,number,length,cause".to_string());
+        lines.push("pdu,kind,number,length,cause,delivered,missing".to_string());
     }
     for (pdu, one) in logged.iter().enumerate() {
         lines.push(if csv {
@@ -1095,25 +1136,29 @@ fn lines(logged: &[Logged], csv: bool, whole: bool) -> Vec<String> {
         }
     }
     if csv && whole {
-        lines.push(format!(",end,{},,whole", logged.len()));
+        lines.push(format!(",end,{},,whole,,", logged.len()));
     }
     lines
 }
 
 fn columns(pdu: usize, one: &Logged) -> String {
     let length = one.length;
-    match &one.came {
+    let line = match &one.came {
         Came::Received(mended) => format!("{pdu},received,{mended},{length},"),
         Came::Lost => format!("{pdu},lost,,,"),
         came => refused_line(&format!("{pdu},refused,{},{length},", came.refusal()), came),
-    }
+    };
+    format!("{line},{},{}", one.loss.delivered, one.loss.missing)
 }
 
 fn entry_columns(pdu: usize, entry: &Entry) -> String {
     match entry {
-        Entry::Packet(number, bytes) => format!("{pdu},packet,{number},{},", bytes.len()),
-        Entry::Psd(bytes) => format!("{pdu},psd,,{},", bytes.len()),
-        Entry::Note(note) => format!("{pdu},note,{},,{}", note.piece(), note_words(note.cause())),
+        Entry::Packet(number, bytes) => format!("{pdu},packet,{number},{},,,", bytes.len()),
+        Entry::Psd(bytes) => format!("{pdu},psd,,{},,,", bytes.len()),
+        Entry::Note(note) => {
+            let words = note_words(note.cause());
+            format!("{pdu},note,{},,{words},,", note.piece())
+        }
     }
 }
 
@@ -1309,15 +1354,20 @@ fn refusals_said(logged: &[Logged]) -> Vec<String> {
     said
 }
 
-/// What is said on standard error: the refused PDUs, the counts, and, where PDUs
-/// were refused and none was received, whether the file is of this mode and
-/// stream; where all CRCs were wrong, or nearly all, whether they start at this
-/// register.
+/// What is said on standard error: the refused PDUs, the counts, the packets
+/// delivered and missing, and, where PDUs were refused and none was received,
+/// whether the file is of this mode and stream; where all CRCs were wrong, or
+/// nearly all, whether they start at this register.
 fn log_said(end: &End, logged: &[Logged]) -> Vec<String> {
     let line = end.line;
     let tally = Tally::of(logged);
     let mut said = refusals_said(logged);
     said.extend(tally.said());
+    let loss = last_loss(logged);
+    said.push(format!(
+        "barzhilup log: delivered {}, missing {}; {EXACT}",
+        loss.delivered, loss.missing
+    ));
     if tally.is_none_received() {
         said.push(format!(
             "barzhilup log: no PDU was received: is this a file of PDUs of mode {}, stream {}?",
@@ -1430,7 +1480,7 @@ struct Picture {
     /// Those with pieces that have a wrong CRC.
     wrong: Vec<usize>,
     bars: BTreeMap<usize, Rectangle>,
-    /// What is written where packets are missing, or may be.
+    /// What is written where packets are missing.
     missing: BTreeMap<usize, String>,
     /// The cells of the legend.
     swatches: Vec<String>,
@@ -1495,47 +1545,10 @@ struct Shown {
     /// Pieces with a wrong CRC.
     wrong: Vec<usize>,
     packets: Vec<usize>,
-    /// Packets missing before those of each PDU: numbers go on modulo 64.
+    /// By how much missing grew with each PDU.
     missing: Vec<usize>,
-    /// Gaps before them that the numbers do not tell.
-    unknown: Vec<usize>,
-}
-
-/// What is known before a packet: the number that is next; and since the last
-/// one, whether the sequence broke, and whether something was missed: a PDU was
-/// lost or refused, or a piece had a wrong CRC or was too long.
-#[derive(Default)]
-struct Before {
-    next: Option<usize>,
-    broken: bool,
-    missed: bool,
-}
-
-impl Before {
-    /// A packet: how many are missing before it, and whether that is not known.
-    /// What its number says counts only where something was missed in a
-    /// sequence that did not break.
-    fn deliver(&mut self, number: usize) -> (usize, usize) {
-        let next = Some((number + 1) % 64);
-        let since = std::mem::replace(
-            self,
-            Before {
-                next,
-                ..Before::default()
-            },
-        );
-        match since.next {
-            None => (0, 0),
-            Some(next) if next == number => (0, 0),
-            Some(next) if since.missed && !since.broken => ((64 + number - next) % 64, 0),
-            Some(_) => (0, 1),
-        }
-    }
-
-    fn note(&mut self, cause: u32) {
-        self.broken |= cause == 1;
-        self.missed |= [2, 5, 6].contains(&cause);
-    }
+    /// After the last one.
+    loss: Loss,
 }
 
 /// How many of a whole in per cent with one decimal; nothing of nothing.
@@ -1547,34 +1560,19 @@ fn share(part: usize, whole: usize) -> Option<String> {
 impl Shown {
     fn of(logged: &[Logged]) -> Shown {
         let mut shown = Shown::default();
-        let mut before = Before::default();
         for one in logged {
-            let (mut wrong, mut packets, mut missing, mut unknown) = (0, 0, 0, 0);
-            before.missed |= !matches!(one.came, Came::Received(_));
-            for entry in &one.entries {
-                match entry {
-                    Entry::Packet(number, _) => {
-                        let gap = before.deliver(usize::from(*number));
-                        packets += 1;
-                        missing += gap.0;
-                        unknown += gap.1;
-                    }
-                    Entry::Note(note) => {
-                        wrong += usize::from(note.cause() == 2);
-                        before.note(note.cause());
-                    }
-                    Entry::Psd(_) => {}
-                }
-            }
+            let before = shown.loss;
+            let is_wrong = |entry: &&Entry| matches!(entry, Entry::Note(note) if note.cause() == 2);
+            let wrong = one.entries.iter().filter(is_wrong).count();
             shown.classes.push(match one.came {
                 Came::Received(mended) => CELLS[mended as usize],
                 Came::Lost => "l",
                 _ => "f",
             });
             shown.wrong.push(wrong);
-            shown.packets.push(packets);
-            shown.missing.push(missing);
-            shown.unknown.push(unknown);
+            shown.packets.push(one.loss.delivered - before.delivered);
+            shown.missing.push(one.loss.missing - before.missing);
+            shown.loss = one.loss;
         }
         shown
     }
@@ -1586,8 +1584,8 @@ impl Shown {
 
     /// How many PDUs there are, are received, corrected, lost and refused; how
     /// many pieces have a wrong CRC; how many packets are delivered and
-    /// missing, and how many gaps are not known.
-    fn counts(&self) -> [usize; 9] {
+    /// missing.
+    fn counts(&self) -> [usize; 8] {
         [
             self.classes.len(),
             self.many(&CELLS[..5]),
@@ -1595,9 +1593,8 @@ impl Shown {
             self.many(&["l"]),
             self.many(&["f"]),
             self.wrong.iter().sum(),
-            self.packets.iter().sum(),
-            self.missing.iter().sum(),
-            self.unknown.iter().sum(),
+            self.loss.delivered,
+            self.loss.missing,
         ]
     }
 
@@ -1605,6 +1602,7 @@ impl Shown {
     fn totals(&self) -> Vec<Vec<String>> {
         let counts = self.counts();
         let (all, received) = ((counts[0], "of PDUs"), (counts[1], "of the received"));
+        let both = (counts[6] + counts[7], "of both");
         let total = |((words, whole), number): ((&str, (usize, &str)), usize)| {
             let mut row = vec![words.to_string(), number.to_string()];
             if let Some(share) = share(number, whole.0) {
@@ -1620,37 +1618,37 @@ impl Shown {
             ("refused", all),
             ("wrong CRCs", (0, "")),
             ("packets delivered", (0, "")),
-            ("missing, by number", (0, "")),
-            ("gaps unknown", (0, "")),
+            ("missing", both),
         ];
         words.into_iter().zip(counts).map(total).collect()
     }
 
     /// What is said on standard error.
-    fn said(&self) -> String {
-        let [all, received, corrected, lost, refused, crcs, packets, missing, unknown] =
-            self.counts();
+    fn said(&self) -> [String; 2] {
+        let [all, received, corrected, lost, refused, crcs, delivered, missing] = self.counts();
         let of = |part, whole, words| {
             share(part, whole).map_or(String::new(), |share| format!(" ({share} {words})"))
         };
         let received_share = of(received, all, "of PDUs");
         let corrected_share = of(corrected, received, "of the received");
-        format!(
-            "barzhilup coverage: PDUs {all}: received {received}{received_share}, \
-             of these corrected {corrected}{corrected_share}, lost {lost}, refused {refused}; \
-             wrong CRCs {crcs}; packets delivered {packets}, missing by number {missing}, \
-             gaps unknown {unknown}"
-        )
+        let missing_share = of(missing, delivered + missing, "of both");
+        [
+            format!(
+                "barzhilup coverage: PDUs {all}: received {received}{received_share}, \
+                 of these corrected {corrected}{corrected_share}, lost {lost}, refused {refused}; \
+                 wrong CRCs {crcs}; packets delivered {delivered}, missing {missing}{missing_share}"
+            ),
+            format!(
+                "barzhilup coverage: withheld packets and those with a damaged piece \
+                 count as missing; {EXACT}"
+            ),
+        ]
     }
 
-    /// What is written at a PDU's tick.
+    /// What is written at a PDU's tick: by how much missing grew.
     fn tick(&self, pdu: usize) -> Option<String> {
-        match (self.missing[pdu], self.unknown[pdu]) {
-            (0, 0) => None,
-            (missing, 0) => Some(missing.to_string()),
-            (0, _) => Some("?".to_string()),
-            (missing, _) => Some(format!("?+{missing}")),
-        }
+        let missing = self.missing[pdu];
+        (missing > 0).then(|| missing.to_string())
     }
 
     /// One cell for each PDU, in its class and in its place; the marks of lost
@@ -1731,8 +1729,8 @@ struct Drawn {
     cells: Counts<&'static str>,
     bars: u64,
     ticks: u64,
+    delivered: u64,
     missing: u64,
-    unknown: u64,
     wrong: u64,
 }
 
@@ -1744,15 +1742,15 @@ impl Drawn {
         }
         self.bars += picture.bars.len() as u64;
         self.ticks += picture.missing.len() as u64;
-        self.missing += shown.missing.iter().sum::<usize>() as u64;
-        self.unknown += shown.unknown.iter().sum::<usize>() as u64;
+        self.delivered += shown.loss.delivered as u64;
+        self.missing += shown.loss.missing as u64;
         self.wrong += shown.wrong.iter().sum::<usize>() as u64;
     }
 
     fn report(&self) {
         println!("coverage, equal to what the log says: {self:?}");
         assert_eq!(self.cells.len(), CELLS.len());
-        assert!(self.ticks > 100 && self.unknown > 100 && self.wrong > 100);
+        assert!(self.ticks > 100 && self.wrong > 100);
     }
 }
 
@@ -1781,7 +1779,7 @@ fn covered(bench: &mut Bench, csv: &[u8], logged: &[Logged], seen: &mut Drawn) {
     shown.check_packets(&picture);
     let totals: Vec<_> = picture.totals.values().cloned().collect();
     assert_eq!(totals, shown.totals(), "{options:?}");
-    assert_eq!(ran.said, [shown.said()], "{options:?}");
+    assert_eq!(ran.said, shown.said(), "{options:?}");
     seen.add(&shown, &picture);
 }
 

@@ -510,7 +510,7 @@ fn places_of_la(total: &mut Outcomes) {
 fn pdus(total: &mut Outcomes) {
     let mut class = Class::new("refused PDUs", 0x4EC0_000D);
     for number in [5, 7, 8, 9, 10, 11, 12] {
-        for _ in 0..2_500 {
+        for _ in 0..3_000 {
             let line = some_line(&mut class.rng, &[number]);
             let mut reception = spoilable(&mut class.rng, line);
             take(&mut class, &reception);
@@ -772,7 +772,7 @@ fn receiving() {
     assert!(total.orders.values().all(|&notes| notes >= 1_000));
     println!("refused for one cause alone: {:?}", total.alone);
     // A mode and stream that aren't in the table are never those opened.
-    assert_eq!(total.alone.len(), 25, "all causes that can be alone");
+    assert_eq!(total.alone.len(), 28, "all causes that can be alone");
     assert!(total.alone.values().all(|&calls| calls >= 100));
     println!("accepted by mode and stream: {:?}", total.lines);
     assert_eq!(total.lines.len(), TABLE.len());
@@ -816,6 +816,8 @@ fn driving() {
     assert_eq!(in_place, class.outcomes.calls + seen.stepped);
     assert!(seen.stepped >= 100_000);
     assert!(seen.drives >= 20_000);
+    seen.sums.report("drives");
+    assert!(seen.sums.with_missing >= 5_000 && seen.sums.far >= 100);
     assert_eq!(seen.lines.len(), TABLE.len());
     assert!((1..=13).all(|in_a_row| seen.in_a_row[&in_a_row] >= 50));
     assert!((0..=4).all(|altered| seen.altered[&altered] >= 5_000));
@@ -870,6 +872,9 @@ fn opening() {
                     number: 0,
                     serviced: false,
                     services: 0,
+                    delivered: 0,
+                    missing: 0,
+                    last: 0,
                 };
                 assert_eq!(receiver, wanted);
             }

@@ -239,6 +239,8 @@ fn runs_with_marks() {
     }
     class.report(&mut Outcomes::default());
     report_runs(&seen);
+    seen.sums.report("runs with marks");
+    assert!(seen.sums.with_missing >= 1_000);
     assert_eq!(seen.lines.len(), TABLE.len());
     // Each count of marks with each count of other bytes within the bound.
     let pairs = (0..=MOST_MARKS).flat_map(|marks| {

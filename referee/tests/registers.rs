@@ -659,6 +659,7 @@ fn report_drives(class: &attempt::Class, seen: &Seen) {
         seen.stepped
     );
     let mut registers = Registers::default();
+    seen.sums.report("drives with registers");
     registers.add(&seen.registers);
     registers.all("drives", 8);
     assert_eq!(seen.lines.len(), TABLE.len());

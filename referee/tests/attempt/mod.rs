@@ -330,6 +330,9 @@ fn marked(receiver: Receiver, before: &LentLog, known: &Known) -> (Answer, LentL
         let fresh = receiver::open_with(receiver.mode, receiver.stream, receiver.register);
         let fresh = fresh.map(|fresh| Receiver {
             entitled: receiver.entitled,
+            delivered: receiver.delivered,
+            missing: receiver.missing,
+            last: receiver.last,
             ..fresh
         });
         assert_eq!(Ok(answer.receiver), fresh);
@@ -528,6 +531,9 @@ pub mod against_product {
             number: receiver.number,
             serviced: u8::from(receiver.serviced),
             services: receiver.services,
+            delivered: receiver.delivered,
+            missing: receiver.missing,
+            last: receiver.last,
         }
     }
 }

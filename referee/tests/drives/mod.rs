@@ -393,22 +393,28 @@ impl List {
         came: &[Came],
         withheld: &[bool],
     ) -> (usize, Vec<u32>) {
+        let delivered = self.delivered(run, came, withheld);
+        let words = |&number: &usize| told::packet(number, &self.packets[number]);
+        let all = delivered.iter().flat_map(words).collect();
+        (delivered.len(), all)
+    }
+
+    /// Which packets of the list these are.
+    pub fn delivered(&self, run: &Range<usize>, came: &[Came], withheld: &[bool]) -> Vec<usize> {
         let received = self.received(run, came);
         let any = withheld.contains(&true);
-        let mut words = Vec::new();
-        let mut count = 0;
+        let mut delivered = Vec::new();
         let mut begin = 0;
         for (number, packet) in self.packets.iter().enumerate() {
             let end = begin + packet.len();
             let all = received[begin..end].iter().all(|&byte| byte);
             let begins = |place: usize| self.pdu_of(run, place).expect("a PDU of the run");
             if all && !(any && withheld[begins(begin)]) {
-                words.extend(told::packet(number, packet));
-                count += 1;
+                delivered.push(number);
             }
             begin = end;
         }
-        (count, words)
+        delivered
     }
 
     /// The bytes before a place in the joined list that are of the packet
@@ -444,10 +450,83 @@ fn write(call: &Call) -> (writer::Answer, Vec<u8>) {
     (answer, pdu)
 }
 
+/// Delivered, missing and the last delivered number of a receiver.
+pub type Counts = (u32, u32, u8);
+
+/// These of the reference's receiver.
+pub fn counts(receiver: &Receiver) -> Counts {
+    (receiver.delivered, receiver.missing, receiver.last)
+}
+
+/// Delivered and missing at the end of drives (document 02, Ask 14).
+#[derive(Debug, Default)]
+pub struct Sums {
+    /// Drives that delivered packets, with fewer than 64 missing between one and the
+    /// next: there the sum is due; and those of them with packets missing.
+    pub due: u64,
+    pub with_missing: u64,
+    /// Drives with 64 or more missing at once, and drives that delivered none.
+    pub far: u64,
+    pub none: u64,
+    /// What the counts say in all.
+    pub delivered: u64,
+    pub missing: u64,
+    /// The most missing at once where the sum is due.
+    pub most: usize,
+}
+
+impl Sums {
+    /// The counts of a receiver that delivered these packets of its list and no other.
+    /// Where fewer than 64 are missing between one delivered and the next, delivered plus
+    /// missing are the writer's packets from the first delivered to the last.
+    fn check(&mut self, (counted, missing, last_number): Counts, delivered: &[usize]) {
+        let sum = u64::from(counted) + u64::from(missing);
+        assert_eq!(counted as usize, delivered.len());
+        let (Some(&first), Some(&last)) = (delivered.first(), delivered.last()) else {
+            assert_eq!((sum, last_number), (0, 0));
+            self.none += 1;
+            return;
+        };
+        assert_eq!(usize::from(last_number), last % 64);
+        let packets = (last - first + 1) as u64;
+        let between = delivered.windows(2).map(|two| two[1] - two[0] - 1);
+        let most = between.max().unwrap_or(0);
+        if most < 64 {
+            assert_eq!(sum, packets, "delivered and missing");
+            self.due += 1;
+            self.with_missing += u64::from(missing > 0);
+            self.most = self.most.max(most);
+        } else {
+            assert!(sum < packets && (packets - sum) % 64 == 0);
+            self.far += 1;
+        }
+        self.delivered += u64::from(counted);
+        self.missing += u64::from(missing);
+    }
+
+    /// Says what there was.
+    #[allow(dead_code)]
+    pub fn report(&self, class: &str) {
+        println!(
+            "{class}: delivered and missing are due together in {} drives, {} of them with \
+             packets missing, up to {} at once; {} drives with 64 or more at once, {} with \
+             none delivered; {} delivered, {} missing",
+            self.due,
+            self.with_missing,
+            self.most,
+            self.far,
+            self.none,
+            self.delivered,
+            self.missing
+        );
+    }
+}
+
 /// How often drives had this and that.
 #[derive(Default)]
 pub struct Seen {
     pub drives: u64,
+    pub sums: Sums,
     /// Calls on receivers that are stepped in place all the way.
     pub stepped: u64,
     pub empty_runs: u64,
@@ -647,45 +726,71 @@ fn through(
         drive.refused_call(&[0; 96]);
     }
     drive.check_along();
-    let joined = drive.joined;
+    let (joined, left) = (drive.joined, drive.receiver);
     let equal = way.register == list.register();
-    check(seen.drives, list, &run, lost, equal, &joined);
+    let drives = seen.drives;
+    check(
+        drives,
+        &mut seen.sums,
+        list,
+        &run,
+        lost,
+        equal,
+        &joined,
+        counts(&left),
+    );
     count(seen, list, &run, lost, equal);
 }
 
-/// The joined logs of a drive against what they have to hold, where the
-/// registers are equal and where they aren't: then each piece is as one that was
-/// damaged.
+/// The joined logs of a drive against what they have to hold, and the counts of the
+/// receiver that is left, where the registers are equal and where they aren't: then each
+/// piece is as one that was damaged.
+#[allow(clippy::too_many_arguments)]
 pub fn check(
     drive: u64,
+    sums: &mut Sums,
     list: &List,
     run: &Range<usize>,
     lost: &[bool],
     equal: bool,
     joined: &[u32],
+    left: Counts,
 ) {
     let mut came = list.came(run, lost);
     for as_sent in came.iter_mut().flatten() {
         as_sent.fill(equal);
     }
-    check_came(drive, list, run, &came, joined);
+    check_came(drive, sums, list, run, &came, joined, left);
 }
 
 /// The joined logs of a drive against what they have to hold, where this came of
 /// the PDUs of the run.
-pub fn check_came(drive: u64, list: &List, run: &Range<usize>, came: &[Came], joined: &[u32]) {
-    check_served(drive, list, run, came, &vec![false; run.len()], joined);
+pub fn check_came(
+    drive: u64,
+    sums: &mut Sums,
+    list: &List,
+    run: &Range<usize>,
+    came: &[Came],
+    joined: &[u32],
+    left: Counts,
+) {
+    let withheld = vec![false; run.len()];
+    check_served(drive, sums, list, run, came, &withheld, joined, left);
 }
 
 /// The same where some of the PDUs are withheld (document 02, Ask 10).
+#[allow(clippy::too_many_arguments)]
 pub fn check_served(
     drive: u64,
+    sums: &mut Sums,
     list: &List,
     run: &Range<usize>,
     came: &[Came],
     withheld: &[bool],
     joined: &[u32],
+    left: Counts,
 ) {
+    sums.check(left, &list.delivered(run, came, withheld));
     let told = || {
         format!(
             "drive {drive}: mode {}, stream {}, register {}, run {run:?}, came {came:?}",

@@ -17,6 +17,9 @@ pub mod receiver;
 /// Parity as bytes arrive.
 pub mod shares;
 
+/// A receiver saved as words and loaded again.
+pub mod snapshots;
+
 /// The writer's calls.
 pub mod writer;
 

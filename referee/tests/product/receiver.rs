@@ -19,6 +19,9 @@ pub struct Receiver {
     pub number: u8,
     pub serviced: u8,
     pub services: u8,
+    pub delivered: u32,
+    pub missing: u32,
+    pub last: u8,
 }
 
 /// The answer to opening a receiver; refused, the receiver is all 0.

@@ -80,7 +80,19 @@ impl Reception {
         }
         let held = some_held(rng, &reception.sample);
         reception.hold(rng, held);
+        if rng.below(4) > 0 {
+            let delivered = [1, rng.within(1, 100), rng.within(1, 4_000_000_000)][rng.below(3)];
+            let missing = [0, rng.below(100), rng.below(4_000_000_000)][rng.below(3)];
+            reception.counted(delivered, missing, rng.below(64));
+        }
         reception
+    }
+
+    /// The receiver has counted so many packets.
+    pub fn counted(&mut self, delivered: usize, missing: usize, last: usize) {
+        self.receiver.delivered = u32::try_from(delivered).expect("a count");
+        self.receiver.missing = u32::try_from(missing).expect("a count");
+        self.receiver.last = last as u8;
     }
 
     /// The sequence isn't known.
@@ -156,17 +168,16 @@ impl Reception {
         }
     }
 
-    /// Whether the PDU is withheld.
-    pub fn is_withheld(&self) -> bool {
-        let range = self.sample.line.sequences;
-        let next = (self.receiver.sequence + 1) % range;
-        let gap = self.receiver.known && self.sample.parts.control.sequence != next;
-        self.withheld(self.kept(gap))
+    /// Whether the PDU follows a gap: its sequence is not the next one.
+    fn follows_gap(&self) -> bool {
+        let next = (self.receiver.sequence + 1) % self.sample.line.sequences;
+        self.receiver.known && self.sample.parts.control.sequence != next
     }
 
-    /// Whether the PDU is withheld, where these applied services are kept with it.
-    fn withheld(&self, kept: Option<u8>) -> bool {
+    /// Whether the PDU is withheld.
+    pub fn is_withheld(&self) -> bool {
         let said = self.sample.reading().expansion;
+        let kept = self.kept(self.follows_gap());
         let paid = match self.keeps() {
             true => kept == Some(1) || kept.is_none(),
             false => said.services == 1,
@@ -174,16 +185,15 @@ impl Reception {
         paid && !self.receiver.entitled[usize::from(said.program)]
     }
 
-    /// What has to be answered and left, if everything is right. A piece's
-    /// place makes no difference, and its CRC is right or wrong as above.
+    /// What has to be answered and left, if everything is right and no count passes
+    /// its limit. A piece's place makes no difference, and its CRC is right or wrong as
+    /// above.
     pub fn wanted(&self) -> Wanted {
         let word = &self.sample.parts.control;
         let held = usize::from(self.receiver.held);
         let start = usize::from(word.start);
         let before_start = (start + 63) % 64;
-        let range = self.sample.line.sequences;
-        let after = word.sequence == (self.receiver.sequence + 1) % range;
-        let gap = self.receiver.known && !after;
+        let gap = self.follows_gap();
         let same_number = usize::from(self.receiver.number) == before_start;
         let continued = !gap && held > 0 && word.pfirst && same_number;
         let mut words = Vec::new();
@@ -193,7 +203,7 @@ impl Reception {
             words.push(told::note(4, 0));
         }
         let kept = self.kept(gap);
-        let withheld = self.withheld(kept);
+        let withheld = self.is_withheld();
         if withheld {
             words.push(told::note(8, 0));
         } else if !self.sample.parts.psd.is_empty() {
@@ -235,6 +245,7 @@ impl Reception {
                 _ => {
                     let packet = [&self.carry[..kept], &piece.bytes].concat();
                     words.extend(told::packet(number, &packet));
+                    told::deliver(&mut receiver, number);
                 }
             }
         }
@@ -412,7 +423,19 @@ pub fn spoiled_pdu(rng: &mut Rng, opened: Line, number: u32) -> Vec<u8> {
 
 /// Puts a field of the state out of its range.
 pub fn spoil_state(rng: &mut Rng, receiver: &mut Receiver) {
-    match rng.below(7) {
+    match rng.below(10) {
+        7 => {
+            receiver.delivered = receiver.delivered.max(1);
+            receiver.last = [64, 255, rng.within(64, 255) as u8][rng.below(3)];
+        }
+        8 => {
+            let missing = [1, u32::MAX, rng.within(1, 1_000) as u32][rng.below(3)];
+            (receiver.delivered, receiver.missing, receiver.last) = (0, missing, 0);
+        }
+        9 => {
+            let last = [1, 63, rng.within(1, 63) as u8][rng.below(3)];
+            (receiver.delivered, receiver.missing, receiver.last) = (0, 0, last);
+        }
         0 => receiver.mode = rng.within(4, 9) as u8,
         1 => receiver.stream = rng.within(2, 255) as u8,
         2 => {

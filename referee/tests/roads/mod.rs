@@ -4,7 +4,7 @@
 
 use crate::attempt::against_product::receiver_for;
 use crate::copies::{self, Copy, Loan, Tally};
-use crate::drives::{Came, List};
+use crate::drives::{Came, List, Sums};
 use crate::lent::{Lent, LentLog, LentSizes};
 use crate::noise::Noise;
 use crate::product;
@@ -28,6 +28,7 @@ pub const NUMBERS: Range<u32> = 5..13;
 #[derive(Default)]
 pub struct Roads {
     pub drives: u64,
+    pub sums: Sums,
     pub pairs: Tally,
     /// PDUs by single calls, those of them with marks and in place, PDUs in batches,
     /// batches, and PDUs marked lost.
@@ -393,8 +394,8 @@ impl Road<'_> {
 }
 
 /// Goes through a run of a list's PDUs with a receiver just opened: the lost ones
-/// are marked, the others come as pairs, singly or in batches. What came of each, and
-/// the joined log.
+/// are marked, the others come as pairs, singly or in batches. What came of each, the
+/// joined log, and the receiver that is left.
 pub fn drive(
     rng: &mut Rng,
     roads: &mut Roads,
@@ -403,7 +404,24 @@ pub fn drive(
     lost: &[bool],
     receiver: Receiver,
     any_way: bool,
-) -> (Vec<Came>, Vec<u32>) {
+) -> (Vec<Came>, Vec<u32>, Receiver) {
+    let on = &mut |_: &mut Receiver, _: &mut Vec<u8>| {};
+    drive_between(rng, roads, list, run, lost, receiver, any_way, on)
+}
+
+/// The same, where something is done to the receiver and its carry before each call,
+/// refused ones too, and after the last.
+#[allow(clippy::too_many_arguments)]
+pub fn drive_between(
+    rng: &mut Rng,
+    roads: &mut Roads,
+    list: &List,
+    run: &Range<usize>,
+    lost: &[bool],
+    receiver: Receiver,
+    any_way: bool,
+    between: &mut dyn FnMut(&mut Receiver, &mut Vec<u8>),
+) -> (Vec<Came>, Vec<u32>, Receiver) {
     let carry = some_carry(rng);
     let mut road = Road {
         rng,
@@ -418,8 +436,10 @@ pub fn drive(
     while came.len() < run.len() {
         let index = run.start + came.len();
         while road.rng.below(8) == 0 {
+            between(&mut road.receiver, &mut road.carry);
             road.refused(&list.pdus[index].pdu);
         }
+        between(&mut road.receiver, &mut road.carry);
         let here = &lost[came.len()..];
         match here.iter().take_while(|&&lost| !lost).count() {
             0 => {
@@ -429,5 +449,6 @@ pub fn drive(
             in_a_row => came.extend(road.next(list, index, in_a_row)),
         }
     }
-    (came, road.joined)
+    between(&mut road.receiver, &mut road.carry);
+    (came, road.joined, road.receiver)
 }

@@ -1,5 +1,22 @@
 //! The words of the packet log once more, byte by byte from the top (document
-//! 01, "Receiver"), the packets in a log, and what the CRC's register adds.
+//! 01, "Receiver"), the packets in a log, what the CRC's register adds, and the counts of
+//! packets delivered and missing (document 02, Ask 14).
+
+use referee::receiver::Receiver;
+
+/// Counts a packet with this number that is delivered, and those missing before it one
+/// by one. The counts wrap where they would pass their limit.
+pub fn deliver(receiver: &mut Receiver, number: usize) {
+    if receiver.delivered > 0 {
+        let mut next = usize::from(receiver.last) + 1;
+        while next % 64 != number % 64 {
+            receiver.missing = receiver.missing.wrapping_add(1);
+            next += 1;
+        }
+    }
+    receiver.delivered = receiver.delivered.wrapping_add(1);
+    receiver.last = (number % 64) as u8;
+}
 
 /// A packet: kind 0, its number in the second byte, its length in the last
 /// two.
