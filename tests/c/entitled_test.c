@@ -173,7 +173,9 @@ static int same_receiver(barzhilup_receiver one, barzhilup_receiver other)
            && one.crc_start == other.crc_start && one.entitled == other.entitled
            && one.known == other.known && one.sequence == other.sequence
            && one.held == other.held && one.number == other.number
-           && one.serviced == other.serviced && one.services == other.services;
+           && one.serviced == other.serviced && one.services == other.services
+           && one.delivered == other.delivered && one.missing == other.missing
+           && one.last == other.last;
 }
 
 static void open_for(unsigned mode, unsigned stream, const uint8_t *programs, size_t count)
@@ -234,7 +236,7 @@ static void check_opened(unsigned mode, unsigned stream, const uint8_t *programs
 {
     barzhilup_receiver_opened o =
         barzhilup_open_receiver_entitled((uint8_t)mode, (uint8_t)stream, 9, programs, count);
-    barzhilup_receiver r = {255, 0, 0, 0, false, 0, 0, 0, false, 0};
+    barzhilup_receiver r = {255, 0, 0, 0, false, 0, 0, 0, false, 0, 0, 0, 0};
     size_t i;
     if (refusal == 0) {
         r.mode = (uint8_t)mode;

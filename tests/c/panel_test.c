@@ -648,7 +648,9 @@ static int same_receiver(barzhilup_receiver one, barzhilup_receiver other)
            && one.crc_start == other.crc_start && one.entitled == other.entitled
            && one.known == other.known && one.sequence == other.sequence
            && one.held == other.held && one.number == other.number
-           && one.serviced == other.serviced && one.services == other.services;
+           && one.serviced == other.serviced && one.services == other.services
+           && one.delivered == other.delivered && one.missing == other.missing
+           && one.last == other.last;
 }
 
 /* All that is lent, filled with bytes of all kinds, and a receiver that was just
@@ -774,15 +776,29 @@ static void put_state(const struct line *l)
     r->number = 0;
     if (r->held > 0)
         r->number = (uint8_t)(random_below(4) == 0 ? random_below(64) : (start + 63) % 64);
+    r->delivered = random_below(3);
+    r->missing = r->delivered > 0 ? random_below(1000) : 0;
+    r->last = (uint8_t)(r->delivered > 0 ? random_below(64) : 0);
 }
 
 /* A state with a field outside its range. */
 static void spoil_state(const struct line *l)
 {
     barzhilup_receiver *r = &place.receiver;
-    switch (random_below(6)) {
+    switch (random_below(9)) {
     case 0:
         r->mode = 4;
+        break;
+    case 6:
+        r->last = (uint8_t)(64 + random_below(192));
+        break;
+    case 7:
+        r->delivered = 0;
+        r->missing = 1 + random_below(100);
+        break;
+    case 8:
+        r->delivered = 0;
+        r->last = (uint8_t)(1 + random_below(63));
         break;
     case 1:
         r->known = true;
@@ -921,6 +937,10 @@ static void test_others(void)
         log_length = 1 + random_below(2);
         check(mark_lost_both("marked lost", n).refusal == 0, "marked lost", n);
         check(!place.receiver.known && place.receiver.held == 0, "marked lost", n);
+        check(place.receiver.delivered == place_was.receiver.delivered
+                  && place.receiver.missing == place_was.receiver.missing
+                  && place.receiver.last == place_was.receiver.last,
+              "marked lost, counts kept", n);
         check(place.receiver.crc_start == crc_start, "marked lost, starting value kept", n);
         check(in_place.log[GUARD] == 0xc0060000, "note 6", n);
     }

@@ -242,6 +242,8 @@ static struct {
     unsigned number;
     int serviced;
     unsigned services;
+    uint32_t delivered, missing;
+    unsigned last;
     uint8_t bytes[CARRY];
 } memory;
 
@@ -249,6 +251,16 @@ static void drop(void)
 {
     memory.held = 0;
     memory.number = 0;
+}
+
+/* Counts a packet that is delivered, and those missing before it (document 02, Ask
+ * 14). */
+static void count_delivered(unsigned number)
+{
+    if (memory.delivered > 0)
+        memory.missing += (number + 127 - memory.last) % 64;
+    memory.delivered++;
+    memory.last = number;
 }
 
 static void want_piece(const struct parts *p, unsigned k, const uint8_t *bytes)
@@ -274,6 +286,7 @@ static void want_piece(const struct parts *p, unsigned k, const uint8_t *bytes)
         memory.number = number;
         if (ends) {
             want_packet(number, memory.bytes, memory.held);
+            count_delivered(number);
             drop();
         }
     }
@@ -351,7 +364,9 @@ static int same_receiver(barzhilup_receiver one, barzhilup_receiver other)
            && one.crc_start == other.crc_start && one.entitled == other.entitled
            && one.known == other.known && one.sequence == other.sequence
            && one.held == other.held && one.number == other.number
-           && one.serviced == other.serviced && one.services == other.services;
+           && one.serviced == other.serviced && one.services == other.services
+           && one.delivered == other.delivered && one.missing == other.missing
+           && one.last == other.last;
 }
 
 /* Fills everything that is lent, guards too, with bytes of all kinds. */
@@ -388,6 +403,9 @@ static void put_state(int known, unsigned sequence, size_t held, unsigned number
     memory.number = number;
     memory.serviced = receiver.serviced;
     memory.services = receiver.services;
+    memory.delivered = receiver.delivered;
+    memory.missing = receiver.missing;
+    memory.last = receiver.last;
     memcpy(memory.bytes, is.carry + GUARD, held);
 }
 
@@ -446,6 +464,9 @@ static void check_accepted(barzhilup_received a, const char *what, unsigned long
     next.number = (uint8_t)memory.number;
     next.serviced = memory.serviced != 0;
     next.services = (uint8_t)memory.services;
+    next.delivered = memory.delivered;
+    next.missing = memory.missing;
+    next.last = (uint8_t)memory.last;
     check(a.refusal == 0 && a.wrong_locator == 0, what, which);
     check(a.words == wanted_count && wanted_count <= LOG, "count of words", which);
     check(same_receiver(a.receiver, next), "receiver afterwards", which);
@@ -490,7 +511,11 @@ static void mark_lost(unsigned long which)
     barzhilup_received a;
     wanted_count = 0;
     want_note(BARZHILUP_NOTE_LOST, 0);
-    memset(&memory, 0, sizeof memory);
+    drop();
+    memory.known = 0;
+    memory.sequence = 0;
+    memory.serviced = 0;
+    memory.services = 0;
     memcpy(&was, &is, sizeof is);
     a = barzhilup_mark_lost(receiver, is.log + GUARD, log_length);
     check_accepted(a, "marked lost", which);
@@ -507,7 +532,7 @@ static void test_opening(void)
             barzhilup_receiver_opened o =
                 barzhilup_open_receiver((uint8_t)mode, (uint8_t)stream);
             const struct line *l = line_of(mode, stream);
-            barzhilup_receiver r = {255, 0, 0, 0, false, 0, 0, 0, false, 0};
+            barzhilup_receiver r = {255, 0, 0, 0, false, 0, 0, 0, false, 0, 0, 0, 0};
             if (l != NULL) {
                 r.mode = l->mode;
                 r.stream = l->stream;
@@ -1429,13 +1454,15 @@ static size_t got_count;
 
 static const barzhilup_settings none; /* all 0 */
 
-/* The kind 0 words of a log, each with its data words. */
+/* The kind 0 words of a log, each with its data words; the packets are counted. */
 static void collect(const uint32_t *words, size_t count)
 {
     int in_packet = 0;
     size_t i;
     for (i = 0; i < count; i++) {
         uint32_t kind = words[i] >> 30;
+        if (kind == BARZHILUP_LOG_PACKET)
+            count_delivered(words[i] >> 16 & 63);
         in_packet = kind == BARZHILUP_LOG_PACKET || (kind == BARZHILUP_LOG_DATA && in_packet);
         if (in_packet && got_count < WORDS)
             got[got_count++] = words[i];
@@ -1479,6 +1506,9 @@ static void receive_written(size_t packet, size_t end, unsigned long which)
     check(memcmp(is.pdu, should.pdu, sizeof is.pdu) == 0, "run, PDU left corrected", which);
     check(memcmp(is.log, should.log, sizeof is.log) == 0, "run, log afterwards", which);
     collect(is.log + GUARD, a.words);
+    check(a.receiver.delivered == memory.delivered && a.receiver.missing == memory.missing
+              && a.receiver.last == memory.last,
+          "run, counts", which);
     receiver = a.receiver;
 }
 
@@ -1510,6 +1540,26 @@ static void check_list(unsigned long which)
         at += wanted_count;
     }
     check(at == got_count, "run, no other packet", which);
+}
+
+/* Where fewer than 64 packets are missing between one delivered and the next,
+ * delivered and missing are together those from the first delivered to the last. */
+static void check_sum(unsigned long which)
+{
+    size_t i, first = PACKETS, last = 0;
+    int near = 1;
+    for (i = 0; i < PACKETS; i++) {
+        if (gone[i])
+            continue;
+        if (first == PACKETS)
+            first = i;
+        else if (i - last > 64)
+            near = 0;
+        last = i;
+    }
+    check(!near || receiver.delivered + receiver.missing == (first < PACKETS ? last + 1 - first : 0),
+          "run, delivered and missing", which);
+    check((receiver.delivered == 0) == (first == PACKETS), "run, delivered", which);
 }
 
 /* Writes a list of packets in one mode. Of a hundred PDUs so many are marked
@@ -1549,6 +1599,7 @@ static void run(const struct line *l, unsigned lost, unsigned long which)
         from = end;
     }
     check_list(which);
+    check_sum(which);
 }
 
 int main(void)

@@ -157,7 +157,9 @@ static int same_receiver(barzhilup_receiver one, barzhilup_receiver other)
            && one.crc_start == other.crc_start && one.entitled == other.entitled
            && one.known == other.known && one.sequence == other.sequence
            && one.held == other.held && one.number == other.number
-           && one.serviced == other.serviced && one.services == other.services;
+           && one.serviced == other.serviced && one.services == other.services
+           && one.delivered == other.delivered && one.missing == other.missing
+           && one.last == other.last;
 }
 
 /* Opens a writer and a receiver with each start. A mode and stream that the table
@@ -167,7 +169,7 @@ static void check_opening(uint8_t mode, uint8_t stream)
     int there = in_table(mode, stream), writers = 1, receivers = 1;
     uint32_t refusal = there ? BARZHILUP_ACCEPTED : BARZHILUP_REFUSED_MODE;
     barzhilup_writer w = {255, 0, 0, 0, 0, 0};
-    barzhilup_receiver r = {255, 0, 0, 0, false, 0, 0, 0, false, 0};
+    barzhilup_receiver r = {255, 0, 0, 0, false, 0, 0, 0, false, 0, 0, 0, 0};
     barzhilup_writer_opened of_writer = barzhilup_open_writer(mode, stream);
     barzhilup_receiver_opened of_receiver = barzhilup_open_receiver(mode, stream);
     unsigned start;
@@ -377,10 +379,12 @@ static void want_first(int right)
 /* The receiver after the first PDU. */
 static barzhilup_receiver after_first(unsigned start, int right)
 {
-    barzhilup_receiver r = {0, 0, 0, 255, true, 0, 0, 0, false, 0};
+    barzhilup_receiver r = {0, 0, 0, 255, true, 0, 0, 0, false, 0, 0, 0, 0};
     r.crc_start = (uint8_t)start;
     r.held = (uint16_t)(right ? PART : 0);
     r.number = (uint8_t)(right ? 4 : 0);
+    r.delivered = right ? 4 : 0;
+    r.last = (uint8_t)(right ? 3 : 0);
     return r;
 }
 
@@ -465,6 +469,8 @@ static void test_both(void)
         a = receive(a.receiver);
         next.known = true;
         next.sequence = 1;
+        next.delivered = 6;
+        next.last = 5;
         check(a.refusal == 0 && a.words == words, "second of two", start);
         check(same_receiver(a.receiver, next), "second of two, receiver", start);
         check(as_expected(), "second of two, all that is lent", start);
@@ -499,13 +505,14 @@ static void check_receiver_keeps(const uint8_t *line, unsigned start)
     barzhilup_writer writer = barzhilup_open_writer_with(line[0], line[1], (uint8_t)start).writer;
     barzhilup_receiver opened =
         barzhilup_open_receiver_with(line[0], line[1], (uint8_t)start).receiver;
-    barzhilup_receiver known = opened, place = opened;
+    barzhilup_receiver known = opened, place = opened, lost = opened;
     barzhilup_received a;
     barzhilup_stepped s;
     uint8_t pdu[HEADER];
     uint32_t one;
 
     known.known = true;
+    known.delivered = lost.delivered = 1;
     /* Core PDUs of sequence range 0-7 take their applied services with sequence 0. */
     known.serviced =
         line[1] == 0 && (line[0] == 1 || line[0] == 2 || line[0] == 3 || line[0] == 13);
@@ -523,12 +530,12 @@ static void check_receiver_keeps(const uint8_t *line, unsigned start)
     check(a.refusal == BARZHILUP_REFUSED_PDU_LENGTH && same_receiver(a.receiver, known),
           "refused, receiver as it came", start);
     a = barzhilup_mark_lost(known, &one, 1);
-    check(a.refusal == 0 && same_receiver(a.receiver, opened), "marked lost, start kept", start);
+    check(a.refusal == 0 && same_receiver(a.receiver, lost), "marked lost, start kept", start);
     s = barzhilup_mark_lost_in_place(&place, &one, 0);
     check(s.refusal == BARZHILUP_REFUSED_LOG_LENGTH && same_receiver(place, known),
           "marking lost refused, receiver as it came", start);
     s = barzhilup_mark_lost_in_place(&place, &one, 1);
-    check(s.refusal == 0 && same_receiver(place, opened), "lost in place, start kept", start);
+    check(s.refusal == 0 && same_receiver(place, lost), "lost in place, start kept", start);
 }
 
 static void test_kept(void)

@@ -41,8 +41,11 @@ run shares_test "$library"
 run batch_test "$library"
 run pair_test "$library"
 run entitled_test "$library"
+run join_test "$library"
+run snapshot_test "$library"
 run panel_test "$panel" "$library"
 run registers_test "$panel" "$library"
+run counts_test "$panel" "$library"
 
 # libfec, where it is installed (Debian: apt-get install libfec-dev).
 if gcc -std=c99 "${warnings[@]}" -O2 -o "$build/fec_test" "$root/tests/c/fec_test.c" "$library" -lfec 2>"$build/fec.log"; then

@@ -2,14 +2,13 @@
 
 # Lines that are no log: the table has the line's number, what follows a first PDU, and what is said of it.
 check_lines() {
-    local title="pdu,kind,number,length,cause"
     local number line words
     while IFS='|' read -r number line words; do
-        printf '%s\n0,received,0,96,\n%b\n' "$title" "$line" >wrong.csv
+        printf '%s\n0,received,0,96,,0,0\n%b\n' "$title" "$line" >wrong.csv
         stops "barzhilup coverage: wrong.csv: line $number: $words" coverage --in wrong.csv --out new
         there "a wrong log" no new
     done < <(grep -v '^#' "$data/coverage.lines")
-    printf '0,received,0,96,\n' >wrong.csv
+    printf '0,received,0,96,,0,0\n' >wrong.csv
     stops "barzhilup coverage: wrong.csv: line 1: not $title" coverage --in wrong.csv
     { echo "$title"; head -c 201 /dev/zero | tr '\0' 0; } >wrong.csv
     stops "barzhilup coverage: wrong.csv: line 2: over 200 bytes" coverage --in wrong.csv
@@ -46,7 +45,7 @@ check_not_whole() {
 $wanted"
     same "it is said in the picture" 1 "$(grep -c 'log is not whole' out || true)"
     same "it has the same cells" "$(grep -c '<rect' picture.svg)" "$(grep -c '<rect' out)"
-    echo 'pdu,kind,number,length,cause' >title.csv
+    echo "$title" >title.csv
     run coverage <title.csv
     same "a log of no PDUs without its last line" "barzhilup coverage: standard input: has no last line: the log is not whole" "$(head -n 1 err)"
     ended "a log of no PDUs without its last line" 0 coverage
@@ -64,27 +63,27 @@ check_cut() { # WHAT WHOLE-LINES
     ended "$1" 0 coverage
 }
 
-# A log that is cut inside a line: in one of a PDU, after each of its bytes that leave it not whole; in its last line; and in its first.
+# A log that is cut inside a line: in one of a PDU, whose last number may be cut too, after each of its bytes; in one of an entry, and in its last line, after each
+# that leaves it not whole; and in its first.
 check_cut_lines() {
-    local title="pdu,kind,number,length,cause"
     local line length
-    printf '%s\n0,received,0,96,\n0,packet,5,40,\n' "$title" >start.csv
-    for line in 1,received,0,96 0,packet,63,4096 0,psd,,14 0,note,0, 1,refused,9,96 1,lost,, ,end,1,,whol; do
+    printf '%s\n0,received,0,96,,1,0\n0,packet,5,40,,,\n' "$title" >start.csv
+    for line in 1,received,0,96,,12,34 0,packet,63,4096,, 0,psd,,14,, 0,note,0,,lost, '1,refused,9,96,La out of place,1,20' 1,lost,,,,1,0 ,end,1,,whole,; do
         for ((length = 1; length <= ${#line}; length += 1)); do
             { cat start.csv; printf '%s' "${line:0:length}"; } >cut.csv
             check_cut "a log cut after '${line:0:length}'" start.csv
         done
     done
-    { cat start.csv; printf '1,lost,,,'; } >cut.csv
-    { cat start.csv; printf '1,lost,,,\n'; } >whole.csv
+    { cat start.csv; printf '0,packet,6,40,,,'; } >cut.csv
+    { cat start.csv; printf '0,packet,6,40,,,\n'; } >whole.csv
     check_cut "a log cut before a line's end" whole.csv
-    for line in 2,lost,,, ,end,2,,whole; do
+    for line in 5,packet,6,40,,, ,end,2,,whole,,; do
         { cat start.csv; printf '%s' "$line"; } >cut.csv
         run coverage --in cut.csv
         ended "a line that is whole but for its end, and wrong: $line" 1 coverage
     done
-    { cat start.csv; printf ',end,1,,whole\n1,lo'; } >cut.csv
-    stops "barzhilup coverage: cut.csv: line 5: fewer than five fields" coverage --in cut.csv
+    { cat start.csv; printf ',end,1,,whole,,\n1,lo'; } >cut.csv
+    stops "barzhilup coverage: cut.csv: line 5: fewer fields than the first line has" coverage --in cut.csv
     printf 'pdu,kind,number' >cut.csv
     stops "barzhilup coverage: cut.csv: line 1: not $title" coverage --in cut.csv
 }
@@ -95,16 +94,6 @@ bits() {
     for number in "$@"; do
         head -c $((98 * (number + 1))) bits | tail -c 98
     done
-}
-
-# Makes the log of such PDUs in an order, and draws it: the file, and what the picture's summary says from the packets on.
-draws_bits() {
-    run log --in "$1" --format csv
-    ended "the log of $1 in mode 0" 0 log
-    cp out "$1.csv"
-    run coverage --in "$1.csv"
-    ended "the picture of $1 in mode 0" 0 coverage
-    same "the picture of $1 in mode 0, packets" "$2" "$(sed 's/.*packets delivered/packets delivered/' err)"
 }
 
 # A share in per cent with one decimal, as the summary has it.
@@ -122,18 +111,34 @@ totals_of() {
     local received corrected lost refused all
     received=$(many ',received,' "$1")
     corrected=$(many ',received,[1-8],' "$1")
-    lost=$(many ',lost,,,' "$1")
+    lost=$(many ',lost,,,,' "$1")
     refused=$(many ',refused,' "$1")
     all=$((received + lost + refused))
     printf 'barzhilup coverage: PDUs %s: received %s (%s of PDUs), ' "$all" "$received" "$(share "$received" "$all")"
     printf 'of these corrected %s (%s of the received), ' "$corrected" "$(share "$corrected" "$received")"
-    printf 'lost %s, refused %s; wrong CRCs %s; ' "$lost" "$refused" "$(many ',wrong CRC$' "$1")"
-    printf 'packets delivered %s' "$(many ',packet,' "$1")"
+    printf 'lost %s, refused %s; wrong CRCs %s; ' "$lost" "$refused" "$(many ',wrong CRC,,$' "$1")"
+    loss_said "$(counted_loss "$1")"
+}
+
+# Delivered and missing of a log, counted here from the numbers of its packets: each after the first adds its number minus the last minus 1, modulo 64.
+counted_loss() {
+    awk -F , '$2 == "packet" { if (n) missing += ($3 + 63 - last) % 64; last = $3; n += 1 } END { print n + 0, missing + 0 }' "$1"
+}
+
+# What is said of delivered and missing in the line of totals.
+loss_said() { # "DELIVERED MISSING"
+    local delivered missing
+    read -r delivered missing <<<"$1"
+    printf 'packets delivered %s, missing %s' "$delivered" "$missing"
+    if [ $((delivered + missing)) -gt 0 ]; then
+        printf ' (%s of both)' "$(share "$missing" $((delivered + missing)))"
+    fi
 }
 
 check_totals() {
     run coverage --in "$1"
-    same "the totals of $1" "$(totals_of "$1")" "$(sed 's/, missing by number.*//' err)"
+    same "the totals of $1" "$(totals_of "$1")
+$(exact_line)" "$(cat err)"
     ended "the picture of $1" 0 coverage
 }
 
@@ -142,19 +147,19 @@ check_wrong_crcs() {
     { pdus 0 1; pdus 1 1 | head -c 250; printf '\xa5'; pdus 1 1 | tail -c +252; pdus 2 9; } >bad
     run log --in bad --format csv
     cp out bad.csv
-    same "a damaged piece" 1 "$(many ',wrong CRC$' bad.csv)"
+    same "a damaged piece" 1 "$(many ',wrong CRC,,$' bad.csv)"
     check_totals bad.csv
     same "a damaged piece in the picture, and two in the legend" 3 "$(grep -c '<circle' out || true)"
 }
 
 # A drive of no PDUs has no shares.
 check_no_pdus() {
-    printf 'pdu,kind,number,length,cause\n,end,0,,whole\n' >none.csv
+    printf '%s\n,end,0,,whole,,\n' "$title" >none.csv
     run coverage --in none.csv
     same "no shares of no PDUs" 0 "$(cat out err | grep -c '%' || true)"
     same "a picture of no PDUs is whole" "</svg>" "$(tail -n 1 out)"
     ended "a picture of no PDUs" 0 coverage
-    printf 'pdu,kind,number,length,cause\n0,lost,,,\n,end,1,,whole\n' >none.csv
+    printf '%s\n0,lost,,,,0,0\n,end,1,,whole,,\n' "$title" >none.csv
     run coverage --in none.csv
     same "no share of no received PDUs" 0 "$(grep -c 'of the received' err || true)"
     ended "a picture of no received PDUs" 0 coverage
@@ -169,6 +174,6 @@ check_picture() {
     run coverage --in log.csv --title '<&> "x" é' --columns 20
     same "a picture is XML" "" "$(xmllint --noout out 2>&1)"
     same "its title" '<&> "x" é' "$(xmllint --xpath 'string(/*/*[local-name()="title"])' out)"
-    same "its cells, with seven in the legend" $((7 + $(many ',received,\|,lost,,,\|,refused,' log.csv))) \
+    same "its cells, with seven in the legend" $((7 + $(many ',received,\|,lost,,,,\|,refused,' log.csv))) \
         "$(xmllint --xpath 'count(//*[local-name()="rect"][contains(" r c1 c2 c3 c4 l f ", concat(" ", @class, " "))])' out)"
 }

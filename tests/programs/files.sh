@@ -19,7 +19,7 @@ check_files() {
 $(nothing_of "$sub")" "$sub" --in folder
     done
     stops "barzhilup coverage: folder: Is a directory" coverage --in folder
-    stops "barzhilup coverage: empty: line 1: not pdu,kind,number,length,cause" coverage --in empty
+    stops "barzhilup coverage: empty: line 1: not $title" coverage --in empty
 }
 
 # A dash is standard input or output.
@@ -279,7 +279,7 @@ wanted_of_cut() {
     awk -F , -v whole="$whole" 'NR == 1 || $1 != "" && $1 < whole' two.csv >wanted
     : >wanted.err
     if [ $(($1 % 98)) = 0 ]; then
-        echo ",end,$whole,,whole" >>wanted
+        echo ",end,$whole,,whole,," >>wanted
     else
         echo "barzhilup log: part: ends inside the record of PDU $whole" >wanted.err
     fi
@@ -321,7 +321,7 @@ check_full_devices() {
     check_full "PDUs to a full device" "$(nothing_of generate)" generate --in packets
     check_full "long PDUs to a full device" "$(nothing_of generate)" generate --in packets --length 20480
     check_full "damaged PDUs to a full device" "$(nothing_of channel)" channel --in sent
-    for format in words text csv; do
+    for format in words text csv records; do
         check_full "$format to a full device" "$(nothing_of log)" log --in sent --format "$format"
     done
     run coverage --in log.csv
@@ -335,7 +335,7 @@ check_pipes() {
     all=$("$program" generate --length 300 --psd psd <packets 2>/dev/null | "$program" channel --seed 3 --loss 200 2>/dev/null \
         | "$program" log --format csv 2>err)
     same "three subcommands in pipes" "$(cat log.csv)" "$all"
-    same "the last one counts" "barzhilup log: PDUs $(grep -c ',received,\|,lost,' log.csv)" "$(head -n 1 err | cut -d : -f 1,2)"
+    same "the last one counts" "barzhilup log: PDUs $(grep -c ',received,\|,lost,,,,' log.csv)" "$(head -n 1 err | cut -d : -f 1,2)"
     run coverage <log.csv
     same_file "a picture from standard input" picture.svg out
     "$program" coverage <"$work/log.csv" 2>err | cat >out
@@ -423,8 +423,8 @@ check_terminals() {
         cat sent
     done >many
     for ((copy = 0; copy < 1100; copy += 1)); do
-        echo "$copy,lost,,,"
-    done | sed '1i pdu,kind,number,length,cause' >many.csv
+        echo "$copy,lost,,,,0,0"
+    done | sed "1i $title" >many.csv
     for ((copy = 0; copy < 15; copy += 1)); do
         cat packets
     done >many.packets

@@ -87,7 +87,8 @@ check_example() {
     run log --in example
     said "example j, logged" 0 log "barzhilup log: PDUs 2: received 2, lost 0, refused 0
 barzhilup log: headers corrected 0, bytes corrected 0
-barzhilup log: packets 1, PSD entries 0, notes 0"
+barzhilup log: packets 1, PSD entries 0, notes 0
+$(loss_line 1 0)"
 }
 
 # The counts of pieces of the PDUs of the last file, of 400 bytes each: bits 6-1 of byte 12, after the record's two bytes.
@@ -114,7 +115,7 @@ check_many_pieces() {
             cp out many
             run log --in many --mode "$mode" --format csv
             ended "64 packets of a byte, mode $mode, PSD of $psd, logged" 0 log
-            same "64 packets of a byte, mode $mode, PSD of $psd, logged" 64 "$(grep -c '^[01],packet,[0-9]*,1,$' out)"
+            same "64 packets of a byte, mode $mode, PSD of $psd, logged" 64 "$(grep -c '^[01],packet,[0-9]*,1,,,$' out)"
         done
     done
 }

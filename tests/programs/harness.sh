@@ -27,6 +27,16 @@ has_line() {
     same "$1" "a line: $2" "$(grep -qxF -- "$2" "$3" && echo "a line: $2" || cat "$3")"
 }
 
+# The lines of a CSV without the loss column, delivered and missing.
+bare() {
+    cut -d , -f 1-5 "$1"
+}
+
+# A check that a line stands somewhere in a CSV, whatever its loss column has.
+has_entry() {
+    same "$1" "a line: $2" "$(grep -qxF -- "$2" <(bare "$3") && echo "a line: $2" || cat "$3")"
+}
+
 # Runs the program: what it writes goes to the file out, what it says to err, and its exit status to the variable status.
 run() {
     run_to out "$@"
@@ -95,6 +105,7 @@ input_of() {
         channel | log) echo sent ;;
         coverage) echo log.csv ;;
         latency) echo counts ;;
+        join) echo log.records ;;
     esac
 }
 
@@ -115,9 +126,30 @@ nothing_of() {
         channel) echo "barzhilup channel: PDUs 0 (lost before 0), lost 0, damaged 0, bytes altered 0" ;;
         log) echo "barzhilup log: PDUs 0: received 0, lost 0, refused 0
 barzhilup log: headers corrected 0, bytes corrected 0
-barzhilup log: packets 0, PSD entries 0, notes 0" ;;
+barzhilup log: packets 0, PSD entries 0, notes 0
+$(loss_line 0 0)" ;;
+        join) echo "barzhilup join: frames 0: refused with 23 0, with 24 0
+barzhilup join: packets: core alone 0, both 0, enhanced dropped 0" ;;
     esac
 }
+
+# The line of a log's summary for the loss column.
+loss_line() { # DELIVERED MISSING
+    echo "barzhilup log: delivered $1, missing $2; missing is exact where PDUs come once and in turn, and fewer than 64 packets are missing between two delivered"
+}
+
+# The line of a picture for the loss column.
+exact_line() {
+    echo "barzhilup coverage: withheld packets and those with a damaged piece count as missing; missing is exact where PDUs come once and in turn, and fewer than 64 packets are missing between two delivered"
+}
+
+# What the line of a picture's totals says of delivered and missing.
+said_loss() {
+    sed -n 's/.*; \(packets delivered [^;]*\).*/\1/p' err
+}
+
+# The first line of a CSV.
+title=pdu,kind,number,length,cause,delivered,missing
 
 # A record: its length in two bytes, low byte first, and bytes of zero.
 record() {
@@ -178,6 +210,7 @@ prepare() {
     made log.csv log --in damaged --format csv
     made log.text log --in damaged
     made log.words log --in damaged --format words
+    made log.records log --in damaged --format records
     made picture.svg coverage --in log.csv
     made steps generate --in eight --length 96 --mode 1
 }

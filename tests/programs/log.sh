@@ -22,15 +22,15 @@ check_drive() {
     cp out drive.csv
     same "the PDUs of a drive, refused and lost ones too" "0 received 1 refused 2 received 3 lost 4 refused 5 refused 6 refused 7 refused 8 received" \
         "$(sed -n 's/^\([0-9]*\),\(received\|lost\|refused\),.*/\1 \2/p' out | tr '\n' ' ' | sed 's/ $//')"
-    has_line "a PDU of 95 bytes" "1,refused,3,95,length not 96 to 20480" out
-    has_line "it is marked lost" "1,note,0,,lost" out
-    has_line "a PDU of 20,481 bytes" "4,refused,3,20481,length not 96 to 20480" out
-    has_line "it is marked lost, too" "4,note,0,,lost" out
-    has_line "a PDU of another mode is marked lost" "5,note,0,,lost" out
-    has_line "and so is the second" "6,note,0,,lost" out
-    has_line "a PDU of zeros" "7,refused,9,96,La out of place" out
-    has_line "a PDU of another mode and stream" "5,refused,6,96,mode and stream not those asked for" out
-    has_line "a second one" "6,refused,6,96,mode and stream not those asked for" out
+    has_entry "a PDU of 95 bytes" "1,refused,3,95,length not 96 to 20480" out
+    has_entry "it is marked lost" "1,note,0,,lost" out
+    has_entry "a PDU of 20,481 bytes" "4,refused,3,20481,length not 96 to 20480" out
+    has_entry "it is marked lost, too" "4,note,0,,lost" out
+    has_entry "a PDU of another mode is marked lost" "5,note,0,,lost" out
+    has_entry "and so is the second" "6,note,0,,lost" out
+    has_entry "a PDU of zeros" "7,refused,9,96,La out of place" out
+    has_entry "a PDU of another mode and stream" "5,refused,6,96,mode and stream not those asked for" out
+    has_entry "a second one" "6,refused,6,96,mode and stream not those asked for" out
     ended "with refused PDUs" 0 log
     check_drive_said
 }
@@ -47,7 +47,7 @@ barzhilup log:   refused with 3 (length not 96 to 20480): 2
 barzhilup log:   refused with 6 (mode and stream not those asked for): 2
 barzhilup log:   refused with 9 (La out of place): 1" "$(head -n 9 err)"
     run coverage --in drive.csv
-    same "its picture" "barzhilup coverage: PDUs 9: received 3 (33.3 % of PDUs)" "$(cut -d , -f 1 err)"
+    same "its picture" "barzhilup coverage: PDUs 9: received 3 (33.3 % of PDUs)" "$(head -n 1 err | cut -d , -f 1)"
     ended "its picture" 0 coverage
 }
 
@@ -125,7 +125,7 @@ check_hole() {
     record 600 >big
     "$program" generate --in big --length 96 2>/dev/null >long
     run log --in long --format csv
-    has_line "a packet in eight PDUs" "7,packet,0,600," out
+    has_entry "a packet in eight PDUs" "7,packet,0,600," out
     { head -c 196 long; cat other; tail -c +393 long; } >holed
     run log --in holed --format csv
     same "PDUs with a hole" 8 "$(grep -c ',received,\|,refused,' out)"
@@ -135,56 +135,65 @@ check_hole() {
 # The CSV's last line counts the PDUs, and stands only where all is logged.
 check_last_line() {
     local many
-    many=$(grep -c ',received,\|,lost,\|,refused,' log.csv)
-    same "the CSV's last line" ",end,$many,,whole" "$(tail -n 1 log.csv)"
+    many=$(grep -c ',received,\|,lost,,,,\|,refused,' log.csv)
+    same "the CSV's last line" ",end,$many,,whole,," "$(tail -n 1 log.csv)"
     same "it stands once" 1 "$(grep -c ',end,' log.csv)"
     run log --in empty --format csv
-    same "the CSV of no PDUs" "pdu,kind,number,length,cause
-,end,0,,whole" "$(cat out)"
+    same "the CSV of no PDUs" "$title
+,end,0,,whole,," "$(cat out)"
     run log --in drive --format csv
-    same "the CSV's last line with refused PDUs" ",end,5,,whole" "$(tail -n 1 out)"
+    same "the CSV's last line with refused PDUs" ",end,5,,whole,," "$(tail -n 1 out)"
     head -c -1 damaged >part
     run log --in part --format csv
     same "no last line in the CSV of a cut file" 0 "$(grep -c ',end,' out || true)"
     same "no last line in the text" 0 "$(grep -c 'end' log.text || true)"
 }
 
-# Makes the log of PDUs in an order, and draws it: the file, and what the picture's summary says from the packets on.
-draws() {
-    local file=$1
-    local packets=$2
-    run log --in "$file" --mode 1 --format csv
+# Makes the log of PDUs of a mode, which deliver packets of these numbers in this order, and draws it: the summary and the picture have delivered and missing by them.
+draws() { # FILE MODE NUMBER...
+    local file=$1 mode=$2 wanted
+    shift 2
+    wanted=$(counted_loss <(printf '0,packet,%s\n' "$@"))
+    run log --in "$file" --mode "$mode" --format csv
     ended "the log of $file" 0 log
+    # shellcheck disable=SC2086
+    has_line "the log of $file, delivered and missing" "$(loss_line $wanted)" err
     cp out "$file.csv"
     run coverage --in "$file.csv"
     ended "the picture of $file" 0 coverage
-    same "the picture of $file, packets" "$packets" "$(sed 's/.*packets delivered/packets delivered/' err)"
+    same "the picture of $file, delivered and missing" "$(loss_said "$wanted")" "$(said_loss)"
 }
 
-# A PDU that comes twice, and PDUs out of order: how many packets are missing there is not known. A PDU that is marked lost has one packet here.
-# In mode 0 a PDU out of turn can fit the sequence again; and after a lost PDU no sequence tells one that comes twice, whose number is counted.
+# A PDU that comes twice, and PDUs out of order: the same number again adds 63, one that is behind by k adds 63 - k. A PDU that is lost or refused, or that is not there,
+# has one packet here.
 check_order() {
     steps 0 1 2 3 4 5 6 7 >ordered
-    draws ordered "packets delivered 8, missing by number 0, gaps unknown 0"
+    draws ordered 1 0 1 2 3 4 5 6 7
+    same "PDUs in order: none is missing" "packets delivered 8, missing 0 (0.0 % of both)" "$(said_loss)"
     steps 0 1 2 2 3 4 5 6 7 >twice
-    draws twice "packets delivered 9, missing by number 0, gaps unknown 1"
+    draws twice 1 0 1 2 2 3 4 5 6 7
+    same "a PDU that comes twice adds 63" "packets delivered 9, missing 63 (87.5 % of both)" "$(said_loss)"
     steps 0 1 3 2 4 5 6 7 >swapped
-    draws swapped "packets delivered 8, missing by number 0, gaps unknown 3"
+    draws swapped 1 0 1 3 2 4 5 6 7
     { steps 0 1 2; record 0; steps 4 5 6 7; } >lost
-    draws lost "packets delivered 7, missing by number 1, gaps unknown 0"
+    draws lost 1 0 1 2 4 5 6 7
+    same "a lost PDU adds its packet" "packets delivered 7, missing 1 (12.5 % of both)" "$(said_loss)"
     steps 0 1 2 4 5 6 7 >unmarked
-    draws unmarked "packets delivered 7, missing by number 0, gaps unknown 1"
+    draws unmarked 1 0 1 2 4 5 6 7
     { steps 0 1 1 2; record 0; record 0; steps 5 6 6; } >both
-    draws both "packets delivered 7, missing by number 2, gaps unknown 2"
+    draws both 1 0 1 1 2 5 6 6
+    { records 3 0; steps 3 4 5; records 2 0; } >ends
+    draws ends 1 3 4 5
+    same "nothing is missing at the ends" "packets delivered 3, missing 0 (0.0 % of both)" "$(said_loss)"
     made bits generate --in eight --length 96
     bits 0 1 3 2 4 5 6 7 >swapped
-    draws_bits swapped "packets delivered 8, missing by number 0, gaps unknown 3"
+    draws swapped 0 0 1 3 2 4 5 6 7
     bits 0 1 2 3 2 3 4 5 6 7 >pair
-    draws_bits pair "packets delivered 10, missing by number 0, gaps unknown 1"
+    draws pair 0 0 1 2 3 2 3 4 5 6 7
     { bits 0 1 2; record 0; bits 4 4 5 6; } >lost
-    draws_bits lost "packets delivered 7, missing by number 1, gaps unknown 1"
+    draws lost 0 0 1 2 4 4 5 6
     { bits 0 1 2; record 95; bits 2 3 4; } >repeated
-    draws_bits repeated "packets delivered 6, missing by number 63, gaps unknown 0"
+    draws repeated 0 0 1 2 2 3 4
 }
 
 # Stored outputs: the programs give the same bytes as when they were stored.
@@ -197,4 +206,6 @@ check_stored() {
     same_file "stored log" "$data/log.csv" out
     run coverage --in "$data/drive.csv" --columns 20 --title 'Up & down the hill <test>'
     same_file "stored picture" "$data/drive.svg" out
+    run coverage --in "$data/older.csv" --columns 20 --title 'Up & down the hill <test>'
+    same_file "stored picture of a log without a loss column" "$data/older.svg" out
 }

@@ -78,12 +78,12 @@ check_marks_worth() {
     far=$(places_of places | awk 'NF > 4' | wc -l)
     same "some PDUs have more than four altered bytes" yes "$([ "$far" -gt 5 ] && echo yes || echo no)"
     run log --in came --format csv
-    same "without marks they are refused" "$far" "$(grep -c ',refused,4,300,header beyond correction$' out || true)"
+    same "without marks they are refused" "$far" "$(grep -c ',refused,4,300,header beyond correction,' out || true)"
     same "without marks the others are received" $(($(sent_pdus) - far)) "$(grep -c ',received,' out || true)"
     run log --in came --marks places --format csv
     ended "with marks" 0 log
     same "with marks all are received, and bytes corrected are counted" "$(places_of places | awk '{ print NR - 1 ",received," NF ",300," }')" \
-        "$(grep ',received,\|,refused,\|,lost,' out)"
+        "$(bare out | grep ',received,\|,refused,\|,lost,')"
     without_counts out >marked.csv
     run log --in sent --format csv
     same_file "with marks the log is that of PDUs without damage" marked.csv <(without_counts out)
@@ -115,13 +115,13 @@ check_marks_bound() {
     local wrong_at
     wrong_at=$(places_of places | head -n 1)
     run log --in one.came --marks <(marks $(others_than "$wrong_at" 6)) --format csv
-    has_line "six marks and a wrong byte" "0,received,1,300," out
+    has_entry "six marks and a wrong byte" "0,received,1,300," out
     run log --in one.came --marks <(marks $(others_than "$wrong_at" 7)) --format csv
-    has_line "seven marks and a wrong byte" "0,refused,4,300,header beyond correction" out
+    has_entry "seven marks and a wrong byte" "0,refused,4,300,header beyond correction" out
     run log --in one.came --marks <(marks "$wrong_at" $(others_than "$wrong_at" 7)) --format csv
-    has_line "eight marks, one of them on the wrong byte" "0,received,1,300," out
+    has_entry "eight marks, one of them on the wrong byte" "0,received,1,300," out
     run log --in one.came --marks <(marks "$wrong_at") --format csv
-    has_line "the wrong byte marked" "0,received,1,300," out
+    has_entry "the wrong byte marked" "0,received,1,300," out
 }
 
 # So many places, from 0 on, without one.
@@ -163,10 +163,10 @@ marks_say() {
     marks "$@" >places
     run log --in "$file" --marks places --format csv
     ended "$what" 0 log
-    has_line "$what" "$line" out
+    has_entry "$what" "$line" out
     case $line in
         *,refused,*)
-            has_line "$what: it is marked lost" "0,note,0,,lost" out
+            has_entry "$what: it is marked lost" "0,note,0,,lost" out
             same "$what: what is said" "barzhilup log: PDU 0: refused with $(cut -d , -f 3 <<<"$line"): $(cut -d , -f 5 <<<"$line")" "$(head -n 1 err)"
             has_line "$what: the summary" "barzhilup log:   refused with $(cut -d , -f 3 <<<"$line") ($(cut -d , -f 5 <<<"$line")): 1" err
             ;;
@@ -226,8 +226,8 @@ $(nothing_of log)"
     same "a cut recording with marks for more" "barzhilup log: part: ends inside the record of PDU 2" "$(head -n 1 err)"
     ended "a cut recording with marks for more" 1 log
     run log --in empty --marks empty --format csv
-    same "no PDUs and no marks" "pdu,kind,number,length,cause
-,end,0,,whole" "$(cat out)"
+    same "no PDUs and no marks" "$title
+,end,0,,whole,," "$(cat out)"
     ended "no PDUs and no marks" 0 log
 }
 

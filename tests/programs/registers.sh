@@ -62,7 +62,7 @@ barzhilup generate: --crc-start: not a number from 0 to 255: 256
 barzhilup generate: --length: not a number from 0 to 65535: 70000" generate --length 70000 --crc-start 256 --stream x
     wrong "barzhilup log: --stream: not a number from 0 to 255: x
 barzhilup log: --crc-start: not a number from 0 to 255: -1
-barzhilup log: --format: not words, text or csv: xml" log --format xml --crc-start -1 --stream x
+barzhilup log: --format: not words, text, csv or records: xml" log --format xml --crc-start -1 --stream x
     for sub in generate log; do
         run "$sub" --help
         same "$sub --help says why" yes "$(tr -s '\n ' ' ' <out | grep -q 'recordings off the air check with 255' && echo yes || echo no)"
@@ -93,7 +93,7 @@ check_register_all() {
         same_file "written and logged with $n, what is said" wanted.err err
         run log --in every --crc-start $((255 - n)) --format csv
         same "written with $n and logged with $((255 - n))" "$pieces notes, 0 packets, 0" \
-            "$(grep -c '^[0-9]*,note,[0-9]*,,wrong CRC$' out || true) notes, $(grep -c ',packet,' out || true) packets, $status"
+            "$(grep -c '^[0-9]*,note,[0-9]*,,wrong CRC,,$' out || true) notes, $(grep -c ',packet,' out || true) packets, $status"
         same "written with $n and logged with $((255 - n)), the last line" "$(all_wrong_line $((255 - n)))" "$(tail -n 1 err)"
     done
 }
@@ -126,6 +126,7 @@ check_register_said() {
 barzhilup log: headers corrected 0, bytes corrected 0
 barzhilup log: packets 0, PSD entries $(sent_pdus), notes $pieces
 barzhilup log:   note wrong CRC: $pieces
+$(loss_line 0 0)
 $(all_wrong_line 0)"
     { cat started; cat sent; } >mixed
     run log --in mixed
@@ -148,12 +149,12 @@ check_register_held() {
     cp out parts.started
     { head -c 98 parts; tail -c +99 parts.started; } >mixed
     run log --in mixed --format csv
-    same "a right piece that is held, and wrong ones: notes" "1,note,0,,wrong CRC 2,note,0,,wrong CRC" "$(grep ',note,' out | tr '\n' ' ' | sed 's/ $//')"
+    same "a right piece that is held, and wrong ones: notes" "1,note,0,,wrong CRC 2,note,0,,wrong CRC" "$(bare out | grep ',note,' | tr '\n' ' ' | sed 's/ $//')"
     not_all_wrong "a right piece that is held, and wrong ones"
     { head -c 98 parts.started; tail -c +99 parts; } >mixed
     run log --in mixed --format csv
     same "a wrong piece, and right ones that continue nothing: notes" "0,note,0,,wrong CRC 1,note,0,,nothing held 2,note,0,,nothing held" \
-        "$(grep ',note,' out | tr '\n' ' ' | sed 's/ $//')"
+        "$(bare out | grep ',note,' | tr '\n' ' ' | sed 's/ $//')"
     not_all_wrong "a wrong piece, and right ones that continue nothing"
     run log --in parts.started --format csv
     same "the same packet, all its pieces wrong" "$(all_wrong_line 0)" "$(tail -n 1 err)"

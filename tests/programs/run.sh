@@ -15,8 +15,8 @@ if [ ! -x "$program" ]; then
     exit 1
 fi
 program=$(readlink -f "$program")
-subs=(generate channel log coverage latency)
-for part in harness usage files generate log marks second registers batches coverage latency; do
+subs=(generate channel log coverage latency join)
+for part in harness usage files generate log marks second registers batches bursts coverage loss entitled resume latency join; do
     # shellcheck source=/dev/null
     . "$here/$part.sh"
 done
@@ -88,6 +88,10 @@ check_batches_drives
 check_batches_long
 check_batches_files
 check_batches_asked
+check_bursts_seeds
+check_bursts_places
+check_bursts_refused
+check_bursts_drives
 check_stored
 check_lines
 check_line_ends
@@ -97,6 +101,31 @@ check_totals drive.csv
 check_wrong_crcs
 check_no_pdus
 check_picture
+check_loss_drives
+check_loss_far
+check_loss_withheld
+check_loss_second
+check_loss_ticks
+check_loss_older
+check_entitled_values
+check_entitled_all
+check_entitled_none
+check_entitled_spans
+check_entitled_drives
+check_entitled_two
+check_entitled_noted
+check_entitled_kept
+check_entitled_pairs
+check_resume_cuts
+check_resume_kinds
+check_resume_chain
+check_resume_said
+check_resume_words
+check_resume_refused
+check_resume_asked
+check_resume_files
+check_resume_long
+check_resume_unsaved
 check_latency_table
 check_latency_values
 check_latency_random
@@ -108,6 +137,13 @@ check_latency_packets
 check_latency_packets_refused
 check_latency_picture
 check_latency_made
+check_join_records
+check_join_frames
+check_join_refused
+check_join_files
+check_join_long
+check_join_whole
+check_join_drive
 check_cuts
 check_cut_files
 check_full_devices

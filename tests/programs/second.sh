@@ -23,12 +23,13 @@ packets_of() {
 
 # The line of the summary for what a file gives alone, from what its own log says: first or second, and the summary of that log.
 alone_line() {
-    local came received headers bytes packets
+    local came received headers bytes packets missing
     received=$(sed -n 's/.*: received \([0-9]*\),.*/\1/p' "$2")
     came=$((received + $(sed -n 's/.*, refused \([0-9]*\)$/\1/p' "$2")))
     read -r headers bytes < <(sed -n 's/.*headers corrected \([0-9]*\), bytes corrected \([0-9]*\)/\1 \2/p' "$2")
     packets=$(sed -n 's/.*: packets \([0-9]*\),.*/\1/p' "$2")
-    echo "barzhilup log: $1 copies alone: PDUs came $came, received $received; headers corrected $headers, bytes corrected $bytes; packets $packets"
+    missing=$(sed -n 's/.*: delivered [0-9]*, missing \([0-9]*\);.*/\1/p' "$2")
+    echo "barzhilup log: $1 copies alone: PDUs came $came, received $received; headers corrected $headers, bytes corrected $bytes; packets $packets, missing $missing"
 }
 
 # A file with itself: the log is that of the file alone, and either copy will do.
@@ -39,7 +40,7 @@ check_second_same() {
     same_file "a file with itself, the words" wanted out
     ended "a file with itself" 0 log
     run log --in sent --format csv
-    sed 's/^\([0-9]*,received,.*,\)$/\1either copy/' out >wanted
+    sed 's/^\([0-9]*,received,[0-9]*,[0-9]*,\)/\1either copy/' out >wanted
     run log --in sent --second sent --format csv
     same_file "a file with itself, the CSV" wanted out
     run log --in sent
@@ -64,14 +65,14 @@ check_second_turns() {
     same_file "PDUs in turns, the words" wanted out
     run log --in even --second odd --format csv
     same "PDUs in turns, where they are from" "$(awk -v many="$(sent_pdus)" 'BEGIN { for (pdu = 0; pdu < many; pdu += 1) print pdu "," (pdu % 2 ? "second" : "first") " copy" }')" \
-        "$(sed -n 's/^\([0-9]*\),received,0,300,\(.*\)/\1,\2/p' out)"
+        "$(bare out | sed -n 's/^\([0-9]*\),received,0,300,\(.*\)/\1,\2/p')"
     ended "PDUs in turns" 0 log
     run log --in odd --second even --format csv
-    same "PDUs in turns, the other way round" "0,received,0,300,second copy" "$(sed -n 2p out)"
+    same "PDUs in turns, the other way round" "0,received,0,300,second copy" "$(bare out | sed -n 2p)"
     run log --in even --second even --format csv
     cp out wanted
     run log --in even --format csv
-    same_file "lost in both" <(sed 's/,first copy$\|,either copy$/,/' wanted) out
+    same_file "lost in both" <(sed 's/,first copy,\|,either copy,/,,/' wanted) out
 }
 
 # Two drives over a bad channel: the pair's log has every packet that either has alone, and tells what each gives.
@@ -102,7 +103,7 @@ check_second_drives() {
 check_second_counted() {
     same "a pair of drives, seed $1: bytes corrected" "$(awk -F , '$2 == "received" { n += $3 } END { print n + 0 }' out)" \
         "$(sed -n 's/.*bytes corrected \([0-9]*\)$/\1/p' err | head -n 1)"
-    same "a pair of drives, seed $1: each received PDU has a copy" "$(grep -c ',received,' out)" "$(grep -c ',\(first\|second\|either\) copy$' out)"
+    same "a pair of drives, seed $1: each received PDU has a copy" "$(grep -c ',received,' out)" "$(grep -c ',\(first\|second\|either\) copy,' out)"
 }
 
 # Damaged pieces: each is taken from the copy in which its CRC is right. Places 120 and 220 lie in two pieces of PDU 0.
@@ -114,19 +115,19 @@ check_second_pieces() {
     run log --in one.pdus --second two.pdus --format words
     same_file "a damaged piece in each copy, the words" wanted out
     run log --in one.pdus --second two.pdus --format csv
-    has_line "a damaged piece in each copy" "0,received,0,300,both copies" out
-    has_line "the next PDU" "1,received,0,300,either copy" out
+    has_entry "a damaged piece in each copy" "0,received,0,300,both copies" out
+    has_entry "the next PDU" "1,received,0,300,either copy" out
     run log --in one.pdus --second sent --format csv
-    has_line "a damaged piece in the first copy" "0,received,0,300,second copy" out
+    has_entry "a damaged piece in the first copy" "0,received,0,300,second copy" out
     run log --in sent --second one.pdus --format csv
-    has_line "a damaged piece in the second copy" "0,received,0,300,first copy" out
+    has_entry "a damaged piece in the second copy" "0,received,0,300,first copy" out
     run log --in sent --second one.pdus
     has_line "a damaged piece in the second copy, the text" "PDU 0: received, 0 header bytes corrected, from the first copy" out
     run log --in one.pdus --format csv
     grep -v ',received,' out >wanted
     run log --in one.pdus --second one.pdus --format csv
     same_file "a piece that is damaged in both" wanted <(grep -v ',received,' out)
-    has_line "a piece that is damaged in both" "0,received,0,300,either copy" out
+    has_entry "a piece that is damaged in both" "0,received,0,300,either copy" out
 }
 
 # A piece whose CRC is right in both copies and whose bytes differ: note 7.
@@ -135,13 +136,13 @@ check_second_differ() {
     run generate --in packets.other --length 300 --psd psd
     cp out other.sent
     run log --in sent --second other.sent --format csv
-    has_line "a piece that is right in both and differs, the CSV" "0,note,0,,copies differ" out
-    has_line "a piece that is right in both and differs, the PDU" "0,received,0,300,either copy" out
+    has_entry "a piece that is right in both and differs, the CSV" "0,note,0,,copies differ" out
+    has_entry "a piece that is right in both and differs, the PDU" "0,received,0,300,either copy" out
     has_line "a piece that is right in both and differs, the summary" "barzhilup log:   note copies differ: 1" err
     ended "a piece that is right in both and differs" 0 log
     cp out differ.csv
     run coverage --in differ.csv
-    same "it counts as one with a wrong CRC in the picture" "wrong CRCs 1" "$(sed 's/.*\(wrong CRCs [0-9]*\).*/\1/' err)"
+    same "it counts as one with a wrong CRC in the picture" "wrong CRCs 1" "$(sed -n 's/.*\(wrong CRCs [0-9]*\).*/\1/p' err)"
     run log --in sent --second other.sent
     has_line "a piece that is right in both and differs, the text" "  note: copies differ, piece 0" out
 }
@@ -153,15 +154,15 @@ check_second_refused() {
     { pdus 0 1; pdus 2 1; pdus 2 1; record 96; record 95; record 95; record 0; pdus 6 1; head -c 98 other; } >two.pdus
     run log --in one.pdus --second two.pdus --format csv
     ended "refused pairs" 0 log
-    has_line "copies of two PDUs" "1,refused,20,300,copies differ in length or bytes 8 to La" out
-    has_line "the first has a wrong length" "2,received,0,300,second copy" out
-    has_line "the first has a wrong length, and the second is of zeros" "3,refused,9,96,La out of place" out
-    has_line "both lengths are wrong" "4,refused,4,95,header beyond correction" out
-    has_line "a wrong length alone" "5,refused,3,95,length not 96 to 20480" out
-    has_line "a copy alone" "6,received,0,300,first copy" out
-    has_line "the first of another mode" "7,refused,6,96,mode and stream not those asked for" out
-    has_line "the second of another mode" "8,refused,6,300,mode and stream not those asked for" out
-    has_line "it is marked lost" "8,note,0,,lost" out
+    has_entry "copies of two PDUs" "1,refused,20,300,copies differ in length or bytes 8 to La" out
+    has_entry "the first has a wrong length" "2,received,0,300,second copy" out
+    has_entry "the first has a wrong length, and the second is of zeros" "3,refused,9,96,La out of place" out
+    has_entry "both lengths are wrong" "4,refused,4,95,header beyond correction" out
+    has_entry "a wrong length alone" "5,refused,3,95,length not 96 to 20480" out
+    has_entry "a copy alone" "6,received,0,300,first copy" out
+    has_entry "the first of another mode" "7,refused,6,96,mode and stream not those asked for" out
+    has_entry "the second of another mode" "8,refused,6,300,mode and stream not those asked for" out
+    has_entry "it is marked lost" "8,note,0,,lost" out
     same "refused pairs, what is said" "barzhilup log: PDU 1: refused with 20: copies differ in length or bytes 8 to La
 barzhilup log: PDU 3: refused with 9: La out of place
 barzhilup log: PDU 4: refused with 4: header beyond correction
@@ -201,14 +202,14 @@ check_second_lengths() {
     ended "a shorter first file" 0 log
     run log --in sent --second three --format csv
     same "a shorter second file, what is said" "barzhilup log: three: has 3 of $many PDUs: the others count as not come" "$(head -n 1 err)"
-    same "a shorter second file, the last line" ",end,$many,,whole" "$(tail -n 1 out)"
-    has_line "a shorter second file, a PDU after its end" "3,received,0,300,first copy" out
+    same "a shorter second file, the last line" ",end,$many,,whole,," "$(tail -n 1 out)"
+    has_entry "a shorter second file, a PDU after its end" "3,received,0,300,first copy" out
     ended "a shorter second file" 0 log
     run log --in empty --second sent --format words
     same_file "an empty first file, the words" wanted out
     run log --in empty --second empty --format csv
-    same "two empty files" "pdu,kind,number,length,cause
-,end,0,,whole" "$(cat out)"
+    same "two empty files" "$title
+,end,0,,whole,," "$(cat out)"
     ended "two empty files" 0 log
     check_second_cut "$many"
 }
@@ -259,21 +260,21 @@ check_second_picture() {
     local first second both either
     run log --in even --second sent --format csv
     cp out pair.csv
-    first=$(grep -c ',first copy$' pair.csv || true)
-    second=$(grep -c ',second copy$' pair.csv || true)
-    both=$(grep -c ',both copies$' pair.csv || true)
-    either=$(grep -c ',either copy$' pair.csv || true)
+    first=$(grep -c ',first copy,' pair.csv || true)
+    second=$(grep -c ',second copy,' pair.csv || true)
+    both=$(grep -c ',both copies,' pair.csv || true)
+    either=$(grep -c ',either copy,' pair.csv || true)
     run coverage --in pair.csv
     ended "the picture of a pair" 0 coverage
     same "the picture of a pair, what is said" "taken from the first copy $first, the second $second, both $both, either $either" \
-        "$(sed 's/.*; taken/taken/' err)"
+        "$(sed -n 's/.*; taken/taken/p' err)"
     same "the picture of a pair, strokes, and one in the legend" $((first + second + both + 1)) "$(grep -c 'class="a"' out || true)"
     same "the picture of a pair, the legend" 1 "$(grep -c ">from the first copy $first, second $second, both $both<" out || true)"
     run coverage --in log.csv
     same "the picture of one file has no strokes" 0 "$(cat out err | grep -c 'class="a"\|copy' || true)"
     printf 'pdu,kind,number,length,cause\n0,received,0,96,first copy\n1,received,2,96,second copy\n2,received,0,96,both copies\n3,received,0,96,either copy\n4,refused,20,96,copies differ in length or bytes 8 to La\n4,note,0,,lost\n5,received,0,96,third copy\n,end,6,,whole\n' >pair.csv
     run coverage --in pair.csv
-    same "four kinds of copies" "taken from the first copy 1, the second 1, both 1, either 1" "$(sed 's/.*; taken/taken/' err)"
+    same "four kinds of copies" "taken from the first copy 1, the second 1, both 1, either 1" "$(sed -n 's/.*; taken/taken/p' err)"
     same "their strokes" 'M64 77h9
 M74 89h9
 M84 77h9m-9 12h9' "$(grep 'class="a"' out | head -n 3 | sed 's/.* d="\([^"]*\)".*/\1/')"

@@ -48,7 +48,7 @@ check_subcommands() {
 said_of_subcommand() {
     same "$1, exit status" 2 "$status"
     same "$1" "$2
-usage: barzhilup generate|channel|log|coverage|latency [OPTION]...
+usage: barzhilup generate|channel|log|coverage|latency|join [OPTION]...
 try 'barzhilup --help'" "$(cat err)"
     same "$1 writes nothing" "" "$(cat out)"
 }
@@ -87,9 +87,10 @@ check_help_again() {
 # A value that an option takes.
 right_value() {
     case $2 in
-        in | out | second | psd | marks | svg | title) echo value ;;
+        in | out | second | psd | marks | save | resume | svg | enhanced | title) echo value ;;
         format) echo csv ;;
         counts) echo 3 ;;
+        entitled) echo 0,3 ;;
         *) range_of "$1" "$2" | cut -d ' ' -f 1 ;;
     esac
 }
@@ -199,10 +200,10 @@ check_values() {
     wrong "barzhilup generate: --mode: not a number from 0 to 255: x
 barzhilup generate: --length: not a number from 0 to 65535: 70000
 barzhilup generate: --marker: not a number from 0 to 4294967295: -1" generate --marker -1 --length 70000 --mode x
-    wrong "barzhilup log: --format: not words, text or csv: xml" log --format xml
-    wrong "barzhilup log: --format: not words, text or csv: CSV" log --format=CSV
+    wrong "barzhilup log: --format: not words, text, csv or records: xml" log --format xml
+    wrong "barzhilup log: --format: not words, text, csv or records: CSV" log --format=CSV
     wrong "barzhilup log: --stream: not a number from 0 to 255: 256
-barzhilup log: --format: not words, text or csv: " log --format '' --stream 256
+barzhilup log: --format: not words, text, csv or records: " log --format '' --stream 256
     wrong "barzhilup coverage: --title: over 200 bytes, or not UTF-8" coverage --in log.csv --title "$(head -c 201 /dev/zero | tr '\0' x)"
     wrong "barzhilup coverage: --title: over 200 bytes, or not UTF-8" coverage --in log.csv --title "$(printf 'a\xff')"
     run coverage --in log.csv --title "$(head -c 200 /dev/zero | tr '\0' x)"
