@@ -78,7 +78,8 @@ static int same_receiver(const barzhilup_receiver *x, const barzhilup_receiver *
     return x->mode == y->mode && x->stream == y->stream && x->crc_start == y->crc_start
            && x->entitled == y->entitled && x->known == y->known && x->sequence == y->sequence
            && x->held == y->held && x->number == y->number && x->serviced == y->serviced
-           && x->services == y->services;
+           && x->services == y->services && x->delivered == y->delivered
+           && x->missing == y->missing && x->last == y->last;
 }
 
 static barzhilup_received call_receive(receive_call *receive, struct reception *r, size_t length,
@@ -231,6 +232,12 @@ static void spoil(uint8_t *pdu, size_t length)
         pdu[random_below(HEADER)] = (uint8_t)random_below(256);
 }
 
+/* A count of packets: small, or near its limit. */
+static uint32_t random_count(void)
+{
+    return random_below(2) == 0 ? random_below(100) : UINT32_MAX - random_below(100);
+}
+
 /* Receives a PDU, after it was written for this writer. */
 static unsigned random_reception(const struct implementation *peer, barzhilup_writer writer,
                                  const uint8_t *pdu, size_t length)
@@ -244,8 +251,15 @@ static unsigned random_reception(const struct implementation *peer, barzhilup_wr
         ours.receiver.sequence = theirs.receiver.sequence = (uint8_t)random_below(9);
     if (seldom())
         ours.receiver.entitled = theirs.receiver.entitled = (uint8_t)random_below(256);
+    if (seldom())
+        ours.receiver.delivered = theirs.receiver.delivered = random_count();
+    if (seldom())
+        ours.receiver.missing = theirs.receiver.missing = random_count();
+    if (seldom())
+        ours.receiver.last = theirs.receiver.last = value(63);
     received = same_receive(peer, pdu, length, seldom() ? random_below(200) : LOG);
-    if (received.refusal == BARZHILUP_REFUSED_STATE)
+    if (received.refusal == BARZHILUP_REFUSED_STATE
+        || received.refusal == BARZHILUP_REFUSED_COUNT_LIMIT)
         ours.receiver = theirs.receiver = barzhilup_open_receiver(0, 0).receiver;
     return received.refusal == BARZHILUP_ACCEPTED;
 }

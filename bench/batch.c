@@ -53,7 +53,7 @@ static barzhilup_batch in_eight_calls(const struct drive *d, barzhilup_receiver 
 
 static void batches(const void *drive, size_t passes)
 {
-    barzhilup_receiver receiver = {0, 0, BARZHILUP_CRC_START, 255, false, 0, 0, 0, false, 0};
+    barzhilup_receiver receiver = {0, 0, BARZHILUP_CRC_START, 255, false, 0, 0, 0, false, 0, 0, 0, 0};
     while (passes-- > 0) {
         arrive(drive);
         sink = (unsigned)in_one_call(drive, receiver).words;
@@ -62,7 +62,7 @@ static void batches(const void *drive, size_t passes)
 
 static void singles(const void *drive, size_t passes)
 {
-    barzhilup_receiver receiver = {0, 0, BARZHILUP_CRC_START, 255, false, 0, 0, 0, false, 0};
+    barzhilup_receiver receiver = {0, 0, BARZHILUP_CRC_START, 255, false, 0, 0, 0, false, 0, 0, 0, 0};
     while (passes-- > 0) {
         arrive(drive);
         sink = (unsigned)in_eight_calls(drive, receiver).words;

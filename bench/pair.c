@@ -90,7 +90,7 @@ static void receive_pairs(const struct pairs *p, size_t passes, pair_call *recei
 {
     size_t length = p->drive.pdu_length, i;
     while (passes-- > 0) {
-        barzhilup_receiver receiver = {0, 0, BARZHILUP_CRC_START, 255, false, 0, 0, 0, false, 0};
+        barzhilup_receiver receiver = {0, 0, BARZHILUP_CRC_START, 255, false, 0, 0, 0, false, 0, 0, 0, 0};
         for (i = 0; i < PDUS; i++) {
             arrive(p, i);
             receiver = receive(receiver, carry, sizeof carry, p->copies[0] + i * length, length,
@@ -118,8 +118,9 @@ static void two_calls(const void *pairs, size_t passes)
     const struct pairs *p = pairs;
     size_t length = p->drive.pdu_length, i, copy;
     while (passes-- > 0) {
-        barzhilup_receiver receivers[2] = {{0, 0, BARZHILUP_CRC_START, 255, false, 0, 0, 0, false, 0},
-                                           {0, 0, BARZHILUP_CRC_START, 255, false, 0, 0, 0, false, 0}};
+        barzhilup_receiver receivers[2] = {
+            {0, 0, BARZHILUP_CRC_START, 255, false, 0, 0, 0, false, 0, 0, 0, 0},
+            {0, 0, BARZHILUP_CRC_START, 255, false, 0, 0, 0, false, 0, 0, 0, 0}};
         for (i = 0; i < PDUS; i++) {
             arrive(p, i);
             for (copy = 0; copy < 2; copy++)
@@ -164,7 +165,8 @@ static int same_receiver(barzhilup_receiver x, barzhilup_receiver y)
 {
     return x.known == y.known && x.sequence == y.sequence && x.held == y.held
            && x.number == y.number && x.entitled == y.entitled && x.serviced == y.serviced
-           && x.services == y.services;
+           && x.services == y.services && x.delivered == y.delivered && x.missing == y.missing
+           && x.last == y.last;
 }
 
 /* One pair with both; the library's answer. */

@@ -48,7 +48,7 @@ static void receive_all(const struct drive *d, size_t passes, receive_call *rece
     static uint32_t log[BARZHILUP_LOG_WORDS];
     size_t i;
     while (passes-- > 0) {
-        barzhilup_receiver receiver = {0, 0, BARZHILUP_CRC_START, 255, false, 0, 0, 0, false, 0};
+        barzhilup_receiver receiver = {0, 0, BARZHILUP_CRC_START, 255, false, 0, 0, 0, false, 0, 0, 0, 0};
         for (i = 0; i < PDUS; i++) {
             uint8_t *pdu = d->pdus + i * d->pdu_length;
             memcpy(pdu, d->headers[i], HEADER);

@@ -532,6 +532,27 @@ static size_t count_words(const struct reading *r, unsigned note, size_t held, i
     return words;
 }
 
+/* Counts the packets that step 4 delivers, and those missing before them (document
+ * 02, Ask 14); answers 0 where a count would pass its limit. */
+static int count_packets(const struct reading *r, size_t held, size_t pieces,
+                         barzhilup_receiver *next)
+{
+    uint64_t delivered = next->delivered, missing = next->missing;
+    size_t k;
+    for (k = 0; k < pieces; k++) {
+        unsigned number = (r->start + (unsigned)k + (r->pfirst ? 63 : 0)) % 64;
+        if (piece_note(r, k, held) == 0 && (k + 1 < r->pieces || !r->plast)) {
+            missing += delivered > 0 ? (number + 127 - next->last) % 64 : 0;
+            delivered++;
+            next->last = (uint8_t)number;
+        }
+        held = 0;
+    }
+    next->delivered = (uint32_t)delivered;
+    next->missing = (uint32_t)missing;
+    return delivered <= UINT32_MAX && missing <= UINT32_MAX;
+}
+
 /* Step 4; the next receiver's held and number are set. */
 static uint32_t *take_pieces(const struct reading *r, const uint8_t *pdu, const uint8_t *second,
                              size_t pieces, uint8_t *carry, barzhilup_receiver *next, uint32_t *log)
@@ -558,8 +579,8 @@ static uint32_t *take_pieces(const struct reading *r, const uint8_t *pdu, const 
     return log;
 }
 
-/* Steps 1 to 4 on a PDU that was read, or refusal 13. Pieces may stand in a second
- * copy of it. */
+/* Steps 1 to 4 on a PDU that was read, or refusal 13 or 27. Pieces may stand in a
+ * second copy of it. */
 static uint32_t take_pdu(const struct reading *r, const uint8_t *pdu, const uint8_t *second,
                          uint8_t *carry, uint32_t *log, size_t log_length,
                          barzhilup_received *answer)
@@ -572,6 +593,8 @@ static uint32_t take_pdu(const struct reading *r, const uint8_t *pdu, const uint
     uint32_t *at = log;
     if (log_length < count_words(r, note, held, withheld, pieces))
         return BARZHILUP_REFUSED_LOG_LENGTH;
+    if (!count_packets(r, held, pieces, &next))
+        return BARZHILUP_REFUSED_COUNT_LIMIT;
     if (note != 0)
         at = put_note(at, note, 0);
     if (withheld) {
@@ -598,7 +621,8 @@ static uint32_t wrong_reception(const barzhilup_receiver *r, size_t carry_length
     if (m == NULL || r->sequence >= m->sequences || (!r->known && r->sequence != 0)
         || r->held > BARZHILUP_PACKET_MAX || r->number > 63 || (r->held == 0 && r->number != 0)
         || r->services > 7 || (!r->serviced && r->services != 0)
-        || (r->serviced && (r->stream != 0 || m->sequences != 8)))
+        || (r->serviced && (r->stream != 0 || m->sequences != 8)) || r->last > 63
+        || (r->delivered == 0 && (r->missing != 0 || r->last != 0)))
         return BARZHILUP_REFUSED_STATE;
     if (carry_length < BARZHILUP_CARRY_BYTES)
         return BARZHILUP_REFUSED_CARRY_LENGTH;
@@ -625,7 +649,7 @@ barzhilup_received plain_receive(barzhilup_receiver receiver,
                                  uint8_t *pdu, size_t pdu_length,
                                  uint32_t *log, size_t log_length)
 {
-    barzhilup_received answer = {0, 0, 0, {0, 0, 0, 0, false, 0, 0, 0, false, 0}};
+    barzhilup_received answer = {0, 0, 0, {0, 0, 0, 0, false, 0, 0, 0, false, 0, 0, 0, 0}};
     uint8_t before[HEADER];
     struct reading r;
     answer.receiver = receiver;
@@ -714,7 +738,7 @@ barzhilup_received plain_receive_pair(barzhilup_receiver receiver,
                                       uint8_t *second, size_t second_length,
                                       uint32_t *log, size_t log_length)
 {
-    barzhilup_received answer = {0, 0, 0, {0, 0, 0, 0, false, 0, 0, 0, false, 0}};
+    barzhilup_received answer = {0, 0, 0, {0, 0, 0, 0, false, 0, 0, 0, false, 0, 0, 0, 0}};
     struct copy one, other, *by = &one;
     answer.receiver = receiver;
     answer.refusal = wrong_reception(&receiver, carry_length, BARZHILUP_PDU_MIN);

@@ -6,6 +6,7 @@
 #   counts of instructions, with how they grow (pdus.c), how far each is from copying and packing its bytes, and which functions have how much of it;
 # - eight PDUs received in one call beside eight calls (batch.c);
 # - a pair of PDUs received, and the better one chosen, beside plain C and beside two calls (pair.c);
+# - two logs joined beside plain C (join.c);
 # - the stack of each exported function (stack.c).
 # It measures and judges nothing but that all of them answer the same, and is no part of the gate. It takes about a minute, on one core;
 # other load on the machine shows in the times, and not in the counts.
@@ -62,6 +63,7 @@ compile header "$bench/timing.c" "$library" "$sums" "${linked[@]}"
 compile pdus "$bench/agree.c" "$bench/drives.c" "$bench/limits.c" "$bench/plain.c" "$bench/timing.c" "$library" "${beside[@]}" "${linked[@]}"
 compile batch "$bench/drives.c" "$bench/timing.c" "$library" "${linked[@]}"
 compile pair "$bench/drives.c" "$bench/plain.c" "$bench/timing.c" "$library" "${linked[@]}"
+compile join "$bench/timing.c" "$library" "${linked[@]}"
 compile stack "$bench/drives.c" "$bench/plain.c" "$panel" "$library" "${linked[@]}" -lpthread
 
 # ---- Counts of instructions --------------------------------------------------
@@ -126,4 +128,5 @@ else
 fi
 "$build/batch"
 "$build/pair"
+"$build/join"
 "$build/stack"

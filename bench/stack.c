@@ -251,6 +251,35 @@ static void mark_lost(void)
     MEASURE(sink = barzhilup_mark_lost(receiver, log_words, BARZHILUP_LOG_WORDS).words);
 }
 
+/* A receiver that has taken the PDU, and often holds bytes of it, and its words. */
+static uint32_t snapshot[BARZHILUP_SNAPSHOT_WORDS];
+
+static void take(void)
+{
+    receiver = barzhilup_receive(receiver, carry, sizeof carry, pdu, drive->pdu_length, log_words,
+                                 BARZHILUP_LOG_WORDS)
+                   .receiver;
+}
+
+static void save_receiver(void)
+{
+    take();
+    MEASURE(sink = barzhilup_save_receiver(receiver, carry, sizeof carry, snapshot,
+                                           at % 4 == 3 ? 3 : BARZHILUP_SNAPSHOT_WORDS)
+                       .words);
+}
+
+static void load_receiver(void)
+{
+    size_t words;
+    take();
+    words = barzhilup_save_receiver(receiver, carry, sizeof carry, snapshot,
+                                    BARZHILUP_SNAPSHOT_WORDS)
+                .words;
+    snapshot[words - 1] ^= (uint32_t)(at % 4 == 3) << 27;
+    MEASURE(sink = barzhilup_load_receiver(snapshot, words, carry, sizeof carry).refusal);
+}
+
 static void list_pieces(void)
 {
     MEASURE(sink = barzhilup_list_pieces(pdu, drive->pdu_length, BARZHILUP_CRC_START, pieces, 64)
@@ -297,6 +326,17 @@ static void waiting_packets(void)
     MEASURE(sink = barzhilup_waiting_packets(0, 0, counts, HEADER, 3, 40, log_words, 64).count);
 }
 
+/* The log of the PDU before, joined with itself. */
+static void join_logs(void)
+{
+    static uint32_t joined[2 * BARZHILUP_LOG_WORDS];
+    barzhilup_received a = barzhilup_receive(receiver, carry, sizeof carry, pdu, drive->pdu_length,
+                                             log_words, BARZHILUP_LOG_WORDS);
+    MEASURE(sink = (unsigned)barzhilup_join(log_words, a.words, log_words, a.words, joined,
+                                            2 * BARZHILUP_LOG_WORDS)
+                       .words);
+}
+
 #ifdef WITH_LIBFEC
 static void plain_writes(void)
 {
@@ -339,11 +379,14 @@ static const struct {
     {"barzhilup_receive_marked", receive_marked},
     {"barzhilup_receive_batch", receive_batch},
     {"barzhilup_mark_lost", mark_lost},
+    {"barzhilup_save_receiver", save_receiver},
+    {"barzhilup_load_receiver", load_receiver},
     {"barzhilup_choose", choose},
     {"barzhilup_receive_pair", receive_pair},
     {"barzhilup_smallest_latency", smallest_latency},
     {"barzhilup_try_latency", try_latency},
     {"barzhilup_waiting_packets", waiting_packets},
+    {"barzhilup_join", join_logs},
     {"barzhilup_list_pieces", list_pieces},
     {"barzhilup_receive_in_place", receive_in_place},
     {"barzhilup_mark_lost_in_place", mark_lost_in_place},

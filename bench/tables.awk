@@ -39,6 +39,7 @@ function growth_row(job, number,    costs) {
 
 /^the eight sums/ { head("ns by header|as it is|with powers|ratio|middle half of the ratios"); part = "header"; next }
 /^parity by shares/ { head("ns by header|by shares|by division|ratio|middle half of the ratios"); part = "header"; next }
+/^two logs joined/ { head("ns by pair of logs|library|plain C|ratio|middle half of the ratios"); part = "header"; next }
 /^ns per header/ { head("ns by header|library|libfec|ratio|middle half of the ratios"); part = "header"; next }
 /^ns per byte/ { head("ns by byte|library|C, table|ratio|middle half of the ratios|C, bit by bit"); part = "CRC"; next }
 /^PDUs of / {

@@ -61,6 +61,9 @@ pub struct CReceiver {
     number: u8,
     serviced: bool,
     services: u8,
+    delivered: u32,
+    missing: u32,
+    last: u8,
 }
 
 #[repr(C)]
@@ -132,6 +135,9 @@ impl From<CReceiver> for Receiver {
             number: r.number,
             serviced: r.serviced,
             services: r.services,
+            delivered: r.delivered,
+            missing: r.missing,
+            last: r.last,
         }
     }
 }
@@ -149,6 +155,9 @@ impl From<Receiver> for CReceiver {
             number: r.number,
             serviced: r.serviced,
             services: r.services,
+            delivered: r.delivered,
+            missing: r.missing,
+            last: r.last,
         }
     }
 }
