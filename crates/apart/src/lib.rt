@@ -20,6 +20,18 @@ const SERVICED: usize = 52;
 
 const SERVICES: usize = 53;
 
+// After the three rows: how many records of each file were read, and how many pieces are taken from the first copy alone, from the second alone, and
+// are alike in both.
+pub const FIRST_RECORDS: usize = 162;
+
+pub const SECOND_RECORDS: usize = 163;
+
+pub const FROM_FIRST: usize = 164;
+
+pub const FROM_SECOND: usize = 165;
+
+pub const ALIKE: usize = 166;
+
 // The receiver of a row, opened as the pair's is.
 fn remembered(row: &[u64], r: Receiver) -> Receiver {
     let l = counts::loss(row);

@@ -50,7 +50,11 @@ fn format_asked() -> u8 {
     let n = options::value(&KNOWN, b"format", &mut name);
     let format = format_named(&name[..n]);
     if format == formats::NO_FORMAT {
-        remarks::no_format(&name[..n]);
+        files::say_line(
+            b"barzhilup log",
+            b": --format: not words, text, csv or records: ",
+            &name[..n],
+        );
     }
     format
 }
@@ -90,7 +94,7 @@ fn can_pair() -> bool {
     }
     if options::given(&KNOWN, b"second") {
         if options::given(&KNOWN, b"marks") {
-            remarks::no_marks();
+            files::say(b"barzhilup log", b": --second: a pair takes no marks\n");
             return false;
         }
     }

@@ -60,8 +60,8 @@ fn ends(run: Run, from: &[u8], other: &[u8], onto: &[u8], rows: &[u64]) {
     if run.status == logging::UNWRITTEN {
         os::fail(onto);
     }
-    let one = counts::at(rows, recordings::FIRST_RECORDS);
-    let two = counts::at(rows, recordings::SECOND_RECORDS);
+    let one = counts::at(rows, apart::FIRST_RECORDS);
+    let two = counts::at(rows, apart::SECOND_RECORDS);
     remarks::side_ends(run.first, from, one, run.pdus);
     remarks::side_ends(run.second, other, two, run.pdus);
 }

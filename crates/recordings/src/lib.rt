@@ -11,18 +11,6 @@ ghost use mathlib.Core.Path.{_≡_};
 ghost use lib.ListN.{length};
 ghost use Rattle.io.specs.Counts.{Counts};
 
-// After the three rows of `apart`: how many records of each file were read, and how many pieces are taken from the first copy alone, from the second alone, and
-// are alike in both.
-pub const FIRST_RECORDS: usize = 162;
-
-pub const SECOND_RECORDS: usize = 163;
-
-pub const FROM_FIRST: usize = 164;
-
-pub const FROM_SECOND: usize = 165;
-
-pub const ALIKE: usize = 166;
-
 // Every count 0, and nothing remembered.
 pub fn no_counts() -> [u64; 167]
     ensures { λ r. ⌜ 167 ≡ length r ⌝ }
@@ -176,11 +164,15 @@ fn paired(
 
 // Counts the records of a PDU that were read, by what came of reading each file, and its pieces.
 fn add_copies(rows: &mut [u64], first: u8, second: u8, p: Pieces) {
-    counts::add(rows, FIRST_RECORDS, (first == records::WHOLE) as u64);
-    counts::add(rows, SECOND_RECORDS, (second == records::WHOLE) as u64);
-    counts::add(rows, FROM_FIRST, p.first);
-    counts::add(rows, FROM_SECOND, p.second);
-    counts::add(rows, ALIKE, p.alike);
+    counts::add(rows, apart::FIRST_RECORDS, (first == records::WHOLE) as u64);
+    counts::add(
+        rows,
+        apart::SECOND_RECORDS,
+        (second == records::WHOLE) as u64,
+    );
+    counts::add(rows, apart::FROM_FIRST, p.first);
+    counts::add(rows, apart::FROM_SECOND, p.second);
+    counts::add(rows, apart::ALIKE, p.alike);
 }
 
 // Writes what came of a PDU and counts it in the first row. Answers whether it is written.

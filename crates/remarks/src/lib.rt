@@ -81,9 +81,9 @@ pub fn copies(rows: &[u64]) {
         m,
         b"barzhilup log: pieces taken from the first copy @, from the second @, alike in both @\n",
         &[
-            counts::at(rows, recordings::FROM_FIRST),
-            counts::at(rows, recordings::FROM_SECOND),
-            counts::at(rows, recordings::ALIKE),
+            counts::at(rows, apart::FROM_FIRST),
+            counts::at(rows, apart::FROM_SECOND),
+            counts::at(rows, apart::ALIKE),
         ],
     );
     say(&lines[..k]);
@@ -94,23 +94,6 @@ pub fn out_of_step() {
     say(
         b"barzhilup log: most pairs were refused with 20: does each file have a record for each PDU, also for those that did not come?\n",
     );
-}
-
-// Both a second file and marks are asked for.
-pub fn no_marks() {
-    say(b"barzhilup log: --second: a pair takes no marks\n");
-}
-
-pub fn no_format(name: &[u8]) {
-    let mut line = [0u8; 4736];
-    let mut n = text::put(
-        &mut line,
-        0,
-        b"barzhilup log: --format: not words, text, csv or records: ",
-    );
-    n = text::put(&mut line, n, name);
-    n = text::put(&mut line, n, b"\n");
-    say(&line[..n]);
 }
 
 // What was received and logged.
