@@ -15,9 +15,61 @@ check_believe() {
     local told
     told=$(bash scripts/believe total)
     grep -qxF "    $told" docs/CLAIMS.md || fail "docs/CLAIMS.md has not the line \"$told\""
-    echo "documents: docs/CLAIMS.md, what a reader has to believe, as scripts/believe counts it"
+    echo "documents: docs/CLAIMS.md, what a reader has to believe: held against scripts/believe"
+}
+
+# The drawing of docs/ARCHITECTURE.md: a line for each layer and crate, "LAYER CRATE".
+drawn() {
+    awk '
+        /^## The house/ { house = 1 }
+        /^## / && !/^## The house/ { house = 0 }
+        house && /^    / {
+            line = substr($0, 5)
+            sub(/\|.*/, "", line)
+            if (line !~ /^ /) layer++
+            line = substr(line, 16)
+            gsub(/[^a-z_ ]|PDUs/, " ", line)
+            n = split(line, name, " ")
+            for (k = 1; k <= n; k++) print layer, name[k]
+        }' docs/ARCHITECTURE.md
+}
+
+# Each crate stands in it once, no other name does, and a crate uses only crates of its own layer and of those below.
+check_house() {
+    local wrong line
+    wrong=$(drawn | awk '
+        NR == FNR { if ($2 in layer) print $2 " stands twice in the drawing"; layer[$2] = $1; next }
+        { sub(/#.*/, "") }
+        split($0, part, ":") == 2 { needs[part[1]] = part[2] }
+        END {
+            for (c in layer) if (!(c in needs)) print c " stands in the drawing and not in crates.txt"
+            for (c in needs) {
+                if (!(c in layer)) print c " does not stand in the drawing"
+                n = split(needs[c], name, " ")
+                for (k = 1; k <= n; k++) if (c in layer && name[k] in layer && layer[name[k]] < layer[c]) print c " uses " name[k] ", which stands above it"
+            }
+        }' - crates.txt | sort)
+    while read -r line; do
+        [ -z "$line" ] || fail "docs/ARCHITECTURE.md: $line"
+    done <<<"$wrong"
+    echo "documents: docs/ARCHITECTURE.md, the drawing: $(drawn | wc -l) crates in $(drawn | cut -d ' ' -f 1 | sort -u | wc -l) layers, held against crates.txt"
+}
+
+# The table under it names each crate; each crate is a folder with a first comment of a sentence.
+check_crates() {
+    local crate count=0
+    for crate in $(sed -n 's/^\([a-z_]*\):.*/\1/p' crates.txt); do
+        count=$((count + 1))
+        grep -q "^|.*\`$crate\`" docs/ARCHITECTURE.md || fail "docs/ARCHITECTURE.md: no row names $crate"
+        awk '!/^\/\/ / { exit 1 } /[.](  *|$)/ { exit 0 }' "$(ls crates/"$crate"/src/{lib,main}.rt 2>/dev/null | head -n 1)" ||
+            fail "crates/$crate/src does not begin with a sentence that says what the crate is"
+    done
+    [ "$count" = "$(ls crates | wc -l)" ] || fail "crates.txt has $count crates, and crates/ $(ls crates | wc -l)"
+    echo "documents: docs/ARCHITECTURE.md, the table, and first comments: those of $count crates"
 }
 
 check_believe
+check_house
+check_crates
 echo "documents: $failed differences"
 exit $((failed > 0))
