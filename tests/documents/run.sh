@@ -68,8 +68,41 @@ check_crates() {
     echo "documents: docs/ARCHITECTURE.md, the table, and first comments: those of $count crates"
 }
 
+# The names that docs/AUDIT.md gives, each with the file that it stands under: "FILE NAME" to a line. A file is named in backquotes, and after it its names, up to the next
+# file, the next cell of a table or the next item.
+audited() {
+    awk '
+        /^(- |\||$)/ { file = "" }
+        {
+            n = split($0, part, "`")
+            for (k = 2; k <= n; k += 2) {
+                if (part[k - 1] ~ /\|/) file = ""
+                if (part[k] ~ /^[a-z_]+\/[A-Za-z_\/]+\.(antt|rt)$/) { file = part[k]; print file } else if (file != "") print file, part[k]
+            }
+        }' docs/AUDIT.md
+}
+
+# Each is defined in its file, and each claim that scripts/believe knows is among them.
+check_audit() {
+    local file name crate count=0
+    while read -r file name; do
+        [ -f "crates/$file" ] || { fail "docs/AUDIT.md: there is no crates/$file" && continue; }
+        [ -n "$name" ] || continue
+        count=$((count + 1))
+        case $file in
+        *.antt) grep -qE "^ *((abbrev|unfoldable|pub|record|data) )*$name( |\$)" "crates/$file" ;;
+        *.rt) grep -qE "(fn|struct|enum) $name\\b" "crates/$file" ;;
+        esac || fail "docs/AUDIT.md: $name is not defined in crates/$file"
+    done <<<"$(audited)"
+    while read -r crate file name; do
+        grep -qxF "$crate/specs/$file.antt $name" <<<"$(audited)" || fail "docs/AUDIT.md does not name the claim $name of crates/$crate/specs/$file.antt"
+    done <<<"$(bash scripts/believe claims)"
+    echo "documents: docs/AUDIT.md: $count names, held against the files that they stand in, and $(bash scripts/believe claims | wc -l) claims"
+}
+
 check_believe
 check_house
 check_crates
+check_audit
 echo "documents: $failed differences"
 exit $((failed > 0))
