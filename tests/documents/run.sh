@@ -100,9 +100,59 @@ check_audit() {
     echo "documents: docs/AUDIT.md: $count names, held against the files that they stand in, and $(bash scripts/believe claims | wc -l) claims"
 }
 
+# The rows of docs/DRIVE.md that name bytes of a PDU, against the bytes that were sent: each row has the bytes from its first place to its last, ".." for those
+# between, and the rows of a PDU go from byte 0 to byte 99.
+check_bytes() { # FILE OF PDUS
+    od -An -v -tx1 -w102 "$1" | awk '
+        function wrong(text) { print "the row of PDU " pdu ", byte " $2 ": " text }
+        NR == FNR { for (k = 3; k <= NF; k++) sent[NR - 1, k - 3] = $k; next }
+        /^## PDU / { pdu = $3; next_place = 0 }
+        /^## / && !/^## PDU / { if (pdu != "" && next_place != 100) print "the rows of PDU " pdu " end at byte " next_place - 1; pdu = "" }
+        pdu != "" && /^\| [0-9]/ {
+            split($2, place, "-")
+            first = place[1] + 0
+            last = place[2] == "" ? first : place[2] + 0
+            if (first != next_place) wrong("the row before it ends at " next_place - 1)
+            next_place = last + 1
+            split($0, part, "`")
+            n = split(part[2], byte, " ")
+            for (k = 1; k <= n && byte[k] != ".."; k++) if (sent[pdu, first + k - 1] != byte[k]) wrong(byte[k] " is not what was sent")
+            cut = k <= n
+            if (!cut && n != last - first + 1) wrong("has " n " bytes")
+            for (k = n; cut && byte[k] != ".."; k--) if (sent[pdu, last - n + k] != byte[k]) wrong(byte[k] " is not what was sent")
+            rows++
+        }
+        END { print rows + 0 " rows" }' - docs/DRIVE.md
+}
+
+# docs/DRIVE.md: its indented lines are what scripts/drive prints, its rows of bytes are those that were sent, its words stand in the log.
+check_drive() {
+    local folder line word rows
+    if [ ! -x target/bin/barzhilup ]; then
+        fail "docs/DRIVE.md: there is no target/bin/barzhilup: bash scripts/build makes it"
+        return
+    fi
+    folder=$(mktemp -d)
+    bash scripts/drive "$folder" >"$folder/printed"
+    sed -n 's/^    //p' docs/DRIVE.md >"$folder/told"
+    diff "$folder/told" "$folder/printed" >"$folder/differ" || fail "docs/DRIVE.md differs from what scripts/drive prints: $(sed -n 2p "$folder/differ")"
+    while read -r line; do
+        case $line in
+        [0-9]*" rows") rows=$line ;;
+        *) fail "docs/DRIVE.md: $line" ;;
+        esac
+    done <<<"$(check_bytes "$folder/sent")"
+    for word in $(sed -n 's/^| `\([0-9a-f]\{8\}\)` .*/\1/p' docs/DRIVE.md); do
+        od -An -v -tx4 -w4 "$folder/words" | grep -qw "$word" || fail "docs/DRIVE.md: no word $word in the log"
+    done
+    echo "documents: docs/DRIVE.md: $(wc -l <"$folder/told") lines held against scripts/drive, $rows against the bytes sent"
+    rm -rf "$folder"
+}
+
 check_believe
 check_house
 check_crates
 check_audit
+check_drive
 echo "documents: $failed differences"
 exit $((failed > 0))
