@@ -21,8 +21,9 @@ use Rattle.receiver.specs.declared.Receiver.{Receiver}
 use Rattle.runs.specs.Transmissions.{Close, AddsUp}
 use Rattle.delivery.specs.Delivery.{Station, Call, Answer, defined, callOf, Takes, freshStation, stationAfter, NoneRefused, loggedBy, logsFrom, finally}
 use Rattle.delivery.specs.Diversity.{callOf as pairCall, Takes as PairTakes}
-use Rattle.delivery.specs.Interruptions.{written, Turn, callsIn, Seen, seenFrom, seenIn, endIn, logsIn, Running, Suffices, OpenedRuns, Each, Interrupted, InterruptedDemand3, InterruptedEntitled, InterruptedBursts, InterruptedPairs, InterruptedEntitledPairs}
-use Rattle.delivery.proofs.Channel.{fresh-writer, fresh-receiver, shows-fresh}
+use Rattle.delivery.specs.Channel.{callOf as channelCall, Takes as ChannelTakes}
+use Rattle.delivery.specs.Interruptions.{written, Turn, callsIn, Seen, seenFrom, seenIn, endIn, logsIn, Running, Suffices, OpenedRuns, Each, Interrupted, InterruptedDemand3, InterruptedEntitled, InterruptedBursts, InterruptedPairs, InterruptedEntitledPairs, InterruptedChannel}
+use Rattle.delivery.proofs.Channel.{fresh-writer, fresh-receiver, shows-fresh, channel-delivers}
 use Rattle.delivery.proofs.Counted.{adds-along}
 use Rattle.delivery.proofs.Entitling.{all-allowed}
 use Rattle.delivery.proofs.Running.{listed-by}
@@ -118,3 +119,9 @@ pub interrupted-entitled-pairs : InterruptedEntitledPairs
 interrupted-entitled-pairs mode stream register programs packets writings first count carry steps g a d k =
     let r = entitled-pairs-deliver mode stream register programs packets writings first count carry steps a d k in
     over pairCall PairTakes _ steps _ _ (run-runs mode stream register programs carry (d .opens) a g (d .room)) (r .accepted) (r .log) (r .counts) (r .adds-up)
+
+-- over a channel
+pub interrupted-channel : InterruptedChannel
+interrupted-channel mode stream register programs packets writings first count carry steps g d =
+    let r = channel-delivers mode stream register programs packets writings first count carry steps d in
+    over channelCall ChannelTakes _ steps _ _ (run-runs mode stream register programs carry (d .opens) (d .allowed) g (d .room)) (r .accepted) (r .log) (r .counts) (r .adds-up)

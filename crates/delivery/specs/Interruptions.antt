@@ -23,6 +23,7 @@ use Rattle.delivery.specs.Delivery.{Writing, Station, Call, receive, bat
 use Rattle.delivery.specs.Entitlement.{due, dueIndices, waysBy}
 use Rattle.delivery.specs.Bursts.{Bursts, ways}
 use Rattle.delivery.specs.Diversity.{Step as PairStep, callOf as pairCall, Takes as PairTakes, ways as pairWays, arrived as pairArrived, arrivedIndices as pairIndices, Asked as PairAsked}
+use Rattle.delivery.specs.Channel.{Step as ChannelStep, callOf as channelCall, Takes as ChannelTakes, ways as channelWays, Asked as ChannelAsked}
 
 -- ---- an interruption
 
@@ -163,7 +164,7 @@ OpenedRuns = (mode stream register : ℕ) (programs carry : List ℕ) → opened
 
 -- ---- the promises over whole runs
 
--- of what is seen of the calls of a list of steps, each answer is as promised (`Takes` of Delivery.antt and Diversity.antt)
+-- of what is seen of the calls of a list of steps, each answer is as promised (`Takes` of Delivery.antt, Diversity.antt and Channel.antt)
 abbrev pub Each : {S : Type 0} → (S → Answer → Type 0) → List S → List Seen → Type 0
 Each takes [] [] = Unit {0}
 Each takes [] (v ∷ vs) = ⊥
@@ -244,3 +245,11 @@ InterruptedPairs = InterruptedPairsFor defined written
 
 abbrev pub InterruptedEntitledPairs : Type 0
 InterruptedEntitledPairs = InterruptedEntitledPairsFor defined written
+
+-- over a channel: PDUs received with marks or without, in batches and as pairs, and marked lost, in one run (Channel.antt)
+abbrev pub InterruptedChannel : Type 0
+InterruptedChannel =
+    (mode stream register : ℕ) (programs : List ℕ) (packets : List (List ℕ)) (writings : List Writing) (first count : ℕ) (carry : List ℕ) (steps : List ChannelStep) → register < 256
+    → ChannelAsked mode stream register programs packets writings first count carry steps
+    → Interrupted defined written channelCall ChannelTakes (freshStation defined mode stream register programs carry) steps
+    (due mode stream programs packets writings first (channelWays steps)) (dueIndices mode stream programs packets writings first (channelWays steps))
