@@ -68,8 +68,25 @@ check_crates() {
     echo "documents: docs/ARCHITECTURE.md, the table, and first comments: those of $count crates"
 }
 
-# The names that docs/AUDIT.md gives, each with the file that it stands under: "FILE NAME" to a line. A file is named in backquotes, and after it its names, up to the next
-# file, the next cell of a table or the next item.
+# README.md says what is proved of the core: each function of the layer of libraries, and of those below it, has a contract.
+check_contracts() {
+    local crate name count=0
+    for crate in $(drawn | awk '{ layer[$2] = $1 } END { for (c in layer) if (layer[c] >= layer["capi"]) print c }'); do
+        while read -r name; do
+            [ -n "$name" ] || continue
+            count=$((count + 1))
+            [ "${name#-}" = "$name" ] || fail "README.md: ${name#-} of $crate has no contract"
+        done <<<"$(awk '
+            function told() { if (name != "") print (promised ? "" : "-") name }
+            /^ *(pub )?(extern "C" )?fn / { told(); name = $0; sub(/.*fn /, "", name); sub(/[^A-Za-z0-9_].*/, "", name); promised = 0 }
+            /^ *ensures / { promised = 1 }
+            END { told() }' "crates/$crate/src/lib.rt")"
+    done
+    echo "documents: README.md: a contract of each of the core's $count functions"
+}
+
+# The names that docs/AUDIT.md gives, each with the file or the folder of edits that it stands under: "FILE NAME" to a line. A file is named in backquotes, and after it its
+# names, up to the next file, the next cell of a table or the next item. A document is a file without names.
 audited() {
     awk '
         /^(- |\||$)/ { file = "" }
@@ -77,27 +94,48 @@ audited() {
             n = split($0, part, "`")
             for (k = 2; k <= n; k += 2) {
                 if (part[k - 1] ~ /\|/) file = ""
-                if (part[k] ~ /^[a-z_]+\/[A-Za-z_\/]+\.(antt|rt)$/) { file = part[k]; print file } else if (file != "") print file, part[k]
+                if (part[k] ~ /^docs\//) { file = ""; print part[k] }
+                else if (part[k] ~ /^[a-z_]+\/([A-Za-z_\/]+\.(antt|rt)|must-fail)$/) { file = "crates/" part[k]; print file }
+                else if (file != "") print file, part[k]
             }
         }' docs/AUDIT.md
+}
+
+# Whether a file defines a name; an edit names the function that is wrong in it.
+defines() { # FILE NAME
+    case $1 in
+    *.antt) grep -qE "^ *((abbrev|unfoldable|pub|record|data) )*$2( |\$)" "$1" ;;
+    *.rt) grep -qE "(fn|struct|enum|const) $2\\b" "$1" ;;
+    *) grep -qE "^# [a-z_]*::$2 " "$1"/*.edit ;;
+    esac
 }
 
 # Each is defined in its file, and each claim that scripts/believe knows is among them.
 check_audit() {
     local file name crate count=0
     while read -r file name; do
-        [ -f "crates/$file" ] || { fail "docs/AUDIT.md: there is no crates/$file" && continue; }
+        [ -e "$file" ] || { fail "docs/AUDIT.md: there is no $file" && continue; }
         [ -n "$name" ] || continue
         count=$((count + 1))
-        case $file in
-        *.antt) grep -qE "^ *((abbrev|unfoldable|pub|record|data) )*$name( |\$)" "crates/$file" ;;
-        *.rt) grep -qE "(fn|struct|enum) $name\\b" "crates/$file" ;;
-        esac || fail "docs/AUDIT.md: $name is not defined in crates/$file"
+        defines "$file" "$name" || fail "docs/AUDIT.md: $name is not defined in $file"
     done <<<"$(audited)"
     while read -r crate file name; do
-        grep -qxF "$crate/specs/$file.antt $name" <<<"$(audited)" || fail "docs/AUDIT.md does not name the claim $name of crates/$crate/specs/$file.antt"
+        grep -qxF "crates/$crate/specs/$file.antt $name" <<<"$(audited)" || fail "docs/AUDIT.md does not name the claim $name of crates/$crate/specs/$file.antt"
     done <<<"$(bash scripts/believe claims)"
     echo "documents: docs/AUDIT.md: $count names, held against the files that they stand in, and $(bash scripts/believe claims | wc -l) claims"
+}
+
+# The command that docs/AUDIT.md begins with proves as many crates as it says: those that it names, and all that these use.
+check_command() {
+    local told
+    told=$(sed -n 's/^    rt check //p' docs/AUDIT.md | cat - crates.txt | awk '
+        function reach(c, k, n, name) { if ((c in needs) && !(c in seen)) { seen[c]; reached++; n = split(needs[c], name, " "); for (k = 1; k <= n; k++) reach(name[k]) } }
+        NR == 1 { asked = $0; next }
+        { sub(/#.*/, "") }
+        split($0, part, ":") == 2 { needs[part[1]] = part[2]; all++ }
+        END { n = split(asked, name, " "); for (k = 1; k <= n; k++) reach(name[k]); print reached " of the " all " crates" }')
+    grep -qF "$told" docs/AUDIT.md || fail "docs/AUDIT.md does not say that its command proves $told"
+    echo "documents: docs/AUDIT.md, its command: $told"
 }
 
 # The rows of docs/DRIVE.md that name bytes of a PDU, against the bytes that were sent: each row has the bytes from its first place to its last, ".." for those
@@ -152,7 +190,9 @@ check_drive() {
 check_believe
 check_house
 check_crates
+check_contracts
 check_audit
+check_command
 check_drive
 echo "documents: $failed differences"
 exit $((failed > 0))
