@@ -85,8 +85,8 @@ check_contracts() {
     echo "documents: README.md: a contract of each of the core's $count functions"
 }
 
-# The names that docs/AUDIT.md gives, each with the file or the folder of edits that it stands under: "FILE NAME" to a line. A file is named in backquotes, and after it its
-# names, up to the next file, the next cell of a table or the next item. A document is a file without names.
+# The names that docs/AUDIT.md gives, each with the file or the folder of edits that it stands under: "FILE NAME" to a line. A file is named in backquotes, and after
+# it its names, up to the next file, the next cell of a table or the next item. A document is a file without names.
 audited() {
     awk '
         /^(- |\||$)/ { file = "" }
@@ -129,11 +129,14 @@ check_audit() {
 check_command() {
     local told
     told=$(sed -n 's/^    rt check //p' docs/AUDIT.md | cat - crates.txt | awk '
-        function reach(c, k, n, name) { if ((c in needs) && !(c in seen)) { seen[c]; reached++; n = split(needs[c], name, " "); for (k = 1; k <= n; k++) reach(name[k]) } }
+        function reach(list, k, n, name) {
+            n = split(list, name, " ")
+            for (k = 1; k <= n; k++) if ((name[k] in needs) && !(name[k] in seen)) { seen[name[k]]; reached++; reach(needs[name[k]]) }
+        }
         NR == 1 { asked = $0; next }
         { sub(/#.*/, "") }
         split($0, part, ":") == 2 { needs[part[1]] = part[2]; all++ }
-        END { n = split(asked, name, " "); for (k = 1; k <= n; k++) reach(name[k]); print reached " of the " all " crates" }')
+        END { reach(asked); print reached " of the " all " crates" }')
     grep -qF "$told" docs/AUDIT.md || fail "docs/AUDIT.md does not say that its command proves $told"
     echo "documents: docs/AUDIT.md, its command: $told"
 }
