@@ -69,6 +69,15 @@ impl Joined {
     }
 }
 
+impl<'a> IntoIterator for &'a Joined {
+    type Item = JoinedPacket<'a>;
+    type IntoIter = JoinedPackets<'a>;
+
+    fn into_iter(self) -> JoinedPackets<'a> {
+        self.packets()
+    }
+}
+
 /// A core packet, and the enhanced one of its number if there is one. (Document 02,
 /// Ask 11.)
 #[derive(Clone, Copy, Debug, PartialEq, Eq)]

@@ -72,6 +72,15 @@ impl<'a> IntoIterator for Log<'a> {
     }
 }
 
+impl<'a> IntoIterator for &Log<'a> {
+    type Item = Entry<'a>;
+    type IntoIter = Entries<'a>;
+
+    fn into_iter(self) -> Entries<'a> {
+        self.entries()
+    }
+}
+
 /// Words that are not a log.
 #[derive(Clone, Copy, Debug, PartialEq, Eq)]
 pub struct MalformedLog {
@@ -232,6 +241,15 @@ impl<'a> Data<'a> {
 }
 
 impl<'a> IntoIterator for Data<'a> {
+    type Item = u8;
+    type IntoIter = Bytes<'a>;
+
+    fn into_iter(self) -> Bytes<'a> {
+        self.bytes()
+    }
+}
+
+impl<'a> IntoIterator for &Data<'a> {
     type Item = u8;
     type IntoIter = Bytes<'a>;
 
