@@ -264,7 +264,7 @@ impl Receiver {
     /// for turn in 0..3 {
     ///     writer.write(&Settings::default(), b"", &[b"one", b"two"], &mut pdu)?;
     ///     match turn {
-    ///         1 => receiver.mark_lost()?, // packets 2 and 3 are lost
+    ///         1 => receiver.mark_lost(), // packets 2 and 3 are lost
     ///         _ => receiver.receive(&mut pdu)?,
     ///     };
     /// }
@@ -342,20 +342,38 @@ impl Receiver {
     /// [`Cause::Lost`](crate::Cause::Lost), drops what is held and forgets the
     /// sequence and the applied services. The counts and the last number stay.
     ///
-    /// # Errors
+    /// It is never refused, and its log is that one note.
     ///
-    /// None that a receiver can have: its state is in range, and its log long
-    /// enough. The answer has the form of all operations.
-    pub fn mark_lost(&mut self) -> Result<Log<'_>, Refusal> {
+    /// # Example
+    ///
+    /// ```
+    /// use barzhilup::{Cause, Entry, Mode, Receiver, Stream};
+    ///
+    /// let mut receiver = Receiver::open(Mode::M0, Stream::Core)?;
+    /// let log = receiver.mark_lost();
+    /// let lost = Entry::Note { cause: Cause::Lost, piece: None };
+    /// assert!(log.entries().eq([lost]));
+    /// # Ok::<(), barzhilup::Refusal>(())
+    /// ```
+    pub fn mark_lost(&mut self) -> Log<'_> {
         let answer = ffi::mark_lost(self.state.to_c(), &mut self.log);
-        self.step(answer)
+        assert_eq!(
+            answer.refusal, 0,
+            "the state is in range, and the log has room for a note"
+        );
+        self.accept(answer)
+    }
+
+    /// Hands out the log of an answer that is accepted.
+    fn step(&mut self, answer: ffi::Received) -> Result<Log<'_>, Refusal> {
+        Refusal::check(answer.refusal, answer.wrong_locator)?;
+        Ok(self.accept(answer))
     }
 
     /// Takes over the state of an accepted answer, and hands out its log.
-    fn step(&mut self, answer: ffi::Received) -> Result<Log<'_>, Refusal> {
-        Refusal::check(answer.refusal, answer.wrong_locator)?;
+    fn accept(&mut self, answer: ffi::Received) -> Log<'_> {
         self.state = ReceiverState::after(self.state.mode, self.state.stream, answer.receiver);
-        Ok(Log::written(&self.log[..answer.words as usize]))
+        Log::written(&self.log[..answer.words as usize])
     }
 }
 
