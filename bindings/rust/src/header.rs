@@ -6,6 +6,7 @@ use crate::{ffi, Refusal, HEADER_BYTES, PARITY_BYTES};
 /// The syndromes S1 to S8 of a header: Sj is the sum of byte i times a^(i times
 /// j) in GF(256). All zero: the header is a code word. (Document 01, "Header
 /// code", where they are the eight sums.)
+#[must_use]
 pub fn syndromes(header: &[u8; HEADER_BYTES]) -> [u8; PARITY_BYTES] {
     ffi::syndromes(header)
 }
@@ -13,6 +14,7 @@ pub fn syndromes(header: &[u8; HEADER_BYTES]) -> [u8; PARITY_BYTES] {
 /// The parity that makes bytes 8 to 95 of a header a code word: what its bytes 0
 /// to 7 have to be. What they are makes no difference. (Document 01, "Header
 /// code".)
+#[must_use]
 pub fn parity(header: &[u8; HEADER_BYTES]) -> [u8; PARITY_BYTES] {
     ffi::parity(header)
 }
@@ -96,6 +98,7 @@ pub fn correct_header_marked(pdu: &mut [u8], marks: &[u8]) -> Result<usize, Refu
 /// ```
 /// assert_eq!(barzhilup::crc8(&[0x01]), 0x31);
 /// ```
+#[must_use]
 pub fn crc8(bytes: &[u8]) -> u8 {
     ffi::crc8(bytes)
 }
@@ -110,6 +113,7 @@ pub fn crc8(bytes: &[u8]) -> u8 {
 /// assert_eq!(crc8_from(CRC_START_OFF_AIR, &[0x01]), 0x9D);
 /// assert_eq!(crc8_from(CRC_START_OFF_AIR, b"123456789"), 0xF7);
 /// ```
+#[must_use]
 pub fn crc8_from(start: u8, bytes: &[u8]) -> u8 {
     ffi::crc8_from(start, bytes)
 }

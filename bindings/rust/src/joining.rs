@@ -52,6 +52,7 @@ pub fn join(core: &[u32], enhanced: &[u32]) -> Result<Joined, Refusal> {
 
 /// Two logs joined. (Document 02, Ask 11.)
 #[derive(Clone, Debug, PartialEq, Eq)]
+#[must_use = "the packets stand in this answer alone"]
 pub struct Joined {
     words: Vec<u32>,
 }
@@ -59,6 +60,7 @@ pub struct Joined {
 impl Joined {
     /// The words: each core packet's, and for a pair the enhanced packet's after
     /// them, with [`JOINED_ENHANCED`] set in its first.
+    #[must_use]
     pub fn words(&self) -> &[u32] {
         &self.words
     }
@@ -92,6 +94,7 @@ pub struct JoinedPacket<'a> {
 
 /// The packets of [`Joined`], one after another.
 #[derive(Clone, Debug)]
+#[must_use = "packets are read only when they are asked for"]
 pub struct JoinedPackets<'a> {
     words: &'a [u32],
 }

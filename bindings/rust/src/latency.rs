@@ -12,6 +12,7 @@ use crate::{Mode, Refusal, Stream};
 
 /// What came of trying one latency. (Document 02, Ask 7.)
 #[derive(Clone, Copy, Debug, PartialEq, Eq)]
+#[must_use = "what came of the trial stands in this answer alone"]
 pub struct LatencyTrial {
     /// How many ticks the bench ran: N for each count.
     pub ticks: u32,

@@ -76,6 +76,7 @@
 #![deny(missing_docs)]
 #![deny(unsafe_code)]
 #![warn(clippy::all)]
+#![warn(clippy::must_use_candidate)]
 
 #[allow(unsafe_code)]
 mod ffi;

@@ -53,6 +53,7 @@ impl<'a> Log<'a> {
     }
 
     /// The words.
+    #[must_use]
     pub fn words(&self) -> &'a [u32] {
         self.words
     }
@@ -120,6 +121,7 @@ pub enum Entry<'a> {
 
 /// The cause of a note. (Document 01, "Receiver".)
 #[derive(Clone, Copy, Debug, PartialEq, Eq, Hash)]
+#[non_exhaustive]
 pub enum Cause {
     /// 1: the PDU sequence is not the one after the last. What was held is
     /// dropped. About no piece.
@@ -148,6 +150,7 @@ pub enum Cause {
 
 impl Cause {
     /// The cause's number in document 01, 1 to 6, or in document 02, 7 and 8.
+    #[must_use]
     pub const fn number(self) -> u16 {
         match self {
             Cause::Sequence => 1,
@@ -216,11 +219,13 @@ impl<'a> Data<'a> {
     }
 
     /// How many bytes there are.
+    #[must_use]
     pub fn len(&self) -> usize {
         self.length
     }
 
     /// Whether there are none. In a log there is always one.
+    #[must_use]
     pub fn is_empty(&self) -> bool {
         self.length == 0
     }
@@ -235,6 +240,7 @@ impl<'a> Data<'a> {
     }
 
     /// The bytes, joined.
+    #[must_use]
     pub fn to_vec(&self) -> Vec<u8> {
         self.bytes().collect()
     }
@@ -272,6 +278,7 @@ impl fmt::Debug for Data<'_> {
 
 /// The bytes of [`Data`], one after another.
 #[derive(Clone, Debug)]
+#[must_use = "bytes are read only when they are asked for"]
 pub struct Bytes<'a> {
     words: &'a [u32],
     place: usize,
@@ -303,6 +310,7 @@ impl FusedIterator for Bytes<'_> {}
 /// The entries of a [`Log`], one after another. Words are looked at only when
 /// their entry is asked for.
 #[derive(Clone, Debug)]
+#[must_use = "entries are read only when they are asked for"]
 pub struct Entries<'a> {
     words: &'a [u32],
 }

@@ -8,6 +8,7 @@ use std::fmt;
 /// Together with the [`Stream`] it decides the width of the locators, the range
 /// of the PDU sequence and how much PSD a PDU may have. (Document 01, "Modes".)
 #[derive(Clone, Copy, Debug, PartialEq, Eq, PartialOrd, Ord, Hash)]
+#[non_exhaustive]
 pub enum Mode {
     /// Mode 0: core only.
     M0,
@@ -25,6 +26,7 @@ pub enum Mode {
 
 impl Mode {
     /// The mode's number, as the control word has it.
+    #[must_use]
     pub const fn number(self) -> u8 {
         match self {
             Mode::M0 => 0,
@@ -71,6 +73,7 @@ pub enum Stream {
 
 impl Stream {
     /// The stream's number, as the control word has it.
+    #[must_use]
     pub const fn number(self) -> u8 {
         match self {
             Stream::Core => 0,

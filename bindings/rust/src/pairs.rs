@@ -28,6 +28,7 @@ use crate::ffi;
 /// assert_eq!(choose(&first[..95], &second), second);
 /// assert!(choose(&first[..95], &second[..95]).is_empty());
 /// ```
+#[must_use]
 pub fn choose<'a>(first: &'a [u8], second: &'a [u8]) -> &'a [u8] {
     match ffi::pairs::choose(first, second) {
         1 => first,

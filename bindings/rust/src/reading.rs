@@ -166,6 +166,7 @@ pub struct Piece {
 
 impl Piece {
     /// Where the piece stands in the PDU, without its CRC byte.
+    #[must_use]
     pub fn range(&self) -> Range<usize> {
         range(self.start.into(), self.length.into())
     }

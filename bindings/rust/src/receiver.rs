@@ -217,17 +217,20 @@ impl Receiver {
     }
 
     /// What the receiver remembers.
+    #[must_use]
     pub fn state(&self) -> ReceiverState {
         self.state
     }
 
     /// The carry buffer, of at least 4,096 bytes.
+    #[must_use]
     pub fn carry(&self) -> &[u8] {
         &self.carry
     }
 
     /// The bytes that are held: the beginning of an unfinished packet. They are
     /// the first ones of the carry buffer.
+    #[must_use]
     pub fn held(&self) -> &[u8] {
         &self.carry[..usize::from(self.state.held)]
     }
@@ -235,6 +238,7 @@ impl Receiver {
     /// How many packets were delivered since the opening: those that the logs of all
     /// calls had together. Marking lost keeps it, and so do [`Receiver::save`] and
     /// [`Receiver::load`]. (Document 02, Ask 14.)
+    #[must_use]
     pub fn delivered(&self) -> u32 {
         self.state.delivered
     }
@@ -273,12 +277,14 @@ impl Receiver {
     /// # Ok(())
     /// # }
     /// ```
+    #[must_use]
     pub fn missing(&self) -> u32 {
         self.state.missing
     }
 
     /// The number, 0 to 63, of the last packet delivered, if one was. (Document 02, Ask
     /// 14.)
+    #[must_use]
     pub fn last_number(&self) -> Option<u8> {
         (self.state.delivered > 0).then_some(self.state.last)
     }

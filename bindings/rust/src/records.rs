@@ -179,6 +179,7 @@ pub enum RecordError {
 
 impl RecordError {
     /// Where the record begins, in bytes from the first that was read.
+    #[must_use]
     pub fn offset(&self) -> u64 {
         match self {
             RecordError::Cut { offset }

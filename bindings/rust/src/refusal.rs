@@ -12,6 +12,7 @@ use std::fmt;
 /// refused PDU has received those before it: see [`Batch`](crate::Batch). Joining two
 /// logs checks 23, 24 and then 13.
 #[derive(Clone, Copy, Debug, PartialEq, Eq, Hash)]
+#[non_exhaustive]
 pub enum Refusal {
     /// 1: a field of a writer's or receiver's state is outside its range.
     State,
@@ -103,6 +104,7 @@ pub enum Refusal {
 impl Refusal {
     /// The number in document 01's table, 1 to 17, or in document 02, 18 to
     /// 27.
+    #[must_use]
     pub const fn number(self) -> u32 {
         match self {
             Refusal::State => 1,

@@ -190,6 +190,7 @@ impl Writer {
     }
 
     /// What the writer remembers.
+    #[must_use]
     pub fn state(&self) -> WriterState {
         self.state
     }

@@ -5,6 +5,7 @@ use crate::{ffi, Log, Refusal, LOG_WORDS};
 
 /// What came of receiving a batch of PDUs. (Document 02, Ask 1.)
 #[derive(Clone, Copy, Debug, PartialEq, Eq)]
+#[must_use = "a batch may have stopped at a PDU that was refused"]
 pub struct Batch<'a> {
     /// How many PDUs were received, from the first on: all of them, or those
     /// before the first one that was refused.
