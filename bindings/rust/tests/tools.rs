@@ -1,6 +1,7 @@
 //! What cargo and the compiler say to those who use the crate: without the
 //! archives, about a match without a last arm, about an answer that is thrown
-//! away; and that `cargo doc` and `cargo clippy` warn of nothing.
+//! away; that `cargo doc` and `cargo clippy` warn of nothing, and that the
+//! documentation stands alone.
 
 use std::fs;
 use std::path::{Path, PathBuf};
@@ -220,6 +221,44 @@ fn documentation() {
             .unwrap();
         assert!(output.status.success(), "{}", said(&output));
     }
+}
+
+/// The files of Rust in a directory and those below it.
+fn sources(directory: &Path) -> Vec<PathBuf> {
+    let mut found = Vec::new();
+    for entry in fs::read_dir(directory).unwrap() {
+        let path = entry.unwrap().path();
+        if path.is_dir() {
+            found.extend(sources(&path));
+        } else {
+            found.push(path);
+        }
+    }
+    found
+}
+
+/// What a user reads says the thing itself, and names no paper that a user has
+/// not. The first lines of a module that is not public are for those who change it.
+#[test]
+fn documentation_stands_alone() {
+    let mut lines = 0;
+    for path in sources(&package().join("src")) {
+        let source = fs::read_to_string(&path).unwrap();
+        let front = path.ends_with("lib.rs");
+        for (place, line) in source.lines().enumerate() {
+            let line = line.trim_start();
+            let read_by_users = line.starts_with("///") || front && line.starts_with("//!");
+            if !read_by_users {
+                continue;
+            }
+            lines += 1;
+            for paper in ["ocument 0", "Ask ", "Asks ", "demand ", "DECISIONS", " 001"] {
+                let said = format!("{}:{}: {line}", path.display(), place + 1);
+                assert!(!line.contains(paper), "{said}");
+            }
+        }
+    }
+    assert!(lines > 1_000, "{lines}");
 }
 
 /// Clippy, where it is installed, warns of nothing in the crate, its tests and
