@@ -82,11 +82,10 @@
 //! A call that can't be done is refused: it answers with a [`Refusal`], whose
 //! number, 1 to 27, is the one that the C library and the program have for it. A
 //! refused call changes nothing: the PDU, the list of pieces, the [`Writer`] and
-//! the [`Receiver`] are as they were. If several causes apply, the
-//! refusal has the lowest number, except that 19 comes directly after 3, 18
-//! directly after 2, 20 directly after 12, and 27 directly after 13. A batch of PDUs
-//! stops at a refused one; those before it are received, and its [`Batch`] says so.
-//! Joining two logs checks 23, 24 and then 13.
+//! the [`Receiver`] are as they were. If several causes apply, the refusal has the
+//! lowest number, except that 19 comes directly after 3, and 18 before any PDU of
+//! the batch is looked at. A batch of PDUs stops at a refused one; those before it
+//! are received, and its [`Batch`] says so.
 //!
 //! A call that can't be refused answers no `Result`. Every call ends, on every
 //! input, and none panics.

@@ -6,11 +6,10 @@ use std::fmt;
 /// Why a call was refused. Each cause has a number, the one that the C library and
 /// the program `barzhilup` have for it; there may be more causes in time.
 ///
-/// A refused call has changed nothing. If several causes applied, this is the
-/// one with the lowest number, except that 19 comes directly after 3, 18 directly
-/// after 2, 20 directly after 12, and 27 directly after 13. A batch that stopped at a
-/// refused PDU has received those before it: see [`Batch`](crate::Batch). Joining two
-/// logs checks 23, 24 and then 13.
+/// A refused call has changed nothing. If several causes applied, this is the one
+/// with the lowest number, except that 19 comes directly after 3, and 18 before any
+/// PDU of the batch is looked at. A batch that stopped at a refused PDU has received
+/// those before it: see [`Batch`](crate::Batch).
 ///
 /// # Example
 ///
@@ -64,8 +63,8 @@ pub enum Refusal {
     /// 12: the displacement is before the last piece's end, or not below the
     /// length.
     Displacement,
-    /// 13: the log is shorter than the words that the call would write, or the
-    /// list of pieces has fewer than NOP entries.
+    /// 13: the list of pieces has fewer than NOP entries. In C a log can be too short
+    /// too; that of a [`Receiver`](crate::Receiver) never is.
     LogLength,
     /// 14: a setting that is not sent: blend 3, or nonzero with a nonzero
     /// program; core gain 7 to 23; a value past its width. Or a place outside 8

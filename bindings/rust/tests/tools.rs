@@ -87,6 +87,24 @@ fn compiled(name: &str, source: &str) -> (bool, String) {
     (output.status.success(), said(&output))
 }
 
+/// The code that `docs/USING.md` shows in its chapter on this crate compiles, and
+/// the compiler warns of nothing in it.
+#[test]
+fn the_code_in_using() {
+    let using = fs::read_to_string(package().join("../../docs/USING.md")).unwrap();
+    let chapter = using.split("\n## ").find(|part| part.starts_with("Rust\n"));
+    let code: String = chapter
+        .unwrap()
+        .lines()
+        .skip_while(|line| !line.starts_with("    use barzhilup::"))
+        .take_while(|line| line.is_empty() || line.starts_with("    "))
+        .map(|line| format!("{line}\n"))
+        .collect();
+    assert!(code.contains("for entry in &log"), "{code}");
+    let (taken, said) = compiled("using", &code);
+    assert!(taken && !said.contains("warning"), "{said}");
+}
+
 /// An enum's name, and all its variants as patterns.
 const ENUMS: [(&str, &str); 7] = [
     (
