@@ -80,8 +80,7 @@ impl ReceiverState {
     }
 }
 
-/// Joins the pieces of PDUs to packets and logs packets, PSD and notes. (Document
-/// 01, "Receiver".)
+/// Joins the pieces of PDUs to packets and logs packets, PSD and notes.
 ///
 /// It owns its carry buffer, of 4,096 bytes, and a log that is long enough for
 /// every call; each accepted call hands out the log of that call. A refused call
