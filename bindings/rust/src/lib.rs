@@ -57,7 +57,7 @@
 //! # Recordings off the air
 //!
 //! [`Records`] reads the PDUs of a recording, one after another, from a file as the
-//! program `barzhilup` has it.
+//! program `barzhilup` writes it.
 //!
 //! Each piece of a PDU has a CRC. The standard names no value for its register to
 //! start with, and where none is given it is 0, [`CRC_START`]. Recordings off the

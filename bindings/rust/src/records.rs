@@ -20,11 +20,11 @@ pub enum Record {
 }
 
 /// The records of a file of PDUs, one after another, as the program `barzhilup`
-/// reads and writes them. Each is a length in two bytes, low byte first, and then
-/// so many bytes; one of length 0 stands for a PDU that is lost.
+/// writes them. Each is a length in two bytes, low byte first, and then so many
+/// bytes; one of length 0 stands for a PDU that is lost.
 ///
-/// An error is the last item: what follows it can't be told from a PDU's bytes. A
-/// file that ends after a whole record, or has none, ends without one.
+/// An error is the last item. A file that ends after a whole record, or has none,
+/// ends without one.
 ///
 /// # Example
 ///
@@ -161,7 +161,9 @@ pub enum RecordError {
         offset: u64,
     },
     /// The record's length is over 20,480 bytes, which no PDU has: this is not a
-    /// file of PDUs, or a part of it is missing.
+    /// file of PDUs, or a part of it is missing, and where the next record begins
+    /// can't be told. `barzhilup log` trusts such a length: it says that the record
+    /// is refused with 3, and reads on after it.
     TooLong {
         /// Where the record begins.
         offset: u64,
