@@ -1,3 +1,4 @@
+use native.Mathlib.Omega.{arith}
 use Rattle.outcome.proofs.Records.{empty-record, refused-record, accepted-record}
 use denote.Ref.{now}
 use borrow.Author.Needs.{needs}
@@ -55,7 +56,7 @@ returns-2 c =
     let e = b .before .before in
     let a = e .before .before .before .before .before .args in
     let h = f .receive-marked in
-    refused-record (a .marks .now) (now (a .carry)) (now (a .pdu)) (now (a .log)) (a .receiver) (e .if1 .left) (h .result) _ _ _ (h .ensures .0) (h .ensures .1 .0) (h .ensures .1 .1 .0) (h .ensures .1 .1 .1) _ (h .kept .1 .1 .0) (c .outcome-of .result) (p .passed-over .result) _ (i .if2 .taken) (c .outcome-of .ensures) (p .passed-over .ensures .0) (p .passed-over .ensures .1)
+    refused-record (a .marks .now) (now (a .carry)) (now (a .pdu)) (now (a .log)) (a .receiver) (e .if1 .left) (h .result) _ _ _ (h .ensures .0) (h .ensures .1 .0) (h .ensures .1 .1 .0) (h .ensures .1 .1 .1) _ (h .kept .1 .1 .0) (c .outcome-of .result) (p .passed-over .result) _ (λ q. omega (arith, q, i .if2 .taken)) (c .outcome-of .ensures) (p .passed-over .ensures .0) (p .passed-over .ensures .1)
 
 header-of-requires-2 : tie.Need-header-of-requires-2
 header-of-requires-2 c κs = search needs
@@ -85,7 +86,7 @@ returns-3 c =
     let e = b .before .before in
     let a = e .before .before .before .before .before .args in
     let h = f .receive-marked in
-    accepted-record (a .marks .now) (now (a .carry)) (now (a .pdu)) (now (a .log)) (a .receiver) (e .if1 .left) (h .result) _ _ _ (h .ensures .0) (h .ensures .1 .0) (h .ensures .1 .1 .0) (h .ensures .1 .1 .1) _ (h .kept .1 .1 .0) (c .outcome-of2 .result) (b .header-of .result) (g .header-of2 .result) (d .difference .result) (i .if2 .left) (b .header-of .ensures) (g .header-of2 .ensures) (d .difference .ensures) (c .outcome-of2 .ensures)
+    accepted-record (a .marks .now) (now (a .carry)) (now (a .pdu)) (now (a .log)) (a .receiver) (e .if1 .left) (h .result) _ _ _ (h .ensures .0) (h .ensures .1 .0) (h .ensures .1 .1 .0) (h .ensures .1 .1 .1) _ (h .kept .1 .1 .0) (c .outcome-of2 .result) (b .header-of .result) (g .header-of2 .result) (d .difference .result) (omega (arith, i .if2 .left)) (b .header-of .ensures) (g .header-of2 .ensures) (d .difference .ensures) (c .outcome-of2 .ensures)
 
 pub of-record-spec : {M : Type 1} → statement M
 of-record-spec =
