@@ -1019,8 +1019,9 @@ fn last_loss(logged: &[Logged]) -> Loss {
 }
 
 /// Where what is missing is exact.
-const EXACT: &str = "missing is exact where PDUs come once and in turn, and fewer \
-                     than 64 packets are missing between two delivered";
+const EXACT: &str = "missing is exact from the first packet delivered to the last where each \
+                     PDU comes or is marked lost once, in turn, and fewer than 64 packets are \
+                     missing between two delivered";
 
 /// A whole file by the reference. A refused PDU is marked lost.
 fn heard(end: &End, records: &[Vec<u8>]) -> Vec<Logged> {

@@ -135,12 +135,12 @@ barzhilup join: packets: core alone 0, both 0, enhanced dropped 0" ;;
 
 # The line of a log's summary for the loss column.
 loss_line() { # DELIVERED MISSING
-    echo "barzhilup log: delivered $1, missing $2; missing is exact where PDUs come once and in turn, and fewer than 64 packets are missing between two delivered"
+    echo "barzhilup log: delivered $1, missing $2; missing is exact from the first packet delivered to the last where each PDU comes or is marked lost once, in turn, and fewer than 64 packets are missing between two delivered"
 }
 
 # The line of a picture for the loss column.
 exact_line() {
-    echo "barzhilup coverage: withheld packets and those with a damaged piece count as missing; missing is exact where PDUs come once and in turn, and fewer than 64 packets are missing between two delivered"
+    echo "barzhilup coverage: withheld packets and those with a damaged piece count as missing; missing is exact from the first packet delivered to the last where each PDU comes or is marked lost once, in turn, and fewer than 64 packets are missing between two delivered"
 }
 
 # What the line of a picture's totals says of delivered and missing.

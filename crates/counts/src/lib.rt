@@ -362,7 +362,7 @@ fn put_loss(out: &mut [u8], start: usize, counts: &[u64]) -> usize
     text::fill(
         out,
         start,
-        b"barzhilup log: delivered @, missing @; missing is exact where PDUs come once and in turn, and fewer than 64 packets are missing between two delivered\n",
+        b"barzhilup log: delivered @, missing @; missing is exact from the first packet delivered to the last where each PDU comes or is marked lost once, in turn, and fewer than 64 packets are missing between two delivered\n",
         &[at(counts, DELIVERED), at(counts, MISSING)],
     )
 }

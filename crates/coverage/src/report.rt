@@ -60,10 +60,10 @@ one at its lower edge that they are from the second.
 
 Delivered and missing are those of the receiver's record, as the CSV has them;
 a tick stands where missing grew. Withheld packets and those with a damaged
-piece count as missing; what is missing before the first one delivered does
-not. Missing is exact where PDUs come once and in turn, and fewer than 64
-packets are missing between two delivered. A CSV without these two columns is
-drawn without them.
+piece count as missing; what is missing before the first one delivered, or
+after the last, does not. Missing is exact where each PDU comes or is marked
+lost once, in turn, and fewer than 64 packets are missing between two
+delivered. A CSV without these two columns is drawn without them.
 
   --in FILE     the CSV (standard input, also for -); it is read twice, so no
                 pipe

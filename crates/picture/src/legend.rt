@@ -114,8 +114,8 @@ fn put_loss(out: &mut [u8], at: usize, counted: bool, t: Totals) -> usize {
 <text class=\"e\" x=\"580\" y=\"136\">@</text>
 <text class=\"t\" x=\"404\" y=\"154\">missing</text>
 <text class=\"e\" x=\"580\" y=\"154\">@</text>
-<text class=\"t\" x=\"64\" y=\"190\">Withheld packets and those with a damaged piece count as missing; those before the first one delivered do not.</text>
-<text class=\"t\" x=\"64\" y=\"204\">Missing is exact where PDUs come once and in turn, and fewer than 64 packets are missing between two delivered.</text>
+<text class=\"t\" x=\"64\" y=\"190\">Withheld packets and those with a damaged piece count as missing; those before the first one delivered and after the last do not.</text>
+<text class=\"t\" x=\"64\" y=\"204\">Missing is exact where each PDU comes or is marked lost once, in turn, and fewer than 64 packets are missing between two delivered.</text>
 ",
         &[t.delivered as u64, t.missing as u64],
     );

@@ -87,7 +87,7 @@ fn say_exact(counted: bool) {
     if counted {
         io::write_all(
             STDERR_FILENO,
-            b"barzhilup coverage: withheld packets and those with a damaged piece count as missing; missing is exact where PDUs come once and in turn, and fewer than 64 packets are missing between two delivered\n",
+            b"barzhilup coverage: withheld packets and those with a damaged piece count as missing; missing is exact from the first packet delivered to the last where each PDU comes or is marked lost once, in turn, and fewer than 64 packets are missing between two delivered\n",
         );
     }
 }

@@ -201,8 +201,9 @@ Delivered and missing are counts of packets, as the receiver's record has them
 after each PDU: the CSV has them on the line of each, and the counts on standard
 error have those after the last. Packets of lost and refused PDUs, those with a
 damaged piece and withheld ones are missing; what is missing before the first
-packet delivered is not counted. Missing is exact where PDUs come once and in
-turn, and fewer than 64 packets are missing between two delivered.
+packet delivered, or after the last, is not counted. Missing is exact where each
+PDU comes or is marked lost once, in turn, and fewer than 64 packets are missing
+between two delivered.
 
 A PDU that is refused is marked lost, also one of another mode or stream.
 Standard error has a line for each of the first five and for the first of
