@@ -31,13 +31,14 @@ use Rattle.receiver.specs.Receiving.{saidBy, labelIn, comeBy, refusedAnswer, lo
 use Rattle.receiver.specs.declared.Receiver.{Receiver}
 use Rattle.receiver.specs.declared.Received.{Received}
 use Rattle.runs.specs.Transmissions.{Way, gone, here}
-use Rattle.runs.specs.Calls.{Speech, heard, Matching, Machine, Serves, Bridge}
+use Rattle.runs.proofs.Calls.{Speech, heard, Matching, Machine, Serves, Bridge}
 use Rattle.runs.proofs.Bridges.{serves-one, serves-none}
 use Rattle.runs.proofs.General.{countable-less}
 use Rattle.batch.proofs.Single.{kept}
 use Rattle.batch.proofs.OneByOne.{none-taken}
 use Rattle.delivery.specs.Delivery.{Station, Call, receive, batch, pair, markLost, answerOf, stationAfter, takenBy, RefusedAfter, loggedBy, defined, HeaderAltered}
-use Rattle.delivery.specs.Copies.{frontLength, restored, bytesAt, crcAt, Copy, causesFor}
+use Rattle.delivery.specs.Copies.{frontLength, restored, bytesAt, crcAt}
+use Rattle.delivery.proofs.SoundSteps.{Copy, causesFor}
 use Rattle.diversity.specs.Diversity.{pairSaid, pairCome}
 use Rattle.pair.proofs.Enough.{Passes}
 use Rattle.delivery.proofs.Diversity.{pair-kept, pair-said-in, pair-label-in, pair-passes, pair-accepted, pair-logged, pair-shows}

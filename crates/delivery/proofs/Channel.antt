@@ -1,4 +1,4 @@
--- Delivery over a channel, from the general theorem of runs.
+-- Delivery by which pieces are sound (SoundSteps.antt), from the general theorem of runs.
 use mathlib.Core.Path.{_≡_, refl, sym, ap, ap₂, subst, _∙_, fun-ext}
 use mathlib.Core.Bool.{Bool, true, false, _&&_, _||_, cond}
 use mathlib.Core.List.{List, [], _∷_, _++_, map}
@@ -29,18 +29,18 @@ use Rattle.writer.specs.declared.Writer.{Writer}
 use Rattle.receiver.specs.Entitling.{allowedPrograms, maskOf}
 use Rattle.receiver.specs.Receiving.{fresh as freshFor, openingNumber, openedFor, memoryOf, tallyOf, wrongState}
 use Rattle.receiver.specs.declared.Receiver.{Receiver}
-use Rattle.runs.specs.Model.{cut, sentAfter, Sized}
+use Rattle.runs.proofs.Model.{cut, sentAfter, Sized, bytesIn}
 use Rattle.runs.specs.Transmissions.{Way, gone, here, Close, AddsUp}
-use Rattle.runs.specs.Spans.{Span, bytesIn}
-use Rattle.runs.specs.Promise.{arrived, indices}
-use Rattle.runs.specs.Calls.{Load, labelsOf, LoadsFit, Machine, spansFrom as spansOfLoads, speechesFrom, Matching, Bridge, Step as Part, handed, waysOf, Through as Goes, logsFrom as logsOf, finally as lastOf, AllGood}
+use Rattle.runs.specs.Spans.{Span}
+use Rattle.runs.proofs.Promise.{arrived, indices}
+use Rattle.runs.proofs.Calls.{Load, labelsOf, LoadsFit, Machine, spansFrom as spansOfLoads, speechesFrom, Matching, Bridge, Step as Part, handed, waysOf, Through as Goes, logsFrom as logsOf, finally as lastOf, AllGood}
 use Rattle.runs.proofs.General.{Asked as RunAsked, general}
 use Rattle.runs.proofs.Promised.{arrivals-told, promised}
-use Rattle.delivery.specs.Delivery.{Packets, Writing, pdusFrom, spansFrom, InOrder, Station, Call, receive, pair, markLost, answerOf, defined, freshStation, stationAfter, NoneRefused, loggedBy, logsFrom, finally, runOf, made as madeBy, spans as spansOf, CountsFit}
-use Rattle.delivery.specs.Copies.{causesFor}
-use Rattle.delivery.specs.Channel.{Came, Step, receives, pairs, batches, stops, loses, refuses, callOf, AllCopies, Through, Takes, waysIn, ways, Asked, Delivered, ChannelDelivery}
-use Rattle.delivery.specs.Entitlement.{labelsFrom, rightsFor, due, dueIndices}
-use Rattle.delivery.proofs.Counting.{stands-first}
+use Rattle.delivery.specs.Delivery.{Packets, Writing, pdusFrom, spansFrom, InOrder, Station, Call, receive, pair, markLost, answerOf, defined, stationAfter, loggedBy, finally, runOf}
+use Rattle.delivery.proofs.Parts.{freshStation, NoneRefused, logsFrom, made as madeBy, spans as spansOf, EntriesFit, due, dueIndices}
+use Rattle.delivery.proofs.SoundSteps.{causesFor, Came, Step, receives, pairs, batches, stops, loses, refuses, callOf, AllCopies, Through, Takes, waysIn, ways, Asked, Delivered, SoundDelivery}
+use Rattle.delivery.specs.Entitlement.{labelsFrom, rightsFor}
+use Rattle.runs.proofs.Spans.{stands-first}
 use Rattle.delivery.proofs.Calling.{stateAt, next-in-range}
 use Rattle.delivery.proofs.Made.{SaneLabel, sized-of}
 use Rattle.delivery.proofs.Entitling.{mask-lists}
@@ -263,7 +263,7 @@ module _ (mode stream register : ℕ) (programs : List ℕ) (packets : List (Lis
     run = split .pdus′;
     fresh = shows-fresh mode stream register mask m (x .listed) range carry (d .room);
     through = split .through;
-    countable = subst CountsFit (sym (arrivals-told (rightsBy mask stream m) (m .sequences) machine bridge packets cs made first count station gs ∙ due-are)) (d .countable);
+    countable = subst EntriesFit (sym (arrivals-told (rightsBy mask stream m) (m .sequences) machine bridge packets cs made first count station gs ∙ due-are)) (d .countable);
   }
 
   -- the receiver's counts at the end
@@ -286,8 +286,8 @@ module _ (mode stream register : ℕ) (programs : List ℕ) (packets : List (Lis
   }
 
 -- no call for a PDU of the run is refused, and the packet log holds exactly the packets that arrived whole in sound pieces and begin in a PDU not withheld
-pub channel-delivers : ChannelDelivery
-channel-delivers mode stream register programs packets writings first count carry steps d = delivered mode stream register programs packets writings first count carry steps d (fresh-writer mode stream register (d .opens))
+pub sound-delivers : SoundDelivery
+sound-delivers mode stream register programs packets writings first count carry steps d = delivered mode stream register programs packets writings first count carry steps d (fresh-writer mode stream register (d .opens))
 
 -- ---- the PDUs that a fresh writer makes
 

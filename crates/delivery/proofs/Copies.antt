@@ -37,11 +37,12 @@ use Rattle.reassembly.specs.Reassembly.{Piece, Said}
 use Rattle.reassembly.proofs.Fitting.{SanePiece, SanePieces, SaneSaid}
 use Rattle.reassembly.proofs.Blind.{blank, blanks, blankSaid}
 use Rattle.receiver.specs.Receiving.{pieceIn, piecesIn, saidBy, labelIn}
-use Rattle.runs.specs.Model.{later, readPieces}
+use Rattle.runs.proofs.Model.{later, readPieces}
 use Rattle.writer.specs.RoundTrip.{Bytes}
 use Rattle.delivery.proofs.Made.{bytes-of, bytes-drop, bytes-take}
 use Rattle.delivery.specs.Delivery.{Correctable}
-use Rattle.delivery.specs.Copies.{frontLength, restored, bytesAt, crcAt, Damage, wrong, burst, Copy, causesFor}
+use Rattle.delivery.specs.Copies.{frontLength, restored, bytesAt, crcAt}
+use Rattle.delivery.proofs.SoundSteps.{Damage, wrong, burst, Copy, causesFor}
 
 -- ---- bytes that agree up to a place
 

@@ -38,10 +38,11 @@ use Rattle.writer.proofs.Accepted.{Fine, fine, few}
 use Rattle.writer.proofs.Sending.{extra-small}
 use Rattle.writer.proofs.RoundTrip.{pdu-bytes, code-word}
 use Rattle.header.specs.Header.{isCodeWord}
-use Rattle.runs.specs.Model.{cut, Fits, sentAfter, Plan, lose, later, readPieces, saidOf, Sized}
-use Rattle.runs.specs.Transmissions.{gone, planOf}
-use Rattle.runs.specs.Spans.{bytesIn}
-use Rattle.runs.specs.Calls.{Load, transmissionOf}
+use Rattle.runs.proofs.Model.{cut, Fits, sentAfter, Plan, later, readPieces, saidOf, Sized, bytesIn}
+use Rattle.runs.specs.Spans.{lose}
+use Rattle.runs.specs.Transmissions.{gone}
+use Rattle.runs.proofs.Transmissions.{planOf}
+use Rattle.runs.proofs.Calls.{Load, transmissionOf}
 use Rattle.runs.proofs.Theorem.{Unfinished, unfinished-zero}
 use Rattle.writer.specs.RoundTrip.{Bytes}
 use Rattle.delivery.specs.Delivery.{Packets, joined}

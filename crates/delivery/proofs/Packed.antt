@@ -11,7 +11,7 @@ use Rattle.pieces.specs.Pieces.{cutBy}
 use Rattle.packing.specs.Packing.{overhead, fit, wholesFrom, partAfter, partFrom, ifAny}
 use Rattle.packing.proofs.Fitting.{fit-room}
 use Rattle.packing.proofs.Bounds.{part-shorter}
-use Rattle.runs.specs.Model.{cut, Fits, Sized}
+use Rattle.runs.proofs.Model.{cut, Fits, Sized}
 use Rattle.runs.proofs.Theorem.{Unfinished, unfinished-zero}
 use Rattle.delivery.specs.Delivery.{joined}
 

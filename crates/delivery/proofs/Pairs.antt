@@ -17,8 +17,9 @@ use Rattle.reassembly.specs.Reassembly.{Piece, Said}
 use Rattle.reassembly.proofs.Fitting.{SanePiece, SanePieces, SaneSaid}
 use Rattle.reassembly.proofs.Blind.{blank, blanks, blankSaid}
 use Rattle.receiver.specs.Receiving.{pieceIn, piecesIn, saidBy}
-use Rattle.runs.specs.Model.{later}
-use Rattle.delivery.specs.Copies.{restored, Copy}
+use Rattle.runs.proofs.Model.{later}
+use Rattle.delivery.specs.Copies.{restored}
+use Rattle.delivery.proofs.SoundSteps.{Copy}
 use Rattle.diversity.specs.Diversity.{sameBytes, pairPiece, pairPieces, pairSaid}
 use Rattle.diversity.proofs.Bytes.{same-itself}
 use Rattle.delivery.proofs.Copies.{struck, stricken, blank-two, Plain, sound-piece, unsound-piece, own-right, sane-piece, count-pieces, copy-corrected, copy-control-is, copy-psd}

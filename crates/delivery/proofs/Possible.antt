@@ -15,7 +15,8 @@ use Rattle.writer.specs.RoundTrip.{Bytes, Altered}
 use Rattle.correction.proofs.Marking.{unmarked-self, unmarked-adopted}
 use Rattle.receiver.specs.Receiving.{receiveTests, receiveNumber}
 use Rattle.receiver.specs.declared.Receiver.{Receiver}
-use Rattle.delivery.specs.Delivery.{Packets, Writing, InOrder, Behaviour, Station, receive, markLost, AllCome, Step, receives, batches, loses, callOf, receptions, stationAfter, HeaderAltered, Through, runOf, made, Asked}
+use Rattle.delivery.specs.Delivery.{Packets, Writing, InOrder, Behaviour, Station, receive, markLost, AllCome, Step, receives, alone, batches, loses, callOf, receptions, stationAfter, HeaderAltered, runOf}
+use Rattle.delivery.proofs.Parts.{Through, made, Asked}
 use Rattle.delivery.proofs.Channel.{Usable, made-right}
 
 -- a log of 8,400 words
@@ -60,7 +61,7 @@ module _ (marks : List ℕ) (alter : List ℕ → List ℕ) where
   unfoldable pub stepsFor : List Step → List (List ℕ) → List Bool → List Step
   stepsFor last [] bs = last
   stepsFor last (p ∷ ps) [] = loses words ∷ stepsFor last ps []
-  stepsFor last (p ∷ ps) (true ∷ bs) = receives marks (alter p) words ∷ stepsFor last ps bs
+  stepsFor last (p ∷ ps) (true ∷ bs) = receives (alone marks (alter p)) words ∷ stepsFor last ps bs
   stepsFor last (p ∷ ps) (false ∷ bs) = loses words ∷ stepsFor last ps bs
 
   -- which PDUs are received: as told, and those not told of are lost

@@ -26,15 +26,17 @@ use Rattle.writer.specs.declared.Writer.{Writer}
 use Rattle.receiver.specs.Entitling.{allowedPrograms, allPrograms}
 use Rattle.receiver.specs.Receiving.{openingNumber, openedFor, tallyOf, remembering, refusedAnswer, receiveNumber, receiveAnswer, lostNumber, lostAnswer, logAfterLost}
 use Rattle.receiver.specs.declared.Receiver.{Receiver}
-use Rattle.runs.specs.Spans.{Span}
+use Rattle.runs.specs.Spans.{Span, every}
 use Rattle.reassembly.specs.Tally.{Tally, noTally, counted, tallied}
-use Rattle.delivery.specs.Delivery.{Packets, Writing, bufferAfter, pdusFrom, spansFrom, InOrder, Behaviour, Answer, Station, Call, receive, markLost, answerOf, carryOf, logOf, defined, callOf, Takes, receives, loses, receptions, freshStation, stationAfter, NoneRefused, logCounts, loggedBy, logsFrom, finally, inReceived, wholePackets, runOf, made, spans, arrived, arrivedIndices, Asked, Delivered, Demand3For}
-use Rattle.delivery.specs.WrongReceivers.{withWords, lentLog, silent, untouched, fixedWords, fixed, inventing, advancing, joining, resetting}
+use Rattle.delivery.specs.Delivery.{Packets, Writing, bufferAfter, pdusFrom, spansFrom, InOrder, Behaviour, Answer, Station, Call, receive, markLost, answerOf, carryOf, logOf, defined, callOf, Takes, receives, alone, loses, receptions, stationAfter, loggedBy, finally, inReceived, runOf, Demand3For}
+use Rattle.delivery.proofs.Parts.{freshStation, NoneRefused, logCounts, logsFrom, made, spans, arrived, Asked}
+use Rattle.runs.proofs.Model.{wholePackets}
+use Rattle.delivery.proofs.FaultyReceivers.{withWords, lentLog, silent, untouched, fixedWords, fixed, inventing, advancing, joining, resetting}
 use Rattle.delivery.proofs.Serving.{loggedAlone}
 use Rattle.delivery.proofs.Possible.{words, asSent, stepsFor, possible}
-use Rattle.delivery.proofs.Counted.{arrived-fit}
+use Rattle.delivery.proofs.Claimed.{Logged, demand3-says}
 use Rattle.delivery.proofs.Theorem.{delivers}
-use Rattle.delivery.proofs.SmallRuns.{three, three-few, spans-are, six, offering, opens, packets-right, in-order, carry, carry-room, calls, run-length, told, askedFor, asked-is, bytes-same}
+use Rattle.delivery.proofs.SmallRuns.{three, small-run, spans-are, six, offering, opens, packets-right, in-order, carry, carry-room, calls, run-length, told, askedFor, asked-is, bytes-same}
 
 -- ---- what is asked for of the five PDUs, all received, and of the second alone
 
@@ -56,10 +58,8 @@ second-asked = asked-is 1 1 (true ∷ []) [] refl
 
 -- the claim for these calls
 module _ (b : Behaviour) (claim : Demand3For b) where
-  claimed : (first count : ℕ) (bs : List Bool) → Delivered b 0 0 0 allPrograms three six first count carry (calls first count bs) (arrived 0 0 three six first count (receptions (calls first count bs)))
-      (arrivedIndices 0 0 three six first count (receptions (calls first count bs)))
-  claimed first count bs = claim 0 0 0 three six first count carry (calls first count bs) (possible 0 0 0 three six opens packets-right in-order b allPrograms first count carry bs carry-room)
-      (arrived-fit 0 0 three six three-few first count (receptions (calls first count bs)))
+  claimed : (first count : ℕ) (bs : List Bool) → Logged b (freshStation b 0 0 0 allPrograms carry) (calls first count bs) (arrived 0 0 three six first count (receptions (calls first count bs)))
+  claimed first count bs = small-run b claim first count carry (calls first count bs) (possible 0 0 0 three six opens packets-right in-order b allPrograms first count carry bs carry-room)
 
   all-logged : packetWords (logsFrom b (freshStation b 0 0 0 allPrograms carry) (map callOf (calls 0 5 all))) ≡ askedFor 0 5 all
   all-logged = claimed 0 5 all .log ∙ ap (askedFor 0 5) (told 0 5 all refl)
@@ -298,12 +298,11 @@ short-spans = refl
 
 -- the claim for PDUs that are written so
 module _ (b : Behaviour) (claim : Demand3For b) (packets : List (List ℕ)) (writings : List Writing) (z : Packets packets) (o : InOrder 0 0 packets 0 writings) (few : length packets ≤ 4294967295) (pdus : List (List ℕ)) (e : made 0 0 0 writings ≡ pdus) where
-  delivered : (count : ℕ) (bs : List Bool) → Delivered b 0 0 0 allPrograms packets writings 0 count carry (stepsFor [] asSent [] (runOf 0 count pdus) bs) (arrived 0 0 packets writings 0 count (receptions (stepsFor [] asSent [] (runOf 0 count pdus) bs)))
-      (arrivedIndices 0 0 packets writings 0 count (receptions (stepsFor [] asSent [] (runOf 0 count pdus) bs)))
+  delivered : (count : ℕ) (bs : List Bool)
+      → Logged b (freshStation b 0 0 0 allPrograms carry) (stepsFor [] asSent [] (runOf 0 count pdus) bs) (arrived 0 0 packets writings 0 count (receptions (stepsFor [] asSent [] (runOf 0 count pdus) bs)))
   delivered count bs =
-      claim 0 0 0 packets writings 0 count carry (stepsFor [] asSent [] (runOf 0 count pdus) bs)
+      demand3-says b claim 0 0 0 packets writings 0 count carry (stepsFor [] asSent [] (runOf 0 count pdus) bs) few
       (subst (λ (ps : List (List ℕ)). Asked b 0 0 0 allPrograms packets writings 0 count carry (stepsFor [] asSent [] (runOf 0 count ps) bs)) e (possible 0 0 0 packets writings opens z o b allPrograms 0 count carry bs carry-room))
-      (arrived-fit 0 0 packets writings few 0 count (receptions (stepsFor [] asSent [] (runOf 0 count pdus) bs)))
 
 -- words with no packet among them change nothing
 pub no-packet : (l r : List ℕ) → packetWords l ≡ [] → packetWords (l ++ r) ≡ packetWords r
@@ -340,13 +339,13 @@ unfolding stepsFor wholePackets logWords
 first-none =
     ap packetWords (sym (append-nil firstLog))
     ∙ delivered defined delivers short twice short-right short-order short-few _ short-made 1 (true ∷ []) .log
-    ∙ ap (λ (l : List Span). logWords (wholePackets (inReceived (runOf 0 1 l) (true ∷ [])) 0 0 short)) short-spans
+    ∙ ap (λ (l : List Span). logWords (wholePackets (every (inReceived (runOf 0 1 l) (true ∷ []))) 0 0 short)) short-spans
 
 both-joined : packetWords (firstLog ++ (lastLog ++ [])) ≡ logWords (packet 0 (replicate 142 2) ∷ [])
 unfolding stepsFor wholePackets
 both-joined =
     delivered defined delivers short twice short-right short-order short-few _ short-made 2 (true ∷ true ∷ []) .log
-    ∙ ap (λ (l : List Span). logWords (wholePackets (inReceived (runOf 0 2 l) (true ∷ true ∷ [])) 0 0 short)) short-spans
+    ∙ ap (λ (l : List Span). logWords (wholePackets (every (inReceived (runOf 0 2 l) (true ∷ true ∷ []))) 0 0 short)) short-spans
 
 begun-lost : loggedBy defined begun (markLost words) ≡ logWords lostEntries
 unfolding stepsFor
@@ -359,7 +358,7 @@ joining-wrong claim =
     let lost : List ℕ = loggedBy defined begun (markLost words) in
     let asked : packetWords (firstLog ++ (lost ++ (lost ++ (lastLog ++ [])))) ≡ [] =
     delivered joining claim long fourTimes long-right long-order long-few _ long-made 4 (true ∷ false ∷ false ∷ true ∷ []) .log
-    ∙ ap (λ (l : List Span). logWords (wholePackets (inReceived (runOf 0 4 l) (true ∷ false ∷ false ∷ true ∷ [])) 0 0 long)) long-spans in
+    ∙ ap (λ (l : List Span). logWords (wholePackets (every (inReceived (runOf 0 4 l) (true ∷ false ∷ false ∷ true ∷ []))) 0 0 long)) long-spans in
     let found : packetWords (firstLog ++ (lost ++ (lost ++ (lastLog ++ [])))) ≡ packetWords (lastLog ++ []) =
     no-packet firstLog (lost ++ (lost ++ (lastLog ++ []))) first-none ∙ ap (λ (l : List ℕ). packetWords (l ++ (l ++ (lastLog ++ [])))) begun-lost in
     let h : _≡_ {A = ℕ} 49 0 = ap length (sym both-joined ∙ no-packet firstLog (lastLog ++ []) first-none ∙ sym found ∙ asked) in
@@ -372,7 +371,7 @@ firstOfTwo = true ∷ false ∷ []
 
 one-due : arrived 0 0 three six 0 2 firstOfTwo ≡ packet 0 (replicate 20 1) ∷ []
 unfolding wholePackets
-one-due = ap (λ (l : List Span). wholePackets (inReceived (runOf 0 2 l) firstOfTwo) 0 0 three) spans-are ∙ refl
+one-due = ap (λ (l : List Span). wholePackets (every (inReceived (runOf 0 2 l) firstOfTwo)) 0 0 three) spans-are ∙ refl
 
 set-back : (pdus : List (List ℕ)) → length pdus ≡ 2 → tallyOf (finally resetting (freshStation resetting 0 0 0 allPrograms carry) (map callOf (stepsFor [] asSent [] pdus firstOfTwo)) .receiver) ≡ noTally
 unfolding stepsFor

@@ -26,16 +26,17 @@ use Rattle.writer.specs.Writing.{opened as writerOpened, writerTests, endedOf, 
 use Rattle.receiver.specs.Entitling.{allowedPrograms, maskOf, entitles}
 use Rattle.receiver.specs.Receiving.{fresh as freshFor, memoryOf, keptOf, remembering, wrongState}
 use Rattle.receiver.specs.declared.Receiver.{Receiver}
-use Rattle.runs.specs.Model.{cut, readPieces, saidOf}
+use Rattle.runs.proofs.Model.{cut, readPieces, saidOf, wholePackets}
 use Rattle.runs.specs.Transmissions.{Way, here}
-use Rattle.runs.specs.Spans.{Span, wholePackets}
-use Rattle.runs.specs.Promise.{arrived}
-use Rattle.runs.specs.Calls.{Speech, heard}
+use Rattle.runs.specs.Spans.{Span}
+use Rattle.runs.proofs.Promise.{arrived}
+use Rattle.runs.proofs.Calls.{Speech, heard}
 use Rattle.runs.proofs.Theorem.{Unfinished}
-use Rattle.delivery.specs.Delivery.{Packets, joined, Writing, pdusFrom, spansFrom, InOrder, Behaviour, Station, receive, markLost, answerOf, defined, Step, callOf, freshStation, stationAfter, loggedBy, receptions, logsFrom, runOf, made, spans, Asked}
-use Rattle.delivery.specs.Copies.{causesFor}
-use Rattle.delivery.specs.Entitlement.{labelOf, labelsFrom, rightsFor, due, waysBy, EntitledDeliveryFor}
-use Rattle.delivery.specs.WrongReceivers.{assumed, supposing, servicesKept, keeping}
+use Rattle.delivery.specs.Delivery.{Packets, joined, Writing, pdusFrom, spansFrom, InOrder, Behaviour, Station, receive, markLost, answerOf, defined, Step, callOf, stationAfter, loggedBy, receptions, runOf, HeaderAltered, Holds}
+use Rattle.delivery.proofs.Parts.{freshStation, logsFrom, made, spans, Asked, due, waysBy, runWith}
+use Rattle.delivery.proofs.SoundSteps.{causesFor}
+use Rattle.delivery.specs.Entitlement.{labelOf, labelsFrom, rightsFor, entitled}
+use Rattle.delivery.proofs.FaultyReceivers.{assumed, supposing, servicesKept, keeping}
 use Rattle.delivery.proofs.Calling.{stateAt}
 use Rattle.delivery.proofs.Made.{Says, loadOf, planFor, made as madeOf}
 use Rattle.delivery.proofs.Copies.{struck-read}
@@ -43,7 +44,7 @@ use Rattle.delivery.proofs.Serving.{rightsBy, Shows, shows-put, lost-ac
 use Rattle.delivery.proofs.Bridge.{asSent as allTaken, Speaks, StandsFor, copied, altered-copy, serves}
 use Rattle.delivery.proofs.Channel.{fresh-receiver, shows-fresh}
 use Rattle.delivery.proofs.Possible.{words, log-room, asSent, as-sent, stepsFor, possible}
-use Rattle.delivery.proofs.Counted.{due-fit}
+use Rattle.delivery.proofs.Claimed.{altered-says}
 use Rattle.delivery.proofs.SmallRuns.{carry, carry-room}
 use Rattle.delivery.proofs.EntitledRuns.{paid, sending, triple, triplesFrom, triples-right, opens}
 
@@ -189,13 +190,18 @@ few-counted = ((omega arith, omega arith), (omega arith, omega arith))
 
 -- ---- the claim
 
-module _ (b : Behaviour) (claim : EntitledDeliveryFor b) (first count : ℕ) (bs : List Bool) where
+abbrev EntitledFor : Behaviour → Type 0
+EntitledFor = Holds (entitled (λ register width. HeaderAltered))
+
+module _ (b : Behaviour) (claim : EntitledFor b) (first count : ℕ) (bs : List Bool) where
   abbrev steps : List Step
   steps = stepsFor [] asSent [] (runOf first count (pduAt 0 ∷ pduAt 1 ∷ pduAt 2 ∷ [])) bs
 
   claimed : packetWords (logsFrom b (freshStation b 1 0 0 [] carry) (map callOf steps)) ≡ logWords (due 1 0 [] three calls first (waysBy (receptions steps)))
-  claimed = claim 1 0 0 [] three calls first count carry steps none-allowed (subst (λ (ps : List (List ℕ)). Asked b 1 0 0 [] three calls first count carry (stepsFor [] asSent [] (runOf first count ps) bs)) three-made (possible 1 0 0 three calls opens right in-order b [] first count carry bs carry-room))
-      (due-fit 1 0 three calls (let n : length three ≡ 3 = refl in omega (arith, n)) [] first (waysBy (receptions steps))) .log
+  claimed =
+      altered-says b claim (runWith 1 0 0 [] three calls first count carry steps) (let n : length three ≡ 3 = refl in omega (arith, n)) none-allowed
+      (subst (λ (ps : List (List ℕ)). Asked b 1 0 0 [] three calls first count carry (stepsFor [] asSent [] (runOf first count ps) bs)) three-made (possible 1 0 0 three calls opens right in-order b [] first count carry bs carry-room))
+      .log
 
 abbrev fresh : Station
 fresh = record { receiver = freshFor 1 0 0 mask; carry = carry }
@@ -210,7 +216,7 @@ unfolding listing memoryOf
 assumed-shows = record { sameMode = refl; sameStream = refl; sameRegister = refl; sameEntitled = refl; right = refl; room = carry-room; memory = refl; kept = refl; tally = refl; sane = tt; fair = (omega arith, refl); counted = record { last = omega arith; none = λ e. (refl, refl) } }
 
 -- nothing is asked for, and its packet is logged
-pub supposing-wrong : ¬ EntitledDeliveryFor supposing
+pub supposing-wrong : ¬ EntitledFor supposing
 unfolding stepsFor logWords entryWords dataWords packetWordsAfter
 supposing-wrong claim =
     let asked : packetWords (loggedBy defined (assumed fresh) (receive [] (pduAt 2) words) ++ []) ≡ [] =
@@ -240,7 +246,7 @@ kept-shows =
     (shows-put 1 0 0 mask m listed range r (begun fresh .carry) (knowing one) (s .sameMode) (s .sameStream) (s .sameRegister) (s .sameEntitled) (s .room) tt tt (omega arith, refl) (record { last = omega arith; none = λ e. absurd (omega (arith, e)) }))
 
 -- the first packet is asked for, and the third is logged too
-pub keeping-wrong : ¬ EntitledDeliveryFor keeping
+pub keeping-wrong : ¬ EntitledFor keeping
 unfolding stepsFor logWords entryWords dataWords packetWordsAfter
 keeping-wrong claim =
     let asked : packetWords (loggedBy defined fresh (receive [] (pduAt 0) words) ++ (loggedBy defined (begun fresh) (markLost words) ++ (loggedBy defined (kept fresh) (receive [] (pduAt 2) words) ++ []))) ≡ logWords (packet 0 (triple 0) ∷ []) =

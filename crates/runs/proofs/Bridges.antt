@@ -11,10 +11,11 @@ use Rattle.log.proofs.Packets.{FitAll}
 use Rattle.reassembly.specs.Reassembly.{following}
 use Rattle.reassembly.specs.Rights.{Rights, Label, inForce, barred}
 use Rattle.reassembly.specs.Holder.{Event, Holder, entriesFor, holderFor, logged, after}
-use Rattle.runs.specs.Model.{Fate, lose, read}
-use Rattle.runs.specs.Transmissions.{Way, gone, here, fateOf, keptOf, plansFrom}
-use Rattle.runs.specs.Spans.{fatesOf}
-use Rattle.runs.specs.Calls.{Load, transmissionsOf, fatesAlong, labelsOf, plainFate, plainFates, AllEntitled, Speech, eventBy, heard, Matching, Machine, Serves, Bridge, Step, handed, waysOf, Through, logsFrom, finally, AllGood}
+use Rattle.runs.specs.Spans.{Fate, lose, read}
+use Rattle.runs.specs.Transmissions.{Way, gone, here}
+use Rattle.runs.proofs.Transmissions.{fateOf, keptOf, plansFrom}
+use Rattle.runs.proofs.Model.{fatesOf}
+use Rattle.runs.proofs.Calls.{Load, transmissionsOf, fatesAlong, labelsOf, plainFate, plainFates, AllEntitled, Speech, eventBy, heard, Matching, Machine, Serves, Bridge, Step, handed, waysOf, Through, logsFrom, finally, AllGood}
 use Rattle.runs.proofs.General.{Served, serve}
 
 module _ (rights : Rights) (range : ℕ) (M : Machine) (Stands : M .State → Holder → Type 0) where

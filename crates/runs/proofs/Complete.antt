@@ -7,7 +7,7 @@ use Rattle.log.specs.Log.{logWords}
 use Rattle.reassembly.specs.Rights.{Rights}
 use Rattle.reassembly.specs.Holder.{Holder, logged, after}
 use Rattle.runs.specs.Transmissions.{Way}
-use Rattle.runs.specs.Calls.{Speech, heard, Matching, Machine, Serves, Bridge}
+use Rattle.runs.proofs.Calls.{Speech, heard, Matching, Machine, Serves, Bridge}
 use Rattle.runs.proofs.Bridges.{serves-none, nextAll, wordsAll, HandsAll, GoodAll, batched}
 
 -- a single call, or a batch with its arguments

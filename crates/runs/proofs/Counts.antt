@@ -14,8 +14,10 @@ use Rattle.reassembly.specs.Rights.{Rights}
 use Rattle.reassembly.specs.Tally.{Tally, noTally, gap, counted, tallied}
 use Rattle.reassembly.proofs.Tallies.{tally-append}
 use Rattle.reassembly.specs.Holder.{Event, lost, came, Holder, opened, entriesFor, holderFor, logged, after}
-use Rattle.runs.specs.Model.{Mark, due, wanted, arrived, AllFit, Sized}
-use Rattle.runs.specs.Transmissions.{Transmission, plansFrom, eventsFrom, dueFrom, Close, lastOf, AddsUp}
+use Rattle.runs.specs.Spans.{Mark}
+use Rattle.runs.proofs.Model.{due, wanted, arrived, AllFit, Sized}
+use Rattle.runs.proofs.Transmissions.{Transmission, plansFrom, eventsFrom, dueFrom}
+use Rattle.runs.specs.Transmissions.{Close, lastIndex, AddsUp}
 use Rattle.runs.proofs.Entitled.{entitled-run}
 use Rattle.runs.proofs.Wrong.{value-stays}
 
@@ -88,8 +90,8 @@ more-counted t n h = let e : eqb (t .delivered) 0 ≡ false = ne-eqb (t .deliver
 
 record From (a : ℕ) (l : List ℕ) (t r : Tally) : Type 0 where
   delivered : r .delivered ≡ t .delivered + length l
-  both : a + (r .delivered + r .missing) ≡ lastOf a l + (t .delivered + t .missing)
-  last : r .last ≡ lastOf a l % 64
+  both : a + (r .delivered + r .missing) ≡ lastIndex a l + (t .delivered + t .missing)
+  last : r .last ≡ lastIndex a l % 64
 
 sum-from : (l : List ℕ) (a : ℕ) (t : Tally) → ¬ (t .delivered ≡ 0) → t .last ≡ a % 64 → Rising (suc a) l → Close (a ∷ l) → From a l t (numbersOf t l)
 unfolding numbersOf Rising

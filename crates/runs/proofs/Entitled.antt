@@ -10,8 +10,10 @@ use Rattle.log.specs.Log.{Entry, packetsOf}
 use Rattle.reassembly.specs.Reassembly.{Said, following, inSequence, remembered, received}
 use Rattle.reassembly.specs.Rights.{Rights, Label, forgetting, inForce, keptAfter, withheldBy, under}
 use Rattle.reassembly.specs.Holder.{Come, Event, lost, came, Holder, opened, saidTo, entriesFor, holderFor, logged}
-use Rattle.runs.specs.Model.{lose, sentAfter, saidOf, eventOf as eventIn, events, arrived, wanted, AllFit, Sized, logged as loggedOf}
-use Rattle.runs.specs.Transmissions.{Way, gone, here, Transmission, planOf, fateOf, keptOf, plansFrom, eventOf, eventsFrom}
+use Rattle.runs.specs.Spans.{lose}
+use Rattle.runs.proofs.Model.{sentAfter, saidOf, eventOf as eventIn, events, arrived, wanted, AllFit, Sized, logged as loggedOf}
+use Rattle.runs.specs.Transmissions.{Way, gone, here}
+use Rattle.runs.proofs.Transmissions.{Transmission, planOf, fateOf, keptOf, plansFrom, eventOf, eventsFrom}
 use Rattle.runs.proofs.Theorem.{run-delivers}
 use Rattle.runs.proofs.Wrong.{value-stays}
 

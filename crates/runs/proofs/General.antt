@@ -17,10 +17,11 @@ use Rattle.reassembly.specs.Rights.{Rights, Label}
 use Rattle.reassembly.specs.Tally.{Tally, noTally, counted, tallied, Grows, Countable}
 use Rattle.reassembly.proofs.Tallies.{tally-grows}
 use Rattle.reassembly.specs.Holder.{Come, Event, lost, came, Holder, opened, entriesFor, holderFor, logged, after}
-use Rattle.runs.specs.Model.{cut, Fits, sentAfter, Fate, Plan, Mark, verdicts, arrived, wanted, AllFit, Sized}
-use Rattle.runs.specs.Transmissions.{Way, gone, here, Transmission, fateOf, keptOf, plansFrom, eventOf, eventsFrom, dueFrom, Close, AddsUp}
-use Rattle.runs.specs.Spans.{packetAt, Span, within, lies, wholePackets, wholeIndices, bytesIn, spansOf, fatesOf}
-use Rattle.runs.specs.Calls.{Load, transmissionOf, transmissionsOf, LoadsFit, spansFrom, Speech, speechesFrom, eventBy, heard, fatesFrom, Matching, Machine, Serves, Bridge, Step, handed, waysOf, Through, logsFrom, finally, AllGood}
+use Rattle.runs.proofs.Model.{cut, Fits, sentAfter, Plan, arrived, wanted, AllFit, Sized, wholePackets, bytesIn, spansOf, fatesOf}
+use Rattle.runs.specs.Spans.{Fate, Mark, verdicts, packetAt, Span, covers, lies, wholeIndices, dueAt}
+use Rattle.runs.specs.Transmissions.{Way, gone, here, Close, AddsUp}
+use Rattle.runs.proofs.Transmissions.{Transmission, fateOf, keptOf, plansFrom, eventOf, eventsFrom, dueFrom}
+use Rattle.runs.proofs.Calls.{Load, transmissionOf, transmissionsOf, LoadsFit, spansFrom, Speech, speechesFrom, eventBy, heard, fatesFrom, Matching, Machine, Serves, Bridge, Step, handed, waysOf, Through, logsFrom, finally, AllGood}
 use Rattle.runs.proofs.Entitled.{entitled-run}
 use Rattle.runs.proofs.Counts.{run-tally, tally-packets, counts-of}
 use Rattle.runs.proofs.Spans.{due-whole, due-indices}
@@ -161,7 +162,7 @@ module _ (rights : Rights) (range : ℕ) where
   same-lies (c ∷ cs) [] q g s kept ps rest j = refl
   same-lies (c ∷ cs) (w ∷ ws) q g s kept ps rest j =
       let n : ℕ = bytesIn (cut s (c .whole) (c .over) rest) in
-      ap (λ (m : Mark). cond (within (record { from = g; count = n }) j) (verdicts (fateOf rights range q kept (c .label) w) (packetAt ps j - packetAt ps g)) m)
+      ap (λ (m : Mark). cond (covers (record { from = g; count = n }) j) (verdicts (fateOf rights range q kept (c .label) w) (packetAt ps j - packetAt ps g)) m)
       (same-lies cs ws (following range q) (g + n) (sentAfter s (c .whole) (c .over)) (keptOf rights range q kept (c .label) w) ps (drop (c .whole) rest) j)
 
 -- ---- the theorem
@@ -173,10 +174,10 @@ module _ (rights : Rights) (range : ℕ) (M : Machine) (B : Bridge rights range 
 
   -- the packets with every byte in a piece that is taken, that begin in a PDU not withheld; and their indices
   abbrev pub arrivals : List Entry
-  arrivals = wholePackets byteMarks 0 0 ps
+  arrivals = wholePackets (dueAt byteMarks) 0 0 ps
 
   abbrev pub indices : List ℕ
-  indices = wholeIndices byteMarks 0 0 ps
+  indices = wholeIndices (dueAt byteMarks) 0 0 ps
 
   -- what is asked of the calls
   pub record Asked : Type 0 where
@@ -239,7 +240,7 @@ module _ (rights : Rights) (range : ℕ) (M : Machine) (B : Bridge rights range 
         same .packets
         ∙ entitled-run rights range ps (transmissionsOf all loads) fits-all (d .sized)
         ∙ due-whole ps (d .sized) plans fits-all
-        ∙ ap (λ (m : ℕ → Mark). wholePackets m 0 0 ps) marks-are
+        ∙ ap (λ (m : ℕ → Mark). wholePackets (dueAt m) 0 0 ps) marks-are
 
     tally-is : after rights range opened vs .tally ≡ tallied noTally arrivals
     tally-is = run-tally rights range vs opened ∙ tally-packets (logged rights range opened vs) noTally ∙ ap (tallied noTally) packets-are
@@ -252,7 +253,7 @@ module _ (rights : Rights) (range : ℕ) (M : Machine) (B : Bridge rights range 
 
     sum : Close indices → AddsUp indices (tallied noTally arrivals)
     sum c =
-        let e : dueFrom 0 ps (arrived 0 ps plans) ≡ indices = due-indices ps (d .sized) plans fits-all ∙ ap (λ (m : ℕ → Mark). wholeIndices m 0 0 ps) marks-are in
+        let e : dueFrom 0 ps (arrived 0 ps plans) ≡ indices = due-indices ps (d .sized) plans fits-all ∙ ap (λ (m : ℕ → Mark). wholeIndices (dueAt m) 0 0 ps) marks-are in
         let w : packetsOf (logged rights range opened vs) ≡ wanted 0 ps (arrived 0 ps plans) = same .packets ∙ entitled-run rights range ps (transmissionsOf all loads) fits-all (d .sized) in
         let t : tallied noTally (logged rights range opened vs) ≡ tallied noTally arrivals = tally-packets (logged rights range opened vs) noTally ∙ ap (tallied noTally) packets-are in
         subst (λ (l : List ℕ). AddsUp l (tallied noTally arrivals)) e

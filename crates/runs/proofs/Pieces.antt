@@ -12,7 +12,8 @@ use lib.Seq.{take-add, drop-at}
 use Rattle.log.specs.Log.{Entry, packet, packetsOf}
 use Rattle.reassembly.specs.Reassembly.{Partial, nothing, beginning, Outcome, dropped, kept, finished, joined, pieceStep}
 use Rattle.reassembly.proofs.Laws.{delivered}
-use Rattle.runs.specs.Model.{Mark, allTaken, due, wanted, Sized}
+use Rattle.runs.specs.Spans.{Mark}
+use Rattle.runs.proofs.Model.{allTaken, due, wanted, Sized}
 use Rattle.runs.proofs.Wrong.{value-stays}
 
 -- ---- marks

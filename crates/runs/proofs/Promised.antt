@@ -7,11 +7,11 @@ use lib.ListN.{replicate}
 use Rattle.log.specs.Log.{logWords, packetWords}
 use Rattle.reassembly.specs.Rights.{Rights}
 use Rattle.reassembly.specs.Tally.{Tally, noTally, tallied}
-use Rattle.runs.specs.Model.{Fate}
+use Rattle.runs.specs.Spans.{Fate, lies, wholeIndices, dueAt}
 use Rattle.runs.specs.Transmissions.{gone, Close, AddsUp}
-use Rattle.runs.specs.Spans.{lies, wholePackets, wholeIndices}
-use Rattle.runs.specs.Calls.{Load, spansFrom, labelsOf, Machine, Bridge, Step, waysOf, logsFrom, fatesFrom}
-use Rattle.runs.specs.Promise.{fates, arrived, Promise}
+use Rattle.runs.proofs.Model.{wholePackets}
+use Rattle.runs.proofs.Calls.{Load, spansFrom, labelsOf, Machine, Bridge, Step, waysOf, logsFrom, fatesFrom}
+use Rattle.runs.proofs.Promise.{fates, arrived, Promise}
 use Rattle.runs.proofs.General.{arrivals, Asked, Delivered, general}
 use Rattle.runs.proofs.Bridges.{fates-along}
 use Rattle.runs.proofs.Looking.{told-is}
@@ -22,7 +22,7 @@ module _ (rights : Rights) (range : ℕ) (M : Machine) (B : Bridge rights range 
   told = fates-along rights range loads (replicate first gone ++ waysOf B ss) 0 none ∙ sym (told-is rights range (labelsOf loads) (replicate first gone ++ waysOf B ss))
 
   pub arrivals-told : arrivals rights range M B ps loads made first count x ss ≡ arrived rights range first ps (spansFrom 0 0 ps loads) (labelsOf loads) (waysOf B ss)
-  arrivals-told = ap (λ (w : List Fate). wholePackets (lies ps (spansFrom 0 0 ps loads) w) 0 0 ps) told
+  arrivals-told = ap (λ (w : List Fate). wholePackets (dueAt (lies ps (spansFrom 0 0 ps loads) w)) 0 0 ps) told
 
   pub promised : (d : Asked rights range M B ps loads made first count x ss)
       → Promise rights range first ps (spansFrom 0 0 ps loads) (labelsOf loads) (waysOf B ss) (logsFrom B x ss) (general rights range M B ps loads made first count x ss d .last .tally)
@@ -31,5 +31,5 @@ module _ (rights : Rights) (range : ℕ) (M : Machine) (B : Bridge rights range 
       record {
         holds = g .log ∙ ap logWords arrivals-told;
         counted = g .tally ∙ ap (tallied noTally) arrivals-told;
-        adds-up = subst (λ (w : List Fate). Close (wholeIndices (lies ps (spansFrom 0 0 ps loads) w) 0 0 ps) → AddsUp (wholeIndices (lies ps (spansFrom 0 0 ps loads) w) 0 0 ps) (g .last .tally)) told (g .adds-up);
+        adds-up = subst (λ (w : List Fate). Close (wholeIndices (dueAt (lies ps (spansFrom 0 0 ps loads) w)) 0 0 ps) → AddsUp (wholeIndices (dueAt (lies ps (spansFrom 0 0 ps loads) w)) 0 0 ps) (g .last .tally)) told (g .adds-up);
       }

@@ -14,7 +14,8 @@ use Rattle.reassembly.specs.Reassembly.{Piece, Partial, nothing, beginning, Mem
 use Rattle.reassembly.proofs.Laws.{delivered}
 use Rattle.reassembly.proofs.Runs.{andThen, ends-drops}
 use Rattle.reassembly.proofs.Withheld.{packets-append, psd-quiet, hidden, Alike, uncovered, withheld-alike}
-use Rattle.runs.specs.Model.{entriesFor, memoryFor, logged, fresh, cut, Fits, sentAfter, Fate, lose, read, Plan, later, readPieces, saidOf, eventOf, events, Mark, marks, verdicts, arrived, wanted, AllFit, Sized}
+use Rattle.runs.proofs.Model.{entriesFor, memoryFor, logged, fresh, cut, Fits, sentAfter, Plan, later, readPieces, saidOf, eventOf, events, marks, arrived, wanted, AllFit, Sized}
+use Rattle.runs.specs.Spans.{Fate, lose, read, Mark, verdicts}
 use Rattle.runs.proofs.Pieces.{intact, of-few, counts, intact-more, wanted-whole, wanted-none, positive, positive-is, heldOf, held-some, held-broken, judged, onto-ends, onto-part, judged-packet, judged-quiet, judged-held}
 
 -- ---- one PDU

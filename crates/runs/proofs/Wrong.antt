@@ -6,15 +6,15 @@ use mathlib.Core.Option.{Option, none, some}
 use Prim.Native.Nat.{ℕ, zero, suc}
 use native.Mathlib.Omega.{arith}
 use lib.Dec.{eqb}
-use lib.ListN.{length}
+use lib.ListN.{length, replicate}
 use Rattle.log.specs.Log.{Entry, packet, psd, note, packetsOf}
 use Rattle.reassembly.specs.Reassembly.{Memory, sequenceStep, beginningStep, psdEntries, finished, joined, pieceStep, piecesStep, continuingStep, contentsStep, received, remembered}
 use Rattle.reassembly.specs.Rights.{Rights, Label}
 use Rattle.runs.specs.Transmissions.{Way, gone, here}
-use Rattle.runs.specs.Spans.{Span, lies, wholePackets}
-use Rattle.runs.specs.Calls.{fatesAlong}
-use Rattle.runs.specs.Withheld.{sentFrom, toldOf, fatesTold}
-use Rattle.runs.specs.Model.{Event, lost, came, entriesFor, memoryFor, logged, fresh, cut, Fate, lose, read, Plan, readPieces, events, marks, arrived, wanted}
+use Rattle.runs.specs.Spans.{Span, lies, dueAt, Fate, lose, read, wholeIndices, entriesAt}
+use Rattle.runs.proofs.Model.{wholePackets, Event, lost, came, entriesFor, memoryFor, logged, fresh, cut, Plan, readPieces, events, marks, arrived, wanted}
+use Rattle.runs.proofs.Calls.{fatesAlong}
+use Rattle.runs.specs.Withheld.{sentFrom, arrivalsOf, fatesTold}
 
 abbrev taken : Fate
 taken = read false (λ k. 0)
@@ -99,15 +99,27 @@ asked-number : wanted 64 ((1 ∷ []) ∷ []) (record { taken = true; free = true
 unfolding wanted
 asked-number = refl
 
--- the same by bytes: the second withheld; its second piece wrong
+-- the same by bytes: the second withheld, or lost; its second piece wrong
 abbrev fourSpans : List Span
 fourSpans = record { from = 0; count = 3 } ∷ record { from = 3; count = 3 } ∷ record { from = 6; count = 3 } ∷ record { from = 9; count = 1 } ∷ []
 
-whole-withheld : wholePackets (lies three fourSpans (taken ∷ kept-back ∷ taken ∷ taken ∷ [])) 0 0 three ≡ packet 0 (1 ∷ 2 ∷ 3 ∷ 4 ∷ 5 ∷ []) ∷ packet 2 (8 ∷ 9 ∷ 10 ∷ []) ∷ []
+whole-withheld : wholePackets (dueAt (lies three fourSpans (taken ∷ kept-back ∷ taken ∷ taken ∷ []))) 0 0 three ≡ packet 0 (1 ∷ 2 ∷ 3 ∷ 4 ∷ 5 ∷ []) ∷ packet 2 (8 ∷ 9 ∷ 10 ∷ []) ∷ []
 unfolding wholePackets
 whole-withheld = refl
 
-whole-wrong : wholePackets (lies three fourSpans (taken ∷ read false (λ k. cond (eqb k 1) 2 0) ∷ taken ∷ taken ∷ [])) 0 0 three ≡ packet 0 (1 ∷ 2 ∷ 3 ∷ 4 ∷ 5 ∷ []) ∷ packet 2 (8 ∷ 9 ∷ 10 ∷ []) ∷ []
+whole-lost : wholePackets (dueAt (lies three fourSpans (taken ∷ lose ∷ taken ∷ taken ∷ []))) 0 0 three ≡ packet 2 (8 ∷ 9 ∷ 10 ∷ []) ∷ []
+unfolding wholePackets
+whole-lost = refl
+
+-- packet 64 has number 0, and the first has index 0
+number-again : entriesAt (replicate 65 (1 ∷ [])) (64 ∷ []) ≡ packet 0 (1 ∷ []) ∷ []
+number-again = refl
+
+first-index : wholeIndices (λ o n. true) 0 0 ((1 ∷ []) ∷ []) ≡ 0 ∷ []
+unfolding wholeIndices
+first-index = refl
+
+whole-wrong : wholePackets (dueAt (lies three fourSpans (taken ∷ read false (λ k. cond (eqb k 1) 2 0) ∷ taken ∷ taken ∷ []))) 0 0 three ≡ packet 0 (1 ∷ 2 ∷ 3 ∷ 4 ∷ 5 ∷ []) ∷ packet 2 (8 ∷ 9 ∷ 10 ∷ []) ∷ []
 unfolding wholePackets
 whole-wrong = refl
 
@@ -136,7 +148,7 @@ seen = here (λ k. 0)
 
 -- the PDUs from sequence q on, with these applied services
 abbrev lookingBack : Bool → ℕ → List Way → List ℕ → List Fate
-lookingBack keeps q ws vs = fatesTold (record { entitled = λ p. false; keeps = keeps }) [] (toldOf ws (sentFrom 8 q (map with-services vs)))
+lookingBack keeps q ws vs = fatesTold (record { entitled = λ p. false; keeps = keeps }) [] (arrivalsOf ws (sentFrom 8 q (map with-services vs)))
 
 -- a lost PDU leaves the value unknown, until the next of sequence 0
 pub lost-unknown : lookingBack true 0 (seen ∷ gone ∷ seen ∷ seen ∷ seen ∷ seen ∷ seen ∷ seen ∷ seen ∷ seen ∷ []) (0 ∷ 0 ∷ 0 ∷ 0 ∷ 0 ∷ 0 ∷ 0 ∷ 0 ∷ 0 ∷ 1 ∷ [])

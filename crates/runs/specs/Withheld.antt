@@ -7,7 +7,7 @@ use Prim.Native.Nat.{ℕ}
 use lib.Dec.{eqb}
 use Rattle.reassembly.specs.Reassembly.{following}
 use Rattle.reassembly.specs.Rights.{Rights, Label, withheldBy}
-use Rattle.runs.specs.Model.{Fate, lose, read}
+use Rattle.runs.specs.Spans.{Fate, lose, read}
 use Rattle.runs.specs.Transmissions.{Way, gone, here}
 
 -- what was sent with a PDU: its sequence, and its label
@@ -21,15 +21,15 @@ sentFrom range q [] = []
 sentFrom range q (l ∷ ls) = record { sequence = q; label = l } ∷ sentFrom range (following range q) ls
 
 -- a PDU and how it came
-pub record Told : Type 0 where
+pub record Arrival : Type 0 where
   pub sent : Sent
   pub way : Way
 
 -- as far as both lists go
-abbrev pub toldOf : List Way → List Sent → List Told
-toldOf [] ss = []
-toldOf (w ∷ ws) [] = []
-toldOf (w ∷ ws) (s ∷ ss) = record { sent = s; way = w } ∷ toldOf ws ss
+abbrev pub arrivalsOf : List Way → List Sent → List Arrival
+arrivalsOf [] ss = []
+arrivalsOf (w ∷ ws) [] = []
+arrivalsOf (w ∷ ws) (s ∷ ss) = record { sent = s; way = w } ∷ arrivalsOf ws ss
 
 -- a PDU that was lost leaves nothing known; one of sequence 0 brings its applied services; any other leaves what was known before it
 abbrev pub knownAfter : Way → Sent → Option ℕ → Option ℕ
@@ -37,24 +37,24 @@ knownAfter gone s before = none
 knownAfter (here f) s before = cond (eqb (s .sequence) 0) (some (s .label .services)) before
 
 -- so, of PDUs in reverse order, the latest first: the applied services sent last with sequence 0, where no PDU was lost since; nothing at opening
-abbrev pub lastSent : List Told → Option ℕ
+abbrev pub lastSent : List Arrival → Option ℕ
 lastSent [] = none
 lastSent (t ∷ before) = knownAfter (t .way) (t .sent) (lastSent before)
 
+-- lost, or read: withheld or not, with the causes of its pieces
+abbrev pub fateIn : (withheld : Bool) → Way → Fate
+fateIn withheld gone = lose
+fateIn withheld (here f) = read withheld f
+
 module _ (rights : Rights) where
   -- the value in force at a PDU that came, after these: core PDUs of sequence range 0-7 take the one sent last with sequence 0, others their own
-  abbrev pub valueAt : Told → List Told → Option ℕ
-  valueAt t before = cond (rights .keeps) (lastSent (t ∷ before)) (some (t .sent .label .services))
+  abbrev pub servicesAt : Arrival → List Arrival → Option ℕ
+  servicesAt t before = cond (rights .keeps) (lastSent (t ∷ before)) (some (t .sent .label .services))
 
-  abbrev pub withheldAt : Told → List Told → Bool
-  withheldAt t before = withheldBy (rights .entitled) (t .sent .label .program) (valueAt t before)
-
-  -- lost, or read: withheld or not, with the causes of its pieces
-  abbrev pub fateIn : Bool → Way → Fate
-  fateIn withheld gone = lose
-  fateIn withheld (here f) = read withheld f
+  abbrev pub withheldAt : Arrival → List Arrival → Bool
+  withheldAt t before = withheldBy (rights .entitled) (t .sent .label .program) (servicesAt t before)
 
   -- what came of PDUs, after these
-  abbrev pub fatesTold : List Told → List Told → List Fate
+  abbrev pub fatesTold : List Arrival → List Arrival → List Fate
   fatesTold before [] = []
   fatesTold before (t ∷ ts) = fateIn (withheldAt t before) (t .way) ∷ fatesTold (t ∷ before) ts

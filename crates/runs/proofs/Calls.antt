@@ -13,9 +13,11 @@ use Rattle.reassembly.specs.Reassembly.{following}
 use Rattle.reassembly.specs.Rights.{Rights, Label}
 use Rattle.reassembly.specs.Tally.{Tally, Grows}
 use Rattle.reassembly.specs.Holder.{Come, Event, lost, came, Holder, opened, logged, after}
-use Rattle.runs.specs.Model.{cut, Fits, sentAfter, Fate, lose, read, Plan, saidOf, Mark}
-use Rattle.runs.specs.Transmissions.{Way, gone, here, Transmission, planOf, fateOf, keptOf, plansFrom}
-use Rattle.runs.specs.Spans.{Span, bytesIn, fatesOf}
+use Rattle.runs.proofs.Model.{cut, Fits, sentAfter, Plan, saidOf, bytesIn, fatesOf}
+use Rattle.runs.specs.Spans.{Fate, lose, read, Mark, Span}
+use Rattle.runs.specs.Transmissions.{Way, gone, here}
+use Rattle.runs.proofs.Transmissions.{Transmission, planOf, fateOf, keptOf, plansFrom}
+use Rattle.runs.specs.Withheld.{fateIn}
 
 -- ---- the writer's PDUs
 
@@ -83,8 +85,7 @@ labelsOf (c ∷ cs) = c .label ∷ labelsOf cs
 
 -- where nothing is withheld
 abbrev pub plainFate : Way → Fate
-plainFate gone = lose
-plainFate (here f) = read false f
+plainFate = fateIn false
 
 unfoldable pub plainFates : List Way → List Label → List Fate
 plainFates ws [] = []

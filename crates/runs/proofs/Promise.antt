@@ -7,23 +7,23 @@ use lib.ListN.{replicate}
 use Rattle.log.specs.Log.{Entry, logWords, packetWords}
 use Rattle.reassembly.specs.Rights.{Rights, Label}
 use Rattle.reassembly.specs.Tally.{Tally, noTally, tallied}
-use Rattle.runs.specs.Model.{Fate}
+use Rattle.runs.specs.Spans.{Fate, Span, lies, wholeIndices, dueAt}
 use Rattle.runs.specs.Transmissions.{Way, gone, Close, AddsUp}
-use Rattle.runs.specs.Spans.{Span, lies, wholePackets, wholeIndices}
-use Rattle.runs.specs.Withheld.{sentFrom, toldOf, fatesTold}
+use Rattle.runs.proofs.Model.{wholePackets}
+use Rattle.runs.specs.Withheld.{sentFrom, arrivalsOf, fatesTold}
 
 -- the run begins at PDU `first`; labels: program and applied services of each of the writer's PDUs, 0 where not sent
 module _ (rights : Rights) (range first : ℕ) (packets : List (List ℕ)) (spans : List Span) (labels : List Label) (ways : List Way) where
   -- what came of each PDU; those before the run count as lost
   abbrev pub fates : List Fate
-  fates = fatesTold rights [] (toldOf (replicate first gone ++ ways) (sentFrom range 0 labels))
+  fates = fatesTold rights [] (arrivalsOf (replicate first gone ++ ways) (sentFrom range 0 labels))
 
   -- the packets with every byte in a piece that is taken, of a PDU of the run, and that begin in a PDU not withheld
   abbrev pub arrived : List Entry
-  arrived = wholePackets (lies packets spans fates) 0 0 packets
+  arrived = wholePackets (dueAt (lies packets spans fates)) 0 0 packets
 
   abbrev pub indices : List ℕ
-  indices = wholeIndices (lies packets spans fates) 0 0 packets
+  indices = wholeIndices (dueAt (lies packets spans fates)) 0 0 packets
 
   -- the joined logs hold exactly these, and the receiver's counts are theirs
   pub record Promise (log : List ℕ) (counts : Tally) : Type 0 where

@@ -8,6 +8,7 @@ use lib.Dec.{eqb, ltb}
 use lib.ListN.{length, take, drop, replicate}
 use Rattle.log.specs.Log.{Entry, packet}
 use Rattle.reassembly.specs.Reassembly.{Piece, Said, Memory, following, received, remembered, lostEntries, forgotten}
+use Rattle.runs.specs.Spans.{Fate, lose, read, Mark, verdicts, Span}
 
 -- ---- the receiver over a list of events
 
@@ -59,11 +60,6 @@ sentAfter sent (suc whole) over = over
 
 -- ---- a run
 
--- how a PDU comes to the receiver: lost, or withheld or not, with a cause for each of its pieces, 0 where the piece is taken
-pub data Fate : Type 0 where
-  lose : Fate
-  read : (withheld : Bool) (causes : ℕ → ℕ) → Fate
-
 pub record Plan : Type 0 where
   pub whole : ℕ
   pub over : ℕ
@@ -103,20 +99,10 @@ events range q i sent rest (c ∷ cs) =
 
 -- ---- what should be delivered
 
--- what came of a byte
-pub record Mark : Type 0 where
-  pub taken : Bool  -- it lies in a piece that is taken, of a PDU that came
-  pub free : Bool  -- its PDU is not withheld
-
 -- a mark for each byte of the pieces
 unfoldable pub marks : (ℕ → Mark) → List (List ℕ) → List Mark
 marks v [] = []
 marks v (b ∷ bs) = replicate (length b) (v 0) ++ marks (later v) bs
-
--- of a lost PDU no piece is taken
-abbrev pub verdicts : Fate → ℕ → Mark
-verdicts lose k = record { taken = false; free = false }
-verdicts (read w f) k = record { taken = eqb (f k) 0; free = not w }
 
 -- the marks of all bytes that the PDUs of a run carry
 unfoldable pub arrived : ℕ → List (List ℕ) → List Plan → List Mark
@@ -154,3 +140,27 @@ AllFit sent rest (c ∷ cs) = Fits sent (c .whole) (c .over) rest × AllFit (sen
 abbrev pub Sized : List (List ℕ) → Type 0
 Sized [] = Unit {0}
 Sized (p ∷ ps) = (1 ≤ length p) × (length p ≤ 4096) × Sized ps
+
+-- ---- by bytes
+
+-- the packets of which f holds (`wholeIndices`), as they are logged
+unfoldable pub wholePackets : (ℕ → ℕ → Bool) → ℕ → ℕ → List (List ℕ) → List Entry
+wholePackets f o i [] = []
+wholePackets f o i (p ∷ ps) = cond (f o (length p)) (packet (i % 64) p ∷ []) [] ++ wholePackets f (o + length p) (suc i) ps
+
+-- ---- the spans of plans
+
+abbrev pub bytesIn : List (List ℕ) → ℕ
+bytesIn [] = 0
+bytesIn (p ∷ ps) = length p + bytesIn ps
+
+-- from place g on, with s bytes of the first packet of rest sent
+unfoldable pub spansOf : ℕ → ℕ → List (List ℕ) → List Plan → List Span
+spansOf g s rest [] = []
+spansOf g s rest (c ∷ cs) =
+    let n = bytesIn (cut s (c .whole) (c .over) rest) in
+    record { from = g; count = n } ∷ spansOf (g + n) (sentAfter s (c .whole) (c .over)) (drop (c .whole) rest) cs
+
+abbrev pub fatesOf : List Plan → List Fate
+fatesOf [] = []
+fatesOf (c ∷ cs) = c .fate ∷ fatesOf cs
