@@ -19,8 +19,8 @@ use Rattle.batch.proofs.Single.{refusal-is}
 use Rattle.batch.proofs.OneByOne.{first-refused}
 use Rattle.batch.proofs.Laws.{andThen, takes-all, keeps-room, then-others}
 use Rattle.runs.specs.Spans.{Span, every}
-use Rattle.delivery.specs.Delivery.{joined, Behaviour, Station, Call, receive, batch, answerOf, carryOf, logOf, defined, Step, receives, alone, batches, stops, callOf, receptions, stationAfter, RefusedAfter, loggedBy, inReceived, runOf, Demand3For}
-use Rattle.delivery.proofs.Parts.{freshStation, Through, logsFrom, made, spans, Asked}
+use Rattle.delivery.specs.Delivery.{joined, Behaviour, Station, Call, receive, batch, defined, Step, receives, alone, batches, stops, callOf, receptions, stationAfter, RefusedAfter, loggedBy, inReceived, runOf, Demand3For}
+use Rattle.delivery.proofs.Parts.{freshStation, Through, logsFrom, made, spans, Asked, answerOf, carryOf, logOf}
 use Rattle.runs.proofs.Model.{wholePackets}
 use Rattle.delivery.proofs.FaultyReceivers.{forgetting}
 use Rattle.delivery.proofs.Channel.{Usable, made-right}

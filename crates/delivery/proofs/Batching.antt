@@ -30,8 +30,8 @@ use Rattle.batch.proofs.OneByOne.{followed-none, followed-twice, next-taken, fi
 use Rattle.runs.specs.Transmissions.{Way, gone, here}
 use Rattle.runs.proofs.Calls.{Speech, heard, Matching, Machine, Serves, Bridge, Step as Part, handed, waysOf, Through as Goes, logsFrom as logsOf, finally, AllGood}
 use Rattle.runs.proofs.General.{Served, serve, countable-less}
-use Rattle.delivery.specs.Delivery.{joined, Station, Call, receive, batch, pair, markLost, answerOf, logOf, defined, stationAfter, RefusedAfter, loggedBy}
-use Rattle.delivery.proofs.Parts.{logCounts}
+use Rattle.delivery.specs.Delivery.{joined, Station, Call, receive, batch, pair, markLost, defined, stationAfter, RefusedAfter, loggedBy}
+use Rattle.delivery.proofs.Parts.{logCounts, answerOf, logOf}
 use Rattle.delivery.proofs.SoundSteps.{Copy, causesFor, Came, pdusIn, Step, receives, pairs, batches, stops, loses, refuses, callOf, Takes, waysIn}
 use Rattle.delivery.proofs.Serving.{rightsBy, Shows}
 use Rattle.delivery.proofs.Bridge.{stations, copied, paired, losing, refusing, Speaks, StandsFor, bridge}

@@ -36,7 +36,8 @@ use Rattle.runs.proofs.Bridges.{serves-one, serves-none}
 use Rattle.runs.proofs.General.{countable-less}
 use Rattle.batch.proofs.Single.{kept}
 use Rattle.batch.proofs.OneByOne.{none-taken}
-use Rattle.delivery.specs.Delivery.{Station, Call, receive, batch, pair, markLost, answerOf, stationAfter, takenBy, RefusedAfter, loggedBy, defined, HeaderAltered}
+use Rattle.delivery.proofs.Parts.{answerOf}
+use Rattle.delivery.specs.Delivery.{Station, Call, receive, batch, pair, markLost, stationAfter, takenBy, RefusedAfter, loggedBy, defined, HeaderAltered}
 use Rattle.delivery.specs.Copies.{frontLength, restored, bytesAt, crcAt}
 use Rattle.delivery.proofs.SoundSteps.{Copy, causesFor}
 use Rattle.diversity.specs.Diversity.{pairSaid, pairCome}

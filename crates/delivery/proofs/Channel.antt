@@ -36,8 +36,8 @@ use Rattle.runs.proofs.Promise.{arrived, indices}
 use Rattle.runs.proofs.Calls.{Load, labelsOf, LoadsFit, Machine, spansFrom as spansOfLoads, speechesFrom, Matching, Bridge, Step as Part, handed, waysOf, Through as Goes, logsFrom as logsOf, finally as lastOf, AllGood}
 use Rattle.runs.proofs.General.{Asked as RunAsked, general}
 use Rattle.runs.proofs.Promised.{arrivals-told, promised}
-use Rattle.delivery.specs.Delivery.{Packets, Writing, pdusFrom, spansFrom, InOrder, Station, Call, receive, pair, markLost, answerOf, defined, stationAfter, loggedBy, finally, runOf}
-use Rattle.delivery.proofs.Parts.{freshStation, NoneRefused, logsFrom, made as madeBy, spans as spansOf, EntriesFit, due, dueIndices}
+use Rattle.delivery.specs.Delivery.{Packets, Writing, pdusFrom, spansFrom, InOrder, Station, Call, receive, pair, markLost, defined, stationAfter, loggedBy, finally, runOf}
+use Rattle.delivery.proofs.Parts.{freshStation, NoneRefused, logsFrom, made as madeBy, spans as spansOf, EntriesFit, due, dueIndices, answerOf}
 use Rattle.delivery.proofs.SoundSteps.{causesFor, Came, Step, receives, pairs, batches, stops, loses, refuses, callOf, AllCopies, Through, Takes, waysIn, ways, Asked, Delivered, SoundDelivery}
 use Rattle.delivery.specs.Entitlement.{labelsFrom, rightsFor}
 use Rattle.runs.proofs.Spans.{stands-first}

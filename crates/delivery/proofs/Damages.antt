@@ -25,13 +25,13 @@ use Rattle.runs.specs.Transmissions.{Way, gone, here}
 use Rattle.runs.proofs.Spans.{entries-are}
 use Rattle.diversity.specs.Diversity.{sameBytes}
 use Rattle.diversity.proofs.Bytes.{same-itself, same-true}
-use Rattle.delivery.specs.Delivery.{joined, Station, Call, receive, pair, batch, markLost, answerOf, Behaviour, defined, stationAfter, RefusedAfter, HeaderAltered, Coming, Copies, alone, paired, Comes, AllCome, Step, receives, batches, stops, loses, refuses, callOf, Takes, Through, finally, Run, runOf, made, freshStation, spans, Asked}
+use Rattle.delivery.specs.Delivery.{joined, Station, Call, receive, pair, batch, markLost, Behaviour, defined, stationAfter, RefusedAfter, HeaderAltered, Coming, Copies, alone, paired, Comes, AllCome, Step, receives, batches, stops, loses, refuses, callOf, Takes, Through, finally, Run, runOf, made, freshStation, spans, Asked}
 use Rattle.delivery.specs.Copies.{frontLength, restored, bytesAt, crcAt, pieceAt, asSent, soundIn, cameAs, Damage, Damaged, waysIn, waysFrom, widthIn, waysOf}
 use Rattle.delivery.specs.Entitlement.{EntitledDelivery, entitled, fates}
 use Rattle.delivery.specs.Diversity.{WrongCrc, EntitledPairDelivery}
 use Rattle.delivery.specs.Bursts.{Hit, BurstDelivery}
 use Rattle.delivery.specs.Channel.{WrongOrHit, ChannelDelivery}
-use Rattle.delivery.proofs.Parts.{NoneRefused, logsFrom, EntriesFit, due, dueIndices, fit-entries}
+use Rattle.delivery.proofs.Parts.{NoneRefused, logsFrom, EntriesFit, due, dueIndices, fit-entries, answerOf}
 use Rattle.delivery.proofs.SoundSteps.{Damage as CopyDamage, wrong, burst, Copy, causesFor, Came, pdusIn, Step as SoundStep, receives as takes, pairs as takesBoth, batches as takesAll, stops as takesSome, loses as misses, refuses as declines, callOf as soundCall, Takes as SoundTakes, AllCopies, Through as Goes, waysIn as soundWaysIn, ways as soundWays}
 use Rattle.delivery.proofs.Made.{bytes-drop, bytes-take}
 use Rattle.delivery.proofs.Counted.{adds-along}

@@ -40,7 +40,8 @@ use Rattle.batch.proofs.Single.{kept}
 use Rattle.diversity.specs.Diversity.{correctable, sameBytes, pairSaid, pairCome, frontOf, copyNumber, differ, Result, unchanged, firstAlone, secondAlone, come, said, outcome, pairWords, memoryAfter, keptServices, tallyAfter, pairNumber, together, receivedBy, pairReceived}
 use Rattle.diversity.proofs.Bytes.{same-itself}
 use Rattle.pair.proofs.Enough.{Passes, taken, passes-taken, passes-most}
-use Rattle.delivery.specs.Delivery.{Station, Call, pair, answerOf, ofOne, stationAfter, loggedBy, defined}
+use Rattle.delivery.proofs.Parts.{answerOf}
+use Rattle.delivery.specs.Delivery.{Station, Call, pair, ofOne, stationAfter, loggedBy, defined}
 use Rattle.delivery.proofs.Copies.{same-slice}
 use Rattle.delivery.proofs.Made.{Heard}
 use Rattle.delivery.proofs.Serving.{rightsBy, Shows, mode-is, taking, outcome-is, tally-is, taking-shows, loggedAlone}

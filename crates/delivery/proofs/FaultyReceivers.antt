@@ -15,7 +15,12 @@ use Rattle.reassembly.specs.Holder.{Come}
 use Rattle.receiver.specs.Receiving.{memoryOf, keptOf, tallyOf, remembering, keepsServices, shown, modeOf, come}
 use Rattle.receiver.specs.declared.Receiver.{Receiver}
 use Rattle.diversity.specs.Diversity.{Choice, neither, theFirst, theSecond, choiceOf}
-use Rattle.delivery.specs.Delivery.{Behaviour, Answer, Station, Call, receive, batch, pair, markLost, answerOf, carryOf, logOf, defined}
+use Rattle.delivery.proofs.Parts.{answerOf, carryOf, logOf}
+use Rattle.delivery.specs.Delivery.{Behaviour, Answer, Station, Call, receive, batch, pair, markLost, defined}
+
+-- a receiver by what each of its calls answers and leaves in carry and log
+abbrev behaving : ((mode stream register : ℕ) (programs : List ℕ) → Receiver) → (Station → Call → Answer) → (Station → Call → List ℕ) → (Station → Call → List ℕ) → Behaviour
+behaving opening answer carry log = record { opening = opening; effect = λ x c. record { answer = answer x c; carry = carry x c; log = log x c } }
 
 -- an answer with another count of words, or with another receiver
 abbrev pub withWords : ℕ → Answer → Answer
@@ -33,11 +38,11 @@ lentLog (markLost log) = log
 
 -- an empty log for everything
 abbrev pub silent : Behaviour
-silent = record { opening = defined .opening; answer = λ x c. withWords 0 (answerOf x c); carry = carryOf; log = λ x c. lentLog c }
+silent = behaving (defined .opening) (λ x c. withWords 0 (answerOf x c)) carryOf (λ x c. lentLog c)
 
 -- it leaves the log untouched
 abbrev pub untouched : Behaviour
-untouched = record { opening = defined .opening; answer = answerOf; carry = carryOf; log = λ x c. lentLog c }
+untouched = behaving (defined .opening) answerOf carryOf (λ x c. lentLog c)
 
 -- it delivers one fixed packet for every PDU handed to it by a single call, also for one that it refuses
 module _ (number : ℕ) (bytes : List ℕ) where
@@ -57,7 +62,7 @@ module _ (number : ℕ) (bytes : List ℕ) where
   fixedLog x (markLost log) = logOf x (markLost log)
 
   abbrev pub fixed : Behaviour
-  fixed = record { opening = defined .opening; answer = fixedAnswer; carry = carryOf; log = fixedLog }
+  fixed = behaving (defined .opening) fixedAnswer carryOf fixedLog
 
   -- it delivers the packet for every PDU marked lost, and says that it took none
   abbrev pub inventingAnswer : Station → Call → Answer
@@ -73,7 +78,7 @@ module _ (number : ℕ) (bytes : List ℕ) where
   inventingLog x (markLost log) = putAt log 0 fixedWords
 
   abbrev pub inventing : Behaviour
-  inventing = record { opening = defined .opening; answer = inventingAnswer; carry = carryOf; log = inventingLog }
+  inventing = behaving (defined .opening) inventingAnswer carryOf inventingLog
 
 -- it joins in the first PDU, and then, by single calls, only advances
 abbrev pub advancingAnswer : Station → Call → Answer
@@ -83,7 +88,7 @@ advancingAnswer x (pair first second log) = answerOf x (pair first second log)
 advancingAnswer x (markLost log) = answerOf x (markLost log)
 
 abbrev pub advancing : Behaviour
-advancing = record { opening = defined .opening; answer = advancingAnswer; carry = carryOf; log = logOf }
+advancing = behaving (defined .opening) advancingAnswer carryOf logOf
 
 -- marking lost leaves it as it was, so that the one-bit sequence may fit again
 abbrev pub joiningAnswer : Station → Call → Answer
@@ -93,11 +98,11 @@ joiningAnswer x (pair first second log) = answerOf x (pair first second log)
 joiningAnswer x (markLost log) = withReceiver (x .receiver) (answerOf x (markLost log))
 
 abbrev pub joining : Behaviour
-joining = record { opening = defined .opening; answer = joiningAnswer; carry = carryOf; log = logOf }
+joining = behaving (defined .opening) joiningAnswer carryOf logOf
 
 -- it opens with a register of 0, whatever is asked for (document 02, Ask 2)
 abbrev pub zeroed : Behaviour
-zeroed = record { opening = λ mode stream register programs. defined .opening mode stream 0 programs; answer = answerOf; carry = carryOf; log = logOf }
+zeroed = behaving (λ mode stream register programs. defined .opening mode stream 0 programs) answerOf carryOf logOf
 
 -- a batch hands back the receiver that it got (document 02, Ask 1)
 abbrev pub forgettingAnswer : Station → Call → Answer
@@ -107,7 +112,7 @@ forgettingAnswer x (pair first second log) = answerOf x (pair first second log)
 forgettingAnswer x (markLost log) = answerOf x (markLost log)
 
 abbrev pub forgetting : Behaviour
-forgetting = record { opening = defined .opening; answer = forgettingAnswer; carry = carryOf; log = logOf }
+forgetting = behaving (defined .opening) forgettingAnswer carryOf logOf
 
 -- it chooses the better copy of a pair and receives that one alone (document 02, Ask 5)
 abbrev pub chosen : Choice → List ℕ → List ℕ → List ℕ
@@ -122,7 +127,7 @@ better (pair first second log) = receive [] (chosen (choiceOf first second) firs
 better (markLost log) = markLost log
 
 abbrev pub choosing : Behaviour
-choosing = record { opening = defined .opening; answer = λ x c. answerOf x (better c); carry = λ x c. carryOf x (better c); log = λ x c. logOf x (better c) }
+choosing = behaving (defined .opening) (λ x c. answerOf x (better c)) (λ x c. carryOf x (better c)) (λ x c. logOf x (better c))
 
 -- ---- document 02, Ask 10, for core of sequence range 0-7
 
@@ -148,7 +153,7 @@ abbrev pub assumed : Station → Station
 assumed x = record { receiver = assuming (x .receiver); carry = x .carry }
 
 abbrev pub supposing : Behaviour
-supposing = record { opening = defined .opening; answer = λ x c. answerOf (assumed x) c; carry = λ x c. carryOf (assumed x) c; log = λ x c. logOf (assumed x) c }
+supposing = behaving (defined .opening) (λ x c. answerOf (assumed x) c) (λ x c. carryOf (assumed x) c) (λ x c. logOf (assumed x) c)
 
 -- marking lost keeps the applied services
 abbrev pub servicesKept : Station → Receiver
@@ -161,7 +166,7 @@ keepingAnswer x (pair first second log) = answerOf x (pair first second log)
 keepingAnswer x (markLost log) = withReceiver (servicesKept x) (answerOf x (markLost log))
 
 abbrev pub keeping : Behaviour
-keeping = record { opening = defined .opening; answer = keepingAnswer; carry = carryOf; log = logOf }
+keeping = behaving (defined .opening) keepingAnswer carryOf logOf
 
 -- ---- document 02, Ask 12: by single calls it logs a PDU as if the CRC of each piece were right
 
@@ -206,7 +211,7 @@ trustingLog x (pair first second log) = logOf x (pair first second log)
 trustingLog x (markLost log) = logOf x (markLost log)
 
 abbrev pub trusting : Behaviour
-trusting = record { opening = defined .opening; answer = trustingAnswer; carry = carryOf; log = trustingLog }
+trusting = behaving (defined .opening) trustingAnswer carryOf trustingLog
 
 -- ---- document 02, Ask 14
 
@@ -235,4 +240,4 @@ resettingAnswer x (pair first second log) = answerOf x (pair first second log)
 resettingAnswer x (markLost log) = withReceiver (uncounted (answerOf x (markLost log) .receiver)) (answerOf x (markLost log))
 
 abbrev pub resetting : Behaviour
-resetting = record { opening = defined .opening; answer = resettingAnswer; carry = carryOf; log = logOf }
+resetting = behaving (defined .opening) resettingAnswer carryOf logOf

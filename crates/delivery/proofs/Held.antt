@@ -23,7 +23,8 @@ use Rattle.receiver.specs.declared.Received.{Received}
 use Rattle.batch.specs.Batches.{Result, unchanged, followed, oneByOne, batchNumber, received}
 use Rattle.batch.specs.declared.Batch.{Batch}
 use Rattle.diversity.specs.Diversity.{Result as PairResult, correctable, unchanged as unchangedPair, outcome as pairOutcome, memoryAfter as pairMemory, keptServices as pairServices, tallyAfter as pairTally, pairWords, wrongInPair, pairNumber, together, receivedBy, pairReceived}
-use Rattle.delivery.specs.Delivery.{Station, Call, receive, batch, pair, markLost, answerOf, logOf, ofOne, ofBatch, defined, stationAfter}
+use Rattle.delivery.proofs.Parts.{answerOf, logOf}
+use Rattle.delivery.specs.Delivery.{Station, Call, receive, batch, pair, markLost, ofOne, ofBatch, defined, stationAfter}
 
 held-only : (held number : ℕ) (a b : List ℕ) → take held a ≡ take held b → partialOf held number a ≡ partialOf held number b
 held-only zero number a b e = refl

@@ -16,7 +16,8 @@ use Rattle.writer.specs.RoundTrip.{Bytes}
 use Rattle.snapshot.specs.declared.Saved.{Saved}
 use Rattle.snapshot.specs.Snapshot.{savedWords, saveNumber, saved, bytesIn, loadNumber, loaded, carryLoaded}
 use Rattle.snapshot.proofs.Round.{loaded-saved, saved-words, save-room, few-words}
-use Rattle.delivery.specs.Delivery.{Station, Call, receive, batch, pair, markLost, Answer, answerOf, logOf, defined, stationAfter, loggedBy, finally, Seen, seenOf, seenFrom}
+use Rattle.delivery.proofs.Parts.{answerOf, logOf}
+use Rattle.delivery.specs.Delivery.{Station, Call, receive, batch, pair, markLost, Answer, defined, stationAfter, loggedBy, finally, Seen, seenOf, seenFrom}
 use Rattle.delivery.specs.Interruptions.{definedSnapshot, Interruption, wordsOf, resumed, Resumes, Turn, called, interrupted, callsIn, seenIn, endIn, AllResume, Running, Suffices, Interruptions}
 use Rattle.delivery.proofs.Made.{bytes-of}
 use Rattle.delivery.proofs.Held.{Alike, put-longer, SameHeld, SameCall, same-call}

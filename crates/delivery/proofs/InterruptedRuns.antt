@@ -38,7 +38,8 @@ use Rattle.receiver.specs.declared.Opened.{Opened}
 use Rattle.receiver.proofs.Counting.{lost-keeps}
 use Rattle.writer.specs.RoundTrip.{Bytes}
 use Rattle.snapshot.specs.Snapshot.{loaded, carryLoaded}
-use Rattle.delivery.specs.Delivery.{Station, receive, markLost, answerOf, defined, stationAfter, loggedBy, Seen, logsIn}
+use Rattle.delivery.proofs.Parts.{answerOf}
+use Rattle.delivery.specs.Delivery.{Station, receive, markLost, defined, stationAfter, loggedBy, Seen, logsIn}
 use Rattle.delivery.specs.Interruptions.{Snapshot, definedSnapshot, Interruption, wordsOf, resumed, Turn, called, interrupted, seenIn, Running, Suffices, InterruptionsFor}
 use Rattle.delivery.proofs.FaultySnapshots.{unregistered, unsequenced, forgetsRegister, forgetsSequence, forgetsHeld, forgetsCounts}
 use Rattle.delivery.proofs.Made.{Heard}

@@ -9,7 +9,7 @@ use borrow.Author.Tests.{lt-leb, leb-true, ltb-true}
 use lib.Dec.{ltb, leb}
 use lib.ListN.{length, take, drop, replicate}
 use Rattle.log.specs.Log.{Entry, packet}
-use Rattle.runs.specs.Spans.{Fate, lose, read, Mark, verdicts, packetAt, Span, covers, nowhere, lies, every, dueAt, wholeIndices}
+use Rattle.runs.specs.Spans.{Fate, lose, read, Mark, verdicts, packetAt, Span, covers, lies, every, dueAt, wholeIndices}
 use Rattle.runs.proofs.Model.{Sized}
 use Rattle.delivery.specs.Delivery.{inReceived, runOf}
 use Rattle.delivery.proofs.Examples.{second-lost}

@@ -33,8 +33,8 @@ use Rattle.runs.specs.Spans.{Span, lies, dueAt}
 use Rattle.runs.proofs.Model.{wholePackets}
 use Rattle.runs.proofs.Calls.{plainFate}
 use Rattle.diversity.specs.Diversity.{Choice, neither, theFirst, theSecond, choiceOf, sameBytes, pairReceived}
-use Rattle.delivery.specs.Delivery.{Packets, Writing, bufferAfter, pdusFrom, spansFrom, InOrder, Behaviour, Station, Call, receive, pair, answerOf, logOf, defined, RefusedAfter, loggedBy, runOf, HeaderAltered, Correctable, Step, receives, loses, refuses, callOf, alone, paired, Through, Holds}
-use Rattle.delivery.proofs.Parts.{freshStation, logsFrom, made, spans, runWith}
+use Rattle.delivery.specs.Delivery.{Packets, Writing, bufferAfter, pdusFrom, spansFrom, InOrder, Behaviour, Station, Call, receive, pair, defined, RefusedAfter, loggedBy, runOf, HeaderAltered, Correctable, Step, receives, loses, refuses, callOf, alone, paired, Through, Holds}
+use Rattle.delivery.proofs.Parts.{freshStation, logsFrom, made, spans, runWith, answerOf, logOf}
 use Rattle.delivery.specs.Copies.{bytesAt, crcAt, pieceAt, asSent, waysFrom, restored, Damaged}
 use Rattle.delivery.proofs.SoundSteps.{causesFor}
 use Rattle.delivery.specs.Diversity.{WrongCrc, pairs}

@@ -15,7 +15,7 @@ use Rattle.runs.specs.Transmissions.{Way, gone, here}
 use Rattle.runs.proofs.Model.{wholePackets}
 use Rattle.runs.proofs.Promise.{arrived as arrivedBy, indices}
 use Rattle.runs.proofs.Spans.{entries-are}
-use Rattle.delivery.specs.Delivery.{Writing, pdusFrom, spansFrom, Station, Call, Answer, Behaviour, HeaderAltered, Step, callOf, Takes, takenBy, Through as ThroughBy, seenFrom, logsIn, Each, Run, runOf, Asked as AskedBy, inReceived}
+use Rattle.delivery.specs.Delivery.{Writing, pdusFrom, spansFrom, Station, Call, Answer, Behaviour, effectOf, HeaderAltered, Step, callOf, Takes, takenBy, Through as ThroughBy, seenFrom, logsIn, Each, Run, runOf, Asked as AskedBy, inReceived}
 use Rattle.delivery.specs.Entitlement.{labelsFrom, rightsFor}
 
 abbrev pub runWith : (mode stream register : ℕ) (programs : List ℕ) (packets : List (List ℕ)) (writings : List Writing) (first count : ℕ) (carry : List ℕ) (steps : List Step) → Run
@@ -31,6 +31,15 @@ EntriesFit es = Countable (tallied noTally es)
 
 -- ---- the calls
 
+abbrev pub answerOf : Station → Call → Answer
+answerOf x c = effectOf x c .answer
+
+abbrev pub carryOf : Station → Call → List ℕ
+carryOf x c = effectOf x c .carry
+
+abbrev pub logOf : Station → Call → List ℕ
+logOf x c = effectOf x c .log
+
 module _ (b : Behaviour) where
   abbrev pub freshStation : (mode stream register : ℕ) (programs carry : List ℕ) → Station
   freshStation mode stream register programs carry = record { receiver = b .opening mode stream register programs; carry = carry }
@@ -39,7 +48,7 @@ module _ (b : Behaviour) where
   Through = ThroughBy b HeaderAltered
 
   abbrev pub logCounts : Station → Call → Bool
-  logCounts x c = eqb (b .answer x c .refusal) 0 || not (eqb (takenBy b x c) 0)
+  logCounts x c = eqb (b .effect x c .answer .refusal) 0 || not (eqb (takenBy b x c) 0)
 
   abbrev pub logsFrom : Station → List Call → List ℕ
   logsFrom x cs = logsIn (seenFrom b x cs)

@@ -33,7 +33,8 @@ use Rattle.receiver.specs.declared.Receiver.{Receiver}
 use Rattle.receiver.specs.declared.Received.{Received}
 use Rattle.refusal.proofs.Rows.{past, row-off, rest-off}
 use Rattle.receiver.proofs.Enough.{firstTwelve, most}
-use Rattle.delivery.specs.Delivery.{Station, Call, receive, markLost, Answer, ofOne, answerOf, stationAfter, loggedBy, defined}
+use Rattle.delivery.proofs.Parts.{answerOf}
+use Rattle.delivery.specs.Delivery.{Station, Call, receive, markLost, Answer, ofOne, stationAfter, loggedBy, defined}
 use Rattle.delivery.proofs.Made.{Heard}
 
 -- what is logged by a call that receives a PDU or marks it lost, by its answer and the log after it

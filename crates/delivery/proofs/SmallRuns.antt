@@ -30,8 +30,8 @@ use Rattle.receiver.specs.Receiving.{receiveNumber, receiveAnswer, lostNumber, 
 use Rattle.receiver.specs.declared.Receiver.{Receiver}
 use Rattle.receiver.specs.declared.Received.{Received}
 use Rattle.runs.specs.Spans.{Span, every, wholeIndices}
-use Rattle.delivery.specs.Delivery.{Packets, joined, Writing, spansFrom, InOrder, Station, Call, receive, markLost, answerOf, defined, Step, refuses, callOf, receptions, stationAfter, RefusedAfter, inReceived, runOf, Behaviour, batches, loses, arrived as arrivedIn, Demand3For}
-use Rattle.delivery.proofs.Parts.{runWith, freshStation, logsFrom, made, spans, arrived, Asked}
+use Rattle.delivery.specs.Delivery.{Packets, joined, Writing, spansFrom, InOrder, Station, Call, receive, markLost, defined, Step, refuses, callOf, receptions, stationAfter, RefusedAfter, inReceived, runOf, Behaviour, batches, loses, arrived as arrivedIn, Demand3For}
+use Rattle.delivery.proofs.Parts.{runWith, freshStation, logsFrom, made, spans, arrived, Asked, answerOf}
 use Rattle.runs.proofs.Model.{wholePackets}
 use Rattle.delivery.proofs.Channel.{Usable, made-right}
 use Rattle.delivery.proofs.Possible.{four-altered, Alters, asSent, as-sent, stepsFor, told-receptions, goes-through, run-usable, stepsOf, possible}

@@ -23,8 +23,8 @@ use Rattle.receiver.specs.Receiving.{openingNumber, openedFor, piecesIn, saidBy
 use Rattle.runs.proofs.Model.{wholePackets}
 use Rattle.runs.proofs.Promise.{arrived}
 use Rattle.runs.specs.Transmissions.{here}
-use Rattle.delivery.specs.Delivery.{Behaviour, Answer, receive, answerOf, Step, receives, alone, loggedBy, runOf, Through, Holds}
-use Rattle.delivery.proofs.Parts.{freshStation, made, due, runWith}
+use Rattle.delivery.specs.Delivery.{Behaviour, Answer, receive, Step, receives, alone, loggedBy, runOf, Through, Holds}
+use Rattle.delivery.proofs.Parts.{freshStation, made, due, runWith, answerOf}
 use Rattle.delivery.specs.Entitlement.{rightsFor, entitled}
 use Rattle.delivery.specs.Bursts.{Hit}
 use Rattle.delivery.specs.Copies.{waysFrom, Damaged}

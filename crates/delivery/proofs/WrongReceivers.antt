@@ -28,8 +28,8 @@ use Rattle.receiver.specs.Receiving.{openingNumber, openedFor, tallyOf, remembe
 use Rattle.receiver.specs.declared.Receiver.{Receiver}
 use Rattle.runs.specs.Spans.{Span, every}
 use Rattle.reassembly.specs.Tally.{Tally, noTally, counted, tallied}
-use Rattle.delivery.specs.Delivery.{Packets, Writing, bufferAfter, pdusFrom, spansFrom, InOrder, Behaviour, Answer, Station, Call, receive, markLost, answerOf, carryOf, logOf, defined, callOf, Takes, receives, alone, loses, receptions, stationAfter, loggedBy, finally, inReceived, runOf, Demand3For}
-use Rattle.delivery.proofs.Parts.{freshStation, NoneRefused, logCounts, logsFrom, made, spans, arrived, Asked}
+use Rattle.delivery.specs.Delivery.{Packets, Writing, bufferAfter, pdusFrom, spansFrom, InOrder, Behaviour, Answer, Station, Call, receive, markLost, defined, callOf, Takes, receives, alone, loses, receptions, stationAfter, loggedBy, finally, inReceived, runOf, Demand3For}
+use Rattle.delivery.proofs.Parts.{freshStation, NoneRefused, logCounts, logsFrom, made, spans, arrived, Asked, answerOf, carryOf, logOf}
 use Rattle.runs.proofs.Model.{wholePackets}
 use Rattle.delivery.proofs.FaultyReceivers.{withWords, lentLog, silent, untouched, fixedWords, fixed, inventing, advancing, joining, resetting}
 use Rattle.delivery.proofs.Serving.{loggedAlone}

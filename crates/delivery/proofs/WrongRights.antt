@@ -32,8 +32,8 @@ use Rattle.runs.specs.Spans.{Span}
 use Rattle.runs.proofs.Promise.{arrived}
 use Rattle.runs.proofs.Calls.{Speech, heard}
 use Rattle.runs.proofs.Theorem.{Unfinished}
-use Rattle.delivery.specs.Delivery.{Packets, joined, Writing, pdusFrom, spansFrom, InOrder, Behaviour, Station, receive, markLost, answerOf, defined, Step, callOf, stationAfter, loggedBy, receptions, runOf, HeaderAltered, Holds}
-use Rattle.delivery.proofs.Parts.{freshStation, logsFrom, made, spans, Asked, due, waysBy, runWith}
+use Rattle.delivery.specs.Delivery.{Packets, joined, Writing, pdusFrom, spansFrom, InOrder, Behaviour, Station, receive, markLost, defined, Step, callOf, stationAfter, loggedBy, receptions, runOf, HeaderAltered, Holds}
+use Rattle.delivery.proofs.Parts.{freshStation, logsFrom, made, spans, Asked, due, waysBy, runWith, answerOf}
 use Rattle.delivery.proofs.SoundSteps.{causesFor}
 use Rattle.delivery.specs.Entitlement.{labelOf, labelsFrom, rightsFor, entitled}
 use Rattle.delivery.proofs.FaultyReceivers.{assumed, supposing, servicesKept, keeping}

@@ -130,34 +130,27 @@ ofOne a = record { refusal = a .refusal; taken = cond (eqb (a .refusal) 0) 1 0; 
 abbrev pub ofBatch : Batch → Answer
 ofBatch a = record { refusal = a .refusal; taken = a .taken; words = a .words; receiver = a .receiver }
 
--- a receiver as its calls show it: what opening with a list of entitled programs hands back, what a call answers, and the carry and the log after it
+-- what a call leaves: its answer, the carry and the log
+pub record Effect : Type 0 where
+  pub answer : Answer
+  pub carry : List ℕ
+  pub log : List ℕ
+
+-- a receiver as its calls show it: what opening with a list of entitled programs hands back, and what a call leaves
 pub record Behaviour : Type 0 where
   pub opening : (mode stream register : ℕ) (programs : List ℕ) → Receiver
-  pub answer : Station → Call → Answer
-  pub carry : Station → Call → List ℕ
-  pub log : Station → Call → List ℕ
+  pub effect : Station → Call → Effect
 
 -- the receiver of document 01, with the marks, the batches and the pairs of document 02
-abbrev pub answerOf : Station → Call → Answer
-answerOf x (receive marks pdu log) = ofOne (receiveAnswer marks (x .carry) pdu log (x .receiver))
-answerOf x (batch lengths pdus log) = ofBatch (received lengths (x .carry) pdus log (x .receiver) .answer)
-answerOf x (pair first second log) = ofOne (pairReceived (x .carry) first second log (x .receiver) .answer)
-answerOf x (markLost log) = ofOne (lostAnswer log (x .receiver))
-
-abbrev pub carryOf : Station → Call → List ℕ
-carryOf x (receive marks pdu log) = carryAfter marks (x .carry) pdu log (x .receiver)
-carryOf x (batch lengths pdus log) = received lengths (x .carry) pdus log (x .receiver) .carry
-carryOf x (pair first second log) = pairReceived (x .carry) first second log (x .receiver) .carry
-carryOf x (markLost log) = x .carry
-
-abbrev pub logOf : Station → Call → List ℕ
-logOf x (receive marks pdu log) = logAfter marks (x .carry) pdu log (x .receiver)
-logOf x (batch lengths pdus log) = received lengths (x .carry) pdus log (x .receiver) .log
-logOf x (pair first second log) = pairReceived (x .carry) first second log (x .receiver) .log
-logOf x (markLost log) = logAfterLost log (x .receiver)
+abbrev pub effectOf : Station → Call → Effect
+effectOf x (receive marks pdu log) =
+    record { answer = ofOne (receiveAnswer marks (x .carry) pdu log (x .receiver)); carry = carryAfter marks (x .carry) pdu log (x .receiver); log = logAfter marks (x .carry) pdu log (x .receiver) }
+effectOf x (batch lengths pdus log) = let u = received lengths (x .carry) pdus log (x .receiver) in record { answer = ofBatch (u .answer); carry = u .carry; log = u .log }
+effectOf x (pair first second log) = let u = pairReceived (x .carry) first second log (x .receiver) in record { answer = ofOne (u .answer); carry = u .carry; log = u .log }
+effectOf x (markLost log) = record { answer = ofOne (lostAnswer log (x .receiver)); carry = x .carry; log = logAfterLost log (x .receiver) }
 
 abbrev pub defined : Behaviour
-defined = record { opening = λ mode stream register programs. openedFor mode stream register programs .receiver; answer = answerOf; carry = carryOf; log = logOf }
+defined = record { opening = λ mode stream register programs. openedFor mode stream register programs .receiver; effect = effectOf }
 
 -- ---- how PDUs come
 
@@ -238,18 +231,18 @@ pub record Seen : Type 0 where
 module _ (b : Behaviour) where
   -- the next call gets receiver and carry as this one left them
   abbrev pub stationAfter : Station → Call → Station
-  stationAfter x c = record { receiver = b .answer x c .receiver; carry = b .carry x c }
+  stationAfter x c = record { receiver = b .effect x c .answer .receiver; carry = b .effect x c .carry }
 
   -- how many PDUs a call took: receiving a PDU, alone or as a pair, or marking it lost takes it, if it is not refused; a batch counts those that it took
   abbrev pub takenBy : Station → Call → ℕ
-  takenBy x (receive marks pdu log) = cond (eqb (b .answer x (receive marks pdu log) .refusal) 0) 1 0
-  takenBy x (batch lengths pdus log) = b .answer x (batch lengths pdus log) .taken
-  takenBy x (pair first second log) = cond (eqb (b .answer x (pair first second log) .refusal) 0) 1 0
-  takenBy x (markLost log) = cond (eqb (b .answer x (markLost log) .refusal) 0) 1 0
+  takenBy x (receive marks pdu log) = cond (eqb (b .effect x (receive marks pdu log) .answer .refusal) 0) 1 0
+  takenBy x (batch lengths pdus log) = b .effect x (batch lengths pdus log) .answer .taken
+  takenBy x (pair first second log) = cond (eqb (b .effect x (pair first second log) .answer .refusal) 0) 1 0
+  takenBy x (markLost log) = cond (eqb (b .effect x (markLost log) .answer .refusal) 0) 1 0
 
   -- a call is refused after it took so many PDUs
   abbrev pub RefusedAfter : ℕ → Station → Call → Type 0
-  RefusedAfter n x c = (¬ (b .answer x c .refusal ≡ 0)) × (takenBy x c ≡ n)
+  RefusedAfter n x c = (¬ (b .effect x c .answer .refusal ≡ 0)) × (takenBy x c ≡ n)
 
   -- the calls go through these PDUs in order: each PDU has one call, with a log that suffices
   abbrev pub Through : Coming → Station → List (List ℕ) → List Step → Type 0
@@ -268,10 +261,10 @@ module _ (b : Behaviour) where
 
   -- a call's log counts if it is accepted, or took PDUs before it was refused: as far as the call's answer counts
   abbrev pub loggedBy : Station → Call → List ℕ
-  loggedBy x c = cond (eqb (b .answer x c .refusal) 0 || not (eqb (takenBy x c) 0)) (take (b .answer x c .words) (b .log x c)) []
+  loggedBy x c = cond (eqb (b .effect x c .answer .refusal) 0 || not (eqb (takenBy x c) 0)) (take (b .effect x c .answer .words) (b .effect x c .log)) []
 
   abbrev pub seenOf : Station → Call → Seen
-  seenOf x c = record { answer = b .answer x c; log = b .log x c; logged = loggedBy x c }
+  seenOf x c = record { answer = b .effect x c .answer; log = b .effect x c .log; logged = loggedBy x c }
 
   -- of calls, one after another
   abbrev pub seenFrom : Station → List Call → List Seen

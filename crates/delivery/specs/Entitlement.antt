@@ -15,7 +15,7 @@ use Rattle.reassembly.specs.Rights.{Rights, Label}
 use Rattle.receiver.specs.Entitling.{isListed, allowedPrograms}
 use Rattle.runs.specs.Transmissions.{gone}
 use Rattle.runs.specs.Spans.{Fate, lies, dueAt, wholeIndices}
-use Rattle.runs.specs.Withheld.{sentFrom, arrivalsOf, fatesTold}
+use Rattle.runs.specs.Withheld.{arrivalsFrom, fatesTold}
 use Rattle.delivery.specs.Delivery.{Writing, refusedAt, placedAt, HeaderAltered, Coming, defined, Run, spans, Asked, Claim, Holds}
 use Rattle.delivery.specs.Copies.{widthIn, waysOf}
 
@@ -42,7 +42,7 @@ module _ (r : Run) where
   abbrev pub fates : List Fate
   fates =
       fatesTold (rightsFor (r .mode) (r .stream) (r .programs)) []
-      (arrivalsOf (replicate (r .first) gone ++ waysOf r) (sentFrom (modeIn (listing (r .mode) (r .stream)) .sequences) 0 (labelsFrom (r .mode) (r .stream) (r .packets) 0 (r .writings))))
+      (arrivalsFrom (modeIn (listing (r .mode) (r .stream)) .sequences) 0 (replicate (r .first) gone ++ waysOf r) (labelsFrom (r .mode) (r .stream) (r .packets) 0 (r .writings)))
 
   -- the packets with every byte in a piece that is taken, of a PDU of the run, that begin in a PDU not withheld
   abbrev pub due : List ℕ

@@ -99,6 +99,10 @@ events range q i sent rest (c ∷ cs) =
 
 -- ---- what should be delivered
 
+-- the mark of a byte in no PDU
+abbrev pub nowhere : Mark
+nowhere = verdicts lose 0
+
 -- a mark for each byte of the pieces
 unfoldable pub marks : (ℕ → Mark) → List (List ℕ) → List Mark
 marks v [] = []

@@ -10,13 +10,13 @@ use Rattle.reassembly.specs.Tally.{Tally, noTally, tallied}
 use Rattle.runs.specs.Spans.{Fate, Span, lies, wholeIndices, dueAt}
 use Rattle.runs.specs.Transmissions.{Way, gone, Close, AddsUp}
 use Rattle.runs.proofs.Model.{wholePackets}
-use Rattle.runs.specs.Withheld.{sentFrom, arrivalsOf, fatesTold}
+use Rattle.runs.specs.Withheld.{arrivalsFrom, fatesTold}
 
 -- the run begins at PDU `first`; labels: program and applied services of each of the writer's PDUs, 0 where not sent
 module _ (rights : Rights) (range first : ℕ) (packets : List (List ℕ)) (spans : List Span) (labels : List Label) (ways : List Way) where
   -- what came of each PDU; those before the run count as lost
   abbrev pub fates : List Fate
-  fates = fatesTold rights [] (arrivalsOf (replicate first gone ++ ways) (sentFrom range 0 labels))
+  fates = fatesTold rights [] (arrivalsFrom range 0 (replicate first gone ++ ways) labels)
 
   -- the packets with every byte in a piece that is taken, of a PDU of the run, and that begin in a PDU not withheld
   abbrev pub arrived : List Entry

@@ -11,8 +11,8 @@ use lib.Dec.{eqb, ltb, leb}
 use lib.ListN.{length, take, drop, replicate, getD, length-append, length-drop, length-take, length-replicate, getD-replicate, List·getD-append}
 use lib.Seq.{take-add, drop-drop, getD-append-add}
 use Rattle.log.specs.Log.{Entry, packet}
-use Rattle.runs.proofs.Model.{cut, Fits, sentAfter, Plan, later, marks, arrived, allTaken, due, wanted, AllFit, Sized, wholePackets, bytesIn, spansOf, fatesOf}
-use Rattle.runs.specs.Spans.{Fate, Mark, verdicts, packetAt, Span, covers, nowhere, lies, every, wholeIndices, dueAt, entriesAt}
+use Rattle.runs.proofs.Model.{cut, Fits, sentAfter, Plan, later, marks, arrived, allTaken, due, wanted, AllFit, Sized, wholePackets, bytesIn, spansOf, fatesOf, nowhere}
+use Rattle.runs.specs.Spans.{Fate, Mark, verdicts, packetAt, Span, covers, lies, every, wholeIndices, dueAt, entriesAt}
 use Rattle.runs.proofs.Transmissions.{dueFrom}
 use Rattle.runs.proofs.Theorem.{cut-none, marks-part, marks-whole, Unfinished, unfinished-zero, unfinished-next, sized-drop}
 use Rattle.runs.proofs.Wrong.{value-stays}

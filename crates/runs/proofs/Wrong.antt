@@ -14,7 +14,7 @@ use Rattle.runs.specs.Transmissions.{Way, gone, here}
 use Rattle.runs.specs.Spans.{Span, lies, dueAt, Fate, lose, read, wholeIndices, entriesAt}
 use Rattle.runs.proofs.Model.{wholePackets, Event, lost, came, entriesFor, memoryFor, logged, fresh, cut, Plan, readPieces, events, marks, arrived, wanted}
 use Rattle.runs.proofs.Calls.{fatesAlong}
-use Rattle.runs.specs.Withheld.{sentFrom, arrivalsOf, fatesTold}
+use Rattle.runs.specs.Withheld.{arrivalsFrom, fatesTold}
 
 abbrev taken : Fate
 taken = read false (λ k. 0)
@@ -148,7 +148,7 @@ seen = here (λ k. 0)
 
 -- the PDUs from sequence q on, with these applied services
 abbrev lookingBack : Bool → ℕ → List Way → List ℕ → List Fate
-lookingBack keeps q ws vs = fatesTold (record { entitled = λ p. false; keeps = keeps }) [] (arrivalsOf ws (sentFrom 8 q (map with-services vs)))
+lookingBack keeps q ws vs = fatesTold (record { entitled = λ p. false; keeps = keeps }) [] (arrivalsFrom 8 q ws (map with-services vs))
 
 -- a lost PDU leaves the value unknown, until the next of sequence 0
 pub lost-unknown : lookingBack true 0 (seen ∷ gone ∷ seen ∷ seen ∷ seen ∷ seen ∷ seen ∷ seen ∷ seen ∷ seen ∷ []) (0 ∷ 0 ∷ 0 ∷ 0 ∷ 0 ∷ 0 ∷ 0 ∷ 0 ∷ 0 ∷ 1 ∷ [])

@@ -39,13 +39,10 @@ pub record Span : Type 0 where
 abbrev pub covers : Span → ℕ → Bool
 covers s j = leb (s .from) j && ltb j (s .from + s .count)
 
-abbrev pub nowhere : Mark
-nowhere = record { taken = false; free = false }
-
--- what came of byte j. Its piece is the one of its packet: piece 0 is of the packet of the PDU's first byte, piece 1 of the next, and so on
+-- what came of byte j; one that is in none of these PDUs counts as lost. Its piece is the one of its packet: piece 0 is of the packet of the PDU's first byte, piece 1 of the next, and so on
 abbrev pub lies : List (List ℕ) → List Span → List Fate → ℕ → Mark
-lies ps [] ws j = nowhere
-lies ps (s ∷ ss) [] j = nowhere
+lies ps [] ws j = verdicts lose j
+lies ps (s ∷ ss) [] j = verdicts lose j
 lies ps (s ∷ ss) (w ∷ ws) j = cond (covers s j) (verdicts w (packetAt ps j - packetAt ps (s .from))) (lies ps ss ws j)
 
 -- n bytes from place o on
