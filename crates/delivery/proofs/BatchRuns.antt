@@ -19,10 +19,10 @@ use Rattle.batch.proofs.Single.{refusal-is}
 use Rattle.batch.proofs.OneByOne.{first-refused}
 use Rattle.batch.proofs.Laws.{andThen, takes-all, keeps-room, then-others}
 use Rattle.runs.specs.Spans.{Span, every}
-use Rattle.delivery.specs.Delivery.{joined, Behaviour, Station, Call, receive, batch, defined, Step, receives, alone, batches, stops, callOf, receptions, stationAfter, RefusedAfter, loggedBy, inReceived, runOf, Demand3For}
+use Rattle.delivery.specs.Delivery.{concatenated, Behaviour, Station, Call, receive, batch, defined, Step, receives, alone, batches, stops, callOf, receptions, stationAfter, RefusedAfter, loggedBy, inReceived, runOf, Demand3For}
 use Rattle.delivery.proofs.Parts.{freshStation, Through, logsFrom, made, spans, Asked, answerOf, carryOf, logOf}
 use Rattle.runs.proofs.Model.{wholePackets}
-use Rattle.delivery.proofs.FaultyReceivers.{forgetting}
+use Rattle.delivery.proofs.FaultyReceivers.{handingBack}
 use Rattle.delivery.proofs.Channel.{Usable, made-right}
 use Rattle.delivery.proofs.Possible.{words, log-room, as-sent, first-batch, in-one, run-usable}
 use Rattle.delivery.proofs.Claimed.{demand3-says}
@@ -64,7 +64,7 @@ asked-of : (first count : ℕ) (steps : List Step) → Through defined fresh (ru
 asked-of first count steps t = record { opens = opens; sized = packets-right; offered = in-order; room = carry-room; through = t }
 
 -- the two are taken
-two-taken : answerOf fresh (batch (map length two) (joined two) long) .refusal ≡ 0
+two-taken : answerOf fresh (batch (map length two) (concatenated two) long) .refusal ≡ 0
 two-taken = small-run defined delivers 0 2 carry (batches two long ∷ []) (asked-of 0 2 (batches two long ∷ []) (in-one defined fresh two long (usable 0 2) (let n = two-are in let l = long-is in omega (arith, n, l)))) .accepted .0 .0
 
 -- a PDU of no bytes is refused
@@ -81,10 +81,10 @@ module _ (x : Station) (log : List ℕ) where
 third-refused : RefusedAfter defined (length two) fresh (callOf (stops two (0 ∷ []) [] long))
 unfolding total
 third-refused =
-    let r : Result = received (map length two) carry (joined two) long (fresh .receiver) in
-    let e = then-others (map length two) carry (joined two) long (0 ∷ []) [] (fresh .receiver) refl two-taken in
+    let r : Result = received (map length two) carry (concatenated two) long (fresh .receiver) in
+    let e = then-others (map length two) carry (concatenated two) long (0 ∷ []) [] (fresh .receiver) refl two-taken in
     let n = none-after (record { receiver = r .answer .receiver; carry = r .carry }) (drop (r .answer .words) (r .log)) in
-    let t : r .answer .taken ≡ length two = takes-all (map length two) carry (joined two) long (fresh .receiver) two-taken ∙ length-map two length in
+    let t : r .answer .taken ≡ length two = takes-all (map length two) carry (concatenated two) long (fresh .receiver) two-taken ∙ length-map two length in
     ((λ h. n .0 (sym (ap (λ (u : Result). u .answer .refusal) e) ∙ h)), (let k = ap (λ (u : Result). u .answer .taken) e in let z = n .1 in omega (arith, k, z, t)))
 
 abbrev pub batchCalls : List Step
@@ -156,11 +156,11 @@ unfolding wholePackets logWords
 end-none = claimed defined delivers 1 1 carried (receives (alone [] ends) words ∷ []) carried-room (as-sent ends (both-usable .1 .0), log-room, tt)
 
 -- the packet is asked for, and nothing is logged
-pub forgetting-wrong : ¬ Demand3For forgetting
+pub forgetting-wrong : ¬ Demand3For handingBack
 unfolding wholePackets logWords entryWords dataWords
 forgetting-wrong claim =
     let asked : packetWords (batchLog ++ (endLog ++ [])) ≡ logWords (packet 0 (replicate 142 2) ∷ []) =
-    claimed forgetting claim 0 2 carry (batches (begins ∷ []) words ∷ receives (alone [] ends) words ∷ []) carry-room
+    claimed handingBack claim 0 2 carry (batches (begins ∷ []) words ∷ receives (alone [] ends) words ∷ []) carry-room
     ((as-sent begins (both-usable .0), tt), (let r = log-room in omega (arith, r)), (as-sent ends (both-usable .1 .0), log-room, tt)) in
     let found : packetWords (batchLog ++ (endLog ++ [])) ≡ [] = no-packet batchLog (endLog ++ []) (ap packetWords (sym (append-nil batchLog)) ∙ batch-none) ∙ end-none in
     let h : _≡_ {A = ℕ} 49 0 = ap length (sym asked ∙ found) in

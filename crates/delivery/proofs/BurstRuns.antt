@@ -23,11 +23,11 @@ use Rattle.reassembly.specs.Rights.{Label}
 use Rattle.writer.specs.Writing.{writeAnswer}
 use Rattle.receiver.specs.Entitling.{allPrograms}
 use Rattle.runs.proofs.Model.{wholePackets}
-use Rattle.runs.proofs.Promise.{arrived}
+use Rattle.runs.proofs.Promise.{arrivedBy}
 use Rattle.runs.specs.Transmissions.{here}
 use Rattle.diversity.specs.Diversity.{sameBytes}
 use Rattle.delivery.specs.Delivery.{Station, defined, Step, receives, alone, callOf, runOf, HeaderAltered, Through}
-use Rattle.delivery.proofs.Parts.{freshStation, logsFrom, made, due, runWith}
+use Rattle.delivery.proofs.Parts.{freshStation, logsFrom, made, dueEntries, runWith}
 use Rattle.delivery.specs.Entitlement.{labelsFrom, rightsFor}
 use Rattle.delivery.specs.Copies.{restored, pieceAt, asSent, waysFrom, Damaged}
 use Rattle.delivery.proofs.SoundSteps.{causesFor}
@@ -95,9 +95,9 @@ unfolding labelsFrom writeAnswer listing fieldsFor expansionBytes chained total 
 labels-are = refl
 
 -- of the three packets, the second has the piece that was hit
-due-are : due 0 0 allPrograms packets two 0 (here (firstTwo 0 2 causes) ∷ here (λ k. 0) ∷ []) ≡ packet 0 (replicate 100 1) ∷ packet 2 (replicate 50 3) ∷ []
+due-are : dueEntries 0 0 allPrograms packets two 0 (here (firstTwo 0 2 causes) ∷ here (λ k. 0) ∷ []) ≡ packet 0 (replicate 100 1) ∷ packet 2 (replicate 50 3) ∷ []
 unfolding listing wholePackets
-due-are = (λ i. arrived (rightsFor 0 0 allPrograms) 2 0 packets (spans-are i) (labels-are i) (here (firstTwo 0 2 causes) ∷ here (λ k. 0) ∷ [])) ∙ refl
+due-are = (λ i. arrivedBy (rightsFor 0 0 allPrograms) 2 0 packets (spans-are i) (labels-are i) (here (firstTwo 0 2 causes) ∷ here (λ k. 0) ∷ [])) ∙ refl
 
 pub burst-run : packetWords (logsFrom defined fresh (map callOf burstCalls)) ≡ logWords (packet 0 (replicate 100 1) ∷ packet 2 (replicate 50 3) ∷ [])
 unfolding listing
@@ -109,6 +109,6 @@ burst-run =
       room = carry-room;
       through = subst (λ (ps : List (List ℕ)). Through defined (Damaged Hit 0 16) fresh (runOf 0 2 ps) burstCalls) (sym made-is) through;
     }) .log
-    ∙ ap (λ (ps : List (List ℕ)). logWords (due 0 0 allPrograms packets two 0 (waysFrom 16 (runOf 0 2 ps) burstCalls))) made-is
-    ∙ ap₂ (λ (f g : ℕ → ℕ). logWords (due 0 0 allPrograms packets two 0 (here f ∷ here g ∷ []))) second-struck (none-hit 16 [] other other other-as-sent)
+    ∙ ap (λ (ps : List (List ℕ)). logWords (dueEntries 0 0 allPrograms packets two 0 (waysFrom 16 (runOf 0 2 ps) burstCalls))) made-is
+    ∙ ap₂ (λ (f g : ℕ → ℕ). logWords (dueEntries 0 0 allPrograms packets two 0 (here f ∷ here g ∷ []))) second-struck (none-hit 16 [] other other other-as-sent)
     ∙ ap logWords due-are

@@ -32,12 +32,12 @@ use Rattle.receiver.specs.declared.Receiver.{Receiver}
 use Rattle.runs.proofs.Model.{cut, sentAfter, Sized, bytesIn}
 use Rattle.runs.specs.Transmissions.{Way, gone, here, Close, AddsUp}
 use Rattle.runs.specs.Spans.{Span}
-use Rattle.runs.proofs.Promise.{arrived, indices}
-use Rattle.runs.proofs.Calls.{Load, labelsOf, LoadsFit, Machine, spansFrom as spansOfLoads, speechesFrom, Matching, Bridge, Step as Part, handed, waysOf, Through as Goes, logsFrom as logsOf, finally as lastOf, AllGood}
+use Rattle.runs.proofs.Promise.{arrivedBy, indices}
+use Rattle.runs.proofs.Calls.{Load, labelsOf, LoadsFit, Machine, spansFrom as spansOfLoads, speechesFrom, Matching, Bridge, Step as Part, handed, waysHanded, Through as Goes, logsFrom as logsOf, finally as lastOf, AllGood}
 use Rattle.runs.proofs.General.{Asked as RunAsked, general}
 use Rattle.runs.proofs.Promised.{arrivals-told, promised}
 use Rattle.delivery.specs.Delivery.{Packets, Writing, pdusFrom, spansFrom, InOrder, Station, Call, receive, pair, markLost, defined, stationAfter, loggedBy, finally, runOf}
-use Rattle.delivery.proofs.Parts.{freshStation, NoneRefused, logsFrom, made as madeBy, spans as spansOf, EntriesFit, due, dueIndices, answerOf}
+use Rattle.delivery.proofs.Parts.{freshStation, NoneRefused, logsFrom, made as madeBy, spans as spansOf, EntriesFit, dueEntries, dueIndices, answerOf}
 use Rattle.delivery.proofs.SoundSteps.{causesFor, Came, Step, receives, pairs, batches, stops, loses, refuses, callOf, AllCopies, Through, Takes, waysIn, ways, Asked, Delivered, SoundDelivery}
 use Rattle.delivery.specs.Entitlement.{labelsFrom, rightsFor}
 use Rattle.runs.proofs.Spans.{stands-first}
@@ -117,7 +117,7 @@ module _ (mode stream register entitled : ℕ) (m : Mode) (l : listing mode stre
   record Parted (x : Station) (ss : List Step) (pdus : List (List ℕ)) (gs : List (Part all)) : Type 0 where
     through : Goes all x gs
     pdus′ : handed all gs ≡ pdus
-    ways : waysOf all gs ≡ ways ss
+    ways : waysHanded all gs ≡ ways ss
     logs : logsOf all x gs ≡ logsFrom defined x (map callOf ss)
     final : lastOf all x gs ≡ finally defined x (map callOf ss)
     good : AllGood all x gs → NoneRefused defined callOf Takes x ss
@@ -242,12 +242,12 @@ module _ (mode stream register : ℕ) (programs : List ℕ) (packets : List (Lis
   spans-told : spansOfLoads 0 0 packets cs ≡ spansFrom mode stream packets 0 writings
   spans-told = sym (spans-are mode stream register m packets (whole .course))
 
-  due-are : arrived (rightsBy mask stream m) (m .sequences) first packets (spansOfLoads 0 0 packets cs) (labelsOf cs) (waysOf bridge gs) ≡ due mode stream programs packets writings first (ways steps)
+  due-are : arrivedBy (rightsBy mask stream m) (m .sequences) first packets (spansOfLoads 0 0 packets cs) (labelsOf cs) (waysHanded bridge gs) ≡ dueEntries mode stream programs packets writings first (ways steps)
   due-are =
       let e : Listed m ≡ listing mode stream = sym (x .listed) in
-      λ i. arrived (rights-are i) (modeIn (e i) .sequences) first packets (spans-told i) (whole .labelled i) (split .ways i)
+      λ i. arrivedBy (rights-are i) (modeIn (e i) .sequences) first packets (spans-told i) (whole .labelled i) (split .ways i)
 
-  indices-are : indices (rightsBy mask stream m) (m .sequences) first packets (spansOfLoads 0 0 packets cs) (labelsOf cs) (waysOf bridge gs) ≡ dueIndices mode stream programs packets writings first (ways steps)
+  indices-are : indices (rightsBy mask stream m) (m .sequences) first packets (spansOfLoads 0 0 packets cs) (labelsOf cs) (waysHanded bridge gs) ≡ dueIndices mode stream programs packets writings first (ways steps)
   indices-are =
       let e : Listed m ≡ listing mode stream = sym (x .listed) in
       λ i. indices (rights-are i) (modeIn (e i) .sequences) first packets (spans-told i) (whole .labelled i) (split .ways i)

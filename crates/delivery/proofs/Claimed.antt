@@ -15,8 +15,8 @@ use Rattle.runs.proofs.Model.{wholePackets}
 use Rattle.runs.proofs.Spans.{entries-are}
 use Rattle.delivery.specs.Delivery.{Writing, HeaderAltered, Coming, Station, Behaviour, Step, callOf, Takes, receptions, finally, inReceived, Run, runOf, freshStation as freshIn, spans as spansIn, made as madeIn, Asked as AskedBy, Claim, Holds, demand3, Demand3For}
 use Rattle.delivery.specs.Copies.{widthIn, waysOf}
-use Rattle.delivery.specs.Entitlement.{fates, entitled}
-use Rattle.delivery.proofs.Parts.{runWith, freshStation, EntriesFit, NoneRefused, logsFrom, spans, arrived, due, waysBy, Asked}
+use Rattle.delivery.specs.Entitlement.{fates, forPrograms}
+use Rattle.delivery.proofs.Parts.{runWith, freshStation, EntriesFit, NoneRefused, logsFrom, spans, arrivedEntries, dueEntries, waysBy, Asked}
 use Rattle.delivery.proofs.Counted.{whole-fit}
 use Rattle.delivery.proofs.Theorem.{same-ways}
 
@@ -36,19 +36,19 @@ logged-by k b claim r f e a few =
 -- demand 3
 pub demand3-says : (b : Behaviour) → Demand3For b → (mode stream register : ℕ) (packets : List (List ℕ)) (writings : List Writing) (first count : ℕ) (carry : List ℕ) (steps : List Step)
     → length packets ≤ 4294967295 → Asked b mode stream register allPrograms packets writings first count carry steps
-    → Logged b (freshStation b mode stream register allPrograms carry) steps (arrived mode stream packets writings first count (receptions steps))
+    → Logged b (freshStation b mode stream register allPrograms carry) steps (arrivedEntries mode stream packets writings first count (receptions steps))
 demand3-says b claim mode stream register packets writings first count carry steps few d =
     logged-by demand3 b claim (runWith mode stream register allPrograms packets writings first count carry steps) (every (inReceived (runOf first count (spans mode stream packets writings)) (receptions steps))) refl (refl, d) few
 
 -- for a list of programs, the PDUs of the run coming so
-pub entitled-says : (comes : (register width : ℕ) → Coming) (b : Behaviour) → Holds (entitled comes) b → (r : Run) → length (r .packets) ≤ 4294967295 → allowedPrograms (r .programs) ≡ true
-    → AskedBy r (comes (r .register) (widthIn r)) b → Logged b (freshIn r b) (r .steps) (due (r .mode) (r .stream) (r .programs) (r .packets) (r .writings) (r .first) (waysOf r))
-entitled-says comes b claim r few a d = logged-by (entitled comes) b claim r (dueAt (lies (r .packets) (spansIn r) (fates r))) refl (a, d) few
+pub entitled-says : (comes : (register width : ℕ) → Coming) (b : Behaviour) → Holds (forPrograms comes) b → (r : Run) → length (r .packets) ≤ 4294967295 → allowedPrograms (r .programs) ≡ true
+    → AskedBy r (comes (r .register) (widthIn r)) b → Logged b (freshIn r b) (r .steps) (dueEntries (r .mode) (r .stream) (r .programs) (r .packets) (r .writings) (r .first) (waysOf r))
+entitled-says comes b claim r few a d = logged-by (forPrograms comes) b claim r (dueAt (lies (r .packets) (spansIn r) (fates r))) refl (a, d) few
 
 -- and each PDU as it was sent but for its header
-pub altered-says : (b : Behaviour) → Holds (entitled (λ register width. HeaderAltered)) b → (r : Run) → length (r .packets) ≤ 4294967295 → allowedPrograms (r .programs) ≡ true
-    → AskedBy r HeaderAltered b → Logged b (freshIn r b) (r .steps) (due (r .mode) (r .stream) (r .programs) (r .packets) (r .writings) (r .first) (waysBy (receptions (r .steps))))
+pub altered-says : (b : Behaviour) → Holds (forPrograms (λ register width. HeaderAltered)) b → (r : Run) → length (r .packets) ≤ 4294967295 → allowedPrograms (r .programs) ≡ true
+    → AskedBy r HeaderAltered b → Logged b (freshIn r b) (r .steps) (dueEntries (r .mode) (r .stream) (r .programs) (r .packets) (r .writings) (r .first) (waysBy (receptions (r .steps))))
 altered-says b claim r few a d =
-    subst (λ (ws : List Way). Logged b (freshIn r b) (r .steps) (due (r .mode) (r .stream) (r .programs) (r .packets) (r .writings) (r .first) ws))
+    subst (λ (ws : List Way). Logged b (freshIn r b) (r .steps) (dueEntries (r .mode) (r .stream) (r .programs) (r .packets) (r .writings) (r .first) ws))
     (same-ways b (widthIn r) (r .steps) (freshIn r b) (runOf (r .first) (r .count) (madeIn r)) (d .through))
     (entitled-says (λ register width. HeaderAltered) b claim r few a d)

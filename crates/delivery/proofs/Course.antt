@@ -21,7 +21,7 @@ use Rattle.writer.specs.declared.Writer.{Writer}
 use Rattle.runs.proofs.Model.{cut, Fits, sentAfter, saidOf, Sized, bytesIn}
 use Rattle.runs.specs.Spans.{Span, packetAt}
 use Rattle.runs.proofs.Calls.{Load, labelsOf}
-use Rattle.delivery.specs.Delivery.{Packets, joined, Writing, answerTo, bufferAfter, pdusFrom, alreadySent, Offers, told, refusedAt, placedAt, spansFrom, InOrder}
+use Rattle.delivery.specs.Delivery.{Packets, concatenated, Writing, answerTo, bufferAfter, pdusFrom, alreadySent, Offers, told, refusedAt, placedAt, spansFrom, InOrder}
 use Rattle.delivery.specs.Entitlement.{labelOf, labelsFrom}
 use Rattle.runs.proofs.Spans.{Stands, stands-next}
 use Rattle.delivery.proofs.Counting.{stands-index, stands-sent}
@@ -142,8 +142,8 @@ module _ (mode stream register : ℕ) (m : Mode) (l : listing mode stream ≡ Li
         let k = o .0 in
         let f : drop (packetAt ps g) ps ≡ drop i ps = ap (λ (j : ℕ). drop j ps) (stands-index ps g i s v) in
         let el : a .lengths ≡ map length (take k (drop i ps)) = o .1 ∙ ap (λ (r : List (List ℕ)). map length (take k r)) f in
-        let eb : a .bytes ≡ joined (take k (drop i ps)) = o .2 ∙ ap (λ (r : List (List ℕ)). joined (take k r)) f in
-        let zero-there : firstOf (writerTests (a .settings) (a .psd) (map length (take k (drop i ps))) (joined (take k (drop i ps))) (length (a .buffer)) m w) ≡ 0 =
+        let eb : a .bytes ≡ concatenated (take k (drop i ps)) = o .2 ∙ ap (λ (r : List (List ℕ)). concatenated (take k r)) f in
+        let zero-there : firstOf (writerTests (a .settings) (a .psd) (map length (take k (drop i ps))) (concatenated (take k (drop i ps))) (length (a .buffer)) m w) ≡ 0 =
         sym (ap₂ (λ (ns bs : List ℕ). firstOf (writerTests (a .settings) (a .psd) ns bs (length (a .buffer)) m w)) el eb) ∙ z in
         let x = made mode stream register m l ps q i s (a .settings) (a .psd) k (length (a .buffer)) (a .psd-bytes) y (v .rest) hq zero-there in
         subst (λ (ns : List ℕ). Made mode stream register m l ps q i s (a .settings) (a .psd) ns (a .bytes) (length (a .buffer))) (sym el)

@@ -25,13 +25,13 @@ use Rattle.runs.specs.Transmissions.{Way, gone, here}
 use Rattle.runs.proofs.Spans.{entries-are}
 use Rattle.diversity.specs.Diversity.{sameBytes}
 use Rattle.diversity.proofs.Bytes.{same-itself, same-true}
-use Rattle.delivery.specs.Delivery.{joined, Station, Call, receive, pair, batch, markLost, Behaviour, defined, stationAfter, RefusedAfter, HeaderAltered, Coming, Copies, alone, paired, Comes, AllCome, Step, receives, batches, stops, loses, refuses, callOf, Takes, Through, finally, Run, runOf, made, freshStation, spans, Asked}
+use Rattle.delivery.specs.Delivery.{concatenated, Station, Call, receive, pair, batch, markLost, Behaviour, defined, stationAfter, RefusedAfter, HeaderAltered, Coming, Copies, alone, paired, Comes, AllCome, Step, receives, batches, stops, loses, refuses, callOf, Takes, Through, finally, Run, runOf, made, freshStation, spans, Asked}
 use Rattle.delivery.specs.Copies.{frontLength, restored, bytesAt, crcAt, pieceAt, asSent, soundIn, cameAs, Damage, Damaged, waysIn, waysFrom, widthIn, waysOf}
-use Rattle.delivery.specs.Entitlement.{EntitledDelivery, entitled, fates}
+use Rattle.delivery.specs.Entitlement.{EntitledDelivery, forPrograms, fates}
 use Rattle.delivery.specs.Diversity.{WrongCrc, EntitledPairDelivery}
 use Rattle.delivery.specs.Bursts.{Hit, BurstDelivery}
 use Rattle.delivery.specs.Channel.{WrongOrHit, ChannelDelivery}
-use Rattle.delivery.proofs.Parts.{NoneRefused, logsFrom, EntriesFit, due, dueIndices, fit-entries, answerOf}
+use Rattle.delivery.proofs.Parts.{NoneRefused, logsFrom, EntriesFit, dueEntries, dueIndices, fit-entries, answerOf}
 use Rattle.delivery.proofs.SoundSteps.{Damage as CopyDamage, wrong, burst, Copy, causesFor, Came, pdusIn, Step as SoundStep, receives as takes, pairs as takesBoth, batches as takesAll, stops as takesSome, loses as misses, refuses as declines, callOf as soundCall, Takes as SoundTakes, AllCopies, Through as Goes, waysIn as soundWaysIn, ways as soundWays}
 use Rattle.delivery.proofs.Made.{bytes-drop, bytes-take}
 use Rattle.delivery.proofs.Counted.{adds-along}
@@ -221,7 +221,7 @@ module _ (register width : ℕ) where
       let left : List (List ℕ) = drop (length qs) ps in
       let cs : List Came = came width ps qs in
       let n : length cs ≡ length qs = same-count qs ps (t .0) in
-      let e : soundCall (takesAll cs log) ≡ callOf (batches qs log) = ap (λ (l : List (List ℕ)). batch (map length l) (joined l) log) (same-pdus qs ps (t .0)) in
+      let e : soundCall (takesAll cs log) ≡ callOf (batches qs log) = ap (λ (l : List (List ℕ)). batch (map length l) (concatenated l) log) (same-pdus qs ps (t .0)) in
       let r = same ss (stationAfter defined x (callOf (batches qs log))) left (usable-drop (length qs) ps u) (t .2) in
       let g = goes-on (batches qs log) (takesAll cs log) e ss (over width left ss) x left r in
       with-call (batches qs log) (takesAll cs log) e ss (over width left ss) x left r ps
@@ -231,7 +231,7 @@ module _ (register width : ℕ) where
       let left : List (List ℕ) = drop (length qs) ps in
       let cs : List Came = came width ps qs in
       let n : length cs ≡ length qs = same-count qs ps (t .0) in
-      let e : soundCall (takesSome cs ls bytes log) ≡ callOf (stops qs ls bytes log) = ap (λ (l : List (List ℕ)). batch (map length l ++ ls) (joined l ++ bytes) log) (same-pdus qs ps (t .0)) in
+      let e : soundCall (takesSome cs ls bytes log) ≡ callOf (stops qs ls bytes log) = ap (λ (l : List (List ℕ)). batch (map length l ++ ls) (concatenated l ++ bytes) log) (same-pdus qs ps (t .0)) in
       let r = same ss (stationAfter defined x (callOf (stops qs ls bytes log))) left (usable-drop (length qs) ps u) (t .3) in
       let g = goes-on (stops qs ls bytes log) (takesSome cs ls bytes log) e ss (over width left ss) x left r in
       with-call (stops qs ls bytes log) (takesSome cs ls bytes log) e ss (over width left ss) x left r ps (
@@ -255,7 +255,7 @@ module _ (register width : ℕ) where
       with-call (loses log) (misses log) refl ss (over width ps ss) x ps r (p ∷ ps) (t .0, r .goes) (λ a. a)
 
 -- no list of programs is refused
-allowed-of : (comes : (register width : ℕ) → Coming) (r : Run) (b : Behaviour) → entitled comes .asked r b → allowedPrograms (r .programs) ≡ true
+allowed-of : (comes : (register width : ℕ) → Coming) (r : Run) (b : Behaviour) → forPrograms comes .asked r b → allowedPrograms (r .programs) ≡ true
 allowed-of comes r b d = d .0
 
 -- no call for a PDU of the run is refused, and the packet log holds exactly the packets that arrived whole in sound pieces and begin in a PDU not withheld
@@ -274,13 +274,13 @@ channel-delivers r (a, d) k =
       offered = d .offered;
       room = d .room;
       through = s .goes;
-      countable = subst (λ (ws : List Way). EntriesFit (due (r .mode) (r .stream) (r .programs) (r .packets) (r .writings) (r .first) ws)) (sym e) (fit-entries f (r .packets) k);
+      countable = subst (λ (ws : List Way). EntriesFit (dueEntries (r .mode) (r .stream) (r .programs) (r .packets) (r .writings) (r .first) ws)) (sym e) (fit-entries f (r .packets) k);
     }) in
     record {
       as-many = made-right (r .mode) (r .stream) (r .register) (r .packets) (r .writings) (d .opens) (d .sized) (d .offered) .as-many;
       accepted = s .accepted (t .accepted);
-      log = ap (λ (cs : List Call). packetWords (logsFrom defined x cs)) (sym (s .calls)) ∙ t .log ∙ ap (λ (ws : List Way). logWords (due (r .mode) (r .stream) (r .programs) (r .packets) (r .writings) (r .first) ws)) e ∙ ap logWords (sym (entries-are f (r .packets)));
-      counts = sym last ∙ t .counts ∙ ap (λ (ws : List Way). tallied noTally (due (r .mode) (r .stream) (r .programs) (r .packets) (r .writings) (r .first) ws)) e ∙ ap (tallied noTally) (sym (entries-are f (r .packets)));
+      log = ap (λ (cs : List Call). packetWords (logsFrom defined x cs)) (sym (s .calls)) ∙ t .log ∙ ap (λ (ws : List Way). logWords (dueEntries (r .mode) (r .stream) (r .programs) (r .packets) (r .writings) (r .first) ws)) e ∙ ap logWords (sym (entries-are f (r .packets)));
+      counts = sym last ∙ t .counts ∙ ap (λ (ws : List Way). tallied noTally (dueEntries (r .mode) (r .stream) (r .programs) (r .packets) (r .writings) (r .first) ws)) e ∙ ap (tallied noTally) (sym (entries-are f (r .packets)));
       adds-up = adds-along (ap (dueIndices (r .mode) (r .stream) (r .programs) (r .packets) (r .writings) (r .first)) e) last (t .adds-up);
     }
 

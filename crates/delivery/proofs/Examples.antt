@@ -3,14 +3,18 @@ use mathlib.Core.Path.{_≡_, refl}
 use mathlib.Core.Bool.{Bool, true, false}
 use mathlib.Core.List.{List, [], _∷_, map}
 use Prim.Native.Nat.{ℕ}
-use Rattle.log.specs.Log.{packet}
+use Rattle.log.specs.Log.{packet, dataWords, entryWords, logWords}
 use Rattle.runs.specs.Spans.{Span, lies, packetAt, every, dueAt}
 use Rattle.runs.proofs.Model.{wholePackets}
 use Rattle.runs.proofs.Calls.{plainFate}
-use Rattle.delivery.specs.Delivery.{alreadySent, inReceived, receives, alone, loses}
+use Rattle.delivery.specs.Delivery.{alreadySent, defined, markLost, loggedBy, inReceived, receives, alone, loses}
 use Rattle.diversity.specs.Diversity.{sameBytes}
 use Rattle.layout.specs.Control.{controlOf}
 use Rattle.layout.specs.Locators.{locator16}
+use Rattle.buffer.specs.Buffer.{putAt}
+use Rattle.modes.specs.Modes.{listing}
+use Rattle.reassembly.specs.Reassembly.{lostEntries}
+use Rattle.receiver.specs.Receiving.{fresh, lostNumber, lostAnswer, logAfterLost}
 use Rattle.delivery.specs.Copies.{waysFrom}
 
 -- packets of 5, 2 and 3 bytes in four PDUs: 3 bytes; 2 and 1; 1 and 2; 1
@@ -33,3 +37,8 @@ second-lost = refl
 pub second-missing : wholePackets (dueAt (lies three fourSpans (map plainFate (waysFrom 16 ([] ∷ [] ∷ [] ∷ [] ∷ []) (receives (alone [] []) [] ∷ loses [] ∷ receives (alone [] []) [] ∷ receives (alone [] []) [] ∷ []))))) 0 0 three ≡ packet 2 (8 ∷ 9 ∷ 10 ∷ []) ∷ []
 unfolding wholePackets sameBytes controlOf locator16
 second-missing = refl
+
+-- of a PDU marked lost, with a log of two words, the word is logged that the answer counts
+pub lost-counted : loggedBy defined (record { receiver = fresh 1 0 0 255; carry = [] }) (markLost (0 ∷ 0x41440000 ∷ [])) ≡ logWords lostEntries
+unfolding listing lostNumber lostAnswer logAfterLost putAt logWords entryWords dataWords
+lost-counted = refl

@@ -1,6 +1,6 @@
 -- The receivers that document 01 wants thrown out by demand 3, one that delivers a packet for a PDU marked lost, one that joins across a lost PDU, one that
 -- does not take the register it is given, one whose batches forget, one that takes the whole of the better copy, one that looks at no CRC, and one whose counts
--- marking lost sets back. Each is the receiver of document 01 but for what its line says; demand 3 is shown false of `zeroed` in proofs/Registers.antt, of `forgetting` in proofs/BatchRuns.antt, and of the others in
+-- marking lost sets back. Each is the receiver of document 01 but for what its line says; demand 3 is shown false of `zeroed` in proofs/Registers.antt, of `handingBack` in proofs/BatchRuns.antt, and of the others in
 -- proofs/WrongReceivers.antt, but the promise over runs of pairs of `choosing`, in proofs/PairRuns.antt, the promise for entitled programs of `supposing` and
 -- `keeping`, in proofs/WrongRights.antt, and the promise over bursts of `trusting`, in proofs/WrongBursts.antt.
 use mathlib.Core.Bool.{Bool, true, false, _||_, cond}
@@ -111,23 +111,23 @@ forgettingAnswer x (batch lengths pdus log) = withReceiver (x .receiver) (answer
 forgettingAnswer x (pair first second log) = answerOf x (pair first second log)
 forgettingAnswer x (markLost log) = answerOf x (markLost log)
 
-abbrev pub forgetting : Behaviour
-forgetting = behaving (defined .opening) forgettingAnswer carryOf logOf
+abbrev pub handingBack : Behaviour
+handingBack = behaving (defined .opening) forgettingAnswer carryOf logOf
 
 -- it chooses the better copy of a pair and receives that one alone (document 02, Ask 5)
-abbrev pub chosen : Choice → List ℕ → List ℕ → List ℕ
-chosen neither first second = []
-chosen theFirst first second = first
-chosen theSecond first second = second
+abbrev pub chosenCopy : Choice → List ℕ → List ℕ → List ℕ
+chosenCopy neither first second = []
+chosenCopy theFirst first second = first
+chosenCopy theSecond first second = second
 
-abbrev pub better : Call → Call
-better (receive marks pdu log) = receive marks pdu log
-better (batch lengths pdus log) = batch lengths pdus log
-better (pair first second log) = receive [] (chosen (choiceOf first second) first second) log
-better (markLost log) = markLost log
+abbrev pub betterAlone : Call → Call
+betterAlone (receive marks pdu log) = receive marks pdu log
+betterAlone (batch lengths pdus log) = batch lengths pdus log
+betterAlone (pair first second log) = receive [] (chosenCopy (choiceOf first second) first second) log
+betterAlone (markLost log) = markLost log
 
 abbrev pub choosing : Behaviour
-choosing = behaving (defined .opening) (λ x c. answerOf x (better c)) (λ x c. carryOf x (better c)) (λ x c. logOf x (better c))
+choosing = behaving (defined .opening) (λ x c. answerOf x (betterAlone c)) (λ x c. carryOf x (betterAlone c)) (λ x c. logOf x (betterAlone c))
 
 -- ---- document 02, Ask 10, for core of sequence range 0-7
 

@@ -19,7 +19,7 @@ use Rattle.writer.specs.Writing.{opened as writerOpened}
 use Rattle.delivery.specs.Delivery.{Station, Call, defined, callOf, Seen, seenFrom, finally, Run, freshStation as freshIn, Delivered, HeaderAltered, Claim, Holds, demand3}
 use Rattle.delivery.specs.Interruptions.{definedSnapshot, Turn, callsIn, seenIn, endIn, Running, Suffices, OverInterruptions, InterruptedDemand3, InterruptedEntitled, InterruptedBursts, InterruptedPairs, InterruptedEntitledPairs, InterruptedChannel}
 use Rattle.delivery.specs.Copies.{Damaged}
-use Rattle.delivery.specs.Entitlement.{entitled}
+use Rattle.delivery.specs.Entitlement.{forPrograms}
 use Rattle.delivery.specs.Diversity.{WrongCrc, pairs}
 use Rattle.delivery.specs.Bursts.{Hit}
 use Rattle.delivery.specs.Channel.{WrongOrHit}
@@ -82,19 +82,19 @@ interrupted-delivers = over demand3 delivers (λ r d g. run-runs (r .mode) (r .s
 
 -- Ask 10
 pub interrupted-entitled : InterruptedEntitled
-interrupted-entitled = over (entitled (λ register width. HeaderAltered)) entitled-delivers (λ r d g. run-runs (r .mode) (r .stream) (r .register) (r .programs) (r .carry) (d .1 .opens) (d .0) g (d .1 .room))
+interrupted-entitled = over (forPrograms (λ register width. HeaderAltered)) entitled-delivers (λ r d g. run-runs (r .mode) (r .stream) (r .register) (r .programs) (r .carry) (d .1 .opens) (d .0) g (d .1 .room))
 
 -- Ask 12
 pub interrupted-bursts : InterruptedBursts
-interrupted-bursts = over (entitled (Damaged Hit)) bursts-deliver (λ r d g. run-runs (r .mode) (r .stream) (r .register) (r .programs) (r .carry) (d .1 .opens) (d .0) g (d .1 .room))
+interrupted-bursts = over (forPrograms (Damaged Hit)) bursts-deliver (λ r d g. run-runs (r .mode) (r .stream) (r .register) (r .programs) (r .carry) (d .1 .opens) (d .0) g (d .1 .room))
 
 -- Ask 5
 pub interrupted-pairs : InterruptedPairs
 interrupted-pairs = over pairs pairs-deliver (λ r d g. run-runs (r .mode) (r .stream) (r .register) (r .programs) (r .carry) (d .1 .opens) (entitled-all r (d .0)) g (d .1 .room))
 
 pub interrupted-entitled-pairs : InterruptedEntitledPairs
-interrupted-entitled-pairs = over (entitled (Damaged WrongCrc)) entitled-pairs-deliver (λ r d g. run-runs (r .mode) (r .stream) (r .register) (r .programs) (r .carry) (d .1 .opens) (d .0) g (d .1 .room))
+interrupted-entitled-pairs = over (forPrograms (Damaged WrongCrc)) entitled-pairs-deliver (λ r d g. run-runs (r .mode) (r .stream) (r .register) (r .programs) (r .carry) (d .1 .opens) (d .0) g (d .1 .room))
 
 -- over a channel
 pub interrupted-channel : InterruptedChannel
-interrupted-channel = over (entitled (Damaged WrongOrHit)) channel-delivers (λ r d g. run-runs (r .mode) (r .stream) (r .register) (r .programs) (r .carry) (d .1 .opens) (d .0) g (d .1 .room))
+interrupted-channel = over (forPrograms (Damaged WrongOrHit)) channel-delivers (λ r d g. run-runs (r .mode) (r .stream) (r .register) (r .programs) (r .carry) (d .1 .opens) (d .0) g (d .1 .room))

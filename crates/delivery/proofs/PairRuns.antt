@@ -38,7 +38,7 @@ use Rattle.delivery.proofs.Parts.{freshStation, logsFrom, made, spans, 
 use Rattle.delivery.specs.Copies.{bytesAt, crcAt, pieceAt, asSent, waysFrom, restored, Damaged}
 use Rattle.delivery.proofs.SoundSteps.{causesFor}
 use Rattle.delivery.specs.Diversity.{WrongCrc, pairs}
-use Rattle.delivery.proofs.FaultyReceivers.{chosen, choosing}
+use Rattle.delivery.proofs.FaultyReceivers.{chosenCopy, choosing}
 use Rattle.delivery.proofs.Channel.{Usable, made-right}
 use Rattle.delivery.proofs.Serving.{loggedAlone}
 use Rattle.delivery.proofs.Possible.{words, log-room}
@@ -299,13 +299,13 @@ choosing-wrong claim = go (choiceOf first second) refl
     asked : packetWords (loggedBy choosing fresh (pair first second words) ++ []) ≡ logWords (packet 0 (replicate 100 1) ∷ packet 1 (replicate 40 2) ∷ [])
     asked = logged choosing claim 1 (receives (paired first second) words ∷ []) through ∙ ap (λ (f : ℕ → ℕ). askedFor (here f ∷ [])) either-taken ∙ refl
 
-    by : (c : Choice) → choiceOf first second ≡ c → loggedBy choosing fresh (pair first second words) ≡ loggedBy defined fresh (receive [] (chosen c first second) words)
-    by c e = ap (λ (t : Choice). loggedAlone (answerOf fresh (receive [] (chosen t first second) words)) (logOf fresh (receive [] (chosen t first second) words))) e
+    by : (c : Choice) → choiceOf first second ≡ c → loggedBy choosing fresh (pair first second words) ≡ loggedBy defined fresh (receive [] (chosenCopy c first second) words)
+    by c e = ap (λ (t : Choice). loggedAlone (answerOf fresh (receive [] (chosenCopy t first second) words)) (logOf fresh (receive [] (chosenCopy t first second) words))) e
 
     go : (c : Choice) → choiceOf first second ≡ c → ⊥
     go neither e =
         empty-number fresh words
         (sym (refusal-is [] carry [] words (fresh .receiver))
-        ∙ subst (λ (t : Choice). answerOf fresh (receive [] (chosen t first second) words) .refusal ≡ 0) e (claimed choosing claim 1 (receives (paired first second) words ∷ []) through .accepted .0))
+        ∙ subst (λ (t : Choice). answerOf fresh (receive [] (chosenCopy t first second) words) .refusal ≡ 0) e (claimed choosing claim 1 (receives (paired first second) words ∷ []) through .accepted .0))
     go theFirst e = let h : _≡_ {A = ℕ} 15 50 = ap length (sym first-alone ∙ ap (λ (l : List ℕ). packetWords (l ++ [])) (sym (by theFirst e)) ∙ asked) in absurd (omega (arith, h))
     go theSecond e = let h : _≡_ {A = ℕ} 35 50 = ap length (sym second-alone ∙ ap (λ (l : List ℕ). packetWords (l ++ [])) (sym (by theSecond e)) ∙ asked) in absurd (omega (arith, h))

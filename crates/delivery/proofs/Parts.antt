@@ -13,7 +13,7 @@ use Rattle.writer.specs.Writing.{opened as writerOpened}
 use Rattle.runs.specs.Spans.{Span, every, wholeIndices, entriesAt}
 use Rattle.runs.specs.Transmissions.{Way, gone, here}
 use Rattle.runs.proofs.Model.{wholePackets}
-use Rattle.runs.proofs.Promise.{arrived as arrivedBy, indices}
+use Rattle.runs.proofs.Promise.{arrivedBy as arrivedBy, indices}
 use Rattle.runs.proofs.Spans.{entries-are}
 use Rattle.delivery.specs.Delivery.{Writing, pdusFrom, spansFrom, Station, Call, Answer, Behaviour, effectOf, HeaderAltered, Step, callOf, Takes, takenBy, Through as ThroughBy, seenFrom, logsIn, Each, Run, runOf, Asked as AskedBy, inReceived}
 use Rattle.delivery.specs.Entitlement.{labelsFrom, rightsFor}
@@ -66,16 +66,16 @@ module _ (mode stream : ℕ) (packets : List (List ℕ)) (writings : List Writin
   abbrev pub spans : List Span
   spans = spansFrom mode stream packets 0 writings
 
-  abbrev pub arrived : (first count : ℕ) (received : List Bool) → List Entry
-  arrived first count received = wholePackets (every (inReceived (runOf first count spans) received)) 0 0 packets
+  abbrev pub arrivedEntries : (first count : ℕ) (received : List Bool) → List Entry
+  arrivedEntries first count received = wholePackets (every (inReceived (runOf first count spans) received)) 0 0 packets
 
   abbrev pub arrivedIndices : (first count : ℕ) (received : List Bool) → List ℕ
   arrivedIndices first count received = wholeIndices (every (inReceived (runOf first count spans) received)) 0 0 packets
 
 -- the PDUs of the run come in these ways
 module _ (mode stream : ℕ) (programs : List ℕ) (packets : List (List ℕ)) (writings : List Writing) where
-  abbrev pub due : (first : ℕ) (ways : List Way) → List Entry
-  due first ways =
+  abbrev pub dueEntries : (first : ℕ) (ways : List Way) → List Entry
+  dueEntries first ways =
       arrivedBy (rightsFor mode stream programs) (modeIn (listing mode stream) .sequences) first packets (spans mode stream packets writings) (labelsFrom mode stream packets 0 writings) ways
 
   abbrev pub dueIndices : (first : ℕ) (ways : List Way) → List ℕ

@@ -50,10 +50,10 @@ repeated-refused carry q log r z = true≢false (row-off (receiveTests (0 ∷ 0 
 abbrev pub Alters : List ℕ → (List ℕ → List ℕ) → Type 0
 Alters marks alter = (p : List ℕ) → Usable p → HeaderAltered marks p (alter p)
 
-abbrev pub asSent : List ℕ → List ℕ
-asSent p = p
+abbrev pub verbatim : List ℕ → List ℕ
+verbatim p = p
 
-pub as-sent : Alters [] asSent
+pub as-sent : Alters [] verbatim
 as-sent p h = unaltered p (h .0)
 
 module _ (marks : List ℕ) (alter : List ℕ → List ℕ) where
@@ -117,7 +117,7 @@ module _ (mode stream register : ℕ) (packets : List (List ℕ)) (writings : Li
 
   -- the calls for a run, each PDU as it was written, with some lost
   abbrev pub stepsOf : ℕ → ℕ → List Bool → List Step
-  stepsOf first count bs = stepsFor [] asSent [] (runOf first count (made mode stream register writings)) bs
+  stepsOf first count bs = stepsFor [] verbatim [] (runOf first count (made mode stream register writings)) bs
 
   pub possible : (b : Behaviour) (programs : List ℕ) (first count : ℕ) (carry : List ℕ) (bs : List Bool) → 4096 ≤ length carry → Asked b mode stream register programs packets writings first count carry (stepsOf first count bs)
   possible b programs first count carry bs big = record {
@@ -125,5 +125,5 @@ module _ (mode stream register : ℕ) (packets : List (List ℕ)) (writings : Li
     sized = sized;
     offered = offered;
     room = big;
-    through = goes-through [] asSent b as-sent [] (runOf first count (made mode stream register writings)) bs _ (λ y. tt) (run-usable first count);
+    through = goes-through [] verbatim b as-sent [] (runOf first count (made mode stream register writings)) bs _ (λ y. tt) (run-usable first count);
   }

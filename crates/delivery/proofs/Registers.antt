@@ -30,7 +30,7 @@ use Rattle.runs.proofs.Calls.{plainFate}
 use Rattle.runs.specs.Spans.{Span, lies, Mark, every, dueAt}
 use Rattle.runs.proofs.Model.{wholePackets}
 use Rattle.delivery.specs.Delivery.{Packets, Writing, bufferAfter, pdusFrom, spansFrom, InOrder, receive, defined, Step, receives, alone, inReceived, runOf, Demand3For}
-use Rattle.delivery.proofs.Parts.{EntriesFit, due, freshStation, logsFrom, made, spans, Asked}
+use Rattle.delivery.proofs.Parts.{EntriesFit, dueEntries, freshStation, logsFrom, made, spans, Asked}
 use Rattle.delivery.proofs.SoundSteps.{wrong, Damage, Copy, receives as takes, ways, Through}
 use Rattle.delivery.specs.Copies.{restored, bytesAt, crcAt}
 use Rattle.delivery.proofs.FaultyReceivers.{zeroed}
@@ -39,7 +39,7 @@ use Rattle.delivery.proofs.Claimed.{demand3-says}
 use Rattle.delivery.proofs.Channel.{Usable, made-right, sound-delivers}
 use Rattle.delivery.proofs.Entitling.{all-allowed}
 use Rattle.delivery.proofs.Entitled.{all-marks}
-use Rattle.delivery.proofs.Possible.{words, log-room, asSent, stepsFor, possible}
+use Rattle.delivery.proofs.Possible.{words, log-room, verbatim, stepsFor, possible}
 use Rattle.delivery.proofs.SmallRuns.{offering, bytes-same, carry, carry-room}
 
 -- a packet of 100 bytes, and a call for a PDU of 200 bytes, which has room for it
@@ -138,7 +138,7 @@ one-few = let n : length one ≡ 1 = refl in omega (arith, n)
 abbrev logged : List ℕ
 logged = packetWords (logsFrom defined (freshStation defined 0 0 0 allPrograms carry) (receive [] (pdu 255) words ∷ []))
 
-due-fit : EntriesFit (due 0 0 allPrograms one once 0 (ways (takes [] (pdu 255) words (λ k. false) ∷ [])))
+due-fit : EntriesFit (dueEntries 0 0 allPrograms one once 0 (ways (takes [] (pdu 255) words (λ k. false) ∷ [])))
 due-fit = packets-fit _ one one-few
 
 -- no packet is logged
@@ -163,7 +163,7 @@ pub zeroed-wrong : ¬ Demand3For zeroed
 unfolding stepsFor wholePackets logWords entryWords dataWords
 zeroed-wrong claim =
     let asked : Asked zeroed 0 0 255 allPrograms one once 0 1 carry (receives (alone [] (pdu 255)) words ∷ []) =
-    subst (λ (ps : List (List ℕ)). Asked zeroed 0 0 255 allPrograms one once 0 1 carry (stepsFor [] asSent [] (runOf 0 1 ps) (true ∷ []))) (made-is 255) (possible 0 0 255 one once (opens 255) one-right in-order zeroed allPrograms 0 1 carry (true ∷ []) carry-room) in
+    subst (λ (ps : List (List ℕ)). Asked zeroed 0 0 255 allPrograms one once 0 1 carry (stepsFor [] verbatim [] (runOf 0 1 ps) (true ∷ []))) (made-is 255) (possible 0 0 255 one once (opens 255) one-right in-order zeroed allPrograms 0 1 carry (true ∷ []) carry-room) in
     let found : logged ≡ logWords (packet 0 (replicate 100 2) ∷ []) =
     demand3-says zeroed claim 0 0 255 one once 0 1 carry (receives (alone [] (pdu 255)) words ∷ []) one-few asked .log
     ∙ ap (λ (l : List Span). logWords (wholePackets (every (inReceived (runOf 0 1 l) (true ∷ []))) 0 0 one)) spans-are in

@@ -30,11 +30,11 @@ use Rattle.receiver.specs.Receiving.{receiveNumber, receiveAnswer, lostNumber, 
 use Rattle.receiver.specs.declared.Receiver.{Receiver}
 use Rattle.receiver.specs.declared.Received.{Received}
 use Rattle.runs.specs.Spans.{Span, every, wholeIndices}
-use Rattle.delivery.specs.Delivery.{Packets, joined, Writing, spansFrom, InOrder, Station, Call, receive, markLost, defined, Step, refuses, callOf, receptions, stationAfter, RefusedAfter, inReceived, runOf, Behaviour, batches, loses, arrived as arrivedIn, Demand3For}
-use Rattle.delivery.proofs.Parts.{runWith, freshStation, logsFrom, made, spans, arrived, Asked, answerOf}
+use Rattle.delivery.specs.Delivery.{Packets, concatenated, Writing, spansFrom, InOrder, Station, Call, receive, markLost, defined, Step, refuses, callOf, receptions, stationAfter, RefusedAfter, inReceived, runOf, Behaviour, batches, loses, arrived as arrivedIn, Demand3For}
+use Rattle.delivery.proofs.Parts.{runWith, freshStation, logsFrom, made, spans, arrivedEntries, Asked, answerOf}
 use Rattle.runs.proofs.Model.{wholePackets}
 use Rattle.delivery.proofs.Channel.{Usable, made-right}
-use Rattle.delivery.proofs.Possible.{four-altered, Alters, asSent, as-sent, stepsFor, told-receptions, goes-through, run-usable, stepsOf, possible}
+use Rattle.delivery.proofs.Possible.{four-altered, Alters, verbatim, as-sent, stepsFor, told-receptions, goes-through, run-usable, stepsOf, possible}
 use Rattle.delivery.proofs.Claimed.{Logged, demand3-says}
 use Rattle.delivery.proofs.Theorem.{delivers}
 
@@ -48,7 +48,7 @@ three = replicate 20 1 ∷ replicate 300 2 ∷ replicate 10 3 ∷ []
 
 -- a call that offers these packets, for a PDU of so many bytes
 abbrev pub offering : ℕ → List (List ℕ) → Writing
-offering size ps = record { settings = plain; psd = []; lengths = map length ps; bytes = joined ps; buffer = replicate size 0; psd-bytes = tt }
+offering size ps = record { settings = plain; psd = []; lengths = map length ps; bytes = concatenated ps; buffer = replicate size 0; psd-bytes = tt }
 
 -- six calls. The second is refused with 3, the others make five PDUs; the packet of 300 bytes spans all five
 abbrev pub six : List Writing
@@ -103,7 +103,7 @@ run-length first count n h =
 
 -- the words that demand 3 asks for, of so many PDUs from one on, of which these are received
 abbrev pub askedFor : ℕ → ℕ → List Bool → List ℕ
-askedFor first count bs = logWords (arrived 0 0 three six first count bs)
+askedFor first count bs = logWords (arrivedEntries 0 0 three six first count bs)
 
 pub asked-is : (first count : ℕ) (bs : List Bool) (es : List Entry) → wholePackets (every (inReceived (runOf first count fiveSpans) bs)) 0 0 three ≡ es → askedFor first count bs ≡ logWords es
 asked-is first count bs es e = ap logWords (ap (λ (l : List Span). wholePackets (every (inReceived (runOf first count l) bs)) 0 0 three) spans-are ∙ e)
@@ -125,11 +125,11 @@ abbrev pub loggedIn : ℕ → ℕ → List Bool → List ℕ
 loggedIn first count bs = packetWords (logsFrom defined (freshStation defined 0 0 0 allPrograms carry) (map callOf (calls first count bs)))
 
 pub told : (first count : ℕ) (bs : List Bool) → length (runOf first count fiveSpans) ≡ length bs → receptions (calls first count bs) ≡ bs
-told first count bs n = told-receptions [] asSent [] (runOf first count (made 0 0 0 six)) bs refl (sym (run-length first count (length bs) n))
+told first count bs n = told-receptions [] verbatim [] (runOf first count (made 0 0 0 six)) bs refl (sym (run-length first count (length bs) n))
 
 -- what demand 3 says of calls for these PDUs
 pub small-run : (b : Behaviour) → Demand3For b → (first count : ℕ) (c : List ℕ) (steps : List Step) → Asked b 0 0 0 allPrograms three six first count c steps
-    → Logged b (freshStation b 0 0 0 allPrograms c) steps (arrived 0 0 three six first count (receptions steps))
+    → Logged b (freshStation b 0 0 0 allPrograms c) steps (arrivedEntries 0 0 three six first count (receptions steps))
 small-run b claim first count c steps d = demand3-says b claim 0 0 0 three six first count c steps three-few d
 
 logged-is : (first count : ℕ) (bs : List Bool) (es : List Entry) → length (runOf first count fiveSpans) ≡ length bs

@@ -16,8 +16,8 @@ use Rattle.writer.specs.Writing.{opened as writerOpened}
 use Rattle.receiver.specs.Entitling.{allowedPrograms}
 use Rattle.receiver.specs.Receiving.{tallyOf}
 use Rattle.runs.specs.Transmissions.{Way, gone, here, Close, AddsUp}
-use Rattle.delivery.specs.Delivery.{Packets, joined, Writing, InOrder, Station, Call, receive, batch, pair, markLost, Answer, defined, stationAfter, RefusedAfter, finally, runOf, Correctable}
-use Rattle.delivery.proofs.Parts.{freshStation, NoneRefused, logsFrom, made, EntriesFit, due, dueIndices}
+use Rattle.delivery.specs.Delivery.{Packets, concatenated, Writing, InOrder, Station, Call, receive, batch, pair, markLost, Answer, defined, stationAfter, RefusedAfter, finally, runOf, Correctable}
+use Rattle.delivery.proofs.Parts.{freshStation, NoneRefused, logsFrom, made, EntriesFit, dueEntries, dueIndices}
 use Rattle.delivery.specs.Copies.{restored, frontLength, bytesAt, crcAt, pieceAt}
 
 -- ---- a copy of a PDU
@@ -64,8 +64,8 @@ pub data Step : Type 0 where
 abbrev pub callOf : Step → Call
 callOf (receives marks pdu log sound) = receive marks pdu log
 callOf (pairs first second log sound other) = pair first second log
-callOf (batches came log) = batch (map length (pdusIn came)) (joined (pdusIn came)) log
-callOf (stops came lengths bytes log) = batch (map length (pdusIn came) ++ lengths) (joined (pdusIn came) ++ bytes) log
+callOf (batches came log) = batch (map length (pdusIn came)) (concatenated (pdusIn came)) log
+callOf (stops came lengths bytes log) = batch (map length (pdusIn came) ++ lengths) (concatenated (pdusIn came) ++ bytes) log
 callOf (loses log) = markLost log
 callOf (refuses c) = c
 
@@ -125,13 +125,13 @@ module _ (mode stream register : ℕ) (programs : List ℕ) (packets : List (Lis
     pub offered : InOrder mode stream packets 0 writings
     pub room : 4096 ≤ length carry
     pub through : Through register (modeIn (listing mode stream) .width) (freshStation defined mode stream register programs carry) (runOf first count (made mode stream register writings)) steps
-    pub countable : EntriesFit (due mode stream programs packets writings first (ways steps))
+    pub countable : EntriesFit (dueEntries mode stream programs packets writings first (ways steps))
 
   -- what is promised of them
   pub record Delivered : Type 0 where
     pub accepted : NoneRefused defined callOf Takes (freshStation defined mode stream register programs carry) steps
-    pub log : packetWords (logsFrom defined (freshStation defined mode stream register programs carry) (map callOf steps)) ≡ logWords (due mode stream programs packets writings first (ways steps))
-    pub counts : tallyOf (finally defined (freshStation defined mode stream register programs carry) (map callOf steps) .receiver) ≡ tallied noTally (due mode stream programs packets writings first (ways steps))
+    pub log : packetWords (logsFrom defined (freshStation defined mode stream register programs carry) (map callOf steps)) ≡ logWords (dueEntries mode stream programs packets writings first (ways steps))
+    pub counts : tallyOf (finally defined (freshStation defined mode stream register programs carry) (map callOf steps) .receiver) ≡ tallied noTally (dueEntries mode stream programs packets writings first (ways steps))
     pub adds-up : Close (dueIndices mode stream programs packets writings first (ways steps))
         → AddsUp (dueIndices mode stream programs packets writings first (ways steps)) (tallyOf (finally defined (freshStation defined mode stream register programs carry) (map callOf steps) .receiver))
 

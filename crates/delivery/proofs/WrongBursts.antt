@@ -21,11 +21,11 @@ use Rattle.reassembly.specs.Reassembly.{received, sequenceStep, beginningStep, 
 use Rattle.receiver.specs.Entitling.{allPrograms, allowedPrograms, maskOf, entitles}
 use Rattle.receiver.specs.Receiving.{openingNumber, openedFor, piecesIn, saidBy, comeBy, memoryOf, shown}
 use Rattle.runs.proofs.Model.{wholePackets}
-use Rattle.runs.proofs.Promise.{arrived}
+use Rattle.runs.proofs.Promise.{arrivedBy}
 use Rattle.runs.specs.Transmissions.{here}
 use Rattle.delivery.specs.Delivery.{Behaviour, Answer, receive, Step, receives, alone, loggedBy, runOf, Through, Holds}
-use Rattle.delivery.proofs.Parts.{freshStation, made, due, runWith, answerOf}
-use Rattle.delivery.specs.Entitlement.{rightsFor, entitled}
+use Rattle.delivery.proofs.Parts.{freshStation, made, dueEntries, runWith, answerOf}
+use Rattle.delivery.specs.Entitlement.{rightsFor, forPrograms}
 use Rattle.delivery.specs.Bursts.{Hit}
 use Rattle.delivery.specs.Copies.{waysFrom, Damaged}
 use Rattle.delivery.proofs.FaultyReceivers.{withWords, allTaken, trustedEntries, trustedWords, trusting}
@@ -42,8 +42,8 @@ abbrev call : List Step
 call = receives (alone [] second) words ∷ []
 
 -- the claim for this PDU
-module _ (b : Behaviour) (claim : Holds (entitled (Damaged Hit)) b) where
-  claimed : Logged b (freshStation b 0 0 0 allPrograms carry) call (due 0 0 allPrograms packets two 0 (waysFrom 16 (runOf 0 1 (made 0 0 0 two)) call))
+module _ (b : Behaviour) (claim : Holds (forPrograms (Damaged Hit)) b) where
+  claimed : Logged b (freshStation b 0 0 0 allPrograms carry) call (dueEntries 0 0 allPrograms packets two 0 (waysFrom 16 (runOf 0 1 (made 0 0 0 two)) call))
   unfolding listing
   claimed =
       entitled-says (Damaged Hit) b claim (runWith 0 0 0 allPrograms packets two 0 1 carry call) (let n : length packets ≡ 3 = refl in omega (arith, n)) all-allowed
@@ -56,9 +56,9 @@ module _ (b : Behaviour) (claim : Holds (entitled (Damaged Hit)) b) where
       })
 
 -- one packet is asked for
-one-due : due 0 0 allPrograms packets two 0 (here (firstTwo 0 2 causes) ∷ []) ≡ packet 0 (replicate 100 1) ∷ []
+one-due : dueEntries 0 0 allPrograms packets two 0 (here (firstTwo 0 2 causes) ∷ []) ≡ packet 0 (replicate 100 1) ∷ []
 unfolding listing wholePackets
-one-due = (λ i. arrived (rightsFor 0 0 allPrograms) 2 0 packets (spans-are i) (labels-are i) (here (firstTwo 0 2 causes) ∷ [])) ∙ refl
+one-due = (λ i. arrivedBy (rightsFor 0 0 allPrograms) 2 0 packets (spans-are i) (labels-are i) (here (firstTwo 0 2 causes) ∷ [])) ∙ refl
 
 -- and two are logged, the second as it came
 abbrev struck : List ℕ
@@ -87,14 +87,14 @@ all-logged a w t =
     ∙ append-nil (take (length w) (putAt words 0 w))
     ∙ take-put words w
 
-pub trusting-wrong : ¬ Holds (entitled (Damaged Hit)) trusting
+pub trusting-wrong : ¬ Holds (forPrograms (Damaged Hit)) trusting
 unfolding logWords entryWords dataWords packetsOf
 trusting-wrong claim =
     let a : Answer = answerOf fresh (receive [] second words) in
     let asked : packetWords (loggedBy trusting fresh (receive [] second words) ++ []) ≡ logWords (packet 0 (replicate 100 1) ∷ []) =
     claimed trusting claim .log
-    ∙ ap (λ (ps : List (List ℕ)). logWords (due 0 0 allPrograms packets two 0 (waysFrom 16 (runOf 0 1 ps) call))) made-is
-    ∙ ap (λ (f : ℕ → ℕ). logWords (due 0 0 allPrograms packets two 0 (here f ∷ []))) second-struck
+    ∙ ap (λ (ps : List (List ℕ)). logWords (dueEntries 0 0 allPrograms packets two 0 (waysFrom 16 (runOf 0 1 ps) call))) made-is
+    ∙ ap (λ (f : ℕ → ℕ). logWords (dueEntries 0 0 allPrograms packets two 0 (here f ∷ []))) second-struck
     ∙ ap logWords one-due in
     let found : loggedBy trusting fresh (receive [] second words) ++ [] ≡ logWords (packet 0 (replicate 100 1) ∷ packet 1 struck ∷ []) =
     all-logged a (trustedWords fresh [] second words) (eq-eqb (a .refusal) 0 (claimed trusting claim .accepted .0)) ∙ ap logWords both-logged in

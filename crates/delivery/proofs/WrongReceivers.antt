@@ -29,11 +29,11 @@ use Rattle.receiver.specs.declared.Receiver.{Receiver}
 use Rattle.runs.specs.Spans.{Span, every}
 use Rattle.reassembly.specs.Tally.{Tally, noTally, counted, tallied}
 use Rattle.delivery.specs.Delivery.{Packets, Writing, bufferAfter, pdusFrom, spansFrom, InOrder, Behaviour, Answer, Station, Call, receive, markLost, defined, callOf, Takes, receives, alone, loses, receptions, stationAfter, loggedBy, finally, inReceived, runOf, Demand3For}
-use Rattle.delivery.proofs.Parts.{freshStation, NoneRefused, logCounts, logsFrom, made, spans, arrived, Asked, answerOf, carryOf, logOf}
+use Rattle.delivery.proofs.Parts.{freshStation, NoneRefused, logCounts, logsFrom, made, spans, arrivedEntries, Asked, answerOf, carryOf, logOf}
 use Rattle.runs.proofs.Model.{wholePackets}
 use Rattle.delivery.proofs.FaultyReceivers.{withWords, lentLog, silent, untouched, fixedWords, fixed, inventing, advancing, joining, resetting}
 use Rattle.delivery.proofs.Serving.{loggedAlone}
-use Rattle.delivery.proofs.Possible.{words, asSent, stepsFor, possible}
+use Rattle.delivery.proofs.Possible.{words, verbatim, stepsFor, possible}
 use Rattle.delivery.proofs.Claimed.{Logged, demand3-says}
 use Rattle.delivery.proofs.Theorem.{delivers}
 use Rattle.delivery.proofs.SmallRuns.{three, small-run, spans-are, six, offering, opens, packets-right, in-order, carry, carry-room, calls, run-length, told, askedFor, asked-is, bytes-same}
@@ -58,7 +58,7 @@ second-asked = asked-is 1 1 (true ∷ []) [] refl
 
 -- the claim for these calls
 module _ (b : Behaviour) (claim : Demand3For b) where
-  claimed : (first count : ℕ) (bs : List Bool) → Logged b (freshStation b 0 0 0 allPrograms carry) (calls first count bs) (arrived 0 0 three six first count (receptions (calls first count bs)))
+  claimed : (first count : ℕ) (bs : List Bool) → Logged b (freshStation b 0 0 0 allPrograms carry) (calls first count bs) (arrivedEntries 0 0 three six first count (receptions (calls first count bs)))
   claimed first count bs = small-run b claim first count carry (calls first count bs) (possible 0 0 0 three six opens packets-right in-order b allPrograms first count carry bs carry-room)
 
   all-logged : packetWords (logsFrom b (freshStation b 0 0 0 allPrograms carry) (map callOf (calls 0 5 all))) ≡ askedFor 0 5 all
@@ -100,7 +100,7 @@ zeros-if : (b : Bool) (l : List ℕ) → Zeros l → Zeros (cond b l [])
 zeros-if true l h = h
 zeros-if false l h = tt
 
-zeros-logged : (pdus : List (List ℕ)) (bs : List Bool) (x : Station) → Zeros (logsFrom untouched x (map callOf (stepsFor [] asSent [] pdus bs)))
+zeros-logged : (pdus : List (List ℕ)) (bs : List Bool) (x : Station) → Zeros (logsFrom untouched x (map callOf (stepsFor [] verbatim [] pdus bs)))
 unfolding stepsFor
 zeros-logged [] bs x = tt
 zeros-logged (p ∷ ps) [] x =
@@ -145,8 +145,8 @@ module _ (number : ℕ) (bytes : List ℕ) (fits : Fit (packet number bytes)) wh
   fixed-wrong claim =
       go (runOf 1 1 (made 0 0 0 six)) (run-length 1 1 1 refl) (claimed defined delivers 1 1 (true ∷ []) .accepted) (claimed (fixed number bytes) claim 1 1 (true ∷ []) .log ∙ ap (askedFor 1 1) (told 1 1 (true ∷ []) refl) ∙ second-asked)
     where
-      go : (pdus : List (List ℕ)) → length pdus ≡ 1 → NoneRefused defined callOf Takes (freshStation defined 0 0 0 allPrograms carry) (stepsFor [] asSent [] pdus (true ∷ []))
-          → ¬ (packetWords (logsFrom (fixed number bytes) (freshStation defined 0 0 0 allPrograms carry) (map callOf (stepsFor [] asSent [] pdus (true ∷ [])))) ≡ [])
+      go : (pdus : List (List ℕ)) → length pdus ≡ 1 → NoneRefused defined callOf Takes (freshStation defined 0 0 0 allPrograms carry) (stepsFor [] verbatim [] pdus (true ∷ []))
+          → ¬ (packetWords (logsFrom (fixed number bytes) (freshStation defined 0 0 0 allPrograms carry) (map callOf (stepsFor [] verbatim [] pdus (true ∷ [])))) ≡ [])
       go [] n a e = absurd (omega (arith, n))
       go (p ∷ q ∷ ps) n a e = absurd (omega (arith, n))
       go (p ∷ []) n a e = one-logged (answerOf (freshStation defined 0 0 0 allPrograms carry) (receive [] p words)) (a .0) e
@@ -157,8 +157,8 @@ module _ (number : ℕ) (bytes : List ℕ) (fits : Fit (packet number bytes)) wh
   inventing-wrong claim =
       go (runOf 1 1 (made 0 0 0 six)) (run-length 1 1 1 refl) (claimed defined delivers 1 1 (false ∷ []) .accepted) (claimed (inventing number bytes) claim 1 1 (false ∷ []) .log ∙ ap (askedFor 1 1) (told 1 1 (false ∷ []) refl) ∙ second-lost)
     where
-      go : (pdus : List (List ℕ)) → length pdus ≡ 1 → NoneRefused defined callOf Takes (freshStation defined 0 0 0 allPrograms carry) (stepsFor [] asSent [] pdus (false ∷ []))
-          → ¬ (packetWords (logsFrom (inventing number bytes) (freshStation defined 0 0 0 allPrograms carry) (map callOf (stepsFor [] asSent [] pdus (false ∷ [])))) ≡ [])
+      go : (pdus : List (List ℕ)) → length pdus ≡ 1 → NoneRefused defined callOf Takes (freshStation defined 0 0 0 allPrograms carry) (stepsFor [] verbatim [] pdus (false ∷ []))
+          → ¬ (packetWords (logsFrom (inventing number bytes) (freshStation defined 0 0 0 allPrograms carry) (map callOf (stepsFor [] verbatim [] pdus (false ∷ [])))) ≡ [])
       go [] n a e = absurd (omega (arith, n))
       go (p ∷ q ∷ ps) n a e = absurd (omega (arith, n))
       go (p ∷ []) n a e = one-logged (answerOf (freshStation defined 0 0 0 allPrograms carry) (markLost words)) (a .0) e
@@ -181,7 +181,7 @@ known-kept x marks p log h = go (eqb (receiveNumber marks (x .carry) p log (x .r
     go true e = rw e refl
     go false e = rw e h
 
-only-advances : (n : ℕ) (pdus : List (List ℕ)) (x : Station) → length pdus ≤ n → x .receiver .known ≡ true → logsFrom advancing x (map callOf (stepsFor [] asSent [] pdus (replicate n true))) ≡ []
+only-advances : (n : ℕ) (pdus : List (List ℕ)) (x : Station) → length pdus ≤ n → x .receiver .known ≡ true → logsFrom advancing x (map callOf (stepsFor [] verbatim [] pdus (replicate n true))) ≡ []
 unfolding stepsFor
 only-advances n [] x l h = refl
 only-advances zero (p ∷ ps) x l h = absurd (not-suc-le-zero l)
@@ -207,9 +207,9 @@ unfolding stepsFor logWords entryWords dataWords
 advancing-wrong claim =
     go (made 0 0 0 six) (run-length 0 5 5 refl) (claimed defined delivers 0 1 (true ∷ []) .accepted) (claimed defined delivers 0 1 (true ∷ []) .log ∙ ap (askedFor 0 1) (told 0 1 (true ∷ []) refl) ∙ first-asked) (all-logged advancing claim)
   where
-    go : (ps : List (List ℕ)) → length (runOf 0 5 ps) ≡ 5 → NoneRefused defined callOf Takes fresh (stepsFor [] asSent [] (runOf 0 1 ps) (true ∷ []))
-        → packetWords (logsFrom defined fresh (map callOf (stepsFor [] asSent [] (runOf 0 1 ps) (true ∷ [])))) ≡ logWords (packet 0 (replicate 20 1) ∷ [])
-        → ¬ (packetWords (logsFrom advancing fresh (map callOf (stepsFor [] asSent [] (runOf 0 5 ps) all))) ≡ askedFor 0 5 all)
+    go : (ps : List (List ℕ)) → length (runOf 0 5 ps) ≡ 5 → NoneRefused defined callOf Takes fresh (stepsFor [] verbatim [] (runOf 0 1 ps) (true ∷ []))
+        → packetWords (logsFrom defined fresh (map callOf (stepsFor [] verbatim [] (runOf 0 1 ps) (true ∷ [])))) ≡ logWords (packet 0 (replicate 20 1) ∷ [])
+        → ¬ (packetWords (logsFrom advancing fresh (map callOf (stepsFor [] verbatim [] (runOf 0 5 ps) all))) ≡ askedFor 0 5 all)
     go [] n a l e = absurd (omega (arith, n))
     go (p ∷ ps) n a l e =
         let c : Call = receive [] p words in
@@ -218,7 +218,7 @@ advancing-wrong claim =
         let known : stationAfter advancing fresh c .receiver .known ≡ true =
         ap (λ (b : Bool). cond b (withWords 0 (answerOf fresh c)) (answerOf fresh c) .receiver .known) fresh-unknown ∙ known-after fresh [] p words (a .0) in
         let few : length (take 4 ps) ≤ 4 = (let t = length-take 4 ps in omega (arith, t)) in
-        let logs : logsFrom advancing fresh (map callOf (stepsFor [] asSent [] (runOf 0 5 (p ∷ ps)) all)) ≡ loggedBy defined fresh c ++ [] =
+        let logs : logsFrom advancing fresh (map callOf (stepsFor [] verbatim [] (runOf 0 5 (p ∷ ps)) all)) ≡ loggedBy defined fresh c ++ [] =
         ap₂ (λ (u v : List ℕ). u ++ v) first (only-advances 4 (take 4 ps) (stationAfter advancing fresh c) few known) in
         let h : _≡_ {A = ℕ} 8 114 = ap length (sym l ∙ ap packetWords (sym logs) ∙ e) ∙ all-words .0 in
         absurd (omega (arith, h))
@@ -299,10 +299,10 @@ short-spans = refl
 -- the claim for PDUs that are written so
 module _ (b : Behaviour) (claim : Demand3For b) (packets : List (List ℕ)) (writings : List Writing) (z : Packets packets) (o : InOrder 0 0 packets 0 writings) (few : length packets ≤ 4294967295) (pdus : List (List ℕ)) (e : made 0 0 0 writings ≡ pdus) where
   delivered : (count : ℕ) (bs : List Bool)
-      → Logged b (freshStation b 0 0 0 allPrograms carry) (stepsFor [] asSent [] (runOf 0 count pdus) bs) (arrived 0 0 packets writings 0 count (receptions (stepsFor [] asSent [] (runOf 0 count pdus) bs)))
+      → Logged b (freshStation b 0 0 0 allPrograms carry) (stepsFor [] verbatim [] (runOf 0 count pdus) bs) (arrivedEntries 0 0 packets writings 0 count (receptions (stepsFor [] verbatim [] (runOf 0 count pdus) bs)))
   delivered count bs =
-      demand3-says b claim 0 0 0 packets writings 0 count carry (stepsFor [] asSent [] (runOf 0 count pdus) bs) few
-      (subst (λ (ps : List (List ℕ)). Asked b 0 0 0 allPrograms packets writings 0 count carry (stepsFor [] asSent [] (runOf 0 count ps) bs)) e (possible 0 0 0 packets writings opens z o b allPrograms 0 count carry bs carry-room))
+      demand3-says b claim 0 0 0 packets writings 0 count carry (stepsFor [] verbatim [] (runOf 0 count pdus) bs) few
+      (subst (λ (ps : List (List ℕ)). Asked b 0 0 0 allPrograms packets writings 0 count carry (stepsFor [] verbatim [] (runOf 0 count ps) bs)) e (possible 0 0 0 packets writings opens z o b allPrograms 0 count carry bs carry-room))
 
 -- words with no packet among them change nothing
 pub no-packet : (l r : List ℕ) → packetWords l ≡ [] → packetWords (l ++ r) ≡ packetWords r
@@ -369,11 +369,11 @@ joining-wrong claim =
 abbrev firstOfTwo : List Bool
 firstOfTwo = true ∷ false ∷ []
 
-one-due : arrived 0 0 three six 0 2 firstOfTwo ≡ packet 0 (replicate 20 1) ∷ []
+one-due : arrivedEntries 0 0 three six 0 2 firstOfTwo ≡ packet 0 (replicate 20 1) ∷ []
 unfolding wholePackets
 one-due = ap (λ (l : List Span). wholePackets (every (inReceived (runOf 0 2 l) firstOfTwo)) 0 0 three) spans-are ∙ refl
 
-set-back : (pdus : List (List ℕ)) → length pdus ≡ 2 → tallyOf (finally resetting (freshStation resetting 0 0 0 allPrograms carry) (map callOf (stepsFor [] asSent [] pdus firstOfTwo)) .receiver) ≡ noTally
+set-back : (pdus : List (List ℕ)) → length pdus ≡ 2 → tallyOf (finally resetting (freshStation resetting 0 0 0 allPrograms carry) (map callOf (stepsFor [] verbatim [] pdus firstOfTwo)) .receiver) ≡ noTally
 unfolding stepsFor
 set-back [] n = absurd (omega (arith, n))
 set-back (p ∷ []) n = absurd (omega (arith, n))
@@ -386,7 +386,7 @@ resetting-wrong claim =
     let h : noTally ≡ tallied noTally (packet 0 (replicate 20 1) ∷ []) =
     sym (set-back (runOf 0 2 (made 0 0 0 six)) (run-length 0 2 2 refl))
     ∙ claimed resetting claim 0 2 firstOfTwo .counts
-    ∙ ap (λ (bs : List Bool). tallied noTally (arrived 0 0 three six 0 2 bs)) (told 0 2 firstOfTwo refl)
+    ∙ ap (λ (bs : List Bool). tallied noTally (arrivedEntries 0 0 three six 0 2 bs)) (told 0 2 firstOfTwo refl)
     ∙ ap (tallied noTally) one-due in
     let z : _≡_ {A = ℕ} 0 1 = ap (λ (t : Tally). t .delivered) h in
     absurd (omega (arith, z))

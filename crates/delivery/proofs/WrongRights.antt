@@ -29,21 +29,21 @@ use Rattle.receiver.specs.declared.Receiver.{Receiver}
 use Rattle.runs.proofs.Model.{cut, readPieces, saidOf, wholePackets}
 use Rattle.runs.specs.Transmissions.{Way, here}
 use Rattle.runs.specs.Spans.{Span}
-use Rattle.runs.proofs.Promise.{arrived}
+use Rattle.runs.proofs.Promise.{arrivedBy}
 use Rattle.runs.proofs.Calls.{Speech, heard}
 use Rattle.runs.proofs.Theorem.{Unfinished}
-use Rattle.delivery.specs.Delivery.{Packets, joined, Writing, pdusFrom, spansFrom, InOrder, Behaviour, Station, receive, markLost, defined, Step, callOf, stationAfter, loggedBy, receptions, runOf, HeaderAltered, Holds}
-use Rattle.delivery.proofs.Parts.{freshStation, logsFrom, made, spans, Asked, due, waysBy, runWith, answerOf}
+use Rattle.delivery.specs.Delivery.{Packets, concatenated, Writing, pdusFrom, spansFrom, InOrder, Behaviour, Station, receive, markLost, defined, Step, callOf, stationAfter, loggedBy, receptions, runOf, HeaderAltered, Holds}
+use Rattle.delivery.proofs.Parts.{freshStation, logsFrom, made, spans, Asked, dueEntries, waysBy, runWith, answerOf}
 use Rattle.delivery.proofs.SoundSteps.{causesFor}
-use Rattle.delivery.specs.Entitlement.{labelOf, labelsFrom, rightsFor, entitled}
+use Rattle.delivery.specs.Entitlement.{labelOf, labelsFrom, rightsFor, forPrograms}
 use Rattle.delivery.proofs.FaultyReceivers.{assumed, supposing, servicesKept, keeping}
 use Rattle.delivery.proofs.Calling.{stateAt}
 use Rattle.delivery.proofs.Made.{Says, loadOf, planFor, made as madeOf}
 use Rattle.delivery.proofs.Copies.{struck-read}
 use Rattle.delivery.proofs.Serving.{rightsBy, Shows, shows-put, lost-accepted, lost-logged}
-use Rattle.delivery.proofs.Bridge.{asSent as allTaken, Speaks, StandsFor, copied, altered-copy, serves}
+use Rattle.delivery.proofs.Bridge.{noCauses as allTaken, Speaks, StandsFor, copied, altered-copy, serves}
 use Rattle.delivery.proofs.Channel.{fresh-receiver, shows-fresh}
-use Rattle.delivery.proofs.Possible.{words, log-room, asSent, as-sent, stepsFor, possible}
+use Rattle.delivery.proofs.Possible.{words, log-room, verbatim, as-sent, stepsFor, possible}
 use Rattle.delivery.proofs.Claimed.{altered-says}
 use Rattle.delivery.proofs.SmallRuns.{carry, carry-room}
 use Rattle.delivery.proofs.EntitledRuns.{paid, sending, triple, triplesFrom, triples-right, opens}
@@ -96,13 +96,13 @@ unfolding labelsFrom writeAnswer listing fieldsFor expansionBytes chained total 
 threeLabels = refl
 
 -- what is asked for of the third alone, and of all with the second lost: unknown, the third is withheld
-last-due : due 1 0 [] three calls 2 (waysBy (true ∷ [])) ≡ []
+last-due : dueEntries 1 0 [] three calls 2 (waysBy (true ∷ [])) ≡ []
 unfolding listing wholePackets
-last-due = (λ i. arrived (rightsFor 1 0 []) 8 2 three (threeSpans i) (threeLabels i) (waysBy (true ∷ []))) ∙ refl
+last-due = (λ i. arrivedBy (rightsFor 1 0 []) 8 2 three (threeSpans i) (threeLabels i) (waysBy (true ∷ []))) ∙ refl
 
-first-due : due 1 0 [] three calls 0 (waysBy (true ∷ false ∷ true ∷ [])) ≡ packet 0 (triple 0) ∷ []
+first-due : dueEntries 1 0 [] three calls 0 (waysBy (true ∷ false ∷ true ∷ [])) ≡ packet 0 (triple 0) ∷ []
 unfolding listing wholePackets
-first-due = (λ i. arrived (rightsFor 1 0 []) 8 0 three (threeSpans i) (threeLabels i) (waysBy (true ∷ false ∷ true ∷ []))) ∙ refl
+first-due = (λ i. arrivedBy (rightsFor 1 0 []) 8 0 three (threeSpans i) (threeLabels i) (waysBy (true ∷ false ∷ true ∷ []))) ∙ refl
 
 -- ---- what PDU v says, and what is logged of it
 
@@ -115,15 +115,15 @@ speech v f = record { said = saidOf v v 0 (planFor (loadOf 1 0 [] label)) false 
 abbrev came : List Way
 came = here (causesFor (λ k. true)) ∷ []
 
-module _ (v : ℕ) (small : v < 8) (bytes : List ℕ) (next : take 1 (drop v three) ≡ bytes ∷ []) (is : pduOf (paid 1 0) [] (map length (bytes ∷ [])) (joined (bytes ∷ [])) 96 m (stateAt 1 0 0 v v 0) ≡ pduAt v)
+module _ (v : ℕ) (small : v < 8) (bytes : List ℕ) (next : take 1 (drop v three) ≡ bytes ∷ []) (is : pduOf (paid 1 0) [] (map length (bytes ∷ [])) (concatenated (bytes ∷ [])) 96 m (stateAt 1 0 0 v v 0) ≡ pduAt v)
     (u : Unfinished 0 (drop v three))
-    (t : firstOf (writerTests (paid 1 0) [] (map length (take 1 (drop v three))) (joined (take 1 (drop v three))) 96 m (stateAt 1 0 0 v v 0)) ≡ 0)
-    (one : endedOf (paid 1 0) [] (map length (take 1 (drop v three))) (joined (take 1 (drop v three))) 96 m (stateAt 1 0 0 v v 0) ≡ 1)
-    (none : partOf (paid 1 0) [] (map length (take 1 (drop v three))) (joined (take 1 (drop v three))) 96 m (stateAt 1 0 0 v v 0) ≡ 0) where
+    (t : firstOf (writerTests (paid 1 0) [] (map length (take 1 (drop v three))) (concatenated (take 1 (drop v three))) 96 m (stateAt 1 0 0 v v 0)) ≡ 0)
+    (one : endedOf (paid 1 0) [] (map length (take 1 (drop v three))) (concatenated (take 1 (drop v three))) 96 m (stateAt 1 0 0 v v 0) ≡ 1)
+    (none : partOf (paid 1 0) [] (map length (take 1 (drop v three))) (concatenated (take 1 (drop v three))) 96 m (stateAt 1 0 0 v v 0) ≡ 0) where
   says : Says 1 0 0 12 (pduAt v) (speech v allTaken)
   says =
-      subst (λ (p : List ℕ). Says 1 0 0 12 p (speech v allTaken)) (ap (λ (os : List (List ℕ)). pduOf (paid 1 0) [] (map length os) (joined os) 96 m (stateAt 1 0 0 v v 0)) next ∙ is)
-      (subst₂ (λ (a b : ℕ). Says 1 0 0 12 (pduOf (paid 1 0) [] (map length (take 1 (drop v three))) (joined (take 1 (drop v three))) 96 m (stateAt 1 0 0 v v 0)) (record { said = saidOf v v 0 (planFor (loadOf a b [] label)) false (λ k. 0) (drop v three); label = label })) one none
+      subst (λ (p : List ℕ). Says 1 0 0 12 p (speech v allTaken)) (ap (λ (os : List (List ℕ)). pduOf (paid 1 0) [] (map length os) (concatenated os) 96 m (stateAt 1 0 0 v v 0)) next ∙ is)
+      (subst₂ (λ (a b : ℕ). Says 1 0 0 12 (pduOf (paid 1 0) [] (map length (take 1 (drop v three))) (concatenated (take 1 (drop v three))) 96 m (stateAt 1 0 0 v v 0)) (record { said = saidOf v v 0 (planFor (loadOf a b [] label)) false (λ k. 0) (drop v three); label = label })) one none
       (madeOf 1 0 0 m listed three v v 0 (paid 1 0) [] 1 96 tt right u small t .says))
 
   speaks : Speaks 1 0 0 mask m listed range (pduAt v) (speech v)
@@ -191,16 +191,16 @@ few-counted = ((omega arith, omega arith), (omega arith, omega arith))
 -- ---- the claim
 
 abbrev EntitledFor : Behaviour → Type 0
-EntitledFor = Holds (entitled (λ register width. HeaderAltered))
+EntitledFor = Holds (forPrograms (λ register width. HeaderAltered))
 
 module _ (b : Behaviour) (claim : EntitledFor b) (first count : ℕ) (bs : List Bool) where
   abbrev steps : List Step
-  steps = stepsFor [] asSent [] (runOf first count (pduAt 0 ∷ pduAt 1 ∷ pduAt 2 ∷ [])) bs
+  steps = stepsFor [] verbatim [] (runOf first count (pduAt 0 ∷ pduAt 1 ∷ pduAt 2 ∷ [])) bs
 
-  claimed : packetWords (logsFrom b (freshStation b 1 0 0 [] carry) (map callOf steps)) ≡ logWords (due 1 0 [] three calls first (waysBy (receptions steps)))
+  claimed : packetWords (logsFrom b (freshStation b 1 0 0 [] carry) (map callOf steps)) ≡ logWords (dueEntries 1 0 [] three calls first (waysBy (receptions steps)))
   claimed =
       altered-says b claim (runWith 1 0 0 [] three calls first count carry steps) (let n : length three ≡ 3 = refl in omega (arith, n)) none-allowed
-      (subst (λ (ps : List (List ℕ)). Asked b 1 0 0 [] three calls first count carry (stepsFor [] asSent [] (runOf first count ps) bs)) three-made (possible 1 0 0 three calls opens right in-order b [] first count carry bs carry-room))
+      (subst (λ (ps : List (List ℕ)). Asked b 1 0 0 [] three calls first count carry (stepsFor [] verbatim [] (runOf first count ps) bs)) three-made (possible 1 0 0 three calls opens right in-order b [] first count carry bs carry-room))
       .log
 
 abbrev fresh : Station

@@ -4,7 +4,7 @@
 use Rattle.burst.specs.Burst.{InEight}
 use Rattle.delivery.specs.Delivery.{defined, Holds}
 use Rattle.delivery.specs.Copies.{pieceAt, Damage, Damaged}
-use Rattle.delivery.specs.Entitlement.{entitled}
+use Rattle.delivery.specs.Entitlement.{forPrograms}
 
 -- the bits that are altered of a piece with its CRC byte, from byte 96 on, lie inside eight consecutive bits
 abbrev pub Hit : Damage
@@ -13,4 +13,4 @@ Hit register width p y k = InEight (pieceAt width p p k) (pieceAt width p y k)
 -- of demand 3's packets, those that begin in a PDU not withheld and none of whose pieces was hit; for every register that CRCs start with, and every list of
 -- programs that is not refused with 22
 abbrev pub BurstDelivery : Type 0
-BurstDelivery = Holds (entitled (Damaged Hit)) defined
+BurstDelivery = Holds (forPrograms (Damaged Hit)) defined

@@ -3,7 +3,7 @@
 use mathlib.Core.Logic.{_⊎_}
 use Rattle.delivery.specs.Delivery.{defined, Holds}
 use Rattle.delivery.specs.Copies.{Damage, Damaged}
-use Rattle.delivery.specs.Entitlement.{entitled}
+use Rattle.delivery.specs.Entitlement.{forPrograms}
 use Rattle.delivery.specs.Diversity.{WrongCrc}
 use Rattle.delivery.specs.Bursts.{Hit}
 
@@ -11,4 +11,4 @@ abbrev pub WrongOrHit : Damage
 WrongOrHit register width p y k = WrongCrc register width p y k ⊎ Hit register width p y k
 
 abbrev pub ChannelDelivery : Type 0
-ChannelDelivery = Holds (entitled (Damaged WrongOrHit)) defined
+ChannelDelivery = Holds (forPrograms (Damaged WrongOrHit)) defined

@@ -38,9 +38,9 @@ abbrev pub Packets : List (List ℕ) → Type 0
 Packets [] = Unit {0}
 Packets (p ∷ ps) = (1 ≤ length p) × (length p ≤ 4096) × Bytes p × Packets ps
 
-abbrev pub joined : List (List ℕ) → List ℕ
-joined [] = []
-joined (p ∷ ps) = p ++ joined ps
+abbrev pub concatenated : List (List ℕ) → List ℕ
+concatenated [] = []
+concatenated (p ∷ ps) = p ++ concatenated ps
 
 -- ---- writing calls
 
@@ -74,7 +74,7 @@ alreadySent (p ∷ ps) g = cond (leb (length p) g) (alreadySent ps (g - length p
 
 -- each call offers the packets from the unfinished one on, as many as the caller likes
 abbrev pub Offers : List (List ℕ) → Writing → Type 0
-Offers ps a = (k : ℕ) × (a .lengths ≡ map length (take k ps)) × (a .bytes ≡ joined (take k ps))
+Offers ps a = (k : ℕ) × (a .lengths ≡ map length (take k ps)) × (a .bytes ≡ concatenated (take k ps))
 
 -- besides the list itself, G is fed the mode, the stream and the writing calls' arguments alone
 module _ (mode stream : ℕ) (packets : List (List ℕ)) where
@@ -200,8 +200,8 @@ pub data Step : Type 0 where
 abbrev pub callOf : Step → Call
 callOf (receives (alone marks pdu) log) = receive marks pdu log
 callOf (receives (paired first second) log) = pair first second log
-callOf (batches pdus log) = batch (map length pdus) (joined pdus) log
-callOf (stops pdus lengths bytes log) = batch (map length pdus ++ lengths) (joined pdus ++ bytes) log
+callOf (batches pdus log) = batch (map length pdus) (concatenated pdus) log
+callOf (stops pdus lengths bytes log) = batch (map length pdus ++ lengths) (concatenated pdus ++ bytes) log
 callOf (loses log) = markLost log
 callOf (refuses c) = c
 

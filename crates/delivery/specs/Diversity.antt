@@ -12,7 +12,7 @@ use Rattle.runs.specs.Spans.{lies, dueAt, wholeIndices}
 use Rattle.runs.specs.Withheld.{fateIn}
 use Rattle.delivery.specs.Delivery.{defined, Run, spans, Asked, Claim, Holds}
 use Rattle.delivery.specs.Copies.{bytesAt, crcAt, Damage, Damaged, widthIn, waysOf}
-use Rattle.delivery.specs.Entitlement.{entitled}
+use Rattle.delivery.specs.Entitlement.{forPrograms}
 
 -- every piece that is still damaged once the copy is corrected has a wrong CRC, by the register that CRCs start with
 abbrev pub WrongCrc : Damage
@@ -31,4 +31,4 @@ PairDelivery = Holds pairs defined
 
 -- document 02, Ask 10: of these packets, those that begin in a pair not withheld, for every list of programs that is not refused with 22
 abbrev pub EntitledPairDelivery : Type 0
-EntitledPairDelivery = Holds (entitled (Damaged WrongCrc)) defined
+EntitledPairDelivery = Holds (forPrograms (Damaged WrongCrc)) defined

@@ -51,9 +51,9 @@ module _ (r : Run) where
 -- ---- the claim
 
 -- the PDUs come so; for every list of programs that is not refused with 22
-abbrev pub entitled : ((register width : ℕ) → Coming) → Claim
-entitled comes = record { asked = λ r b. (allowedPrograms (r .programs) ≡ true) × Asked r (comes (r .register) (widthIn r)) b; due = due }
+abbrev pub forPrograms : ((register width : ℕ) → Coming) → Claim
+forPrograms comes = record { asked = λ r b. (allowedPrograms (r .programs) ≡ true) × Asked r (comes (r .register) (widthIn r)) b; due = due }
 
 -- a run with lost PDUs
 abbrev pub EntitledDelivery : Type 0
-EntitledDelivery = Holds (entitled (λ register width. HeaderAltered)) defined
+EntitledDelivery = Holds (forPrograms (λ register width. HeaderAltered)) defined

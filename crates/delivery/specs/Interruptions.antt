@@ -16,7 +16,7 @@ use Rattle.snapshot.specs.Snapshot.{saved, wordsAfter, loaded, carryLoaded}
 use Rattle.snapshot.specs.declared.Saved.{Saved}
 use Rattle.delivery.specs.Delivery.{Station, Call, receive, batch, pair, markLost, HeaderAltered, callOf, Behaviour, defined, stationAfter, Seen, seenOf, seenFrom, finally, Run, freshStation, Delivered, Claim, CountsFit, demand3}
 use Rattle.delivery.specs.Copies.{Damaged}
-use Rattle.delivery.specs.Entitlement.{entitled}
+use Rattle.delivery.specs.Entitlement.{forPrograms}
 use Rattle.delivery.specs.Diversity.{WrongCrc, pairs}
 use Rattle.delivery.specs.Bursts.{Hit}
 use Rattle.delivery.specs.Channel.{WrongOrHit}
@@ -134,11 +134,11 @@ InterruptedDemand3 = OverInterruptions defined definedSnapshot demand3
 
 -- Ask 10 (Entitlement.antt)
 abbrev pub InterruptedEntitled : Type 0
-InterruptedEntitled = OverInterruptions defined definedSnapshot (entitled (λ register width. HeaderAltered))
+InterruptedEntitled = OverInterruptions defined definedSnapshot (forPrograms (λ register width. HeaderAltered))
 
 -- Ask 12 (Bursts.antt)
 abbrev pub InterruptedBursts : Type 0
-InterruptedBursts = OverInterruptions defined definedSnapshot (entitled (Damaged Hit))
+InterruptedBursts = OverInterruptions defined definedSnapshot (forPrograms (Damaged Hit))
 
 -- Ask 5 (Diversity.antt)
 abbrev pub InterruptedPairs : Type 0
@@ -146,8 +146,8 @@ InterruptedPairs = OverInterruptions defined definedSnapshot pairs
 
 -- Ask 5 with Ask 10
 abbrev pub InterruptedEntitledPairs : Type 0
-InterruptedEntitledPairs = OverInterruptions defined definedSnapshot (entitled (Damaged WrongCrc))
+InterruptedEntitledPairs = OverInterruptions defined definedSnapshot (forPrograms (Damaged WrongCrc))
 
 -- over a channel: PDUs received with marks or without, in batches and as pairs, and marked lost, in one run (Channel.antt)
 abbrev pub InterruptedChannel : Type 0
-InterruptedChannel = OverInterruptions defined definedSnapshot (entitled (Damaged WrongOrHit))
+InterruptedChannel = OverInterruptions defined definedSnapshot (forPrograms (Damaged WrongOrHit))

@@ -18,7 +18,7 @@ use Rattle.receiver.specs.Receiving.{memoryOf, modeOf, said, outcome, receivedW
 use Rattle.receiver.specs.declared.Receiver.{Receiver}
 use Rattle.join.specs.Join.{sized, allSized, isLog, entriesOf, sameWords}
 use Rattle.join.proofs.Entries.{words-log}
-use Rattle.joinable.specs.Joinable.{Bytes}
+use Rattle.writer.specs.RoundTrip.{Bytes}
 use Rattle.joinable.proofs.Filled.{sized-all, filled-received}
 use Rattle.joinable.proofs.Saying.{bytes-append, bytes-take, bytes-drop, said-sane, held-before}
 

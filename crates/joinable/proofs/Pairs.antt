@@ -33,7 +33,7 @@ use Rattle.diversity.proofs.Alike.{alike-length, locators-same}
 use Rattle.pair.proofs.Calling.{corrected-is}
 use Rattle.pair.proofs.Lowest.{lower-is-zero}
 use Rattle.join.specs.Join.{isLog}
-use Rattle.joinable.specs.Joinable.{Bytes}
+use Rattle.writer.specs.RoundTrip.{Bytes}
 use Rattle.joinable.proofs.Saying.{corrected-bytes, sane-piece, sane-said, held-sane, under-sane}
 use Rattle.joinable.proofs.Calls.{no-words, entries-log, partial-put, received-log, carry-bytes}
 

@@ -34,7 +34,7 @@ use Rattle.receiver.specs.Receiving.{pieceIn, piecesIn, saidBy, comeBy, memoryO
 use Rattle.receiver.specs.declared.Receiver.{Receiver}
 use Rattle.receiver.proofs.Rows.{both-on, same-listing}
 use Rattle.receiver.proofs.Enough.{firstTwelve, corrected-length}
-use Rattle.joinable.specs.Joinable.{Bytes}
+use Rattle.writer.specs.RoundTrip.{Bytes}
 
 -- ---- bytes
 

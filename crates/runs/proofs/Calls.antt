@@ -142,9 +142,9 @@ module _ {rights : Rights} {range : ℕ} {M : Machine} (B : Bridge rights range 
   handed [] = []
   handed (s ∷ ss) = s .pdus ++ handed ss
 
-  abbrev pub waysOf : List Step → List Way
-  waysOf [] = []
-  waysOf (s ∷ ss) = s .ways ++ waysOf ss
+  abbrev pub waysHanded : List Step → List Way
+  waysHanded [] = []
+  waysHanded (s ∷ ss) = s .ways ++ waysHanded ss
 
   abbrev pub Through : M .State → List Step → Type 0
   Through x [] = Unit {0}

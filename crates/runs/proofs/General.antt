@@ -17,11 +17,11 @@ use Rattle.reassembly.specs.Rights.{Rights, Label}
 use Rattle.reassembly.specs.Tally.{Tally, noTally, counted, tallied, Grows, Countable}
 use Rattle.reassembly.proofs.Tallies.{tally-grows}
 use Rattle.reassembly.specs.Holder.{Come, Event, lost, came, Holder, opened, entriesFor, holderFor, logged, after}
-use Rattle.runs.proofs.Model.{cut, Fits, sentAfter, Plan, arrived, wanted, AllFit, Sized, wholePackets, bytesIn, spansOf, fatesOf}
+use Rattle.runs.proofs.Model.{cut, Fits, sentAfter, Plan, runMarks, wanted, AllFit, Sized, wholePackets, bytesIn, spansOf, fatesOf}
 use Rattle.runs.specs.Spans.{Fate, Mark, verdicts, packetAt, Span, covers, lies, wholeIndices, dueAt}
 use Rattle.runs.specs.Transmissions.{Way, gone, here, Close, AddsUp}
 use Rattle.runs.proofs.Transmissions.{Transmission, fateOf, keptOf, plansFrom, eventOf, eventsFrom, dueFrom}
-use Rattle.runs.proofs.Calls.{Load, transmissionOf, transmissionsOf, LoadsFit, spansFrom, Speech, speechesFrom, eventBy, heard, fatesFrom, Matching, Machine, Serves, Bridge, Step, handed, waysOf, Through, logsFrom, finally, AllGood}
+use Rattle.runs.proofs.Calls.{Load, transmissionOf, transmissionsOf, LoadsFit, spansFrom, Speech, speechesFrom, eventBy, heard, fatesFrom, Matching, Machine, Serves, Bridge, Step, handed, waysHanded, Through, logsFrom, finally, AllGood}
 use Rattle.runs.proofs.Entitled.{entitled-run}
 use Rattle.runs.proofs.Counts.{run-tally, tally-packets, counts-of}
 use Rattle.runs.proofs.Spans.{due-whole, due-indices}
@@ -92,14 +92,14 @@ module _ (rights : Rights) (range : ℕ) (M : Machine) (B : Bridge rights range 
     pub stands : B .Stands (finally B x ss) (after rights range y vs)
 
   pub serve : (ss : List (Step B)) (x : M .State) (y : Holder) (ds : List Speech) → B .Stands x y → Through B x ss → Matching (B .Says) (handed B ss) ds
-      → B .Within (after rights range y (heard (waysOf B ss) ds) .tally) → Served x y ss (heard (waysOf B ss) ds)
+      → B .Within (after rights range y (heard (waysHanded B ss) ds) .tally) → Served x y ss (heard (waysHanded B ss) ds)
   serve [] x y ds s t m h = unfold heard logged after logWords in record { good = tt; log = refl; fit = tt; stands = s }
   serve (c ∷ ss) x y ds s t m h =
       let many : length (c .ways) ≡ length (c .pdus) = B .as-many x (c .call) (c .pdus) (c .ways) (t .0) in
       let n : ℕ = length (c .pdus) in
       let a : List Event = heard (c .ways) (take n ds) in
-      let b : List Event = heard (waysOf B ss) (drop n ds) in
-      let e : heard (c .ways ++ waysOf B ss) ds ≡ a ++ b = rw many at (heard-append (c .ways) (waysOf B ss) ds) in
+      let b : List Event = heard (waysHanded B ss) (drop n ds) in
+      let e : heard (c .ways ++ waysHanded B ss) ds ≡ a ++ b = rw many at (heard-append (c .ways) (waysHanded B ss) ds) in
       let sp = matching-split (B .Says) (c .pdus) (handed B ss) ds m in
       let k : B .Within (after rights range y (a ++ b) .tally) = subst (λ (v : List Event). B .Within (after rights range y v .tally)) e h in
       let one = B .serves x y (c .call) (c .pdus) (c .ways) (take n ds) s (t .0) (sp .0) (B .within-less _ _ (grows-on rights range a b y) k) in
@@ -170,7 +170,7 @@ module _ (rights : Rights) (range : ℕ) where
 module _ (rights : Rights) (range : ℕ) (M : Machine) (B : Bridge rights range M) (ps : List (List ℕ)) (loads : List Load) (made : List (B .Pdu)) (first count : ℕ) (x : M .State) (ss : List (Step B)) where
   -- what came of each byte
   abbrev pub byteMarks : ℕ → Mark
-  byteMarks = lies ps (spansFrom 0 0 ps loads) (fatesFrom rights range first (waysOf B ss) loads)
+  byteMarks = lies ps (spansFrom 0 0 ps loads) (fatesFrom rights range first (waysHanded B ss) loads)
 
   -- the packets with every byte in a piece that is taken, that begin in a PDU not withheld; and their indices
   abbrev pub arrivals : List Entry
@@ -200,7 +200,7 @@ module _ (rights : Rights) (range : ℕ) (M : Machine) (B : Bridge rights range 
 
   module _ (d : Asked) where
     abbrev ws : List Way
-    ws = waysOf B ss
+    ws = waysHanded B ss
 
     abbrev all : List Way
     all = replicate first gone ++ ws
@@ -217,7 +217,7 @@ module _ (rights : Rights) (range : ℕ) (M : Machine) (B : Bridge rights range 
     fits-all : AllFit 0 ps plans
     fits-all = plans-fit rights range loads all 0 0 none ps (d .fits)
 
-    many : (t : M .State) (s : List (Step B)) → Through B t s → length (waysOf B s) ≡ length (handed B s)
+    many : (t : M .State) (s : List (Step B)) → Through B t s → length (waysHanded B s) ≡ length (handed B s)
     many t [] h = refl
     many t (c ∷ s) h =
         let a = B .as-many t (c .call) (c .pdus) (c .ways) (h .0) in
@@ -253,11 +253,11 @@ module _ (rights : Rights) (range : ℕ) (M : Machine) (B : Bridge rights range 
 
     sum : Close indices → AddsUp indices (tallied noTally arrivals)
     sum c =
-        let e : dueFrom 0 ps (arrived 0 ps plans) ≡ indices = due-indices ps (d .sized) plans fits-all ∙ ap (λ (m : ℕ → Mark). wholeIndices (dueAt m) 0 0 ps) marks-are in
-        let w : packetsOf (logged rights range opened vs) ≡ wanted 0 ps (arrived 0 ps plans) = same .packets ∙ entitled-run rights range ps (transmissionsOf all loads) fits-all (d .sized) in
+        let e : dueFrom 0 ps (runMarks 0 ps plans) ≡ indices = due-indices ps (d .sized) plans fits-all ∙ ap (λ (m : ℕ → Mark). wholeIndices (dueAt m) 0 0 ps) marks-are in
+        let w : packetsOf (logged rights range opened vs) ≡ wanted 0 ps (runMarks 0 ps plans) = same .packets ∙ entitled-run rights range ps (transmissionsOf all loads) fits-all (d .sized) in
         let t : tallied noTally (logged rights range opened vs) ≡ tallied noTally arrivals = tally-packets (logged rights range opened vs) noTally ∙ ap (tallied noTally) packets-are in
         subst (λ (l : List ℕ). AddsUp l (tallied noTally arrivals)) e
-        (subst (AddsUp (dueFrom 0 ps (arrived 0 ps plans))) t (counts-of ps (arrived 0 ps plans) (logged rights range opened vs) w (subst Close (sym e) c)))
+        (subst (AddsUp (dueFrom 0 ps (runMarks 0 ps plans))) t (counts-of ps (runMarks 0 ps plans) (logged rights range opened vs) w (subst Close (sym e) c)))
 
     -- no call for a PDU of the run is refused, the log holds exactly the packets that are due, and the counts add up
     pub general : Delivered

@@ -32,10 +32,6 @@ unfoldable pub logged : ℕ → Memory → List Event → List Entry
 logged range x [] = []
 logged range x (v ∷ vs) = entriesFor range x v ++ logged range (memoryFor range x v) vs
 
--- a receiver before its first PDU
-abbrev pub fresh : Memory
-fresh = forgotten
-
 -- ---- the writer: what a PDU carries
 
 -- A PDU ends `whole` packets, and carries `over` bytes of the next. `sent` bytes of the first packet of `rest` are gone already.
@@ -109,10 +105,10 @@ marks v [] = []
 marks v (b ∷ bs) = replicate (length b) (v 0) ++ marks (later v) bs
 
 -- the marks of all bytes that the PDUs of a run carry
-unfoldable pub arrived : ℕ → List (List ℕ) → List Plan → List Mark
-arrived sent rest [] = []
-arrived sent rest (c ∷ cs) =
-    marks (verdicts (c .fate)) (cut sent (c .whole) (c .over) rest) ++ arrived (sentAfter sent (c .whole) (c .over)) (drop (c .whole) rest) cs
+unfoldable pub runMarks : ℕ → List (List ℕ) → List Plan → List Mark
+runMarks sent rest [] = []
+runMarks sent rest (c ∷ cs) =
+    marks (verdicts (c .fate)) (cut sent (c .whole) (c .over) rest) ++ runMarks (sentAfter sent (c .whole) (c .over)) (drop (c .whole) rest) cs
 
 -- the first n bytes are taken
 abbrev pub allTaken : ℕ → List Mark → Bool
@@ -121,17 +117,17 @@ allTaken (suc n) [] = false
 allTaken (suc n) (b ∷ m) = cond (b .taken) (allTaken n m) false
 
 -- they are taken, and begin in a PDU that is not withheld
-abbrev pub due : ℕ → List Mark → Bool
-due zero m = true
-due (suc n) [] = false
-due (suc n) (b ∷ m) = cond (b .free) (allTaken (suc n) (b ∷ m)) false
+abbrev pub isDue : ℕ → List Mark → Bool
+isDue zero m = true
+isDue (suc n) [] = false
+isDue (suc n) (b ∷ m) = cond (b .free) (allTaken (suc n) (b ∷ m)) false
 
 -- the packets, from number i on, that are due
 unfoldable pub wanted : ℕ → List (List ℕ) → List Mark → List Entry
 wanted i [] m = []
 wanted i (p ∷ ps) m =
     let w = wanted (suc i) ps (drop (length p) m) in
-    cond (due (length p) m) (packet (i % 64) p ∷ w) w
+    cond (isDue (length p) m) (packet (i % 64) p ∷ w) w
 
 -- ---- premises
 

@@ -19,14 +19,14 @@ module _ (rights : Rights) (range first : ℕ) (packets : List (List ℕ)) (span
   fates = fatesTold rights [] (arrivalsFrom range 0 (replicate first gone ++ ways) labels)
 
   -- the packets with every byte in a piece that is taken, of a PDU of the run, and that begin in a PDU not withheld
-  abbrev pub arrived : List Entry
-  arrived = wholePackets (dueAt (lies packets spans fates)) 0 0 packets
+  abbrev pub arrivedBy : List Entry
+  arrivedBy = wholePackets (dueAt (lies packets spans fates)) 0 0 packets
 
   abbrev pub indices : List ℕ
   indices = wholeIndices (dueAt (lies packets spans fates)) 0 0 packets
 
   -- the joined logs hold exactly these, and the receiver's counts are theirs
   pub record Promise (log : List ℕ) (counts : Tally) : Type 0 where
-    pub holds : packetWords log ≡ logWords arrived
-    pub counted : counts ≡ tallied noTally arrived
+    pub holds : packetWords log ≡ logWords arrivedBy
+    pub counted : counts ≡ tallied noTally arrivedBy
     pub adds-up : Close indices → AddsUp indices counts

@@ -11,7 +11,7 @@ use lib.Dec.{eqb, ltb, leb}
 use lib.ListN.{length, take, drop, replicate, getD, length-append, length-drop, length-take, length-replicate, getD-replicate, List·getD-append}
 use lib.Seq.{take-add, drop-drop, getD-append-add}
 use Rattle.log.specs.Log.{Entry, packet}
-use Rattle.runs.proofs.Model.{cut, Fits, sentAfter, Plan, later, marks, arrived, allTaken, due, wanted, AllFit, Sized, wholePackets, bytesIn, spansOf, fatesOf, nowhere}
+use Rattle.runs.proofs.Model.{cut, Fits, sentAfter, Plan, later, marks, runMarks, allTaken, isDue, wanted, AllFit, Sized, wholePackets, bytesIn, spansOf, fatesOf, nowhere}
 use Rattle.runs.specs.Spans.{Fate, Mark, verdicts, packetAt, Span, covers, lies, every, wholeIndices, dueAt, entriesAt}
 use Rattle.runs.proofs.Transmissions.{dueFrom}
 use Rattle.runs.proofs.Theorem.{cut-none, marks-part, marks-whole, Unfinished, unfinished-zero, unfinished-next, sized-drop}
@@ -35,7 +35,7 @@ taken-every (b ∷ m) zero (suc n) =
     and-cond (b .taken) (allTaken n m) ∙ ap (λ (x : Bool). b .taken && x) (taken-every m zero n ∙ sym (every-shift b m zero n))
 taken-every (b ∷ m) (suc o) (suc n) = taken-every m o (suc n) ∙ sym (every-shift b m o (suc n))
 
-due-every : (m : List Mark) (o n : ℕ) → 0 < n → due n (drop o m) ≡ (getD m o nowhere .free && every (λ j. getD m j nowhere .taken) o n)
+due-every : (m : List Mark) (o n : ℕ) → 0 < n → isDue n (drop o m) ≡ (getD m o nowhere .free && every (λ j. getD m j nowhere .taken) o n)
 due-every m o zero h = absurd (not-suc-le-zero h)
 due-every [] zero (suc n) h = refl
 due-every [] (suc o) (suc n) h = refl
@@ -163,15 +163,15 @@ module _ (ps : List (List ℕ)) (z : Sized ps) where
       omega (arith, a, b, c)
 
   -- what came of the bytes from g on is what their marks say
-  cover : (cs : List Plan) (g i s : ℕ) → Stands ps g i s → AllFit s (drop i ps) cs → (j : ℕ) → lies ps (spansOf g s (drop i ps) cs) (fatesOf cs) (g + j) ≡ getD (arrived s (drop i ps) cs) j nowhere
-  unfolding spansOf arrived
+  cover : (cs : List Plan) (g i s : ℕ) → Stands ps g i s → AllFit s (drop i ps) cs → (j : ℕ) → lies ps (spansOf g s (drop i ps) cs) (fatesOf cs) (g + j) ≡ getD (runMarks s (drop i ps) cs) j nowhere
+  unfolding spansOf runMarks
   cover [] g i s v h j = refl
   cover (c ∷ cs) g i s v h j =
       let n : ℕ = bytesIn (cut s (c .whole) (c .over) (drop i ps)) in
-      let ih : (k : ℕ) → lies ps (spansOf (g + n) (sentAfter s (c .whole) (c .over)) (drop (i + c .whole) ps) cs) (fatesOf cs) (g + n + k) ≡ getD (arrived (sentAfter s (c .whole) (c .over)) (drop (i + c .whole) ps) cs) k nowhere =
+      let ih : (k : ℕ) → lies ps (spansOf (g + n) (sentAfter s (c .whole) (c .over)) (drop (i + c .whole) ps) cs) (fatesOf cs) (g + n + k) ≡ getD (runMarks (sentAfter s (c .whole) (c .over)) (drop (i + c .whole) ps) cs) k nowhere =
       λ k. cover cs (g + n) (i + c .whole) (sentAfter s (c .whole) (c .over)) (stands-next ps g i s (c .whole) (c .over) z v (h .0)) (rw (drop-drop (c .whole) i ps) at (h .1)) k in
       rw (drop-drop (c .whole) i ps)
-      (go n (lies ps (spansOf (g + n) (sentAfter s (c .whole) (c .over)) (drop (i + c .whole) ps) cs) (fatesOf cs)) (marks (verdicts (c .fate)) (cut s (c .whole) (c .over) (drop i ps))) (arrived (sentAfter s (c .whole) (c .over)) (drop (i + c .whole) ps) cs)
+      (go n (lies ps (spansOf (g + n) (sentAfter s (c .whole) (c .over)) (drop (i + c .whole) ps) cs) (fatesOf cs)) (marks (verdicts (c .fate)) (cut s (c .whole) (c .over) (drop i ps))) (runMarks (sentAfter s (c .whole) (c .over)) (drop (i + c .whole) ps) cs)
       (λ l. marks-piece (verdicts (c .fate)) s (c .whole) (c .over) (drop i ps) (h .0) (sized-drop i ps z) (v .rest) j l) (length-marks (verdicts (c .fate)) (cut s (c .whole) (c .over) (drop i ps))) ih (decLt j n))
     where
       go : (n : ℕ) (l : ℕ → Mark) (m m′ : List Mark)
@@ -187,15 +187,15 @@ module _ (ps : List (List ℕ)) (z : Sized ps) where
           rw (le-leb g (g + j) (omega arith), le-ltb (g + j) (g + n) (omega arith))
           (ap l e2 ∙ ih k ∙ sym (getD-append-add m m′ k nowhere) ∙ ap (λ (x : ℕ). getD (m ++ m′) x nowhere) (sym e1))
 
-  covered : (cs : List Plan) → AllFit 0 ps cs → (λ j. getD (arrived 0 ps cs) j nowhere) ≡ lies ps (spansOf 0 0 ps cs) (fatesOf cs)
+  covered : (cs : List Plan) → AllFit 0 ps cs → (λ j. getD (runMarks 0 ps cs) j nowhere) ≡ lies ps (spansOf 0 0 ps cs) (fatesOf cs)
   covered cs h = fun-ext (λ j. sym (ap (lies ps (spansOf 0 0 ps cs) (fatesOf cs)) (sym (zero-add j)) ∙ cover cs 0 0 0 (stands-first ps z) h j))
 
   -- what is due by marks is what is whole by bytes
-  pub due-whole : (cs : List Plan) → AllFit 0 ps cs → wanted 0 ps (arrived 0 ps cs) ≡ wholePackets (dueAt (lies ps (spansOf 0 0 ps cs) (fatesOf cs))) 0 0 ps
-  due-whole cs h = marks-bytes (arrived 0 ps cs) 0 0 ps z ∙ ap (λ (m : ℕ → Mark). wholePackets (dueAt m) 0 0 ps) (covered cs h)
+  pub due-whole : (cs : List Plan) → AllFit 0 ps cs → wanted 0 ps (runMarks 0 ps cs) ≡ wholePackets (dueAt (lies ps (spansOf 0 0 ps cs) (fatesOf cs))) 0 0 ps
+  due-whole cs h = marks-bytes (runMarks 0 ps cs) 0 0 ps z ∙ ap (λ (m : ℕ → Mark). wholePackets (dueAt m) 0 0 ps) (covered cs h)
 
-  pub due-indices : (cs : List Plan) → AllFit 0 ps cs → dueFrom 0 ps (arrived 0 ps cs) ≡ wholeIndices (dueAt (lies ps (spansOf 0 0 ps cs) (fatesOf cs))) 0 0 ps
-  due-indices cs h = marks-indices (arrived 0 ps cs) 0 0 ps z ∙ ap (λ (m : ℕ → Mark). wholeIndices (dueAt m) 0 0 ps) (covered cs h)
+  pub due-indices : (cs : List Plan) → AllFit 0 ps cs → dueFrom 0 ps (runMarks 0 ps cs) ≡ wholeIndices (dueAt (lies ps (spansOf 0 0 ps cs) (fatesOf cs))) 0 0 ps
+  due-indices cs h = marks-indices (runMarks 0 ps cs) 0 0 ps z ∙ ap (λ (m : ℕ → Mark). wholeIndices (dueAt m) 0 0 ps) (covered cs h)
 
 -- ---- the packets by their indices
 

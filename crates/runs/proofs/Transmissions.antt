@@ -10,7 +10,7 @@ use Rattle.reassembly.specs.Rights.{Rights, Label, inForce, keptAfter, withheld
 use Rattle.reassembly.specs.Holder.{Event, lost, came}
 use Rattle.runs.specs.Spans.{Fate, lose, read, Mark}
 use Rattle.runs.specs.Transmissions.{Way, gone, here}
-use Rattle.runs.proofs.Model.{Plan, saidOf, sentAfter, due}
+use Rattle.runs.proofs.Model.{Plan, saidOf, sentAfter, isDue}
 
 pub record Transmission : Type 0 where
   pub whole : ℕ
@@ -54,4 +54,4 @@ module _ (rights : Rights) (range : ℕ) where
 
 unfoldable pub dueFrom : ℕ → List (List ℕ) → List Mark → List ℕ
 dueFrom i [] m = []
-dueFrom i (p ∷ ps) m = cond (due (length p) m) (i ∷ []) [] ++ dueFrom (suc i) ps (drop (length p) m)
+dueFrom i (p ∷ ps) m = cond (isDue (length p) m) (i ∷ []) [] ++ dueFrom (suc i) ps (drop (length p) m)
