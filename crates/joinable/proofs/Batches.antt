@@ -14,7 +14,7 @@ use Rattle.batch.proofs.Single.{words-fit, log-long}
 use Rattle.join.specs.Join.{isLog}
 use Rattle.join.proofs.Logs.{log-after}
 use Rattle.writer.specs.RoundTrip.{Bytes}
-use Rattle.joinable.proofs.Saying.{bytes-take, bytes-drop}
+use Rattle.delivery.proofs.Made.{bytes-take, bytes-drop}
 use Rattle.joinable.proofs.Calls.{no-words, received-log, carry-bytes}
 
 take-past : (xs ys : List ℕ) (w k : ℕ) → length xs ≡ w → take (w + k) (xs ++ ys) ≡ xs ++ take k ys
