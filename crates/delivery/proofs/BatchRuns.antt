@@ -1,26 +1,24 @@
 -- Document 02, Ask 1: a run of SmallRuns.antt in two batches, the first of which is refused at its third PDU; and demand 3 is false of a receiver whose
 -- batches hand back the receiver that they got.
 use mathlib.Core.Path.{_≡_, refl, sym, ap, ap₂, subst, _∙_}
-use mathlib.Core.Bool.{Bool, true, false}
+use mathlib.Core.Bool.{true}
 use mathlib.Core.List.{List, [], _∷_, _++_, map, append-nil}
-use Prim.Native.Nat.{ℕ, zero, suc, _+_, _*_, _<_, _≤_}
+use Prim.Native.Nat.{ℕ, _+_, _≤_}
 use native.Mathlib.Omega.{arith}
-use native.Mathlib.Nat.{add-zero}
 use lib.ListN.{length, take, drop, replicate, length-replicate, length-map}
 use lib.Seq.{take-add}
 use Rattle.algebra.specs.Places.{All}
 use Rattle.pieces.specs.Pieces.{total}
-use Rattle.log.specs.Log.{Entry, packet, dataWords, entryWords, logWords, packetWords}
+use Rattle.log.specs.Log.{packet, dataWords, entryWords, logWords, packetWords}
 use Rattle.receiver.specs.Entitling.{allPrograms}
 use Rattle.receiver.specs.Receiving.{receiveAnswer}
-use Rattle.receiver.specs.declared.Receiver.{Receiver}
 use Rattle.batch.specs.Batches.{Result, oneByOne, received}
 use Rattle.batch.proofs.Single.{refusal-is}
 use Rattle.batch.proofs.OneByOne.{first-refused}
-use Rattle.batch.proofs.Laws.{andThen, takes-all, keeps-room, then-others}
+use Rattle.batch.proofs.Laws.{takes-all, keeps-room, then-others}
 use Rattle.runs.specs.Spans.{Span, every}
-use Rattle.delivery.specs.Delivery.{concatenated, Behaviour, Station, Call, receive, batch, defined, Step, receives, alone, batches, stops, callOf, receptions, stationAfter, RefusedAfter, loggedBy, inReceived, runOf, Demand3For}
-use Rattle.delivery.proofs.Parts.{freshStation, Through, logsFrom, made, spans, Asked, answerOf, carryOf, logOf}
+use Rattle.delivery.specs.Delivery.{concatenated, Behaviour, Station, receive, batch, defined, Step, receives, alone, batches, stops, callOf, receptions, stationAfter, RefusedAfter, loggedBy, inReceived, runOf, Demand3For}
+use Rattle.delivery.proofs.Parts.{freshStation, Through, logsFrom, made, Asked, answerOf, carryOf}
 use Rattle.runs.proofs.Model.{wholePackets}
 use Rattle.delivery.proofs.FaultyReceivers.{handingBack}
 use Rattle.delivery.proofs.Channel.{Usable, made-right}
@@ -28,7 +26,7 @@ use Rattle.delivery.proofs.Possible.{words, log-room, as-sent, first-ba
 use Rattle.delivery.proofs.Claimed.{demand3-says}
 use Rattle.delivery.proofs.Theorem.{delivers}
 use Rattle.delivery.proofs.WrongReceivers.{short, twice, writtenAt, two-made, short-right, short-order, short-few, shortSpans, short-spans, no-packet}
-use Rattle.delivery.proofs.SmallRuns.{three, small-run, six, opens, packets-right, in-order, carry, carry-room, fiveSpans, run-length, askedFor, asked-is, empty-number}
+use Rattle.delivery.proofs.SmallRuns.{three, small-run, six, opens, packets-right, in-order, carry, carry-room, run-length, askedFor, asked-is, empty-number}
 
 -- ---- a batch of two with a third that is refused, and a batch of the other three
 

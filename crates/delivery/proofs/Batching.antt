@@ -3,23 +3,21 @@
 use mathlib.Core.Path.{_≡_, refl, sym, ap, ap₂, subst, _∙_}
 use mathlib.Core.Bool.{Bool, true, false, not, _||_, cond}
 use mathlib.Core.List.{List, [], _∷_, _++_, map, append-assoc, append-nil}
-use Prim.Native.Nat.{ℕ, zero, suc, _+_, _*_, _<_, _≤_}
+use Prim.Native.Nat.{ℕ, suc, _+_, _*_, _<_, _≤_}
 use native.Mathlib.Omega.{arith}
 use native.Mathlib.Nat.{add-zero}
-use lib.Dec.{eqb, ltb}
-use borrow.Author.Tests.{eq-eqb, eqb-true, eqb-false, le-ltb}
-use lib.ListN.{length, getD, take, drop, length-append, length-drop}
+use lib.Dec.{eqb}
+use borrow.Author.Tests.{eq-eqb, eqb-true, le-ltb}
+use lib.ListN.{length, take, drop, length-append, length-drop}
 use lib.Seq.{length-take-le, take-at}
 use Rattle.header.proofs.Unique.{all-bytes}
 use Rattle.modes.specs.Modes.{listing}
 use Rattle.modes.specs.declared.Mode.{Mode}
 use Rattle.modes.specs.declared.Listing.the-variants.{Listed}
 use Rattle.pieces.specs.Pieces.{total}
-use Rattle.log.specs.Log.{logWords}
-use Rattle.log.proofs.Packets.{FitAll}
 use Rattle.reassembly.specs.Rights.{Rights}
 use Rattle.reassembly.specs.Tally.{Countable}
-use Rattle.reassembly.specs.Holder.{Event, Holder, logged, after}
+use Rattle.reassembly.specs.Holder.{Holder, after}
 use Rattle.refusal.specs.Refusal.{anyOf}
 use Rattle.receiver.specs.Receiving.{wrongState, pduAfter}
 use Rattle.receiver.specs.declared.Receiver.{Receiver}
@@ -33,7 +31,7 @@ use Rattle.runs.proofs.General.{Served, serve, countable-less}
 use Rattle.delivery.specs.Delivery.{concatenated, Station, Call, receive, batch, pair, markLost, defined, stationAfter, RefusedAfter, loggedBy}
 use Rattle.delivery.proofs.Parts.{logCounts, answerOf, logOf}
 use Rattle.delivery.proofs.SoundSteps.{Copy, causesFor, Came, pdusIn, Step, receives, pairs, batches, stops, loses, refuses, callOf, Takes, waysIn}
-use Rattle.delivery.proofs.Serving.{rightsBy, Shows}
+use Rattle.delivery.proofs.Serving.{rightsBy}
 use Rattle.delivery.proofs.Bridge.{stations, copied, paired, losing, refusing, Speaks, StandsFor, bridge}
 
 -- these PDUs come as these

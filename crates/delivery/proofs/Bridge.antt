@@ -1,12 +1,12 @@
 -- The receiver's calls as a machine that hands over PDUs of a run (runs/specs/Calls.antt): what each kind of call has to prove.
 use mathlib.Core.Path.{_≡_, refl, sym, ap, ap₂, subst, _∙_}
-use mathlib.Core.Bool.{Bool, true, false, not, _||_, cond}
+use mathlib.Core.Bool.{Bool, true, false, _||_, cond}
 use mathlib.Core.List.{List, [], _∷_, _++_}
-use Prim.Native.Nat.{ℕ, zero, suc, _+_, _<_, _≤_}
+use Prim.Native.Nat.{ℕ, _+_, _<_, _≤_}
 use native.Mathlib.Omega.{arith}
 use lib.Dec.{eqb}
 use borrow.Author.Tests.{eq-eqb, ne-eqb}
-use lib.ListN.{length, take, drop, take-append-drop}
+use lib.ListN.{length, take, take-append-drop}
 use Rattle.header.proofs.Unique.{all-bytes}
 use Rattle.modes.specs.Modes.{listing}
 use Rattle.modes.specs.declared.Mode.{Mode}
@@ -18,11 +18,11 @@ use Rattle.correction.specs.Correction.{correctedPdu}
 use Rattle.correction.specs.Marks.{correctedPduWith}
 use Rattle.correction.proofs.Answers.{no-marks-pdu}
 use Rattle.pdu.specs.Reading.{modeIn, widthOf}
-use Rattle.log.specs.Log.{Entry, logWords}
+use Rattle.log.specs.Log.{logWords}
 use Rattle.log.proofs.Packets.{FitAll}
 use Rattle.reassembly.specs.Reassembly.{Said, Outcome, received}
 use Rattle.reassembly.specs.Rights.{Rights, Label, under}
-use Rattle.reassembly.specs.Tally.{Tally, Countable}
+use Rattle.reassembly.specs.Tally.{Countable}
 use Rattle.reassembly.specs.Holder.{Come, lost, came, Holder, saidTo, holderFor, after}
 use Rattle.reassembly.proofs.Fitting.{SaneSaid, fit-received}
 use Rattle.reassembly.proofs.Blind.{blankSaid}

@@ -27,9 +27,9 @@ use Rattle.runs.proofs.Promise.{arrivedBy}
 use Rattle.runs.specs.Transmissions.{here}
 use Rattle.diversity.specs.Diversity.{sameBytes}
 use Rattle.delivery.specs.Delivery.{Station, defined, Step, receives, alone, callOf, runOf, HeaderAltered, Through}
-use Rattle.delivery.proofs.Parts.{freshStation, logsFrom, made, dueEntries, runWith}
+use Rattle.delivery.proofs.Parts.{freshStation, logsFrom, dueEntries, runWith}
 use Rattle.delivery.specs.Entitlement.{labelsFrom, rightsFor}
-use Rattle.delivery.specs.Copies.{restored, pieceAt, asSent, waysFrom, Damaged}
+use Rattle.delivery.specs.Copies.{pieceAt, asSent, waysFrom, Damaged}
 use Rattle.delivery.proofs.SoundSteps.{causesFor}
 use Rattle.delivery.specs.Bursts.{Hit}
 use Rattle.delivery.proofs.Channel.{Usable, made-right}

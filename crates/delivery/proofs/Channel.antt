@@ -1,43 +1,42 @@
 -- Delivery by which pieces are sound (SoundSteps.antt), from the general theorem of runs.
-use mathlib.Core.Path.{_≡_, refl, sym, ap, ap₂, subst, _∙_, fun-ext}
-use mathlib.Core.Bool.{Bool, true, false, _&&_, _||_, cond}
+use mathlib.Core.Path.{_≡_, refl, sym, ap, subst, _∙_}
+use mathlib.Core.Bool.{true, false, _&&_, _||_, cond}
 use mathlib.Core.List.{List, [], _∷_, _++_, map}
-use mathlib.Core.Option.{Option, none, some}
-use Prim.Native.Nat.{ℕ, zero, suc, _+_, _-_, _*_, _%_, _<_, _≤_}
+use mathlib.Core.Option.{none}
+use Prim.Native.Nat.{ℕ, suc, _+_, _-_, _*_, _%_, _<_, _≤_}
 use native.Mathlib.Omega.{arith}
 use lib.Dec.{eqb, ltb, leb}
 use borrow.Author.Tests.{lt-leb}
-use lib.ListN.{length, getD, take, drop, replicate, length-take, take-append-drop}
+use lib.ListN.{length, take, drop, take-append-drop}
 use lib.Seq.{drop-drop}
 use Rattle.algebra.specs.Places.{All}
-use Rattle.refusal.specs.Refusal.{anyOf}
 use Rattle.header.specs.Header.{isCodeWord}
-use Rattle.modes.specs.Modes.{listing, numberOf}
+use Rattle.modes.specs.Modes.{listing}
 use Rattle.modes.specs.declared.Mode.{Mode}
 use Rattle.modes.specs.declared.Listing.{Listing}
 use Rattle.modes.specs.declared.Listing.the-variants.{Listed, Refused}
 use Rattle.modes.proofs.Lines.{refusal-five}
 use Rattle.modes.proofs.Listable.{listable}
-use Rattle.log.specs.Log.{Entry, logWords, packetWords}
+use Rattle.log.specs.Log.{logWords, packetWords}
 use Rattle.pdu.specs.Reading.{modeIn}
 use Rattle.reassembly.specs.Reassembly.{Piece, following}
-use Rattle.reassembly.specs.Tally.{Tally, noTally, tallied}
+use Rattle.reassembly.specs.Tally.{noTally, tallied}
 use Rattle.reassembly.specs.Holder.{opened}
 use Rattle.writer.specs.Writing.{opened as writerOpened, openedAs as writerOpenedAs}
 use Rattle.writer.specs.RoundTrip.{Bytes}
 use Rattle.writer.specs.declared.Writer.{Writer}
 use Rattle.receiver.specs.Entitling.{allowedPrograms, maskOf}
-use Rattle.receiver.specs.Receiving.{fresh as freshFor, openingNumber, openedFor, memoryOf, tallyOf, wrongState}
+use Rattle.receiver.specs.Receiving.{fresh as freshFor, openingNumber, openedFor, memoryOf, tallyOf}
 use Rattle.receiver.specs.declared.Receiver.{Receiver}
 use Rattle.runs.proofs.Model.{cut, sentAfter, Sized, bytesIn}
-use Rattle.runs.specs.Transmissions.{Way, gone, here, Close, AddsUp}
+use Rattle.runs.specs.Transmissions.{Way, gone, here}
 use Rattle.runs.specs.Spans.{Span}
 use Rattle.runs.proofs.Promise.{arrivedBy, indices}
 use Rattle.runs.proofs.Calls.{Load, labelsOf, LoadsFit, Machine, spansFrom as spansOfLoads, speechesFrom, Matching, Bridge, Step as Part, handed, waysHanded, Through as Goes, logsFrom as logsOf, finally as lastOf, AllGood}
 use Rattle.runs.proofs.General.{Asked as RunAsked, general}
 use Rattle.runs.proofs.Promised.{arrivals-told, promised}
-use Rattle.delivery.specs.Delivery.{Packets, Writing, pdusFrom, spansFrom, InOrder, Station, Call, receive, pair, markLost, defined, stationAfter, loggedBy, finally, runOf}
-use Rattle.delivery.proofs.Parts.{freshStation, NoneRefused, logsFrom, made as madeBy, spans as spansOf, EntriesFit, dueEntries, dueIndices, answerOf}
+use Rattle.delivery.specs.Delivery.{Packets, Writing, pdusFrom, spansFrom, InOrder, Station, receive, pair, markLost, defined, stationAfter, loggedBy, finally, runOf}
+use Rattle.delivery.proofs.Parts.{freshStation, NoneRefused, logsFrom, made as madeBy, spans as spansOf, EntriesFit, dueEntries, dueIndices}
 use Rattle.delivery.proofs.SoundSteps.{causesFor, Came, Step, receives, pairs, batches, stops, loses, refuses, callOf, AllCopies, Through, Takes, waysIn, ways, Asked, Delivered, SoundDelivery}
 use Rattle.delivery.specs.Entitlement.{labelsFrom, rightsFor}
 use Rattle.runs.proofs.Spans.{stands-first}

@@ -1,16 +1,13 @@
 -- G against the writer's state: after g bytes, which packet is unfinished and how many of its bytes are sent.
 use mathlib.Core.Path.{_≡_, refl, sym, ap, _∙_}
-use mathlib.Core.Bool.{Bool, true, false, cond}
-use mathlib.Core.List.{List, [], _∷_, _++_, map}
-use Prim.Native.Nat.{ℕ, zero, suc, _+_, _-_, _<_, _≤_}
+use mathlib.Core.List.{List, [], _∷_, map}
+use Prim.Native.Nat.{ℕ, zero, suc, _+_, _-_, _≤_}
 use native.Mathlib.Omega.{arith}
 use native.Mathlib.Nat.{zero-add, le-of-suc-le-suc, not-suc-le-zero}
 use borrow.Author.Tests.{le-leb, lt-leb}
-use lib.Dec.{leb}
-use lib.ListN.{length, take, drop, length-take, length-drop}
-use lib.Seq.{take-add, drop-drop}
+use lib.ListN.{length, take, drop}
 use Rattle.pieces.specs.Pieces.{total}
-use Rattle.runs.proofs.Model.{cut, Fits, sentAfter, Sized, bytesIn}
+use Rattle.runs.proofs.Model.{cut, Fits, Sized, bytesIn}
 use Rattle.runs.specs.Spans.{packetAt}
 use Rattle.runs.proofs.Spans.{packet-past, packet-first, Stands}
 use Rattle.runs.proofs.Theorem.{cut-none, Unfinished}

@@ -3,7 +3,7 @@
 use mathlib.Core.Path.{_≡_, refl, sym, ap, ap₂, subst, _∙_}
 use mathlib.Core.Bool.{Bool, true, false, not, cond}
 use mathlib.Core.List.{List, [], _∷_, _++_, map}
-use Prim.Native.Nat.{ℕ, zero, suc, _+_, _%_, _<_, _≤_}
+use Prim.Native.Nat.{ℕ, _+_, _%_, _<_}
 use lib.Dec.{eqb}
 use borrow.Author.Tests.{eqb-true}
 use lib.ListN.{length, take, drop}
@@ -16,12 +16,12 @@ use Rattle.pdu.specs.Reading.{modeIn}
 use Rattle.pieces.specs.Pieces.{total}
 use Rattle.reassembly.specs.Reassembly.{following}
 use Rattle.reassembly.specs.Rights.{Label}
-use Rattle.writer.specs.Writing.{writerTests, placed, endedOf, partOf, pduOf, nextOf}
+use Rattle.writer.specs.Writing.{writerTests, placed, endedOf, partOf, pduOf}
 use Rattle.writer.specs.declared.Writer.{Writer}
-use Rattle.runs.proofs.Model.{cut, Fits, sentAfter, saidOf, Sized, bytesIn}
+use Rattle.runs.proofs.Model.{cut, Fits, sentAfter, saidOf, bytesIn}
 use Rattle.runs.specs.Spans.{Span, packetAt}
 use Rattle.runs.proofs.Calls.{Load, labelsOf}
-use Rattle.delivery.specs.Delivery.{Packets, concatenated, Writing, answerTo, bufferAfter, pdusFrom, alreadySent, Offers, told, refusedAt, placedAt, spansFrom, InOrder}
+use Rattle.delivery.specs.Delivery.{Packets, concatenated, Writing, answerTo, bufferAfter, pdusFrom, Offers, told, refusedAt, placedAt, spansFrom, InOrder}
 use Rattle.delivery.specs.Entitlement.{labelOf, labelsFrom}
 use Rattle.runs.proofs.Spans.{Stands, stands-next}
 use Rattle.delivery.proofs.Counting.{stands-index, stands-sent}

@@ -1,6 +1,6 @@
 -- Delivery over a channel that damages pieces, from delivery by which pieces are sound; and each promise for a list of programs as its case.
 use mathlib.Core.Path.{_≡_, refl, sym, ap, ap₂, subst, subst₂, _∙_}
-use mathlib.Core.Bool.{Bool, true, false, _||_, true≢false}
+use mathlib.Core.Bool.{Bool, true, false, true≢false}
 use mathlib.Core.List.{List, [], _∷_, _++_, map, append-nil}
 use mathlib.Core.Logic.{inl, inr}
 use Prim.Native.Nat.{ℕ, zero, suc, _+_, _-_, _*_, _<_, _≤_}
@@ -26,7 +26,7 @@ use Rattle.runs.proofs.Spans.{entries-are}
 use Rattle.diversity.specs.Diversity.{sameBytes}
 use Rattle.diversity.proofs.Bytes.{same-itself, same-true}
 use Rattle.delivery.specs.Delivery.{concatenated, Station, Call, receive, pair, batch, markLost, Behaviour, defined, stationAfter, RefusedAfter, HeaderAltered, Coming, Copies, alone, paired, Comes, AllCome, Step, receives, batches, stops, loses, refuses, callOf, Takes, Through, finally, Run, runOf, made, freshStation, spans, Asked}
-use Rattle.delivery.specs.Copies.{frontLength, restored, bytesAt, crcAt, pieceAt, asSent, soundIn, cameAs, Damage, Damaged, waysIn, waysFrom, widthIn, waysOf}
+use Rattle.delivery.specs.Copies.{frontLength, restored, bytesAt, crcAt, pieceAt, asSent, soundIn, cameAs, Damage, Damaged, waysIn, waysFrom, widthIn}
 use Rattle.delivery.specs.Entitlement.{EntitledDelivery, forPrograms, fates}
 use Rattle.delivery.specs.Diversity.{WrongCrc, EntitledPairDelivery}
 use Rattle.delivery.specs.Bursts.{Hit, BurstDelivery}

@@ -1,9 +1,9 @@
 -- Document 02, Ask 10: a receiver that is entitled to all programs withholds nothing.
-use mathlib.Core.Path.{_≡_, refl, sym, ap, _∙_, fun-ext}
-use mathlib.Core.Bool.{Bool, true, false, cond}
+use mathlib.Core.Path.{_≡_, refl, ap, _∙_, fun-ext}
+use mathlib.Core.Bool.{cond}
 use mathlib.Core.List.{List, [], _∷_, _++_, map}
 use mathlib.Core.Option.{none}
-use Prim.Native.Nat.{ℕ, zero, suc, _-_}
+use Prim.Native.Nat.{ℕ, _-_}
 use native.Mathlib.Omega.{arith}
 use lib.ListN.{length, replicate}
 use Rattle.algebra.specs.Places.{All}
@@ -11,7 +11,7 @@ use Rattle.modes.specs.Modes.{listing}
 use Rattle.pdu.specs.Reading.{modeIn}
 use Rattle.reassembly.specs.Rights.{Rights, Label}
 use Rattle.receiver.specs.Entitling.{allPrograms}
-use Rattle.runs.specs.Spans.{Fate, Mark, verdicts, packetAt, Span, covers, lies, dueAt, wholeIndices}
+use Rattle.runs.specs.Spans.{Mark, verdicts, packetAt, Span, covers, lies, dueAt, wholeIndices}
 use Rattle.runs.specs.Transmissions.{Way, gone}
 use Rattle.runs.proofs.Calls.{plainFate, plainFates, AllEntitled}
 use Rattle.runs.proofs.Promise.{fates}

@@ -13,14 +13,14 @@ use Rattle.expansion.specs.Expansion.{chained}
 use Rattle.expansion.specs.Writing.{expansionBytes}
 use Rattle.packing.specs.Packing.{largestUpTo, mostPieces, fit, wholesFrom, partAfter, partFrom}
 use Rattle.pieces.specs.Pieces.{total}
-use Rattle.log.specs.Log.{Entry, packet, logWords, packetWords}
+use Rattle.log.specs.Log.{packet, logWords, packetWords}
 use Rattle.reassembly.specs.Rights.{Label}
 use Rattle.writer.specs.Writing.{opened as writerOpened, writeAnswer}
 use Rattle.receiver.specs.Entitling.{allowedPrograms}
 use Rattle.runs.specs.Spans.{Span}
 use Rattle.runs.proofs.Model.{wholePackets}
 use Rattle.runs.proofs.Promise.{arrivedBy}
-use Rattle.delivery.specs.Delivery.{Packets, Writing, spansFrom, InOrder, defined, Step, callOf, receptions, runOf}
+use Rattle.delivery.specs.Delivery.{Packets, Writing, spansFrom, InOrder, defined, Step, callOf, runOf}
 use Rattle.delivery.proofs.Parts.{freshStation, logsFrom, made, spans, dueEntries, waysBy, runWith}
 use Rattle.delivery.specs.Entitlement.{labelsFrom, rightsFor}
 use Rattle.delivery.proofs.Channel.{made-right}

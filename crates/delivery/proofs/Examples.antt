@@ -1,6 +1,6 @@
 -- The definitions of the claims' pages at small values, computed: a wrong definition is refused here first.
 use mathlib.Core.Path.{_≡_, refl}
-use mathlib.Core.Bool.{Bool, true, false}
+use mathlib.Core.Bool.{true, false}
 use mathlib.Core.List.{List, [], _∷_, map}
 use Prim.Native.Nat.{ℕ}
 use Rattle.log.specs.Log.{packet, dataWords, entryWords, logWords}

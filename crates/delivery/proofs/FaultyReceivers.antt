@@ -3,7 +3,7 @@
 -- marking lost sets back. Each is the receiver of document 01 but for what its line says; demand 3 is shown false of `zeroed` in proofs/Registers.antt, of `handingBack` in proofs/BatchRuns.antt, and of the others in
 -- proofs/WrongReceivers.antt, but the promise over runs of pairs of `choosing`, in proofs/PairRuns.antt, the promise for entitled programs of `supposing` and
 -- `keeping`, in proofs/WrongRights.antt, and the promise over bursts of `trusting`, in proofs/WrongBursts.antt.
-use mathlib.Core.Bool.{Bool, true, false, _||_, cond}
+use mathlib.Core.Bool.{_||_, cond}
 use mathlib.Core.List.{List, [], _∷_, map}
 use Prim.Native.Nat.{ℕ}
 use lib.Dec.{eqb}

@@ -1,7 +1,7 @@
 -- Document 02, Ask 5, in its own words: a copy q of a PDU p of the run, in which at most four of the first 96 bytes are altered, bytes 96 to La arrive as sent, and
 -- every piece still damaged after mending has a wrong CRC. Such a copy comes as Diversity.antt says.
 use mathlib.Core.Path.{_≡_, refl, sym, ap, subst, _∙_}
-use mathlib.Core.Bool.{Bool, false}
+use mathlib.Core.Bool.{false}
 use mathlib.Core.List.{List, []}
 use Prim.Native.Nat.{ℕ, _<_, _≤_}
 use native.Mathlib.Omega.{arith}

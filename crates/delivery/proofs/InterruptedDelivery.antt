@@ -1,7 +1,7 @@
 -- Document 02, Ask 13: the promises over whole runs hold over interrupted ones.
 use mathlib.Core.Path.{_≡_, refl, sym, ap, subst, subst₂, _∙_}
 use mathlib.Core.Bool.{Bool, true, false, cond}
-use mathlib.Core.List.{List, [], _∷_, _++_, map}
+use mathlib.Core.List.{List, map}
 use Prim.Native.Nat.{ℕ, _<_, _≤_}
 use native.Mathlib.Omega.{arith}
 use borrow.Author.Tests.{not-false}
@@ -13,11 +13,11 @@ use Rattle.modes.specs.declared.Listing.the-variants.{Listed}
 use Rattle.modes.proofs.Listable.{listable}
 use Rattle.pdu.specs.Reading.{modeIn}
 use Rattle.receiver.specs.Entitling.{isListed, allowedPrograms, allPrograms, bitsOf, maskOf}
-use Rattle.receiver.specs.Receiving.{openingTests, openingNumber, openedFor, tallyOf}
+use Rattle.receiver.specs.Receiving.{openingTests, openingNumber, openedFor}
 use Rattle.receiver.specs.declared.Receiver.{Receiver}
 use Rattle.writer.specs.Writing.{opened as writerOpened}
-use Rattle.delivery.specs.Delivery.{Station, Call, defined, callOf, Seen, seenFrom, finally, Run, freshStation as freshIn, Delivered, HeaderAltered, Claim, Holds, demand3}
-use Rattle.delivery.specs.Interruptions.{definedSnapshot, Turn, callsIn, seenIn, endIn, Running, Suffices, OverInterruptions, InterruptedDemand3, InterruptedEntitled, InterruptedBursts, InterruptedPairs, InterruptedEntitledPairs, InterruptedChannel}
+use Rattle.delivery.specs.Delivery.{Station, Call, defined, callOf, seenFrom, finally, Run, freshStation as freshIn, Delivered, HeaderAltered, Claim, Holds, demand3}
+use Rattle.delivery.specs.Interruptions.{definedSnapshot, seenIn, endIn, Running, OverInterruptions, InterruptedDemand3, InterruptedEntitled, InterruptedBursts, InterruptedPairs, InterruptedEntitledPairs, InterruptedChannel}
 use Rattle.delivery.specs.Copies.{Damaged}
 use Rattle.delivery.specs.Entitlement.{forPrograms}
 use Rattle.delivery.specs.Diversity.{WrongCrc, pairs}
@@ -25,7 +25,6 @@ use Rattle.delivery.specs.Bursts.{Hit}
 use Rattle.delivery.specs.Channel.{WrongOrHit}
 use Rattle.delivery.proofs.Parts.{freshStation}
 use Rattle.delivery.proofs.Channel.{fresh-writer, fresh-receiver, shows-fresh}
-use Rattle.delivery.proofs.Entitling.{all-allowed}
 use Rattle.delivery.proofs.Running.{listed-by}
 use Rattle.delivery.proofs.Interrupted.{unnoticed}
 use Rattle.delivery.proofs.Damages.{channel-delivers, entitled-delivers, entitled-pairs-deliver, bursts-deliver}

@@ -1,17 +1,16 @@
 -- Which bytes are received, by the PDU whose bytes they are among (runs/specs/Spans.antt).
-use mathlib.Core.Path.{_≡_, refl, sym, ap, ap₂, _∙_}
+use mathlib.Core.Path.{_≡_, refl, sym, ap, _∙_}
 use mathlib.Core.Bool.{Bool, true, false, _&&_, _||_, cond}
 use mathlib.Core.List.{List, [], _∷_, _++_}
-use Prim.Native.Nat.{ℕ, zero, suc, _+_, _-_, _%_, _<_, _≤_}
+use Prim.Native.Nat.{ℕ, zero, suc, _+_, _-_, _<_, _≤_}
 use native.Mathlib.Omega.{arith}
 use native.Mathlib.Nat.{not-suc-le-zero, le-of-suc-le-suc}
-use borrow.Author.Tests.{lt-leb, leb-true, ltb-true}
+use borrow.Author.Tests.{lt-leb, ltb-true}
 use lib.Dec.{ltb, leb}
 use lib.ListN.{length, take, drop, replicate}
-use Rattle.log.specs.Log.{Entry, packet}
 use Rattle.runs.specs.Spans.{Fate, lose, read, Mark, verdicts, packetAt, Span, covers, lies, every, dueAt, wholeIndices}
 use Rattle.runs.proofs.Model.{Sized}
-use Rattle.delivery.specs.Delivery.{inReceived, runOf}
+use Rattle.delivery.specs.Delivery.{inReceived}
 use Rattle.delivery.proofs.Examples.{second-lost}
 
 -- received, with every piece taken, or lost

@@ -16,7 +16,7 @@ use Rattle.log.specs.Log.{Entry, packet, logWords, packetWords}
 use Rattle.writer.specs.Writing.{writeAnswer}
 use Rattle.receiver.specs.Entitling.{allPrograms}
 use Rattle.runs.specs.Spans.{Span, every}
-use Rattle.delivery.specs.Delivery.{Packets, Writing, spansFrom, InOrder, defined, Step, callOf, receptions, inReceived, runOf}
+use Rattle.delivery.specs.Delivery.{Packets, Writing, spansFrom, InOrder, defined, Step, callOf, inReceived, runOf}
 use Rattle.delivery.proofs.Parts.{freshStation, logsFrom, made, spans, Asked}
 use Rattle.runs.proofs.Model.{wholePackets}
 use Rattle.delivery.proofs.Channel.{made-right}

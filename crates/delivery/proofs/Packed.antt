@@ -1,14 +1,14 @@
 -- The placing rule, which goes by lengths, on the packets themselves.
-use mathlib.Core.Path.{_≡_, refl, sym, ap, ap₂, subst, _∙_}
+use mathlib.Core.Path.{_≡_, refl, sym, ap, ap₂, _∙_}
 use mathlib.Core.Bool.{Bool, true, false, cond}
 use mathlib.Core.List.{List, [], _∷_, _++_, map}
 use Prim.Native.Nat.{ℕ, zero, suc, _+_, _-_, _<_, _≤_}
 use native.Mathlib.Omega.{arith}
 use lib.Dec.{eqb·suc-zero}
-use lib.ListN.{length, take, drop, length-drop, length-take}
+use lib.ListN.{length, take, drop, length-drop}
 use lib.Seq.{take-append-seam, drop-append-seam, drop-append-le, take-append-le, length-take-le}
 use Rattle.pieces.specs.Pieces.{cutBy}
-use Rattle.packing.specs.Packing.{overhead, fit, wholesFrom, partAfter, partFrom, ifAny}
+use Rattle.packing.specs.Packing.{fit, wholesFrom, partAfter, partFrom, ifAny}
 use Rattle.packing.proofs.Fitting.{fit-room}
 use Rattle.packing.proofs.Bounds.{part-shorter}
 use Rattle.runs.proofs.Model.{cut, Fits, Sized}

@@ -3,7 +3,7 @@
 use mathlib.Core.Path.{_≡_, refl, sym, ap, ap₂, subst, _∙_, fun-ext}
 use mathlib.Core.Bool.{Bool, true, false, _||_, cond, true≢false}
 use mathlib.Core.List.{List, [], _∷_, _++_, map}
-use Prim.Native.Nat.{ℕ, zero, suc, _+_, _<_, _≤_}
+use Prim.Native.Nat.{ℕ, zero, suc, _+_, _<_}
 use native.Mathlib.Omega.{arith}
 use lib.Dec.{eqb, ltb}
 use lib.ListN.{length, take, drop, replicate}
@@ -11,7 +11,7 @@ use Rattle.algebra.specs.Places.{All}
 use Rattle.refusal.specs.Refusal.{anyOf}
 use Rattle.modes.specs.Modes.{listing}
 use Rattle.crc.specs.Crc.{crcBit, crcBits, crcByte, crcFrom}
-use Rattle.header.specs.Header.{parityOf, lengthRefusal, withParity, distance}
+use Rattle.header.specs.Header.{parityOf, lengthRefusal, withParity}
 use Rattle.header.proofs.Division.{parity-length}
 use Rattle.header.proofs.Lengths.{parity-written}
 use Rattle.layout.specs.Control.{controlBytes, controlOf, controlAt}
@@ -22,7 +22,7 @@ use Rattle.expansion.specs.Writing.{expansionBytes}
 use Rattle.packing.specs.Packing.{largestUpTo, mostPieces, fit, wholesFrom, partAfter, partFrom}
 use Rattle.pieces.specs.Pieces.{cutBy, pieceBytes, locatorsFrom, total}
 use Rattle.correction.specs.Correction.{correctionOf}
-use Rattle.log.specs.Log.{Entry, packet, dataWords, entryWords, logWords, packetWords}
+use Rattle.log.specs.Log.{packet, dataWords, entryWords, logWords, packetWords}
 use Rattle.writer.specs.Writing.{opened as writerOpened, pduOf, writeAnswer, writtenPdu}
 use Rattle.writer.specs.RoundTrip.{Bytes}
 use Rattle.receiver.specs.Entitling.{allPrograms}
@@ -33,7 +33,7 @@ use Rattle.runs.specs.Spans.{Span, lies, dueAt}
 use Rattle.runs.proofs.Model.{wholePackets}
 use Rattle.runs.proofs.Calls.{plainFate}
 use Rattle.diversity.specs.Diversity.{Choice, neither, theFirst, theSecond, choiceOf, sameBytes, pairReceived}
-use Rattle.delivery.specs.Delivery.{Packets, Writing, bufferAfter, pdusFrom, spansFrom, InOrder, Behaviour, Station, Call, receive, pair, defined, RefusedAfter, loggedBy, runOf, HeaderAltered, Correctable, Step, receives, loses, refuses, callOf, alone, paired, Through, Holds}
+use Rattle.delivery.specs.Delivery.{Packets, Writing, bufferAfter, pdusFrom, spansFrom, InOrder, Behaviour, Station, receive, pair, defined, RefusedAfter, loggedBy, runOf, HeaderAltered, Correctable, Step, receives, loses, refuses, callOf, alone, paired, Through, Holds}
 use Rattle.delivery.proofs.Parts.{freshStation, logsFrom, made, spans, runWith, answerOf, logOf}
 use Rattle.delivery.specs.Copies.{bytesAt, crcAt, pieceAt, asSent, waysFrom, restored, Damaged}
 use Rattle.delivery.proofs.SoundSteps.{causesFor}
@@ -43,7 +43,7 @@ use Rattle.delivery.proofs.Channel.{Usable, made-right}
 use Rattle.delivery.proofs.Serving.{loggedAlone}
 use Rattle.delivery.proofs.Possible.{words, log-room}
 use Rattle.delivery.proofs.Claimed.{Logged, logged-by}
-use Rattle.delivery.proofs.SmallRuns.{offering, bytes-same, opens, carry, carry-room, altered, altered-four, headers-altered, empty-number}
+use Rattle.delivery.proofs.SmallRuns.{offering, bytes-same, opens, carry, carry-room, altered, headers-altered, empty-number}
 use Rattle.delivery.proofs.Registers.{gets, gets-all}
 use Rattle.delivery.proofs.Damages.{drop-taken}
 use Rattle.delivery.proofs.Theorem.{pairs-deliver}

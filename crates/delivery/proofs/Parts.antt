@@ -1,8 +1,8 @@
 -- A run by its parts: what Delivery.antt and Entitlement.antt define of a run, with the mode, the stream and the rest as arguments, and of the packets as they are
 -- logged.
-use mathlib.Core.Path.{_≡_, subst}
+use mathlib.Core.Path.{subst}
 use mathlib.Core.Bool.{Bool, true, false, not, _||_}
-use mathlib.Core.List.{List, [], _∷_, _++_, map}
+use mathlib.Core.List.{List, [], _∷_, map}
 use Prim.Native.Nat.{ℕ}
 use lib.Dec.{eqb}
 use Rattle.modes.specs.Modes.{listing}
@@ -15,7 +15,7 @@ use Rattle.runs.specs.Transmissions.{Way, gone, here}
 use Rattle.runs.proofs.Model.{wholePackets}
 use Rattle.runs.proofs.Promise.{arrivedBy as arrivedBy, indices}
 use Rattle.runs.proofs.Spans.{entries-are}
-use Rattle.delivery.specs.Delivery.{Writing, pdusFrom, spansFrom, Station, Call, Answer, Behaviour, effectOf, HeaderAltered, Step, callOf, Takes, takenBy, Through as ThroughBy, seenFrom, logsIn, Each, Run, runOf, Asked as AskedBy, inReceived}
+use Rattle.delivery.specs.Delivery.{Writing, pdusFrom, spansFrom, Station, Call, Answer, Behaviour, effectOf, HeaderAltered, Step, takenBy, Through as ThroughBy, seenFrom, logsIn, Each, Run, runOf, Asked as AskedBy, inReceived}
 use Rattle.delivery.specs.Entitlement.{labelsFrom, rightsFor}
 
 abbrev pub runWith : (mode stream register : ℕ) (programs : List ℕ) (packets : List (List ℕ)) (writings : List Writing) (first count : ℕ) (carry : List ℕ) (steps : List Step) → Run

@@ -1,7 +1,7 @@
 -- Demand 3 is false of a receiver that opens with register 0, whatever is asked for: a PDU written with register 255 is to it a PDU whose piece has a wrong
 -- CRC.
 use mathlib.Core.Path.{_≡_, refl, sym, ap, subst, _∙_}
-use mathlib.Core.Bool.{Bool, true, false, true≢false}
+use mathlib.Core.Bool.{true, false, true≢false}
 use mathlib.Core.List.{List, [], _∷_, _++_, map}
 use Prim.Native.Nat.{ℕ, zero, suc, _<_, _≤_}
 use native.Mathlib.Omega.{arith}
@@ -22,17 +22,15 @@ use Rattle.pieces.specs.Pieces.{cutBy, pieceBytes, locatorsFrom, total}
 use Rattle.correction.specs.Marks.{marksRefusal}
 use Rattle.correction.proofs.Marking.{unmarked-self}
 use Rattle.log.specs.Log.{packet, dataWords, entryWords, logWords, packetWords}
-use Rattle.pdu.specs.Reading.{modeIn}
 use Rattle.writer.specs.Writing.{opened as writerOpened, pduOf, writeAnswer, writtenPdu}
-use Rattle.writer.specs.RoundTrip.{Bytes}
 use Rattle.receiver.specs.Entitling.{allPrograms}
 use Rattle.runs.proofs.Calls.{plainFate}
 use Rattle.runs.specs.Spans.{Span, lies, Mark, every, dueAt}
 use Rattle.runs.proofs.Model.{wholePackets}
-use Rattle.delivery.specs.Delivery.{Packets, Writing, bufferAfter, pdusFrom, spansFrom, InOrder, receive, defined, Step, receives, alone, inReceived, runOf, Demand3For}
+use Rattle.delivery.specs.Delivery.{Packets, Writing, pdusFrom, spansFrom, InOrder, receive, defined, receives, alone, inReceived, runOf, Demand3For}
 use Rattle.delivery.proofs.Parts.{EntriesFit, dueEntries, freshStation, logsFrom, made, spans, Asked}
 use Rattle.delivery.proofs.SoundSteps.{wrong, Damage, Copy, receives as takes, ways, Through}
-use Rattle.delivery.specs.Copies.{restored, bytesAt, crcAt}
+use Rattle.delivery.specs.Copies.{restored}
 use Rattle.delivery.proofs.FaultyReceivers.{zeroed}
 use Rattle.delivery.proofs.Counted.{packets-fit}
 use Rattle.delivery.proofs.Claimed.{demand3-says}

@@ -3,13 +3,13 @@
 use mathlib.Core.Path.{_≡_, refl, sym, ap, ap₂, subst, _∙_}
 use mathlib.Core.Bool.{Bool, true, false, not, _&&_, _||_, cond}
 use mathlib.Core.List.{List, [], _∷_, _++_, map}
-use Prim.Native.Nat.{ℕ, zero, suc, _+_, _*_, _<_, _≤_}
+use Prim.Native.Nat.{ℕ, zero, suc, _+_, _<_, _≤_}
 use native.Mathlib.Omega.{arith}
 use lib.ListN.{length, getD, take, drop, replicate, length-replicate, length-take, length-drop}
 use lib.Dec.{eqb, ltb}
 use borrow.Author.Tests.{eq-eqb, ne-eqb}
 use lib.Seq.{length-take-le, getD-take}
-use Rattle.algebra.specs.Places.{All, below, keep}
+use Rattle.algebra.specs.Places.{below, keep}
 use Rattle.algebra.proofs.Places.{one}
 use Rattle.correction.specs.Marks.{isMarked, marksRefusal, unmarkedDistance}
 use Rattle.correction.proofs.Counting.{keep-le}
@@ -24,17 +24,17 @@ use Rattle.packing.specs.Packing.{largestUpTo, mostPieces, fit, wholesFrom, par
 use Rattle.pieces.specs.Pieces.{total}
 use Rattle.log.specs.Log.{Entry, packet, entryWords, logWords, packetWords}
 use Rattle.writer.specs.Writing.{opened as writerOpened, writeAnswer}
-use Rattle.writer.specs.RoundTrip.{Bytes, Altered}
+use Rattle.writer.specs.RoundTrip.{Bytes}
 use Rattle.receiver.specs.Entitling.{allPrograms}
 use Rattle.receiver.specs.Receiving.{receiveNumber, receiveAnswer, lostNumber, lostAnswer, refusedAnswer, wrongState}
 use Rattle.receiver.specs.declared.Receiver.{Receiver}
 use Rattle.receiver.specs.declared.Received.{Received}
 use Rattle.runs.specs.Spans.{Span, every, wholeIndices}
-use Rattle.delivery.specs.Delivery.{Packets, concatenated, Writing, spansFrom, InOrder, Station, Call, receive, markLost, defined, Step, refuses, callOf, receptions, stationAfter, RefusedAfter, inReceived, runOf, Behaviour, batches, loses, arrived as arrivedIn, Demand3For}
+use Rattle.delivery.specs.Delivery.{Packets, concatenated, Writing, spansFrom, InOrder, Station, Call, receive, markLost, defined, Step, refuses, callOf, receptions, RefusedAfter, inReceived, runOf, Behaviour, batches, loses, arrived as arrivedIn, Demand3For}
 use Rattle.delivery.proofs.Parts.{runWith, freshStation, logsFrom, made, spans, arrivedEntries, Asked, answerOf}
 use Rattle.runs.proofs.Model.{wholePackets}
-use Rattle.delivery.proofs.Channel.{Usable, made-right}
-use Rattle.delivery.proofs.Possible.{four-altered, Alters, verbatim, as-sent, stepsFor, told-receptions, goes-through, run-usable, stepsOf, possible}
+use Rattle.delivery.proofs.Channel.{made-right}
+use Rattle.delivery.proofs.Possible.{four-altered, Alters, verbatim, stepsFor, told-receptions, goes-through, run-usable, stepsOf, possible}
 use Rattle.delivery.proofs.Claimed.{Logged, demand3-says}
 use Rattle.delivery.proofs.Theorem.{delivers}
 

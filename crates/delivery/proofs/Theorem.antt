@@ -4,16 +4,16 @@ use mathlib.Core.Bool.{Bool, true, false, cond, _||_}
 use mathlib.Core.List.{List, [], _∷_, _++_, map}
 use Prim.Native.Nat.{ℕ, zero, suc, _+_, _-_, _≤_}
 use native.Mathlib.Omega.{arith}
-use lib.ListN.{length, take, drop, replicate, length-take, length-append, length-replicate}
-use Rattle.log.specs.Log.{Entry, logWords}
+use lib.ListN.{length, drop, replicate, length-take, length-append, length-replicate}
+use Rattle.log.specs.Log.{logWords}
 use Rattle.reassembly.specs.Tally.{noTally, tallied}
 use Rattle.receiver.specs.Entitling.{allPrograms, allowedPrograms}
-use Rattle.runs.specs.Spans.{Fate, lose, read, Mark, Span, lies, dueAt, every, wholeIndices, entriesAt}
+use Rattle.runs.specs.Spans.{Fate, lose, read, Mark, lies, dueAt, wholeIndices, entriesAt}
 use Rattle.runs.specs.Transmissions.{Way, gone, here}
 use Rattle.runs.proofs.Calls.{plainFate}
 use Rattle.delivery.specs.Delivery.{Station, Behaviour, defined, HeaderAltered, stationAfter, markLost, Copies, alone, paired, Comes, AllCome, Step, receives, batches, stops, loses, refuses, callOf, Through, receptions, inReceived, Run, runOf, made, spans, freshStation, arrived, Demand3}
 use Rattle.delivery.specs.Copies.{asSent, soundIn, waysIn, waysFrom, widthIn, waysOf}
-use Rattle.delivery.specs.Entitlement.{fates, due}
+use Rattle.delivery.specs.Entitlement.{due}
 use Rattle.delivery.specs.Diversity.{arrivedPieces, PairDelivery}
 use Rattle.delivery.proofs.Parts.{EntriesFit, wayBy, waysBy}
 use Rattle.delivery.proofs.SoundSteps.{causesFor}

@@ -2,34 +2,30 @@
 use mathlib.Core.Path.{_≡_, refl, sym, ap, ap₂, subst, _∙_}
 use mathlib.Core.Bool.{Bool, true, false, not, _||_, cond}
 use mathlib.Core.List.{List, [], _∷_, _++_, map, append-nil}
-use Prim.Native.Nat.{ℕ, zero, suc, _<_, _≤_}
+use Prim.Native.Nat.{ℕ, zero, suc, _≤_}
 use native.Mathlib.Omega.{arith}
 use native.Mathlib.Nat.{not-suc-le-zero, le-of-suc-le-suc}
 use lib.Dec.{eqb}
-use borrow.Author.Tests.{eq-eqb, eqb-true, eqb-false}
-use lib.ListN.{length, getD, take, drop, replicate, length-take}
+use borrow.Author.Tests.{eq-eqb, eqb-false}
+use lib.ListN.{length, getD, take, replicate, length-take}
 use Rattle.buffer.specs.Buffer.{putAt}
 use Rattle.buffer.proofs.Laws.{take-put}
 use Rattle.modes.specs.Modes.{listing}
-use Rattle.layout.specs.Control.{controlBytes}
-use Rattle.layout.specs.Locators.{locatorBytes}
 use Rattle.settings.specs.Settings.{fieldsFor}
 use Rattle.expansion.specs.Expansion.{chained}
 use Rattle.expansion.specs.Writing.{expansionBytes}
 use Rattle.packing.specs.Packing.{largestUpTo, mostPieces, fit, wholesFrom, partAfter, partFrom}
 use Rattle.pieces.specs.Pieces.{cutBy, pieceBytes, locatorsFrom, total}
-use Rattle.log.specs.Log.{Entry, packet, dataWords, entryWords, logWords, kindOf, ofPacket, packetWordsAfter, packetWords, packetsOf}
+use Rattle.log.specs.Log.{packet, dataWords, entryWords, logWords, kindOf, ofPacket, packetWordsAfter, packetWords, packetsOf}
 use Rattle.log.proofs.Packets.{Fit, packet-words}
 use Rattle.reassembly.specs.Reassembly.{lostEntries, remembered}
 use Rattle.writer.specs.Writing.{opened as writerOpened, pduOf, writeAnswer, writtenPdu}
-use Rattle.writer.specs.declared.Writer.{Writer}
 use Rattle.receiver.specs.Entitling.{allowedPrograms, allPrograms}
-use Rattle.receiver.specs.Receiving.{openingNumber, openedFor, tallyOf, remembering, refusedAnswer, receiveNumber, receiveAnswer, lostNumber, lostAnswer, logAfterLost}
-use Rattle.receiver.specs.declared.Receiver.{Receiver}
+use Rattle.receiver.specs.Receiving.{openingNumber, openedFor, tallyOf, remembering, receiveNumber, receiveAnswer, lostNumber, lostAnswer, logAfterLost}
 use Rattle.runs.specs.Spans.{Span, every}
 use Rattle.reassembly.specs.Tally.{Tally, noTally, counted, tallied}
-use Rattle.delivery.specs.Delivery.{Packets, Writing, bufferAfter, pdusFrom, spansFrom, InOrder, Behaviour, Answer, Station, Call, receive, markLost, defined, callOf, Takes, receives, alone, loses, receptions, stationAfter, loggedBy, finally, inReceived, runOf, Demand3For}
-use Rattle.delivery.proofs.Parts.{freshStation, NoneRefused, logCounts, logsFrom, made, spans, arrivedEntries, Asked, answerOf, carryOf, logOf}
+use Rattle.delivery.specs.Delivery.{Packets, Writing, bufferAfter, pdusFrom, spansFrom, InOrder, Behaviour, Answer, Station, Call, receive, markLost, defined, callOf, Takes, receptions, stationAfter, loggedBy, finally, inReceived, runOf, Demand3For}
+use Rattle.delivery.proofs.Parts.{freshStation, NoneRefused, logCounts, logsFrom, made, spans, arrivedEntries, Asked, answerOf, logOf}
 use Rattle.runs.proofs.Model.{wholePackets}
 use Rattle.delivery.proofs.FaultyReceivers.{withWords, lentLog, silent, untouched, fixedWords, fixed, inventing, advancing, joining, resetting}
 use Rattle.delivery.proofs.Serving.{loggedAlone}

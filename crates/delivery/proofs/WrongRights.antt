@@ -1,12 +1,12 @@
 -- Document 02, Ask 10: the promise is false of a receiver for which applied services that are unknown count as 0, and of one that keeps them over a lost PDU.
 use mathlib.Core.Path.{_≡_, refl, sym, ap, ap₂, subst, subst₂, _∙_}
 use mathlib.Core.Bool.{Bool, true, false}
-use mathlib.Core.List.{List, [], _∷_, _++_, map, append-nil}
+use mathlib.Core.List.{List, [], _∷_, _++_, map}
 use mathlib.Core.Option.{some}
-use Prim.Native.Nat.{ℕ, zero, suc, _<_, _≤_}
+use Prim.Native.Nat.{ℕ, _<_}
 use native.Mathlib.Omega.{arith}
-use lib.ListN.{length, take, drop, replicate}
-use Rattle.refusal.specs.Refusal.{firstOf, anyOf}
+use lib.ListN.{length, take, drop}
+use Rattle.refusal.specs.Refusal.{firstOf}
 use Rattle.modes.specs.Modes.{listing}
 use Rattle.modes.specs.declared.Mode.{Mode}
 use Rattle.modes.specs.declared.Listing.the-variants.{Listed}
@@ -24,24 +24,23 @@ use Rattle.reassembly.specs.Tally.{Tally, noTally, counted, tallied, Countable}
 use Rattle.reassembly.specs.Holder.{Holder, opened, logged, after}
 use Rattle.writer.specs.Writing.{opened as writerOpened, writerTests, endedOf, partOf, pduOf, writeAnswer, writtenPdu}
 use Rattle.receiver.specs.Entitling.{allowedPrograms, maskOf, entitles}
-use Rattle.receiver.specs.Receiving.{fresh as freshFor, memoryOf, keptOf, remembering, wrongState}
+use Rattle.receiver.specs.Receiving.{fresh as freshFor, memoryOf, remembering}
 use Rattle.receiver.specs.declared.Receiver.{Receiver}
 use Rattle.runs.proofs.Model.{cut, readPieces, saidOf, wholePackets}
 use Rattle.runs.specs.Transmissions.{Way, here}
-use Rattle.runs.specs.Spans.{Span}
 use Rattle.runs.proofs.Promise.{arrivedBy}
 use Rattle.runs.proofs.Calls.{Speech, heard}
 use Rattle.runs.proofs.Theorem.{Unfinished}
 use Rattle.delivery.specs.Delivery.{Packets, concatenated, Writing, pdusFrom, spansFrom, InOrder, Behaviour, Station, receive, markLost, defined, Step, callOf, stationAfter, loggedBy, receptions, runOf, HeaderAltered, Holds}
-use Rattle.delivery.proofs.Parts.{freshStation, logsFrom, made, spans, Asked, dueEntries, waysBy, runWith, answerOf}
+use Rattle.delivery.proofs.Parts.{freshStation, logsFrom, made, spans, Asked, dueEntries, waysBy, runWith}
 use Rattle.delivery.proofs.SoundSteps.{causesFor}
-use Rattle.delivery.specs.Entitlement.{labelOf, labelsFrom, rightsFor, forPrograms}
+use Rattle.delivery.specs.Entitlement.{labelsFrom, rightsFor, forPrograms}
 use Rattle.delivery.proofs.FaultyReceivers.{assumed, supposing, servicesKept, keeping}
 use Rattle.delivery.proofs.Calling.{stateAt}
 use Rattle.delivery.proofs.Made.{Says, loadOf, planFor, made as madeOf}
 use Rattle.delivery.proofs.Copies.{struck-read}
-use Rattle.delivery.proofs.Serving.{rightsBy, Shows, shows-put, lost-accepted, lost-logged}
-use Rattle.delivery.proofs.Bridge.{noCauses as allTaken, Speaks, StandsFor, copied, altered-copy, serves}
+use Rattle.delivery.proofs.Serving.{rightsBy, Shows, shows-put, lost-logged}
+use Rattle.delivery.proofs.Bridge.{noCauses as allTaken, Speaks, copied, altered-copy, serves}
 use Rattle.delivery.proofs.Channel.{fresh-receiver, shows-fresh}
 use Rattle.delivery.proofs.Possible.{words, log-room, verbatim, as-sent, stepsFor, possible}
 use Rattle.delivery.proofs.Claimed.{altered-says}

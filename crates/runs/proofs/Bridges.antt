@@ -1,12 +1,12 @@
 -- Parts of a bridge: a call for one PDU, a call for none (a refused one, an interruption), and a batch of calls.
-use Prim.Native.Nat.{ℕ, zero, suc, _+_}
+use Prim.Native.Nat.{ℕ, _+_}
 use mathlib.Core.Path.{_≡_, refl, sym, ap, ap₂, subst, subst₂, _∙_}
-use mathlib.Core.Bool.{Bool, true, false, not, _&&_}
-use mathlib.Core.Option.{Option, none, some}
+use mathlib.Core.Bool.{Bool, not, _&&_}
+use mathlib.Core.Option.{Option, none}
 use mathlib.Core.List.{List, [], _∷_, _++_, append-nil}
 use native.Mathlib.Omega.{arith}
 use lib.ListN.{length, length-append}
-use Rattle.log.specs.Log.{Entry, logWords}
+use Rattle.log.specs.Log.{logWords}
 use Rattle.log.proofs.Packets.{FitAll}
 use Rattle.reassembly.specs.Reassembly.{following}
 use Rattle.reassembly.specs.Rights.{Rights, Label, inForce, barred}
@@ -15,7 +15,7 @@ use Rattle.runs.specs.Spans.{Fate, lose, read}
 use Rattle.runs.specs.Transmissions.{Way, gone, here}
 use Rattle.runs.proofs.Transmissions.{fateOf, keptOf, plansFrom}
 use Rattle.runs.proofs.Model.{fatesOf}
-use Rattle.runs.proofs.Calls.{Load, transmissionsOf, fatesAlong, labelsOf, plainFate, plainFates, AllEntitled, Speech, eventBy, heard, Matching, Machine, Serves, Bridge, Step, handed, waysHanded, Through, logsFrom, finally, AllGood}
+use Rattle.runs.proofs.Calls.{Load, transmissionsOf, fatesAlong, labelsOf, plainFates, AllEntitled, Speech, heard, Matching, Machine, Serves, Bridge, Step, handed, waysHanded, Through, logsFrom, finally, AllGood}
 use Rattle.runs.proofs.General.{Served, serve}
 
 module _ (rights : Rights) (range : ℕ) (M : Machine) (Stands : M .State → Holder → Type 0) where

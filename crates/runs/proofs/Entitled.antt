@@ -1,15 +1,15 @@
 -- Which PDUs a receiver withholds in a run is what the calls and the sent values tell.
-use Prim.Native.Nat.{ℕ, zero, suc, _+_, _%_, _≤_, _<_}
-use mathlib.Core.Path.{_≡_, refl, sym, ap, ap₂, _∙_}
-use mathlib.Core.Bool.{Bool, true, false, cond}
+use Prim.Native.Nat.{ℕ, _+_}
+use mathlib.Core.Path.{_≡_, refl, ap, _∙_}
+use mathlib.Core.Bool.{true, false}
 use mathlib.Core.List.{List, [], _∷_, _++_}
-use mathlib.Core.Option.{Option, none, some}
+use mathlib.Core.Option.{none, some}
 use borrow.Author.Tests.{eq-eqb}
-use lib.ListN.{length, drop}
+use lib.ListN.{drop}
 use Rattle.log.specs.Log.{Entry, packetsOf}
-use Rattle.reassembly.specs.Reassembly.{Said, following, inSequence, remembered, received}
-use Rattle.reassembly.specs.Rights.{Rights, Label, forgetting, inForce, keptAfter, withheldBy, under}
-use Rattle.reassembly.specs.Holder.{Come, Event, lost, came, Holder, opened, saidTo, entriesFor, holderFor, logged}
+use Rattle.reassembly.specs.Reassembly.{following, inSequence, remembered, received}
+use Rattle.reassembly.specs.Rights.{Rights, inForce, withheldBy}
+use Rattle.reassembly.specs.Holder.{Come, lost, came, Holder, opened, entriesFor, holderFor, logged}
 use Rattle.runs.specs.Spans.{lose}
 use Rattle.runs.proofs.Model.{sentAfter, saidOf, eventOf as eventIn, events, runMarks, wanted, AllFit, Sized, logged as loggedOf}
 use Rattle.runs.specs.Transmissions.{Way, gone, here}

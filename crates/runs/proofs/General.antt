@@ -1,27 +1,26 @@
 -- The general theorem of runs: whatever the calls are, and however each hands its PDUs over, the log holds the packets that are due, and the counts
 -- add up.
-use Prim.Native.Nat.{ℕ, zero, suc, _+_, _-_, _%_, _≤_, _<_}
+use Prim.Native.Nat.{ℕ, zero, suc, _+_, _-_, _≤_}
 use mathlib.Core.Path.{_≡_, refl, sym, ap, ap₂, subst, _∙_, fun-ext}
-use mathlib.Core.Bool.{Bool, true, false, cond}
+use mathlib.Core.Bool.{false, cond}
 use mathlib.Core.List.{List, [], _∷_, _++_, append-assoc}
-use mathlib.Core.Option.{Option, none, some}
+use mathlib.Core.Option.{Option, none}
 use native.Mathlib.Omega.{arith}
 use native.Mathlib.Nat.{le-of-suc-le-suc, not-suc-le-zero}
-use lib.ListN.{length, take, drop, replicate, length-append, length-take, length-drop}
-use lib.Seq.{drop-nil}
-use Rattle.log.specs.Log.{Entry, packet, psd, note, logWords, packetWords, packetsOf}
+use lib.ListN.{length, take, drop, replicate, length-append, length-take}
+use Rattle.log.specs.Log.{Entry, logWords, packetWords, packetsOf}
 use Rattle.log.proofs.Words.{log-append}
 use Rattle.log.proofs.Packets.{FitAll, fit-append, packet-words}
-use Rattle.reassembly.specs.Reassembly.{following, forgotten, lostEntries}
-use Rattle.reassembly.specs.Rights.{Rights, Label}
-use Rattle.reassembly.specs.Tally.{Tally, noTally, counted, tallied, Grows, Countable}
+use Rattle.reassembly.specs.Reassembly.{following}
+use Rattle.reassembly.specs.Rights.{Rights}
+use Rattle.reassembly.specs.Tally.{Tally, noTally, tallied, Grows, Countable}
 use Rattle.reassembly.proofs.Tallies.{tally-grows}
-use Rattle.reassembly.specs.Holder.{Come, Event, lost, came, Holder, opened, entriesFor, holderFor, logged, after}
-use Rattle.runs.proofs.Model.{cut, Fits, sentAfter, Plan, runMarks, wanted, AllFit, Sized, wholePackets, bytesIn, spansOf, fatesOf}
-use Rattle.runs.specs.Spans.{Fate, Mark, verdicts, packetAt, Span, covers, lies, wholeIndices, dueAt}
+use Rattle.reassembly.specs.Holder.{Event, lost, Holder, opened, entriesFor, holderFor, logged, after}
+use Rattle.runs.proofs.Model.{cut, sentAfter, Plan, runMarks, wanted, AllFit, Sized, wholePackets, bytesIn, spansOf, fatesOf}
+use Rattle.runs.specs.Spans.{Mark, verdicts, packetAt, covers, lies, wholeIndices, dueAt}
 use Rattle.runs.specs.Transmissions.{Way, gone, here, Close, AddsUp}
-use Rattle.runs.proofs.Transmissions.{Transmission, fateOf, keptOf, plansFrom, eventOf, eventsFrom, dueFrom}
-use Rattle.runs.proofs.Calls.{Load, transmissionOf, transmissionsOf, LoadsFit, spansFrom, Speech, speechesFrom, eventBy, heard, fatesFrom, Matching, Machine, Serves, Bridge, Step, handed, waysHanded, Through, logsFrom, finally, AllGood}
+use Rattle.runs.proofs.Transmissions.{fateOf, keptOf, plansFrom, eventOf, eventsFrom, dueFrom}
+use Rattle.runs.proofs.Calls.{Load, transmissionOf, transmissionsOf, LoadsFit, spansFrom, Speech, speechesFrom, eventBy, heard, fatesFrom, Matching, Machine, Bridge, Step, handed, waysHanded, Through, logsFrom, finally, AllGood}
 use Rattle.runs.proofs.Entitled.{entitled-run}
 use Rattle.runs.proofs.Counts.{run-tally, tally-packets, counts-of}
 use Rattle.runs.proofs.Spans.{due-whole, due-indices}

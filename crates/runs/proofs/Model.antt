@@ -2,9 +2,9 @@
 -- it should deliver. Bytes are numbers; nothing of a PDU's byte layout stands here.
 use Prim.Native.Nat.{ℕ, zero, suc, _+_, _%_, _≤_, _<_}
 use mathlib.Core.Path.{_≡_}
-use mathlib.Core.Bool.{Bool, true, false, not, cond}
+use mathlib.Core.Bool.{Bool, true, false, cond}
 use mathlib.Core.List.{List, [], _∷_, _++_}
-use lib.Dec.{eqb, ltb}
+use lib.Dec.{ltb}
 use lib.ListN.{length, take, drop, replicate}
 use Rattle.log.specs.Log.{Entry, packet}
 use Rattle.reassembly.specs.Reassembly.{Piece, Said, Memory, following, received, remembered, lostEntries, forgotten}

@@ -1,7 +1,7 @@
 -- The promise over a whole run, in the words of the papers: from the packets, where the bytes of each PDU stand, what the writer sent with it, and how
 -- each PDU of the run came.
 use mathlib.Core.Path.{_≡_}
-use mathlib.Core.List.{List, [], _∷_, _++_}
+use mathlib.Core.List.{List, [], _++_}
 use Prim.Native.Nat.{ℕ}
 use lib.ListN.{replicate}
 use Rattle.log.specs.Log.{Entry, logWords, packetWords}

@@ -1,18 +1,18 @@
 -- The general theorem in the words of the papers.
 use Prim.Native.Nat.{ℕ}
-use mathlib.Core.Path.{_≡_, refl, sym, ap, ap₂, subst, _∙_}
-use mathlib.Core.List.{List, [], _∷_, _++_}
+use mathlib.Core.Path.{_≡_, sym, ap, subst, _∙_}
+use mathlib.Core.List.{List, _++_}
 use mathlib.Core.Option.{none}
 use lib.ListN.{replicate}
-use Rattle.log.specs.Log.{logWords, packetWords}
+use Rattle.log.specs.Log.{logWords}
 use Rattle.reassembly.specs.Rights.{Rights}
-use Rattle.reassembly.specs.Tally.{Tally, noTally, tallied}
+use Rattle.reassembly.specs.Tally.{noTally, tallied}
 use Rattle.runs.specs.Spans.{Fate, lies, wholeIndices, dueAt}
 use Rattle.runs.specs.Transmissions.{gone, Close, AddsUp}
 use Rattle.runs.proofs.Model.{wholePackets}
 use Rattle.runs.proofs.Calls.{Load, spansFrom, labelsOf, Machine, Bridge, Step, waysHanded, logsFrom, fatesFrom}
 use Rattle.runs.proofs.Promise.{fates, arrivedBy, Promise}
-use Rattle.runs.proofs.General.{arrivals, Asked, Delivered, general}
+use Rattle.runs.proofs.General.{arrivals, Asked, general}
 use Rattle.runs.proofs.Bridges.{fates-along}
 use Rattle.runs.proofs.Looking.{told-is}
 

@@ -5,14 +5,13 @@ use mathlib.Core.Bool.{Bool, true, false, _&&_, cond}
 use mathlib.Core.List.{List, [], _∷_, _++_}
 use native.Mathlib.Omega.{arith}
 use native.Mathlib.Decide.{decLt}
-use native.Mathlib.Nat.{add-assoc, zero-add, add-zero, le-of-suc-le-suc, not-suc-le-zero}
+use native.Mathlib.Nat.{add-assoc, zero-add, le-of-suc-le-suc, not-suc-le-zero}
 use borrow.Author.Tests.{lt-ltb, le-ltb, le-leb, lt-leb}
-use lib.Dec.{eqb, ltb, leb}
 use lib.ListN.{length, take, drop, replicate, getD, length-append, length-drop, length-take, length-replicate, getD-replicate, List·getD-append}
 use lib.Seq.{take-add, drop-drop, getD-append-add}
 use Rattle.log.specs.Log.{Entry, packet}
 use Rattle.runs.proofs.Model.{cut, Fits, sentAfter, Plan, later, marks, runMarks, allTaken, isDue, wanted, AllFit, Sized, wholePackets, bytesIn, spansOf, fatesOf, nowhere}
-use Rattle.runs.specs.Spans.{Fate, Mark, verdicts, packetAt, Span, covers, lies, every, wholeIndices, dueAt, entriesAt}
+use Rattle.runs.specs.Spans.{Mark, verdicts, packetAt, covers, lies, every, wholeIndices, dueAt, entriesAt}
 use Rattle.runs.proofs.Transmissions.{dueFrom}
 use Rattle.runs.proofs.Theorem.{cut-none, marks-part, marks-whole, Unfinished, unfinished-zero, unfinished-next, sized-drop}
 use Rattle.runs.proofs.Wrong.{value-stays}

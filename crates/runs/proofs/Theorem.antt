@@ -9,7 +9,7 @@ use native.Mathlib.Nat.{zero-add, add-zero, suc-add, add-suc}
 use borrow.Author.Tests.{eq-eqb}
 use lib.Dec.{eqb, ltb}
 use lib.ListN.{length, take, drop, replicate, length-append, length-replicate, length-take, length-drop, drop-of-length-le}
-use Rattle.log.specs.Log.{Entry, packetsOf}
+use Rattle.log.specs.Log.{packetsOf}
 use Rattle.reassembly.specs.Reassembly.{Piece, Partial, nothing, beginning, Memory, Outcome, kept, following, sequenceStep, beginningStep, psdEntries, pieceStep, numberAt, endsHere, piecesStep, contentsStep, received, remembered, forgotten}
 use Rattle.reassembly.proofs.Laws.{delivered}
 use Rattle.reassembly.proofs.Runs.{andThen, ends-drops}

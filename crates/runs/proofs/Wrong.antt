@@ -3,11 +3,11 @@ use mathlib.Core.Path.{_≡_, refl, ap}
 use mathlib.Core.Bool.{Bool, true, false, cond}
 use mathlib.Core.List.{List, [], _∷_, _++_, map}
 use mathlib.Core.Option.{Option, none, some}
-use Prim.Native.Nat.{ℕ, zero, suc}
+use Prim.Native.Nat.{ℕ}
 use native.Mathlib.Omega.{arith}
 use lib.Dec.{eqb}
 use lib.ListN.{length, replicate}
-use Rattle.log.specs.Log.{Entry, packet, psd, note, packetsOf}
+use Rattle.log.specs.Log.{Entry, packet, note, packetsOf}
 use Rattle.reassembly.specs.Reassembly.{Memory, sequenceStep, beginningStep, psdEntries, finished, joined, pieceStep, piecesStep, continuingStep, contentsStep, received, remembered, forgotten}
 use Rattle.reassembly.specs.Rights.{Rights, Label}
 use Rattle.runs.specs.Transmissions.{Way, gone, here}

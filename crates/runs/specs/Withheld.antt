@@ -1,6 +1,6 @@
 -- Document 02, Ask 10: which PDUs of a run are withheld, looking back from each. It is told by what was sent with the PDUs, by the entitled programs and by
 -- which PDUs were lost; no receiver stands here.
-use mathlib.Core.Bool.{Bool, true, false, cond}
+use mathlib.Core.Bool.{Bool, cond}
 use mathlib.Core.List.{List, [], _∷_}
 use mathlib.Core.Option.{Option, none, some}
 use Prim.Native.Nat.{ℕ}
