@@ -16,18 +16,19 @@ use Rattle.receiver.specs.Receiving.{memoryOf, keptOf, tallyOf, remembering, ke
 use Rattle.receiver.specs.declared.Receiver.{Receiver}
 use Rattle.diversity.specs.Diversity.{Choice, neither, theFirst, theSecond, choiceOf}
 use Rattle.delivery.proofs.Parts.{answerOf, carryOf, logOf}
-use Rattle.delivery.specs.Delivery.{Behaviour, Answer, Station, Call, receive, batch, pair, markLost, defined}
+use Rattle.batch.specs.declared.Batch.{Batch}
+use Rattle.delivery.specs.Delivery.{Behaviour, Station, Call, receive, batch, pair, markLost, defined}
 
 -- a receiver by what each of its calls answers and leaves in carry and log
-abbrev behaving : ((mode stream register : ℕ) (programs : List ℕ) → Receiver) → (Station → Call → Answer) → (Station → Call → List ℕ) → (Station → Call → List ℕ) → Behaviour
+abbrev behaving : ((mode stream register : ℕ) (programs : List ℕ) → Receiver) → (Station → Call → Batch) → (Station → Call → List ℕ) → (Station → Call → List ℕ) → Behaviour
 behaving opening answer carry log = record { opening = opening; effect = λ x c. record { answer = answer x c; carry = carry x c; log = log x c } }
 
 -- an answer with another count of words, or with another receiver
-abbrev pub withWords : ℕ → Answer → Answer
-withWords n a = record { refusal = a .refusal; taken = a .taken; words = n; receiver = a .receiver }
+abbrev pub withWords : ℕ → Batch → Batch
+withWords n a = record { refusal = a .refusal; wrong = a .wrong; taken = a .taken; words = n; receiver = a .receiver }
 
-abbrev pub withReceiver : Receiver → Answer → Answer
-withReceiver r a = record { refusal = a .refusal; taken = a .taken; words = a .words; receiver = r }
+abbrev pub withReceiver : Receiver → Batch → Batch
+withReceiver r a = record { refusal = a .refusal; wrong = a .wrong; taken = a .taken; words = a .words; receiver = r }
 
 -- the log as it was lent
 abbrev pub lentLog : Call → List ℕ
@@ -49,7 +50,7 @@ module _ (number : ℕ) (bytes : List ℕ) where
   abbrev pub fixedWords : List ℕ
   fixedWords = logWords (packet number bytes ∷ [])
 
-  abbrev pub fixedAnswer : Station → Call → Answer
+  abbrev pub fixedAnswer : Station → Call → Batch
   fixedAnswer x (receive marks pdu log) = withWords (length fixedWords) (answerOf x (receive marks pdu log))
   fixedAnswer x (batch lengths pdus log) = answerOf x (batch lengths pdus log)
   fixedAnswer x (pair first second log) = answerOf x (pair first second log)
@@ -65,11 +66,11 @@ module _ (number : ℕ) (bytes : List ℕ) where
   fixed = behaving (defined .opening) fixedAnswer carryOf fixedLog
 
   -- it delivers the packet for every PDU marked lost, and says that it took none
-  abbrev pub inventingAnswer : Station → Call → Answer
+  abbrev pub inventingAnswer : Station → Call → Batch
   inventingAnswer x (receive marks pdu log) = answerOf x (receive marks pdu log)
   inventingAnswer x (batch lengths pdus log) = answerOf x (batch lengths pdus log)
   inventingAnswer x (pair first second log) = answerOf x (pair first second log)
-  inventingAnswer x (markLost log) = record { refusal = answerOf x (markLost log) .refusal; taken = 0; words = length fixedWords; receiver = answerOf x (markLost log) .receiver }
+  inventingAnswer x (markLost log) = record { refusal = answerOf x (markLost log) .refusal; wrong = 0; taken = 0; words = length fixedWords; receiver = answerOf x (markLost log) .receiver }
 
   abbrev pub inventingLog : Station → Call → List ℕ
   inventingLog x (receive marks pdu log) = logOf x (receive marks pdu log)
@@ -81,7 +82,7 @@ module _ (number : ℕ) (bytes : List ℕ) where
   inventing = behaving (defined .opening) inventingAnswer carryOf inventingLog
 
 -- it joins in the first PDU, and then, by single calls, only advances
-abbrev pub advancingAnswer : Station → Call → Answer
+abbrev pub advancingAnswer : Station → Call → Batch
 advancingAnswer x (receive marks pdu log) = cond (x .receiver .known) (withWords 0 (answerOf x (receive marks pdu log))) (answerOf x (receive marks pdu log))
 advancingAnswer x (batch lengths pdus log) = answerOf x (batch lengths pdus log)
 advancingAnswer x (pair first second log) = answerOf x (pair first second log)
@@ -91,7 +92,7 @@ abbrev pub advancing : Behaviour
 advancing = behaving (defined .opening) advancingAnswer carryOf logOf
 
 -- marking lost leaves it as it was, so that the one-bit sequence may fit again
-abbrev pub joiningAnswer : Station → Call → Answer
+abbrev pub joiningAnswer : Station → Call → Batch
 joiningAnswer x (receive marks pdu log) = answerOf x (receive marks pdu log)
 joiningAnswer x (batch lengths pdus log) = answerOf x (batch lengths pdus log)
 joiningAnswer x (pair first second log) = answerOf x (pair first second log)
@@ -105,7 +106,7 @@ abbrev pub zeroed : Behaviour
 zeroed = behaving (λ mode stream register programs. defined .opening mode stream 0 programs) answerOf carryOf logOf
 
 -- a batch hands back the receiver that it got (document 02, Ask 1)
-abbrev pub forgettingAnswer : Station → Call → Answer
+abbrev pub forgettingAnswer : Station → Call → Batch
 forgettingAnswer x (receive marks pdu log) = answerOf x (receive marks pdu log)
 forgettingAnswer x (batch lengths pdus log) = withReceiver (x .receiver) (answerOf x (batch lengths pdus log))
 forgettingAnswer x (pair first second log) = answerOf x (pair first second log)
@@ -159,7 +160,7 @@ supposing = behaving (defined .opening) (λ x c. answerOf (assumed x) c) (λ x c
 abbrev pub servicesKept : Station → Receiver
 servicesKept x = remembering (x .receiver) forgotten (keptOf (x .receiver)) (tallyOf (x .receiver))
 
-abbrev pub keepingAnswer : Station → Call → Answer
+abbrev pub keepingAnswer : Station → Call → Batch
 keepingAnswer x (receive marks pdu log) = answerOf x (receive marks pdu log)
 keepingAnswer x (batch lengths pdus log) = answerOf x (batch lengths pdus log)
 keepingAnswer x (pair first second log) = answerOf x (pair first second log)
@@ -196,7 +197,7 @@ module _ (x : Station) (marks pdu log : List ℕ) where
   abbrev pub trustedWords : List ℕ
   trustedWords = logWords trustedEntries
 
-abbrev pub trustingAnswer : Station → Call → Answer
+abbrev pub trustingAnswer : Station → Call → Batch
 trustingAnswer x (receive marks pdu log) =
     let a = answerOf x (receive marks pdu log) in
     withWords (cond (eqb (a .refusal) 0) (length (trustedWords x marks pdu log)) 0) a
@@ -233,7 +234,7 @@ uncounted r = record {
   last = 0;
 }
 
-abbrev pub resettingAnswer : Station → Call → Answer
+abbrev pub resettingAnswer : Station → Call → Batch
 resettingAnswer x (receive marks pdu log) = answerOf x (receive marks pdu log)
 resettingAnswer x (batch lengths pdus log) = answerOf x (batch lengths pdus log)
 resettingAnswer x (pair first second log) = answerOf x (pair first second log)

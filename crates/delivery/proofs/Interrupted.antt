@@ -17,8 +17,9 @@ use Rattle.snapshot.specs.declared.Saved.{Saved}
 use Rattle.snapshot.specs.Snapshot.{savedWords, saveNumber, saved, bytesIn, loadNumber, loaded, carryLoaded}
 use Rattle.snapshot.proofs.Round.{loaded-saved, saved-words, save-room, few-words}
 use Rattle.delivery.proofs.Parts.{answerOf, logOf}
-use Rattle.delivery.specs.Delivery.{Station, Call, receive, batch, pair, markLost, Answer, defined, stationAfter, loggedBy, finally, Seen, seenOf, seenFrom}
-use Rattle.delivery.specs.Interruptions.{definedSnapshot, Interruption, wordsOf, resumed, Resumes, Turn, called, interrupted, callsIn, seenIn, endIn, AllResume, Running, Suffices, Interruptions}
+use Rattle.batch.specs.declared.Batch.{Batch}
+use Rattle.delivery.specs.Delivery.{Station, Call, receive, batch, pair, markLost, defined, stationAfter, loggedBy, finally, Seen, seenOf, seenFrom}
+use Rattle.delivery.specs.Interruptions.{definedSnapshot, Interruption, wordsOf, resumed, Turn, called, interrupted, callsIn, seenIn, endIn, AllResume, Running, Suffices, Interruptions}
 use Rattle.delivery.proofs.Made.{bytes-of}
 use Rattle.delivery.proofs.Held.{Alike, put-longer, SameHeld, SameCall, same-call}
 use Rattle.delivery.proofs.Running.{still-runs}
@@ -89,7 +90,7 @@ module _ (x : Station) (i : Interruption) (h : Running x) (words : ¬ (definedSn
       subst (λ (ws : List ℕ). (loaded ws (i .carry) ≡ openedBy 0 r) × (take (r .held) (carryLoaded ws (i .carry)) ≡ take (r .held) (x .carry))) (sym words-are)
       (loaded-saved r (x .carry) (h .right) (h .register) (h .entitled) (let k = h .counts .0 in omega (arith, k)) (let k = h .counts .1 in omega (arith, k)) (h .room) (bytes-of (take (r .held) (x .carry)) (h .held)) (i .carry) room)
 
-  pub resumes : Resumes definedSnapshot x i
+  pub resumes : (definedSnapshot .saved x (i .words) .refusal ≡ 0) × (definedSnapshot .loaded (wordsOf definedSnapshot x i) (i .carry) .refusal ≡ 0)
   resumes = (save-accepted, ap (λ (o : Opened). o .refusal) (loaded-is .0))
 
   pub resumed-held : SameHeld x (resumed definedSnapshot x i)
@@ -118,7 +119,7 @@ held-runs x y s h =
     (record { right = h .right; register = h .register; entitled = h .entitled; counts = h .counts; room = s .carry .other; held = subst Bytes (s .carry .held) (h .held) })
 
 -- what is logged goes by the answer and the log
-abbrev loggedFor : Call → Answer → List ℕ → List ℕ
+abbrev loggedFor : Call → Batch → List ℕ → List ℕ
 loggedFor (batch lengths pdus l) a log = cond (eqb (a .refusal) 0 || not (eqb (a .taken) 0)) (take (a .words) log) []
 loggedFor (receive marks pdu l) a log = cond (eqb (a .refusal) 0 || not (eqb (cond (eqb (a .refusal) 0) 1 0) 0)) (take (a .words) log) []
 loggedFor (pair first second l) a log = cond (eqb (a .refusal) 0 || not (eqb (cond (eqb (a .refusal) 0) 1 0) 0)) (take (a .words) log) []

@@ -15,7 +15,8 @@ use Rattle.runs.specs.Transmissions.{Way, gone, here}
 use Rattle.runs.proofs.Model.{wholePackets}
 use Rattle.runs.proofs.Promise.{arrivedBy as arrivedBy, indices}
 use Rattle.runs.proofs.Spans.{entries-are}
-use Rattle.delivery.specs.Delivery.{Writing, pdusFrom, spansFrom, Station, Call, Answer, Behaviour, effectOf, HeaderAltered, Step, takenBy, Through as ThroughBy, seenFrom, logsIn, Each, Run, runOf, Asked as AskedBy, inReceived}
+use Rattle.batch.specs.declared.Batch.{Batch}
+use Rattle.delivery.specs.Delivery.{Writing, pdusFrom, spansFrom, Station, Call, Behaviour, effectOf, HeaderAltered, Step, takenBy, Through as ThroughBy, seenFrom, logsIn, Each, Run, runOf, Asked as AskedBy, inReceived}
 use Rattle.delivery.specs.Entitlement.{labelsFrom, rightsFor}
 
 abbrev pub runWith : (mode stream register : ℕ) (programs : List ℕ) (packets : List (List ℕ)) (writings : List Writing) (first count : ℕ) (carry : List ℕ) (steps : List Step) → Run
@@ -31,7 +32,7 @@ EntriesFit es = Countable (tallied noTally es)
 
 -- ---- the calls
 
-abbrev pub answerOf : Station → Call → Answer
+abbrev pub answerOf : Station → Call → Batch
 answerOf x c = effectOf x c .answer
 
 abbrev pub carryOf : Station → Call → List ℕ
@@ -54,7 +55,7 @@ module _ (b : Behaviour) where
   logsFrom x cs = logsIn (seenFrom b x cs)
 
   -- each answer to the calls of a list of steps is as promised
-  abbrev pub NoneRefused : {S : Type 0} → (S → Call) → (S → Answer → Type 0) → Station → List S → Type 0
+  abbrev pub NoneRefused : {S : Type 0} → (S → Call) → (S → Batch → Type 0) → Station → List S → Type 0
   NoneRefused call takes x ss = Each takes ss (seenFrom b x (map call ss))
 
   abbrev pub Asked : (mode stream register : ℕ) (programs : List ℕ) (packets : List (List ℕ)) (writings : List Writing) (first count : ℕ) (carry : List ℕ) (steps : List Step) → Type 0

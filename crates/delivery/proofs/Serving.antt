@@ -33,11 +33,12 @@ use Rattle.receiver.specs.declared.Received.{Received}
 use Rattle.refusal.proofs.Rows.{past, row-off, rest-off}
 use Rattle.receiver.proofs.Enough.{firstTwelve, most}
 use Rattle.delivery.proofs.Parts.{answerOf}
-use Rattle.delivery.specs.Delivery.{Station, receive, markLost, Answer, ofOne, stationAfter, loggedBy, defined}
+use Rattle.batch.specs.declared.Batch.{Batch}
+use Rattle.delivery.specs.Delivery.{Station, receive, markLost, ofOne, stationAfter, loggedBy, defined}
 use Rattle.delivery.proofs.Made.{Heard}
 
 -- what is logged by a call that receives a PDU or marks it lost, by its answer and the log after it
-abbrev pub loggedAlone : Answer → List ℕ → List ℕ
+abbrev pub loggedAlone : Batch → List ℕ → List ℕ
 loggedAlone a log = cond (eqb (a .refusal) 0 || not (eqb (cond (eqb (a .refusal) 0) 1 0) 0)) (take (a .words) log) []
 
 -- ---- what is remembered is what is put down

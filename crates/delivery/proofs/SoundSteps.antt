@@ -16,7 +16,8 @@ use Rattle.writer.specs.Writing.{opened as writerOpened}
 use Rattle.receiver.specs.Entitling.{allowedPrograms}
 use Rattle.receiver.specs.Receiving.{tallyOf}
 use Rattle.runs.specs.Transmissions.{Way, gone, here, Close, AddsUp}
-use Rattle.delivery.specs.Delivery.{Packets, concatenated, Writing, InOrder, Station, Call, receive, batch, pair, markLost, Answer, defined, stationAfter, RefusedAfter, finally, runOf, Correctable}
+use Rattle.batch.specs.declared.Batch.{Batch}
+use Rattle.delivery.specs.Delivery.{Packets, concatenated, Writing, InOrder, Station, Call, receive, batch, pair, markLost, defined, stationAfter, RefusedAfter, finally, runOf, Correctable}
 use Rattle.delivery.proofs.Parts.{freshStation, NoneRefused, logsFrom, made, EntriesFit, dueEntries, dueIndices}
 use Rattle.delivery.specs.Copies.{restored, frontLength, bytesAt, crcAt, pieceAt}
 
@@ -70,7 +71,7 @@ callOf (loses log) = markLost log
 callOf (refuses c) = c
 
 -- what is promised of a call's answer: a call for PDUs of the run alone is not refused, and a batch of them takes them all
-abbrev pub Takes : Step → Answer → Type 0
+abbrev pub Takes : Step → Batch → Type 0
 Takes (receives marks pdu log sound) a = a .refusal ≡ 0
 Takes (pairs first second log sound other) a = a .refusal ≡ 0
 Takes (batches came log) a = (a .refusal ≡ 0) × (a .taken ≡ length came)

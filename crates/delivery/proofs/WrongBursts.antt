@@ -23,7 +23,8 @@ use Rattle.receiver.specs.Receiving.{openingNumber, openedFor, piecesIn, saidBy
 use Rattle.runs.proofs.Model.{wholePackets}
 use Rattle.runs.proofs.Promise.{arrivedBy}
 use Rattle.runs.specs.Transmissions.{here}
-use Rattle.delivery.specs.Delivery.{Behaviour, Answer, receive, Step, receives, alone, loggedBy, runOf, Through, Holds}
+use Rattle.batch.specs.declared.Batch.{Batch}
+use Rattle.delivery.specs.Delivery.{Behaviour, receive, Step, receives, alone, loggedBy, runOf, Through, Holds}
 use Rattle.delivery.proofs.Parts.{freshStation, made, dueEntries, runWith, answerOf}
 use Rattle.delivery.specs.Entitlement.{rightsFor, forPrograms}
 use Rattle.delivery.specs.Bursts.{Hit}
@@ -80,7 +81,7 @@ both-fit = (
 )
 
 -- what is logged of a call that is not refused
-all-logged : (a : Answer) (w : List ℕ) → eqb (a .refusal) 0 ≡ true
+all-logged : (a : Batch) (w : List ℕ) → eqb (a .refusal) 0 ≡ true
     → loggedAlone (withWords (cond (eqb (a .refusal) 0) (length w) 0) a) (cond (eqb (a .refusal) 0) (putAt words 0 w) words) ++ [] ≡ w
 all-logged a w t =
     ap (λ (b : Bool). cond (b || not (eqb (cond b 1 0) 0)) (take (cond b (length w) 0) (cond b (putAt words 0 w) words)) [] ++ []) t
@@ -90,7 +91,7 @@ all-logged a w t =
 pub trusting-wrong : ¬ Holds (forPrograms (Damaged Hit)) trusting
 unfolding logWords entryWords dataWords packetsOf
 trusting-wrong claim =
-    let a : Answer = answerOf fresh (receive [] second words) in
+    let a : Batch = answerOf fresh (receive [] second words) in
     let asked : packetWords (loggedBy trusting fresh (receive [] second words) ++ []) ≡ logWords (packet 0 (replicate 100 1) ∷ []) =
     claimed trusting claim .log
     ∙ ap (λ (ps : List (List ℕ)). logWords (dueEntries 0 0 allPrograms packets two 0 (waysFrom 16 (runOf 0 1 ps) call))) made-is

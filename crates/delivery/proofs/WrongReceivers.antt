@@ -24,7 +24,8 @@ use Rattle.receiver.specs.Entitling.{allowedPrograms, allPrograms}
 use Rattle.receiver.specs.Receiving.{openingNumber, openedFor, tallyOf, remembering, receiveNumber, receiveAnswer, lostNumber, lostAnswer, logAfterLost}
 use Rattle.runs.specs.Spans.{Span, every}
 use Rattle.reassembly.specs.Tally.{Tally, noTally, counted, tallied}
-use Rattle.delivery.specs.Delivery.{Packets, Writing, bufferAfter, pdusFrom, spansFrom, InOrder, Behaviour, Answer, Station, Call, receive, markLost, defined, callOf, Takes, receptions, stationAfter, loggedBy, finally, inReceived, runOf, Demand3For}
+use Rattle.batch.specs.declared.Batch.{Batch}
+use Rattle.delivery.specs.Delivery.{Packets, Writing, bufferAfter, pdusFrom, spansFrom, InOrder, Behaviour, Station, Call, receive, markLost, defined, callOf, Takes, receptions, stationAfter, loggedBy, finally, inReceived, runOf, Demand3For}
 use Rattle.delivery.proofs.Parts.{freshStation, NoneRefused, logCounts, logsFrom, made, spans, arrivedEntries, Asked, answerOf, logOf}
 use Rattle.runs.proofs.Model.{wholePackets}
 use Rattle.delivery.proofs.FaultyReceivers.{withWords, lentLog, silent, untouched, fixedWords, fixed, inventing, advancing, joining, resetting}
@@ -125,7 +126,7 @@ second-lost = asked-is 1 1 (false ∷ []) [] refl
 
 module _ (number : ℕ) (bytes : List ℕ) (fits : Fit (packet number bytes)) where
   -- an accepted call that counts its words logs the packet
-  one-logged : (a : Answer) → a .refusal ≡ 0 → ¬ (packetWords (loggedAlone (withWords (length (fixedWords number bytes)) a) (putAt words 0 (fixedWords number bytes)) ++ []) ≡ [])
+  one-logged : (a : Batch) → a .refusal ≡ 0 → ¬ (packetWords (loggedAlone (withWords (length (fixedWords number bytes)) a) (putAt words 0 (fixedWords number bytes)) ++ []) ≡ [])
   unfolding logWords entryWords packetsOf
   one-logged a r e =
       let w : List ℕ = fixedWords number bytes in

@@ -116,23 +116,14 @@ pub data Call : Type 0 where
   pair : (first second log : List ℕ) → Call
   markLost : (log : List ℕ) → Call
 
--- what a call answers: the refusal number, how many PDUs it took, the count of log words, and the receiver. How many it took is a batch's to say; what a
--- single call says of it counts for nothing (`takenBy`, below)
-pub record Answer : Type 0 where
-  pub refusal : ℕ
-  pub taken : ℕ
-  pub words : ℕ
-  pub receiver : Receiver
-
-abbrev pub ofOne : Received → Answer
-ofOne a = record { refusal = a .refusal; taken = cond (eqb (a .refusal) 0) 1 0; words = a .words; receiver = a .receiver }
-
-abbrev pub ofBatch : Batch → Answer
-ofBatch a = record { refusal = a .refusal; taken = a .taken; words = a .words; receiver = a .receiver }
+-- A call answers as a batch does: the refusal number, k for 11, how many PDUs it took, the count of log words, and the receiver. How many it took is a batch's to say;
+-- what another call says of it counts for nothing (`takenBy`, below)
+abbrev pub ofOne : Received → Batch
+ofOne a = record { refusal = a .refusal; wrong = a .wrong; taken = cond (eqb (a .refusal) 0) 1 0; words = a .words; receiver = a .receiver }
 
 -- what a call leaves: its answer, the carry and the log
 pub record Effect : Type 0 where
-  pub answer : Answer
+  pub answer : Batch
   pub carry : List ℕ
   pub log : List ℕ
 
@@ -145,7 +136,7 @@ pub record Behaviour : Type 0 where
 abbrev pub effectOf : Station → Call → Effect
 effectOf x (receive marks pdu log) =
     record { answer = ofOne (receiveAnswer marks (x .carry) pdu log (x .receiver)); carry = carryAfter marks (x .carry) pdu log (x .receiver); log = logAfter marks (x .carry) pdu log (x .receiver) }
-effectOf x (batch lengths pdus log) = let u = received lengths (x .carry) pdus log (x .receiver) in record { answer = ofBatch (u .answer); carry = u .carry; log = u .log }
+effectOf x (batch lengths pdus log) = let u = received lengths (x .carry) pdus log (x .receiver) in record { answer = u .answer; carry = u .carry; log = u .log }
 effectOf x (pair first second log) = let u = pairReceived (x .carry) first second log (x .receiver) in record { answer = ofOne (u .answer); carry = u .carry; log = u .log }
 effectOf x (markLost log) = record { answer = ofOne (lostAnswer log (x .receiver)); carry = x .carry; log = logAfterLost log (x .receiver) }
 
@@ -206,7 +197,7 @@ callOf (loses log) = markLost log
 callOf (refuses c) = c
 
 -- what is promised of a call's answer: a call for PDUs of the run alone is not refused, and a batch of them takes them all
-abbrev pub Takes : Step → Answer → Type 0
+abbrev pub Takes : Step → Batch → Type 0
 Takes (receives copies log) a = a .refusal ≡ 0
 Takes (batches pdus log) a = (a .refusal ≡ 0) × (a .taken ≡ length pdus)
 Takes (stops pdus lengths bytes log) a = Unit {0}
@@ -224,7 +215,7 @@ receptions (refuses c ∷ ss) = receptions ss
 
 -- what is seen of a call: its answer, with the receiver; the lent log after it, every word; and what is logged
 pub record Seen : Type 0 where
-  pub answer : Answer
+  pub answer : Batch
   pub log : List ℕ
   pub logged : List ℕ
 
@@ -282,7 +273,7 @@ logsIn [] = []
 logsIn (v ∷ vs) = v .logged ++ logsIn vs
 
 -- of what is seen of the calls of a list of steps, each answer is as promised
-abbrev pub Each : {S : Type 0} → (S → Answer → Type 0) → List S → List Seen → Type 0
+abbrev pub Each : {S : Type 0} → (S → Batch → Type 0) → List S → List Seen → Type 0
 Each takes [] [] = Unit {0}
 Each takes [] (v ∷ vs) = ⊥
 Each takes (s ∷ ss) [] = ⊥

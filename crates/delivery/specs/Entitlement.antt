@@ -26,10 +26,10 @@ abbrev pub labelOf : Settings → Label
 labelOf s = record { program = programOf s; services = cond (s .serviced) (s .services) 0 }
 
 -- of each PDU that a list of calls makes, by G, as `spansFrom` has it
-module _ (mode stream : ℕ) (packets : List (List ℕ)) where
-  unfoldable pub labelsFrom : ℕ → List Writing → List Label
-  labelsFrom g [] = []
-  labelsFrom g (a ∷ al) = cond (refusedAt mode stream packets g a) (labelsFrom g al) (labelOf (a .settings) ∷ labelsFrom (g + placedAt mode stream packets g a) al)
+unfoldable pub labelsFrom : (mode stream : ℕ) → List (List ℕ) → ℕ → List Writing → List Label
+labelsFrom mode stream packets g [] = []
+labelsFrom mode stream packets g (a ∷ al) =
+    cond (refusedAt mode stream packets g a) (labelsFrom mode stream packets g al) (labelOf (a .settings) ∷ labelsFrom mode stream packets (g + placedAt mode stream packets g a) al)
 
 -- ---- which packets are due
 
@@ -37,16 +37,15 @@ module _ (mode stream : ℕ) (packets : List (List ℕ)) where
 abbrev pub rightsFor : (mode stream : ℕ) (programs : List ℕ) → Rights
 rightsFor mode stream programs = record { entitled = isListed programs; keeps = eqb stream 0 && eqb (modeIn (listing mode stream) .sequences) 8 }
 
-module _ (r : Run) where
-  -- what came of each PDU; those before the run count as lost
-  abbrev pub fates : List Fate
-  fates =
-      fatesTold (rightsFor (r .mode) (r .stream) (r .programs)) []
-      (arrivalsFrom (modeIn (listing (r .mode) (r .stream)) .sequences) 0 (replicate (r .first) gone ++ waysOf r) (labelsFrom (r .mode) (r .stream) (r .packets) 0 (r .writings)))
+-- what came of each PDU of a run; those before it count as lost
+abbrev pub fates : Run → List Fate
+fates r =
+    fatesTold (rightsFor (r .mode) (r .stream) (r .programs)) []
+    (arrivalsFrom (modeIn (listing (r .mode) (r .stream)) .sequences) 0 (replicate (r .first) gone ++ waysOf r) (labelsFrom (r .mode) (r .stream) (r .packets) 0 (r .writings)))
 
-  -- the packets with every byte in a piece that is taken, of a PDU of the run, that begin in a PDU not withheld
-  abbrev pub due : List ℕ
-  due = wholeIndices (dueAt (lies (r .packets) (spans r) fates)) 0 0 (r .packets)
+-- the packets with every byte in a piece that is taken, of a PDU of the run, that begin in a PDU not withheld
+abbrev pub due : Run → List ℕ
+due r = wholeIndices (dueAt (lies (r .packets) (spans r) (fates r))) 0 0 (r .packets)
 
 -- ---- the claim
 

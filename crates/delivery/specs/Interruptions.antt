@@ -49,10 +49,6 @@ module _ (s : Snapshot) where
   abbrev pub resumed : Station → Interruption → Station
   resumed x i = record { receiver = s .loaded (wordsOf x i) (i .carry) .receiver; carry = s .carry (wordsOf x i) (i .carry) }
 
-  -- neither saving nor loading is refused
-  abbrev pub Resumes : Station → Interruption → Type 0
-  Resumes x i = (s .saved x (i .words) .refusal ≡ 0) × (s .loaded (wordsOf x i) (i .carry) .refusal ≡ 0)
-
 -- ---- what is asked of receiver and calls
 
 -- a receiver that number 1 does not turn down, and a carry of 4,096 bytes at least. Register, programs and held bytes are bytes, and the counts have 32 bits
@@ -100,7 +96,7 @@ module _ (b : Behaviour) (s : Snapshot) where
   abbrev pub AllResume : Station → List Turn → Type 0
   AllResume x [] = Unit {0}
   AllResume x (called c ∷ ts) = AllResume (stationAfter b x c) ts
-  AllResume x (interrupted i ∷ ts) = Resumes s x i × AllResume (resumed s x i) ts
+  AllResume x (interrupted i ∷ ts) = ((s .saved x (i .words) .refusal ≡ 0) × (s .loaded (wordsOf s x i) (i .carry) .refusal ≡ 0)) × AllResume (resumed s x i) ts
 
   -- what is asked besides: the PDUs of each call are of bytes, and at each interruption the buffer of words is not too short, 26, and the carry has 4,096 bytes at least
   abbrev pub Suffices : Station → List Turn → Type 0
