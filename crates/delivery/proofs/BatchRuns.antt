@@ -1,32 +1,32 @@
 -- Document 02, Ask 1: a run of SmallRuns.antt in two batches, the first of which is refused at its third PDU; and demand 3 is false of a receiver whose
 -- batches hand back the receiver that they got.
 use mathlib.Core.Path.{_≡_, refl, sym, ap, ap₂, subst, _∙_}
-use mathlib.Core.Bool.{Bool, true, false}
+use mathlib.Core.Bool.{true}
 use mathlib.Core.List.{List, [], _∷_, _++_, map, append-nil}
-use Prim.Native.Nat.{ℕ, zero, suc, _+_, _*_, _<_, _≤_}
+use Prim.Native.Nat.{ℕ, _+_, _≤_}
 use native.Mathlib.Omega.{arith}
-use native.Mathlib.Nat.{add-zero}
 use lib.ListN.{length, take, drop, replicate, length-replicate, length-map}
 use lib.Seq.{take-add}
 use Rattle.algebra.specs.Places.{All}
 use Rattle.pieces.specs.Pieces.{total}
-use Rattle.log.specs.Log.{Entry, packet, dataWords, entryWords, logWords, packetWords}
+use Rattle.log.specs.Log.{packet, dataWords, entryWords, logWords, packetWords}
 use Rattle.receiver.specs.Entitling.{allPrograms}
 use Rattle.receiver.specs.Receiving.{receiveAnswer}
-use Rattle.receiver.specs.declared.Receiver.{Receiver}
 use Rattle.batch.specs.Batches.{Result, oneByOne, received}
 use Rattle.batch.proofs.Single.{refusal-is}
 use Rattle.batch.proofs.OneByOne.{first-refused}
-use Rattle.batch.proofs.Laws.{andThen, takes-all, keeps-room, then-others}
-use Rattle.runs.specs.Spans.{Span}
-use Rattle.delivery.specs.Delivery.{joined, Behaviour, Station, Call, receive, batch, answerOf, carryOf, logOf, defined, Step, receives, batches, stops, callOf, receptions, freshStation, stationAfter, RefusedAfter, Through, loggedBy, logsFrom, inReceived, wholePackets, runOf, made, spans, Asked, Delivered, Demand3For}
-use Rattle.delivery.specs.WrongReceivers.{forgetting}
+use Rattle.batch.proofs.Laws.{takes-all, keeps-room, then-others}
+use Rattle.runs.specs.Spans.{Span, every}
+use Rattle.delivery.specs.Delivery.{concatenated, Behaviour, Station, receive, batch, defined, Step, receives, alone, batches, stops, callOf, receptions, stationAfter, RefusedAfter, loggedBy, inReceived, runOf, Demand3For}
+use Rattle.delivery.proofs.Parts.{freshStation, Through, logsFrom, made, Asked, answerOf, carryOf}
+use Rattle.runs.proofs.Model.{wholePackets}
+use Rattle.delivery.proofs.FaultyReceivers.{handingBack}
 use Rattle.delivery.proofs.Channel.{Usable, made-right}
 use Rattle.delivery.proofs.Possible.{words, log-room, as-sent, first-batch, in-one, run-usable}
-use Rattle.delivery.proofs.Counted.{arrived-fit}
+use Rattle.delivery.proofs.Claimed.{demand3-says}
 use Rattle.delivery.proofs.Theorem.{delivers}
 use Rattle.delivery.proofs.WrongReceivers.{short, twice, writtenAt, two-made, short-right, short-order, short-few, shortSpans, short-spans, no-packet}
-use Rattle.delivery.proofs.SmallRuns.{three, three-few, six, opens, packets-right, in-order, carry, carry-room, fiveSpans, run-length, askedFor, asked-is, empty-number}
+use Rattle.delivery.proofs.SmallRuns.{three, small-run, six, opens, packets-right, in-order, carry, carry-room, run-length, askedFor, asked-is, empty-number}
 
 -- ---- a batch of two with a third that is refused, and a batch of the other three
 
@@ -62,8 +62,8 @@ asked-of : (first count : ℕ) (steps : List Step) → Through defined fresh (ru
 asked-of first count steps t = record { opens = opens; sized = packets-right; offered = in-order; room = carry-room; through = t }
 
 -- the two are taken
-two-taken : answerOf fresh (batch (map length two) (joined two) long) .refusal ≡ 0
-two-taken = delivers 0 0 0 three six 0 2 carry (batches two long ∷ []) (asked-of 0 2 (batches two long ∷ []) (in-one defined fresh two long (usable 0 2) (let n = two-are in let l = long-is in omega (arith, n, l)))) (arrived-fit 0 0 three six three-few 0 2 (receptions (batches two long ∷ []))) .accepted .0 .0
+two-taken : answerOf fresh (batch (map length two) (concatenated two) long) .refusal ≡ 0
+two-taken = small-run defined delivers 0 2 carry (batches two long ∷ []) (asked-of 0 2 (batches two long ∷ []) (in-one defined fresh two long (usable 0 2) (let n = two-are in let l = long-is in omega (arith, n, l)))) .accepted .0 .0
 
 -- a PDU of no bytes is refused
 module _ (x : Station) (log : List ℕ) where
@@ -79,10 +79,10 @@ module _ (x : Station) (log : List ℕ) where
 third-refused : RefusedAfter defined (length two) fresh (callOf (stops two (0 ∷ []) [] long))
 unfolding total
 third-refused =
-    let r : Result = received (map length two) carry (joined two) long (fresh .receiver) in
-    let e = then-others (map length two) carry (joined two) long (0 ∷ []) [] (fresh .receiver) refl two-taken in
+    let r : Result = received (map length two) carry (concatenated two) long (fresh .receiver) in
+    let e = then-others (map length two) carry (concatenated two) long (0 ∷ []) [] (fresh .receiver) refl two-taken in
     let n = none-after (record { receiver = r .answer .receiver; carry = r .carry }) (drop (r .answer .words) (r .log)) in
-    let t : r .answer .taken ≡ length two = takes-all (map length two) carry (joined two) long (fresh .receiver) two-taken ∙ length-map two length in
+    let t : r .answer .taken ≡ length two = takes-all (map length two) carry (concatenated two) long (fresh .receiver) two-taken ∙ length-map two length in
     ((λ h. n .0 (sym (ap (λ (u : Result). u .answer .refusal) e) ∙ h)), (let k = ap (λ (u : Result). u .answer .taken) e in let z = n .1 in omega (arith, k, z, t)))
 
 abbrev pub batchCalls : List Step
@@ -105,7 +105,7 @@ batches-through =
 pub batch-run : packetWords (logsFrom defined fresh (map callOf batchCalls)) ≡ logWords (packet 0 (replicate 20 1) ∷ packet 1 (replicate 300 2) ∷ packet 2 (replicate 10 3) ∷ [])
 unfolding wholePackets
 batch-run =
-    delivers 0 0 0 three six 0 5 carry batchCalls (asked-of 0 5 batchCalls batches-through) (arrived-fit 0 0 three six three-few 0 5 (receptions batchCalls)) .log
+    small-run defined delivers 0 5 carry batchCalls (asked-of 0 5 batchCalls batches-through) .log
     ∙ ap₂ (λ (i j : ℕ). askedFor 0 5 (replicate i true ++ (replicate j true ++ []))) two-are others-are
     ∙ asked-is 0 5 (true ∷ true ∷ true ∷ true ∷ true ∷ []) (packet 0 (replicate 20 1) ∷ packet 1 (replicate 300 2) ∷ packet 2 (replicate 10 3) ∷ []) refl
 
@@ -126,10 +126,10 @@ both-usable = subst (All Usable) two-made (made-right 0 0 0 short twice opens sh
 
 -- the claim for these PDUs, from any carry
 module _ (b : Behaviour) (claim : Demand3For b) (first count : ℕ) (c : List ℕ) (steps : List Step) where
-  claimed : 4096 ≤ length c → Through b (freshStation b 0 0 0 allPrograms c) (runOf first count both) steps → packetWords (logsFrom b (freshStation b 0 0 0 allPrograms c) (map callOf steps)) ≡ logWords (wholePackets (inReceived (runOf first count shortSpans) (receptions steps)) 0 0 short)
+  claimed : 4096 ≤ length c → Through b (freshStation b 0 0 0 allPrograms c) (runOf first count both) steps → packetWords (logsFrom b (freshStation b 0 0 0 allPrograms c) (map callOf steps)) ≡ logWords (wholePackets (every (inReceived (runOf first count shortSpans) (receptions steps))) 0 0 short)
   claimed room t =
-      claim 0 0 0 short twice first count c steps (record { opens = opens; sized = short-right; offered = short-order; room = room; through = subst (λ (ps : List (List ℕ)). Through b (freshStation b 0 0 0 allPrograms c) (runOf first count ps) steps) (sym two-made) t }) (arrived-fit 0 0 short twice short-few first count (receptions steps)) .log
-      ∙ ap (λ (l : List Span). logWords (wholePackets (inReceived (runOf first count l) (receptions steps)) 0 0 short)) short-spans
+      demand3-says b claim 0 0 0 short twice first count c steps short-few (record { opens = opens; sized = short-right; offered = short-order; room = room; through = subst (λ (ps : List (List ℕ)). Through b (freshStation b 0 0 0 allPrograms c) (runOf first count ps) steps) (sym two-made) t }) .log
+      ∙ ap (λ (l : List Span). logWords (wholePackets (every (inReceived (runOf first count l) (receptions steps))) 0 0 short)) short-spans
 
 -- what the batch leaves in the carry
 abbrev carried : List ℕ
@@ -151,14 +151,14 @@ batch-none = claimed defined delivers 0 1 carry (batches (begins ∷ []) words �
 
 end-none : packetWords (endLog ++ []) ≡ []
 unfolding wholePackets logWords
-end-none = claimed defined delivers 1 1 carried (receives [] ends words ∷ []) carried-room (as-sent ends (both-usable .1 .0), log-room, tt)
+end-none = claimed defined delivers 1 1 carried (receives (alone [] ends) words ∷ []) carried-room (as-sent ends (both-usable .1 .0), log-room, tt)
 
 -- the packet is asked for, and nothing is logged
-pub forgetting-wrong : ¬ Demand3For forgetting
+pub forgetting-wrong : ¬ Demand3For handingBack
 unfolding wholePackets logWords entryWords dataWords
 forgetting-wrong claim =
     let asked : packetWords (batchLog ++ (endLog ++ [])) ≡ logWords (packet 0 (replicate 142 2) ∷ []) =
-    claimed forgetting claim 0 2 carry (batches (begins ∷ []) words ∷ receives [] ends words ∷ []) carry-room
+    claimed handingBack claim 0 2 carry (batches (begins ∷ []) words ∷ receives (alone [] ends) words ∷ []) carry-room
     ((as-sent begins (both-usable .0), tt), (let r = log-room in omega (arith, r)), (as-sent ends (both-usable .1 .0), log-room, tt)) in
     let found : packetWords (batchLog ++ (endLog ++ [])) ≡ [] = no-packet batchLog (endLog ++ []) (ap packetWords (sym (append-nil batchLog)) ∙ batch-none) ∙ end-none in
     let h : _≡_ {A = ℕ} 49 0 = ap length (sym asked ∙ found) in

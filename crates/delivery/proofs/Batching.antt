@@ -3,23 +3,21 @@
 use mathlib.Core.Path.{_≡_, refl, sym, ap, ap₂, subst, _∙_}
 use mathlib.Core.Bool.{Bool, true, false, not, _||_, cond}
 use mathlib.Core.List.{List, [], _∷_, _++_, map, append-assoc, append-nil}
-use Prim.Native.Nat.{ℕ, zero, suc, _+_, _*_, _<_, _≤_}
+use Prim.Native.Nat.{ℕ, suc, _+_, _*_, _<_, _≤_}
 use native.Mathlib.Omega.{arith}
 use native.Mathlib.Nat.{add-zero}
-use lib.Dec.{eqb, ltb}
-use borrow.Author.Tests.{eq-eqb, eqb-true, eqb-false, le-ltb}
-use lib.ListN.{length, getD, take, drop, length-append, length-drop}
+use lib.Dec.{eqb}
+use borrow.Author.Tests.{eq-eqb, eqb-true, le-ltb}
+use lib.ListN.{length, take, drop, length-append, length-drop}
 use lib.Seq.{length-take-le, take-at}
 use Rattle.header.proofs.Unique.{all-bytes}
 use Rattle.modes.specs.Modes.{listing}
 use Rattle.modes.specs.declared.Mode.{Mode}
 use Rattle.modes.specs.declared.Listing.the-variants.{Listed}
 use Rattle.pieces.specs.Pieces.{total}
-use Rattle.log.specs.Log.{logWords}
-use Rattle.log.proofs.Packets.{FitAll}
 use Rattle.reassembly.specs.Rights.{Rights}
 use Rattle.reassembly.specs.Tally.{Countable}
-use Rattle.reassembly.specs.Holder.{Event, Holder, logged, after}
+use Rattle.reassembly.specs.Holder.{Holder, after}
 use Rattle.refusal.specs.Refusal.{anyOf}
 use Rattle.receiver.specs.Receiving.{wrongState, pduAfter}
 use Rattle.receiver.specs.declared.Receiver.{Receiver}
@@ -28,12 +26,12 @@ use Rattle.batch.proofs.Single.{words-fit, words-most, log-long}
 use Rattle.batch.proofs.Laws.{passes}
 use Rattle.batch.proofs.OneByOne.{followed-none, followed-twice, next-taken, first-stops}
 use Rattle.runs.specs.Transmissions.{Way, gone, here}
-use Rattle.runs.specs.Calls.{Speech, heard, Matching, Machine, Serves, Bridge, Step as Part, handed, waysOf, Through as Goes, logsFrom as logsOf, finally, AllGood}
+use Rattle.runs.proofs.Calls.{Speech, heard, Matching, Machine, Serves, Bridge, Step as Part, handed, waysHanded, Through as Goes, logsFrom as logsOf, finally, AllGood}
 use Rattle.runs.proofs.General.{Served, serve, countable-less}
-use Rattle.delivery.specs.Delivery.{joined, Station, Call, receive, batch, pair, markLost, answerOf, logOf, defined, stationAfter, RefusedAfter, logCounts, loggedBy}
-use Rattle.delivery.specs.Copies.{Copy, causesFor}
-use Rattle.delivery.specs.Channel.{Came, pdusIn, Step, receives, pairs, batches, stops, loses, refuses, callOf, Takes, waysIn}
-use Rattle.delivery.proofs.Serving.{rightsBy, Shows}
+use Rattle.delivery.specs.Delivery.{concatenated, Station, Call, receive, batch, pair, markLost, defined, stationAfter, RefusedAfter, loggedBy}
+use Rattle.delivery.proofs.Parts.{logCounts, answerOf, logOf}
+use Rattle.delivery.proofs.SoundSteps.{Copy, causesFor, Came, pdusIn, Step, receives, pairs, batches, stops, loses, refuses, callOf, Takes, waysIn}
+use Rattle.delivery.proofs.Serving.{rightsBy}
 use Rattle.delivery.proofs.Bridge.{stations, copied, paired, losing, refusing, Speaks, StandsFor, bridge}
 
 -- these PDUs come as these
@@ -68,10 +66,10 @@ module _ (x : Station) (lengths pdus log : List ℕ) where
       go false false e = refl
 
 -- the lengths of PDUs sum to the PDUs joined
-lengths-sum : (qs : List (List ℕ)) → total (map length qs) ≡ length (joined qs)
+lengths-sum : (qs : List (List ℕ)) → total (map length qs) ≡ length (concatenated qs)
 unfolding total
 lengths-sum [] = refl
-lengths-sum (q ∷ qs) = ap (λ (n : ℕ). length q + n) (lengths-sum qs) ∙ sym (length-append q (joined qs))
+lengths-sum (q ∷ qs) = ap (λ (n : ℕ). length q + n) (lengths-sum qs) ∙ sym (length-append q (concatenated qs))
 
 module _ (mode stream register entitled : ℕ) (m : Mode) (l : listing mode stream ≡ Listed m) (range : 0 < m .sequences) where
   abbrev rights : Rights
@@ -105,7 +103,7 @@ module _ (mode stream register entitled : ℕ) (m : Mode) (l : listing mode stre
   handed-are (c ∷ cs) [] x log h = absurd h
   handed-are (c ∷ cs) (p ∷ ps) x log h = ap (λ (k : List (List ℕ)). p ∷ k) (handed-are cs ps (stationAfter defined x (receive [] (c .pdu) log)) (leftAfter x (c .pdu) log) (h .1))
 
-  ways-are : (cs : List Came) (ps : List (List ℕ)) (x : Station) (log : List ℕ) → EachCopy register (m .width) ps cs → waysOf one (singles x log cs ps) ≡ waysIn cs
+  ways-are : (cs : List Came) (ps : List (List ℕ)) (x : Station) (log : List ℕ) → EachCopy register (m .width) ps cs → waysHanded one (singles x log cs ps) ≡ waysIn cs
   unfolding singles
   ways-are [] [] x log h = refl
   ways-are [] (p ∷ ps) x log h = absurd h
@@ -140,7 +138,7 @@ module _ (mode stream register entitled : ℕ) (m : Mode) (l : listing mode stre
   -- so many PDUs of a batch, with others after them, of these lengths and with these bytes
   record Joins (cs : List Came) (ps : List (List ℕ)) (x : Station) (log ls bytes : List ℕ) : Type 0 where
     pdus : List ℕ
-    is : oneByOne (map length (pdusIn cs) ++ ls) (x .receiver) (x .carry) (joined (pdusIn cs) ++ bytes) log
+    is : oneByOne (map length (pdusIn cs) ++ ls) (x .receiver) (x .carry) (concatenated (pdusIn cs) ++ bytes) log
         ≡ followed (length cs) (length (logsOf one x (singles x log cs ps))) pdus (logsOf one x (singles x log cs ps))
         (oneByOne ls (finally one x (singles x log cs ps) .receiver) (finally one x (singles x log cs ps) .carry) bytes (logLeft x log cs))
 
@@ -163,7 +161,7 @@ module _ (mode stream register entitled : ℕ) (m : Mode) (l : listing mode stre
       let z : Result = oneByOne ls (finally one y (singles y k cs ps) .receiver) (finally one y (singles y k cs ps) .carry) bytes (logLeft y k cs) in
       record {
         pdus = pduAfter [] (x .carry) q log (x .receiver) ++ r .pdus;
-        is = next-taken (length q) (map length (pdusIn cs) ++ ls) (x .receiver) (x .carry) ((q ++ joined (pdusIn cs)) ++ bytes) log (joined (pdusIn cs) ++ bytes) q refl (append-assoc q (joined (pdusIn cs)) bytes) (g .0)
+        is = next-taken (length q) (map length (pdusIn cs) ++ ls) (x .receiver) (x .carry) ((q ++ concatenated (pdusIn cs)) ++ bytes) log (concatenated (pdusIn cs) ++ bytes) q refl (append-assoc q (concatenated (pdusIn cs)) bytes) (g .0)
             ∙ ap (followed 1 n (pduAfter [] (x .carry) q log (x .receiver)) (take n (logOf x (receive [] q log)))) (r .is)
             ∙ followed-twice 1 (length cs) n (length w) (pduAfter [] (x .carry) q log (x .receiver)) (r .pdus) (take n (logOf x (receive [] q log))) w z
             ∙ ap₂ (λ (i : ℕ) (u : List ℕ). followed i (n + length w) (pduAfter [] (x .carry) q log (x .receiver) ++ r .pdus) (u ++ w) z) count (sym (f .0))
@@ -190,24 +188,24 @@ module _ (mode stream register entitled : ℕ) (m : Mode) (l : listing mode stre
       abbrev lengths : List ℕ
       lengths = map length (pdusIn cs)
 
-      right-number : batchNumber lengths (x .carry) (joined (pdusIn cs)) log (x .receiver) ≡ 0
-      right-number = passes lengths (x .carry) (joined (pdusIn cs)) log (x .receiver) right (le-ltb (length (x .carry)) 4096 room) (lengths-sum (pdusIn cs))
+      right-number : batchNumber lengths (x .carry) (concatenated (pdusIn cs)) log (x .receiver) ≡ 0
+      right-number = passes lengths (x .carry) (concatenated (pdusIn cs)) log (x .receiver) right (le-ltb (length (x .carry)) 4096 room) (lengths-sum (pdusIn cs))
 
       all : Joins cs ps x log [] []
       all = joins cs ps x log [] [] each good
 
-      ends : received lengths (x .carry) (joined (pdusIn cs)) log (x .receiver) ≡ followed (length cs) (length words) (all .pdus) words (unchanged 0 0 (end .receiver) (end .carry) [] (logLeft x log cs))
+      ends : received lengths (x .carry) (concatenated (pdusIn cs)) log (x .receiver) ≡ followed (length cs) (length words) (all .pdus) words (unchanged 0 0 (end .receiver) (end .carry) [] (logLeft x log cs))
       unfolding received oneByOne
       ends =
-          let t : eqb (batchNumber lengths (x .carry) (joined (pdusIn cs)) log (x .receiver)) 0 ≡ true = eq-eqb (batchNumber lengths (x .carry) (joined (pdusIn cs)) log (x .receiver)) 0 right-number in
-          rw t (ap₂ (λ (ns ps : List ℕ). oneByOne ns (x .receiver) (x .carry) ps log) (sym (append-nil lengths)) (sym (append-nil (joined (pdusIn cs)))) ∙ all .is)
+          let t : eqb (batchNumber lengths (x .carry) (concatenated (pdusIn cs)) log (x .receiver)) 0 ≡ true = eq-eqb (batchNumber lengths (x .carry) (concatenated (pdusIn cs)) log (x .receiver)) 0 right-number in
+          rw t (ap₂ (λ (ns ps : List ℕ). oneByOne ns (x .receiver) (x .carry) ps log) (sym (append-nil lengths)) (sym (append-nil (concatenated (pdusIn cs)))) ∙ all .is)
 
-      batch-taken : (answerOf x (batch lengths (joined (pdusIn cs)) log) .refusal ≡ 0) × (answerOf x (batch lengths (joined (pdusIn cs)) log) .taken ≡ length cs)
+      batch-taken : (answerOf x (batch lengths (concatenated (pdusIn cs)) log) .refusal ≡ 0) × (answerOf x (batch lengths (concatenated (pdusIn cs)) log) .taken ≡ length cs)
       batch-taken = (ap (λ (u : Result). u .answer .refusal) ends, ap (λ (u : Result). u .answer .taken) ends ∙ add-zero (length cs))
 
-      batch-does : Does x lengths (joined (pdusIn cs)) log end words
+      batch-does : Does x lengths (concatenated (pdusIn cs)) log end words
       batch-does =
-          does x lengths (joined (pdusIn cs)) log end (length cs) words (logLeft x log cs)
+          does x lengths (concatenated (pdusIn cs)) log end (length cs) words (logLeft x log cs)
           (ap (λ (u : Result). u .answer .receiver) ends)
           (ap (λ (u : Result). u .carry) ends)
           (batch-taken .1)
@@ -216,12 +214,12 @@ module _ (mode stream register entitled : ℕ) (m : Mode) (l : listing mode stre
           (λ e. none-none cs e .0)
 
     -- with others after them, at the first of which it is refused
-    module _ (ls bytes : List ℕ) (refused : RefusedAfter defined (length cs) x (batch (map length (pdusIn cs) ++ ls) (joined (pdusIn cs) ++ bytes) log)) where
+    module _ (ls bytes : List ℕ) (refused : RefusedAfter defined (length cs) x (batch (map length (pdusIn cs) ++ ls) (concatenated (pdusIn cs) ++ bytes) log)) where
       abbrev lengths′ : List ℕ
       lengths′ = map length (pdusIn cs) ++ ls
 
       abbrev pdus′ : List ℕ
-      pdus′ = joined (pdusIn cs) ++ bytes
+      pdus′ = concatenated (pdusIn cs) ++ bytes
 
       abbrev whole : Result
       whole = received lengths′ (x .carry) pdus′ log (x .receiver)

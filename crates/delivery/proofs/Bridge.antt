@@ -1,12 +1,12 @@
 -- The receiver's calls as a machine that hands over PDUs of a run (runs/specs/Calls.antt): what each kind of call has to prove.
 use mathlib.Core.Path.{_≡_, refl, sym, ap, ap₂, subst, _∙_}
-use mathlib.Core.Bool.{Bool, true, false, not, _||_, cond}
+use mathlib.Core.Bool.{Bool, true, false, _||_, cond}
 use mathlib.Core.List.{List, [], _∷_, _++_}
-use Prim.Native.Nat.{ℕ, zero, suc, _+_, _<_, _≤_}
+use Prim.Native.Nat.{ℕ, _+_, _<_, _≤_}
 use native.Mathlib.Omega.{arith}
 use lib.Dec.{eqb}
 use borrow.Author.Tests.{eq-eqb, ne-eqb}
-use lib.ListN.{length, take, drop, take-append-drop}
+use lib.ListN.{length, take, take-append-drop}
 use Rattle.header.proofs.Unique.{all-bytes}
 use Rattle.modes.specs.Modes.{listing}
 use Rattle.modes.specs.declared.Mode.{Mode}
@@ -18,11 +18,11 @@ use Rattle.correction.specs.Correction.{correctedPdu}
 use Rattle.correction.specs.Marks.{correctedPduWith}
 use Rattle.correction.proofs.Answers.{no-marks-pdu}
 use Rattle.pdu.specs.Reading.{modeIn, widthOf}
-use Rattle.log.specs.Log.{Entry, logWords}
+use Rattle.log.specs.Log.{logWords}
 use Rattle.log.proofs.Packets.{FitAll}
 use Rattle.reassembly.specs.Reassembly.{Said, Outcome, received}
 use Rattle.reassembly.specs.Rights.{Rights, Label, under}
-use Rattle.reassembly.specs.Tally.{Tally, Countable}
+use Rattle.reassembly.specs.Tally.{Countable}
 use Rattle.reassembly.specs.Holder.{Come, lost, came, Holder, saidTo, holderFor, after}
 use Rattle.reassembly.proofs.Fitting.{SaneSaid, fit-received}
 use Rattle.reassembly.proofs.Blind.{blankSaid}
@@ -31,13 +31,15 @@ use Rattle.receiver.specs.Receiving.{saidBy, labelIn, comeBy, refusedAnswer, lo
 use Rattle.receiver.specs.declared.Receiver.{Receiver}
 use Rattle.receiver.specs.declared.Received.{Received}
 use Rattle.runs.specs.Transmissions.{Way, gone, here}
-use Rattle.runs.specs.Calls.{Speech, heard, Matching, Machine, Serves, Bridge}
+use Rattle.runs.proofs.Calls.{Speech, heard, Matching, Machine, Serves, Bridge}
 use Rattle.runs.proofs.Bridges.{serves-one, serves-none}
 use Rattle.runs.proofs.General.{countable-less}
 use Rattle.batch.proofs.Single.{kept}
 use Rattle.batch.proofs.OneByOne.{none-taken}
-use Rattle.delivery.specs.Delivery.{Station, Call, receive, batch, pair, markLost, answerOf, stationAfter, takenBy, RefusedAfter, loggedBy, defined, HeaderAltered}
-use Rattle.delivery.specs.Copies.{frontLength, restored, bytesAt, crcAt, Copy, causesFor}
+use Rattle.delivery.proofs.Parts.{answerOf}
+use Rattle.delivery.specs.Delivery.{Station, Call, receive, batch, pair, markLost, stationAfter, takenBy, RefusedAfter, loggedBy, defined, HeaderAltered}
+use Rattle.delivery.specs.Copies.{frontLength, restored, bytesAt, crcAt}
+use Rattle.delivery.proofs.SoundSteps.{Copy, causesFor}
 use Rattle.diversity.specs.Diversity.{pairSaid, pairCome}
 use Rattle.pair.proofs.Enough.{Passes}
 use Rattle.delivery.proofs.Diversity.{pair-kept, pair-said-in, pair-label-in, pair-passes, pair-accepted, pair-logged, pair-shows}
@@ -78,8 +80,8 @@ nothing-logged x c h =
 abbrev pub stations : Machine
 stations = record { State = Station; Call = Call; next = stationAfter defined; words = loggedBy defined }
 
-abbrev pub asSent : ℕ → ℕ
-asSent k = 0
+abbrev pub noCauses : ℕ → ℕ
+noCauses k = 0
 
 -- How a call hands over a PDU of a run, or none. A new kind of call is a new line here, and a case of `serves`.
 pub data Handing (register width : ℕ) (x : Station) : Call → List (List ℕ) → List Way → Type 0 where
@@ -117,10 +119,10 @@ module _ (mode stream register entitled : ℕ) (m : Mode) (l : listing mode stre
 
   -- a PDU as it was written, and what it says by the causes of its pieces, with one label
   pub record Speaks (p : List ℕ) (d : Speech) : Type 0 where
-    pub says : Says mode stream register (m .width) p (record { said = under false (d asSent .said); label = d asSent .label })
-    pub below : d asSent .said .sequence < m .sequences
-    pub struck : (s : ℕ → Bool) → stricken s (under false (d asSent .said)) ≡ under false (d (causesFor s) .said)
-    pub labels : (f : ℕ → ℕ) → d f .label ≡ d asSent .label
+    pub says : Says mode stream register (m .width) p (record { said = under false (d noCauses .said); label = d noCauses .label })
+    pub below : d noCauses .said .sequence < m .sequences
+    pub struck : (s : ℕ → Bool) → stricken s (under false (d noCauses .said)) ≡ under false (d (causesFor s) .said)
+    pub labels : (f : ℕ → ℕ) → d f .label ≡ d noCauses .label
 
   module _ (p : List ℕ) (d : Speech) (g : Speaks p d) where
     plain : Plain register (m .width) p
@@ -134,16 +136,16 @@ module _ (mode stream register entitled : ℕ) (m : Mode) (l : listing mode stre
       right = g .says .crcs;
     }
 
-    said-is : saidBy register (m .width) (controlAt p) p ≡ under false (d asSent .said)
+    said-is : saidBy register (m .width) (controlAt p) p ≡ under false (d noCauses .said)
     said-is = sym (said-in register (m .width) (controlAt p) p) ∙ ap (λ (c : Come). c .said) (g .says .comes)
 
-    label-is : labelIn (m .width) (controlAt p) p ≡ d asSent .label
+    label-is : labelIn (m .width) (controlAt p) p ≡ d noCauses .label
     label-is = sym (label-in register (m .width) (controlAt p) p) ∙ ap (λ (c : Come). c .label) (g .says .comes)
 
     said-sane : SaneSaid (saidBy register (m .width) (controlAt p) p)
     said-sane = subst SaneSaid (sym said-is) (g .says .sane)
 
-    narrow-label : (k : Label) → k ≡ d asSent .label → k .services < 8
+    narrow-label : (k : Label) → k ≡ d noCauses .label → k .services < 8
     narrow-label k e = subst SaneLabel (sym e) (g .says .labelled) .1
 
     module _ (n q : List ℕ) (sound : ℕ → Bool) (x : Copy register (m .width) p n q sound) where
@@ -154,10 +156,10 @@ module _ (mode stream register entitled : ℕ) (m : Mode) (l : listing mode stre
       read-said : read .said ≡ saidBy register (m .width) (controlAt (correctedPduWith n q)) (correctedPduWith n q)
       read-said = said-in register (m .width) (controlAt (correctedPduWith n q)) (correctedPduWith n q)
 
-      read-label : read .label ≡ d asSent .label
+      read-label : read .label ≡ d noCauses .label
       read-label = label-in register (m .width) (controlAt (correctedPduWith n q)) (correctedPduWith n q) ∙ copy-label register (m .width) p n q sound plain x ∙ label-is
 
-      read-blank : blankSaid (read .said) ≡ blankSaid (stricken sound (under false (d asSent .said)))
+      read-blank : blankSaid (read .said) ≡ blankSaid (stricken sound (under false (d noCauses .said)))
       read-blank = ap blankSaid read-said ∙ copy-says register (m .width) p n q sound plain x ∙ ap (λ (t : Said). blankSaid (stricken sound t)) said-is
 
       alike : blankSaid (read .said) ≡ blankSaid (under false (d (causesFor sound) .said))
@@ -182,7 +184,7 @@ module _ (mode stream register entitled : ℕ) (m : Mode) (l : listing mode stre
 
       pub copy-below : read .said .sequence < m .sequences
       copy-below =
-          let e : read .said .sequence ≡ d asSent .said .sequence = ap (λ (t : Said). t .sequence) read-blank in
+          let e : read .said .sequence ≡ d noCauses .said .sequence = ap (λ (t : Said). t .sequence) read-blank in
           let b = g .below in
           omega (arith, e, b)
 
@@ -208,14 +210,14 @@ module _ (mode stream register entitled : ℕ) (m : Mode) (l : listing mode stre
       pair-said : pairSaid register (m .width) (controlAt (correctedPduWith [] q)) (correctedPduWith [] q) (correctedPduWith [] r) ≡ readPair .said
       pair-said = (λ i. pairSaid register (m .width) (controlAt (no-marks-pdu q i)) (no-marks-pdu q i) (no-marks-pdu r i)) ∙ sym (pair-said-in register (m .width) (controlAt (correctedPdu q)) (correctedPdu q) (correctedPdu r))
 
-      pair-label : readPair .label ≡ d asSent .label
+      pair-label : readPair .label ≡ d noCauses .label
       pair-label =
           pair-label-in register (m .width) (controlAt (correctedPdu q)) (correctedPdu q) (correctedPdu r)
           ∙ ap (λ (y : List ℕ). labelIn (m .width) (controlAt y) y) (sym (no-marks-pdu q))
           ∙ copy-label register (m .width) p [] q s plain x
           ∙ label-is
 
-      heard-pair : blankSaid (readPair .said) ≡ blankSaid (stricken either (under false (d asSent .said)))
+      heard-pair : blankSaid (readPair .said) ≡ blankSaid (stricken either (under false (d noCauses .said)))
       heard-pair = ap blankSaid (sym pair-said) ∙ pair-heard register (m .width) p [] q [] r s t plain x v ∙ ap (λ (u : Said). blankSaid (stricken either u)) said-is
 
       together : blankSaid (readPair .said) ≡ blankSaid (under false (d (causesFor either) .said))
@@ -229,7 +231,7 @@ module _ (mode stream register entitled : ℕ) (m : Mode) (l : listing mode stre
 
       pub pair-below : readPair .said .sequence < m .sequences
       pair-below =
-          let e : readPair .said .sequence ≡ d asSent .said .sequence = ap (λ (u : Said). u .sequence) heard-pair in
+          let e : readPair .said .sequence ≡ d noCauses .said .sequence = ap (λ (u : Said). u .sequence) heard-pair in
           let b = g .below in
           omega (arith, e, b)
 

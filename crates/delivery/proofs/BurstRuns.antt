@@ -22,28 +22,26 @@ use Rattle.log.specs.Log.{packet, logWords, packetWords}
 use Rattle.reassembly.specs.Rights.{Label}
 use Rattle.writer.specs.Writing.{writeAnswer}
 use Rattle.receiver.specs.Entitling.{allPrograms}
-use Rattle.runs.specs.Spans.{wholePackets}
-use Rattle.runs.specs.Promise.{arrived}
+use Rattle.runs.proofs.Model.{wholePackets}
+use Rattle.runs.proofs.Promise.{arrivedBy}
 use Rattle.runs.specs.Transmissions.{here}
 use Rattle.diversity.specs.Diversity.{sameBytes}
-use Rattle.delivery.specs.Delivery.{Station, defined, Step, receives, callOf, freshStation, ThroughBy, logsFrom, runOf, made, HeaderAltered}
-use Rattle.delivery.specs.Entitlement.{labelsFrom, rightsFor, due}
-use Rattle.delivery.specs.Copies.{restored, pieceAt, causesFor}
-use Rattle.delivery.specs.Bursts.{notHit, Bursts, ways}
+use Rattle.delivery.specs.Delivery.{Station, defined, Step, receives, alone, callOf, runOf, HeaderAltered, Through}
+use Rattle.delivery.proofs.Parts.{freshStation, logsFrom, dueEntries, runWith}
+use Rattle.delivery.specs.Entitlement.{labelsFrom, rightsFor}
+use Rattle.delivery.specs.Copies.{pieceAt, asSent, waysFrom, Damaged}
+use Rattle.delivery.proofs.SoundSteps.{causesFor}
+use Rattle.delivery.specs.Bursts.{Hit}
 use Rattle.delivery.proofs.Channel.{Usable, made-right}
 use Rattle.delivery.proofs.Entitling.{all-allowed}
 use Rattle.delivery.proofs.Possible.{words, log-room, as-sent}
-use Rattle.delivery.proofs.Counted.{due-fit}
+use Rattle.delivery.proofs.Claimed.{entitled-says}
 use Rattle.delivery.proofs.SmallRuns.{opens, carry, carry-room, altered, alterAt}
-use Rattle.delivery.proofs.PairTheorem.{drop-taken}
-use Rattle.delivery.proofs.PairRuns.{packets, two, right, in-order, spans-are, pdu, sent, other, made-is, usable, alters, within, second, second-bytes, firstTwo, two-are}
-use Rattle.delivery.proofs.BurstTheorem.{bursts-deliver}
-use Rattle.delivery.proofs.Theorem.{no-bursts, none-hit}
+use Rattle.delivery.proofs.PairRuns.{packets, two, right, in-order, spans-are, pdu, sent, other, made-is, usable, restored-is, within, second, second-bytes, firstTwo, two-are}
+use Rattle.delivery.proofs.Damages.{drop-taken, no-damage, bursts-deliver}
+use Rattle.delivery.proofs.Theorem.{none-hit}
 
 -- ---- the first PDU
-
-pub restored-is : restored sent second ≡ pdu 1 9
-restored-is = ap (λ (l : List ℕ). take 96 sent ++ l) (alters 1 9 second-bytes .rest)
 
 burst-pieces : (k : ℕ) → k < controlAt sent .nop → InEight (pieceAt 16 sent sent k) (pieceAt 16 sent (pdu 1 9) k)
 unfolding controlOf locator16
@@ -51,16 +49,16 @@ burst-pieces zero h = unaltered (replicate 100 1 ++ (crcFrom 0 (replicate 100 1)
 burst-pieces (suc zero) h = one-byte (replicate 39 2) (crcFrom 0 (replicate 40 2) ∷ []) 2 9
 burst-pieces (suc (suc k)) h = absurd (omega (arith, h))
 
-pub comes : Bursts 16 [] sent second
+pub comes : Damaged Hit 0 16 [] sent second
 unfolding controlOf
 comes = record {
   header = within 1 9 second-bytes;
   front = drop-taken 96 18 second ∙ sym (drop-taken 96 18 sent);
-  pieces = λ k h. subst (λ (y : List ℕ). InEight (pieceAt 16 sent sent k) (pieceAt 16 sent y k)) (sym restored-is) (burst-pieces k h);
+  pieces = λ k h e. subst (λ (y : List ℕ). InEight (pieceAt 16 sent sent k) (pieceAt 16 sent y k)) (sym (restored-is 1 9 second-bytes)) (burst-pieces k h);
 }
 
 -- the first piece was not hit, and the second was
-pub one-hit : (notHit 16 sent second 0 ≡ true) × (notHit 16 sent second 1 ≡ false)
+pub one-hit : (asSent 16 sent second 0 ≡ true) × (asSent 16 sent second 1 ≡ false)
 unfolding controlOf locator16 sameBytes altered alterAt crcFrom crcByte crcBits crcBit
 one-hit = (refl, refl)
 
@@ -72,7 +70,7 @@ last-of-header = refl
 -- ---- the run
 
 abbrev pub causes : ℕ → ℕ
-causes = causesFor (notHit 16 sent second)
+causes = causesFor (asSent 16 sent second)
 
 pub second-struck : causes ≡ firstTwo 0 2 causes
 second-struck = two-are 0 2 causes (ap (λ (s : Bool). cond s 0 2) (one-hit .0)) (ap (λ (s : Bool). cond s 0 2) (one-hit .1))
@@ -81,13 +79,13 @@ other-as-sent : HeaderAltered [] other other
 other-as-sent = as-sent other (subst (All Usable) made-is (made-right 0 0 0 packets two opens right in-order .usable) .1 .0)
 
 abbrev pub burstCalls : List Step
-burstCalls = receives [] second words ∷ receives [] other words ∷ []
+burstCalls = receives (alone [] second) words ∷ receives (alone [] other) words ∷ []
 
 abbrev pub fresh : Station
 fresh = freshStation defined 0 0 0 allPrograms carry
 
-through : ThroughBy defined (Bursts 16) fresh (sent ∷ other ∷ []) burstCalls
-through = (comes, log-room, (no-bursts 16 [] other other other-as-sent, log-room, tt))
+through : Through defined (Damaged Hit 0 16) fresh (sent ∷ other ∷ []) burstCalls
+through = (comes, log-room, (no-damage 0 16 [] other other other-as-sent Hit, log-room, tt))
 
 abbrev plain : Label
 plain = record { program = 0; services = 0 }
@@ -97,21 +95,20 @@ unfolding labelsFrom writeAnswer listing fieldsFor expansionBytes chained total 
 labels-are = refl
 
 -- of the three packets, the second has the piece that was hit
-due-are : due 0 0 allPrograms packets two 0 (here (firstTwo 0 2 causes) ∷ here (λ k. 0) ∷ []) ≡ packet 0 (replicate 100 1) ∷ packet 2 (replicate 50 3) ∷ []
+due-are : dueEntries 0 0 allPrograms packets two 0 (here (firstTwo 0 2 causes) ∷ here (λ k. 0) ∷ []) ≡ packet 0 (replicate 100 1) ∷ packet 2 (replicate 50 3) ∷ []
 unfolding listing wholePackets
-due-are = (λ i. arrived (rightsFor 0 0 allPrograms) 2 0 packets (spans-are i) (labels-are i) (here (firstTwo 0 2 causes) ∷ here (λ k. 0) ∷ [])) ∙ refl
+due-are = (λ i. arrivedBy (rightsFor 0 0 allPrograms) 2 0 packets (spans-are i) (labels-are i) (here (firstTwo 0 2 causes) ∷ here (λ k. 0) ∷ [])) ∙ refl
 
 pub burst-run : packetWords (logsFrom defined fresh (map callOf burstCalls)) ≡ logWords (packet 0 (replicate 100 1) ∷ packet 2 (replicate 50 3) ∷ [])
 unfolding listing
 burst-run =
-    bursts-deliver 0 0 0 allPrograms packets two 0 2 carry burstCalls all-allowed (record {
+    entitled-says (Damaged Hit) defined bursts-deliver (runWith 0 0 0 allPrograms packets two 0 2 carry burstCalls) (let n : length packets ≡ 3 = refl in omega (arith, n)) all-allowed (record {
       opens = opens;
       sized = right;
       offered = in-order;
       room = carry-room;
-      through = subst (λ (ps : List (List ℕ)). ThroughBy defined (Bursts 16) fresh (runOf 0 2 ps) burstCalls) (sym made-is) through;
-    })
-    (due-fit 0 0 packets two (let n : length packets ≡ 3 = refl in omega (arith, n)) allPrograms 0 (ways 16 (runOf 0 2 (made 0 0 0 two)) burstCalls)) .log
-    ∙ ap (λ (ps : List (List ℕ)). logWords (due 0 0 allPrograms packets two 0 (ways 16 (runOf 0 2 ps) burstCalls))) made-is
-    ∙ ap₂ (λ (f g : ℕ → ℕ). logWords (due 0 0 allPrograms packets two 0 (here f ∷ here g ∷ []))) second-struck (none-hit 16 [] other other other-as-sent)
+      through = subst (λ (ps : List (List ℕ)). Through defined (Damaged Hit 0 16) fresh (runOf 0 2 ps) burstCalls) (sym made-is) through;
+    }) .log
+    ∙ ap (λ (ps : List (List ℕ)). logWords (dueEntries 0 0 allPrograms packets two 0 (waysFrom 16 (runOf 0 2 ps) burstCalls))) made-is
+    ∙ ap₂ (λ (f g : ℕ → ℕ). logWords (dueEntries 0 0 allPrograms packets two 0 (here f ∷ here g ∷ []))) second-struck (none-hit 16 [] other other other-as-sent)
     ∙ ap logWords due-are

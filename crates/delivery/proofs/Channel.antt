@@ -1,46 +1,45 @@
--- Delivery over a channel, from the general theorem of runs.
-use mathlib.Core.Path.{_≡_, refl, sym, ap, ap₂, subst, _∙_, fun-ext}
-use mathlib.Core.Bool.{Bool, true, false, _&&_, _||_, cond}
+-- Delivery by which pieces are sound (SoundSteps.antt), from the general theorem of runs.
+use mathlib.Core.Path.{_≡_, refl, sym, ap, subst, _∙_}
+use mathlib.Core.Bool.{true, false, _&&_, _||_, cond}
 use mathlib.Core.List.{List, [], _∷_, _++_, map}
-use mathlib.Core.Option.{Option, none, some}
-use Prim.Native.Nat.{ℕ, zero, suc, _+_, _-_, _*_, _%_, _<_, _≤_}
+use mathlib.Core.Option.{none}
+use Prim.Native.Nat.{ℕ, suc, _+_, _-_, _*_, _%_, _<_, _≤_}
 use native.Mathlib.Omega.{arith}
 use lib.Dec.{eqb, ltb, leb}
 use borrow.Author.Tests.{lt-leb}
-use lib.ListN.{length, getD, take, drop, replicate, length-take, take-append-drop}
+use lib.ListN.{length, take, drop, take-append-drop}
 use lib.Seq.{drop-drop}
 use Rattle.algebra.specs.Places.{All}
-use Rattle.refusal.specs.Refusal.{anyOf}
 use Rattle.header.specs.Header.{isCodeWord}
-use Rattle.modes.specs.Modes.{listing, numberOf}
+use Rattle.modes.specs.Modes.{listing}
 use Rattle.modes.specs.declared.Mode.{Mode}
 use Rattle.modes.specs.declared.Listing.{Listing}
 use Rattle.modes.specs.declared.Listing.the-variants.{Listed, Refused}
 use Rattle.modes.proofs.Lines.{refusal-five}
 use Rattle.modes.proofs.Listable.{listable}
-use Rattle.log.specs.Log.{Entry, logWords, packetWords}
+use Rattle.log.specs.Log.{logWords, packetWords}
 use Rattle.pdu.specs.Reading.{modeIn}
 use Rattle.reassembly.specs.Reassembly.{Piece, following}
-use Rattle.reassembly.specs.Tally.{Tally, noTally, tallied}
+use Rattle.reassembly.specs.Tally.{noTally, tallied}
 use Rattle.reassembly.specs.Holder.{opened}
 use Rattle.writer.specs.Writing.{opened as writerOpened, openedAs as writerOpenedAs}
 use Rattle.writer.specs.RoundTrip.{Bytes}
 use Rattle.writer.specs.declared.Writer.{Writer}
 use Rattle.receiver.specs.Entitling.{allowedPrograms, maskOf}
-use Rattle.receiver.specs.Receiving.{fresh as freshFor, openingNumber, openedFor, memoryOf, tallyOf, wrongState}
+use Rattle.receiver.specs.Receiving.{fresh as freshFor, openingNumber, openedFor, memoryOf, tallyOf}
 use Rattle.receiver.specs.declared.Receiver.{Receiver}
-use Rattle.runs.specs.Model.{cut, sentAfter, Sized}
-use Rattle.runs.specs.Transmissions.{Way, gone, here, Close, AddsUp}
-use Rattle.runs.specs.Spans.{Span, bytesIn}
-use Rattle.runs.specs.Promise.{arrived, indices}
-use Rattle.runs.specs.Calls.{Load, labelsOf, LoadsFit, Machine, spansFrom as spansOfLoads, speechesFrom, Matching, Bridge, Step as Part, handed, waysOf, Through as Goes, logsFrom as logsOf, finally as lastOf, AllGood}
+use Rattle.runs.proofs.Model.{cut, sentAfter, Sized, bytesIn}
+use Rattle.runs.specs.Transmissions.{Way, gone, here}
+use Rattle.runs.specs.Spans.{Span}
+use Rattle.runs.proofs.Promise.{arrivedBy, indices}
+use Rattle.runs.proofs.Calls.{Load, labelsOf, LoadsFit, Machine, spansFrom as spansOfLoads, speechesFrom, Matching, Bridge, Step as Part, handed, waysHanded, Through as Goes, logsFrom as logsOf, finally as lastOf, AllGood}
 use Rattle.runs.proofs.General.{Asked as RunAsked, general}
 use Rattle.runs.proofs.Promised.{arrivals-told, promised}
-use Rattle.delivery.specs.Delivery.{Packets, Writing, pdusFrom, spansFrom, InOrder, Station, Call, receive, pair, markLost, answerOf, defined, freshStation, stationAfter, NoneRefused, loggedBy, logsFrom, finally, runOf, made as madeBy, spans as spansOf, CountsFit}
-use Rattle.delivery.specs.Copies.{causesFor}
-use Rattle.delivery.specs.Channel.{Came, Step, receives, pairs, batches, stops, loses, refuses, callOf, AllCopies, Through, Takes, waysIn, ways, Asked, Delivered, ChannelDelivery}
-use Rattle.delivery.specs.Entitlement.{labelsFrom, rightsFor, due, dueIndices}
-use Rattle.delivery.proofs.Counting.{stands-first}
+use Rattle.delivery.specs.Delivery.{Packets, Writing, pdusFrom, spansFrom, InOrder, Station, receive, pair, markLost, defined, stationAfter, loggedBy, finally, runOf}
+use Rattle.delivery.proofs.Parts.{freshStation, NoneRefused, logsFrom, made as madeBy, spans as spansOf, EntriesFit, dueEntries, dueIndices}
+use Rattle.delivery.proofs.SoundSteps.{causesFor, Came, Step, receives, pairs, batches, stops, loses, refuses, callOf, AllCopies, Through, Takes, waysIn, ways, Asked, Delivered, SoundDelivery}
+use Rattle.delivery.specs.Entitlement.{labelsFrom, rightsFor}
+use Rattle.runs.proofs.Spans.{stands-first}
 use Rattle.delivery.proofs.Calling.{stateAt, next-in-range}
 use Rattle.delivery.proofs.Made.{SaneLabel, sized-of}
 use Rattle.delivery.proofs.Entitling.{mask-lists}
@@ -117,7 +116,7 @@ module _ (mode stream register entitled : ℕ) (m : Mode) (l : listing mode stre
   record Parted (x : Station) (ss : List Step) (pdus : List (List ℕ)) (gs : List (Part all)) : Type 0 where
     through : Goes all x gs
     pdus′ : handed all gs ≡ pdus
-    ways : waysOf all gs ≡ ways ss
+    ways : waysHanded all gs ≡ ways ss
     logs : logsOf all x gs ≡ logsFrom defined x (map callOf ss)
     final : lastOf all x gs ≡ finally defined x (map callOf ss)
     good : AllGood all x gs → NoneRefused defined callOf Takes x ss
@@ -242,12 +241,12 @@ module _ (mode stream register : ℕ) (programs : List ℕ) (packets : List (Lis
   spans-told : spansOfLoads 0 0 packets cs ≡ spansFrom mode stream packets 0 writings
   spans-told = sym (spans-are mode stream register m packets (whole .course))
 
-  due-are : arrived (rightsBy mask stream m) (m .sequences) first packets (spansOfLoads 0 0 packets cs) (labelsOf cs) (waysOf bridge gs) ≡ due mode stream programs packets writings first (ways steps)
+  due-are : arrivedBy (rightsBy mask stream m) (m .sequences) first packets (spansOfLoads 0 0 packets cs) (labelsOf cs) (waysHanded bridge gs) ≡ dueEntries mode stream programs packets writings first (ways steps)
   due-are =
       let e : Listed m ≡ listing mode stream = sym (x .listed) in
-      λ i. arrived (rights-are i) (modeIn (e i) .sequences) first packets (spans-told i) (whole .labelled i) (split .ways i)
+      λ i. arrivedBy (rights-are i) (modeIn (e i) .sequences) first packets (spans-told i) (whole .labelled i) (split .ways i)
 
-  indices-are : indices (rightsBy mask stream m) (m .sequences) first packets (spansOfLoads 0 0 packets cs) (labelsOf cs) (waysOf bridge gs) ≡ dueIndices mode stream programs packets writings first (ways steps)
+  indices-are : indices (rightsBy mask stream m) (m .sequences) first packets (spansOfLoads 0 0 packets cs) (labelsOf cs) (waysHanded bridge gs) ≡ dueIndices mode stream programs packets writings first (ways steps)
   indices-are =
       let e : Listed m ≡ listing mode stream = sym (x .listed) in
       λ i. indices (rights-are i) (modeIn (e i) .sequences) first packets (spans-told i) (whole .labelled i) (split .ways i)
@@ -263,7 +262,7 @@ module _ (mode stream register : ℕ) (programs : List ℕ) (packets : List (Lis
     run = split .pdus′;
     fresh = shows-fresh mode stream register mask m (x .listed) range carry (d .room);
     through = split .through;
-    countable = subst CountsFit (sym (arrivals-told (rightsBy mask stream m) (m .sequences) machine bridge packets cs made first count station gs ∙ due-are)) (d .countable);
+    countable = subst EntriesFit (sym (arrivals-told (rightsBy mask stream m) (m .sequences) machine bridge packets cs made first count station gs ∙ due-are)) (d .countable);
   }
 
   -- the receiver's counts at the end
@@ -286,8 +285,8 @@ module _ (mode stream register : ℕ) (programs : List ℕ) (packets : List (Lis
   }
 
 -- no call for a PDU of the run is refused, and the packet log holds exactly the packets that arrived whole in sound pieces and begin in a PDU not withheld
-pub channel-delivers : ChannelDelivery
-channel-delivers mode stream register programs packets writings first count carry steps d = delivered mode stream register programs packets writings first count carry steps d (fresh-writer mode stream register (d .opens))
+pub sound-delivers : SoundDelivery
+sound-delivers mode stream register programs packets writings first count carry steps d = delivered mode stream register programs packets writings first count carry steps d (fresh-writer mode stream register (d .opens))
 
 -- ---- the PDUs that a fresh writer makes
 

@@ -1,22 +1,18 @@
 -- A copy of a PDU, read by a receiver, says what the PDU says, with a wrong CRC for each piece that is not sound.
 use mathlib.Core.Path.{_≡_, refl, sym, ap, ap₂, subst, _∙_, fun-ext}
-use mathlib.Core.Bool.{Bool, true, false, not, _&&_, _||_, cond}
-use mathlib.Core.List.{List, [], _∷_, _++_, map}
-use Prim.Native.Nat.{ℕ, zero, suc, _+_, _-_, _*_, _/_, _%_, _<_, _≤_, min}
+use mathlib.Core.Bool.{Bool, true, false, _&&_, cond}
+use mathlib.Core.List.{List, [], _∷_}
+use Prim.Native.Nat.{ℕ, zero, suc, _+_, _-_, _<_, _≤_, min}
 use native.Mathlib.Omega.{arith}
 use native.Mathlib.Nat.{zero-add}
 use native.Mathlib.Decide.{decLe}
 use lib.Dec.{eqb, ltb, leb}
 use borrow.Author.Tests.{eq-eqb, ne-eqb, le-leb, ltb-false}
-use lib.ListN.{length, getD, take, drop, length-take, length-drop, length-append, take-append-drop}
+use lib.ListN.{length, getD, take, drop, length-take, length-drop, length-append}
 use lib.Seq.{take-take, getD-take, length-take-le}
-use Rattle.algebra.specs.Places.{All}
 use Rattle.algebra.proofs.Places.{all-join}
 use Rattle.log.proofs.Packets.{Bytes as logBytes}
-use Rattle.refusal.specs.Refusal.{firstOf, anyOf}
 use Rattle.refusal.proofs.Rows.{row-off, none-at}
-use Rattle.modes.specs.Modes.{listing, numberOf}
-use Rattle.modes.specs.declared.Mode.{Mode}
 use Rattle.crc.specs.Crc.{crcFrom}
 use Rattle.burst.proofs.Found.{burst-found}
 use Rattle.header.specs.Header.{isCodeWord}
@@ -37,11 +33,12 @@ use Rattle.reassembly.specs.Reassembly.{Piece, Said}
 use Rattle.reassembly.proofs.Fitting.{SanePiece, SanePieces, SaneSaid}
 use Rattle.reassembly.proofs.Blind.{blank, blanks, blankSaid}
 use Rattle.receiver.specs.Receiving.{pieceIn, piecesIn, saidBy, labelIn}
-use Rattle.runs.specs.Model.{later, readPieces}
+use Rattle.runs.proofs.Model.{later, readPieces}
 use Rattle.writer.specs.RoundTrip.{Bytes}
 use Rattle.delivery.proofs.Made.{bytes-of, bytes-drop, bytes-take}
 use Rattle.delivery.specs.Delivery.{Correctable}
-use Rattle.delivery.specs.Copies.{frontLength, restored, bytesAt, crcAt, Damage, wrong, burst, Copy, causesFor}
+use Rattle.delivery.specs.Copies.{frontLength, restored, bytesAt, crcAt}
+use Rattle.delivery.proofs.SoundSteps.{Damage, wrong, burst, Copy, causesFor}
 
 -- ---- bytes that agree up to a place
 

@@ -1,21 +1,18 @@
 -- Document 02, Ask 14: counts that add up, by equal indices and equal counts; and runs in which neither count can pass its limit.
 use mathlib.Core.Path.{_≡_, refl, sym, subst, subst₂}
-use mathlib.Core.Bool.{Bool, true, false, _&&_, cond}
+use mathlib.Core.Bool.{Bool, true, false, cond}
 use mathlib.Core.List.{List, [], _∷_, _++_}
 use Prim.Native.Nat.{ℕ, zero, suc, _+_, _-_, _%_, _<_, _≤_}
 use native.Mathlib.Omega.{arith}
 use borrow.Author.Tests.{ne-eqb}
 use lib.ListN.{length}
-use Rattle.modes.specs.Modes.{listing}
-use Rattle.pdu.specs.Reading.{modeIn}
 use Rattle.log.specs.Log.{Entry, packet}
-use Rattle.reassembly.specs.Tally.{Tally, noTally, gap, counted, tallied}
-use Rattle.runs.specs.Model.{Mark}
-use Rattle.runs.specs.Transmissions.{Way, Close, AddsUp}
-use Rattle.runs.specs.Spans.{lies, every as everyMark, wholePackets as wholeByMarks}
-use Rattle.runs.specs.Promise.{fates}
-use Rattle.delivery.specs.Delivery.{Writing, every, wholePackets, inReceived, runOf, spans, arrived, CountsFit}
-use Rattle.delivery.specs.Entitlement.{labelsFrom, rightsFor, due}
+use Rattle.reassembly.specs.Tally.{Tally, noTally, gap, counted, tallied, Countable}
+use Rattle.runs.specs.Spans.{wholeIndices, entriesAt}
+use Rattle.runs.specs.Transmissions.{Close, AddsUp}
+use Rattle.runs.proofs.Model.{wholePackets}
+use Rattle.runs.proofs.Spans.{entries-are}
+use Rattle.delivery.proofs.Parts.{EntriesFit}
 
 pub adds-along : {a b : List ℕ} {t u : Tally} → a ≡ b → t ≡ u → (Close a → AddsUp a t) → Close b → AddsUp b u
 adds-along e f h c = subst₂ AddsUp e f (h (subst Close (sym e) c))
@@ -67,30 +64,17 @@ after-none (suc n) i es (b, p, rest, e, k) = subst (λ (x : List Entry). tallied
         let r = after-one n (suc i) i rest (record { delivered = 1; missing = 0; last = i % 64 }) (omega arith) (λ z. omega (arith, z)) refl (omega arith) k in
         rw (first-counted (i % 64)) (omega (arith, r))
 
-picked-fit : (n : ℕ) (es : List Entry) → n ≤ 4294967295 → Picked 0 n es → CountsFit es
+picked-fit : (n : ℕ) (es : List Entry) → n ≤ 4294967295 → Picked 0 n es → EntriesFit es
 picked-fit n es h k = let r = after-none n 0 es k in (omega (arith, r, h), omega (arith, r, h))
 
-whole-picked : (f : ℕ → Bool) (o i : ℕ) (ps : List (List ℕ)) → Picked i (length ps) (wholePackets f o i ps)
+whole-picked : (f : ℕ → ℕ → Bool) (o i : ℕ) (ps : List (List ℕ)) → Picked i (length ps) (wholePackets f o i ps)
 unfolding wholePackets
 whole-picked f o i [] = refl
-whole-picked f o i (p ∷ ps) = (every f o (length p), p, wholePackets f (o + length p) (suc i) ps, refl, whole-picked f (o + length p) (suc i) ps)
-
-marked-picked : (m : ℕ → Mark) (o i : ℕ) (ps : List (List ℕ)) → Picked i (length ps) (wholeByMarks m o i ps)
-unfolding wholeByMarks
-marked-picked m o i [] = refl
-marked-picked m o i (p ∷ ps) =
-    (m o .free && everyMark (λ j. m j .taken) o (length p), p, wholeByMarks m (o + length p) (suc i) ps, refl, marked-picked m (o + length p) (suc i) ps)
+whole-picked f o i (p ∷ ps) = (f o (length p), p, wholePackets f (o + length p) (suc i) ps, refl, whole-picked f (o + length p) (suc i) ps)
 
 -- so runs of so many packets meet no 27
-pub marks-fit : (m : ℕ → Mark) (packets : List (List ℕ)) → length packets ≤ 4294967295 → CountsFit (wholeByMarks m 0 0 packets)
-marks-fit m packets h = picked-fit (length packets) (wholeByMarks m 0 0 packets) h (marked-picked m 0 0 packets)
+pub packets-fit : (f : ℕ → ℕ → Bool) (packets : List (List ℕ)) → length packets ≤ 4294967295 → EntriesFit (wholePackets f 0 0 packets)
+packets-fit f packets h = picked-fit (length packets) (wholePackets f 0 0 packets) h (whole-picked f 0 0 packets)
 
-module _ (mode stream : ℕ) (packets : List (List ℕ)) (writings : List Writing) (few : length packets ≤ 4294967295) where
-  pub arrived-fit : (first count : ℕ) (received : List Bool) → CountsFit (arrived mode stream packets writings first count received)
-  arrived-fit first count received =
-      let f = inReceived (runOf first count (spans mode stream packets writings)) received in
-      picked-fit (length packets) (wholePackets f 0 0 packets) few (whole-picked f 0 0 packets)
-
-  pub due-fit : (programs : List ℕ) (first : ℕ) (ways : List Way) → CountsFit (due mode stream programs packets writings first ways)
-  due-fit programs first ways =
-      marks-fit (lies packets (spans mode stream packets writings) (fates (rightsFor mode stream programs) (modeIn (listing mode stream) .sequences) first packets (spans mode stream packets writings) (labelsFrom mode stream packets 0 writings) ways)) packets few
+pub whole-fit : (f : ℕ → ℕ → Bool) (packets : List (List ℕ)) → length packets ≤ 4294967295 → Countable (tallied noTally (entriesAt packets (wholeIndices f 0 0 packets)))
+whole-fit f packets h = subst EntriesFit (sym (entries-are f packets)) (packets-fit f packets h)

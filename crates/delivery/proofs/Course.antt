@@ -3,7 +3,7 @@
 use mathlib.Core.Path.{_≡_, refl, sym, ap, ap₂, subst, _∙_}
 use mathlib.Core.Bool.{Bool, true, false, not, cond}
 use mathlib.Core.List.{List, [], _∷_, _++_, map}
-use Prim.Native.Nat.{ℕ, zero, suc, _+_, _%_, _<_, _≤_}
+use Prim.Native.Nat.{ℕ, _+_, _%_, _<_}
 use lib.Dec.{eqb}
 use borrow.Author.Tests.{eqb-true}
 use lib.ListN.{length, take, drop}
@@ -16,14 +16,15 @@ use Rattle.pdu.specs.Reading.{modeIn}
 use Rattle.pieces.specs.Pieces.{total}
 use Rattle.reassembly.specs.Reassembly.{following}
 use Rattle.reassembly.specs.Rights.{Label}
-use Rattle.writer.specs.Writing.{writerTests, placed, endedOf, partOf, pduOf, nextOf}
+use Rattle.writer.specs.Writing.{writerTests, placed, endedOf, partOf, pduOf}
 use Rattle.writer.specs.declared.Writer.{Writer}
-use Rattle.runs.specs.Model.{cut, Fits, sentAfter, saidOf, Sized}
-use Rattle.runs.specs.Spans.{Span, bytesIn}
-use Rattle.runs.specs.Calls.{Load, labelsOf}
-use Rattle.delivery.specs.Delivery.{Packets, joined, Writing, answerTo, bufferAfter, pdusFrom, unfinished, alreadySent, Offers, either, told, refusedAt, placedAt, spansFrom, InOrder}
+use Rattle.runs.proofs.Model.{cut, Fits, sentAfter, saidOf, bytesIn}
+use Rattle.runs.specs.Spans.{Span, packetAt}
+use Rattle.runs.proofs.Calls.{Load, labelsOf}
+use Rattle.delivery.specs.Delivery.{Packets, concatenated, Writing, answerTo, bufferAfter, pdusFrom, Offers, told, refusedAt, placedAt, spansFrom, InOrder}
 use Rattle.delivery.specs.Entitlement.{labelOf, labelsFrom}
-use Rattle.delivery.proofs.Counting.{Stands, stands-index, stands-sent, stands-next}
+use Rattle.runs.proofs.Spans.{Stands, stands-next}
+use Rattle.delivery.proofs.Counting.{stands-index, stands-sent}
 use Rattle.delivery.proofs.Calling.{stateAt, next-in-range, numberAt, same-number, refusal-is, refused-writer, accepted-writer, accepted-pdu}
 use Rattle.delivery.proofs.Made.{Says, sized-of, loadOf, planFor, Made, made}
 
@@ -136,13 +137,13 @@ module _ (mode stream register : ℕ) (m : Mode) (l : listing mode stream ≡ Li
           }
 
     -- of the packets offered
-    made-of : n ≡ 0 → Offers (drop (unfinished ps g) ps) a → Made mode stream register m l ps q i s (a .settings) (a .psd) (a .lengths) (a .bytes) (length (a .buffer))
+    made-of : n ≡ 0 → Offers (drop (packetAt ps g) ps) a → Made mode stream register m l ps q i s (a .settings) (a .psd) (a .lengths) (a .bytes) (length (a .buffer))
     made-of z o =
         let k = o .0 in
-        let f : drop (unfinished ps g) ps ≡ drop i ps = ap (λ (j : ℕ). drop j ps) (stands-index ps g i s v) in
+        let f : drop (packetAt ps g) ps ≡ drop i ps = ap (λ (j : ℕ). drop j ps) (stands-index ps g i s v) in
         let el : a .lengths ≡ map length (take k (drop i ps)) = o .1 ∙ ap (λ (r : List (List ℕ)). map length (take k r)) f in
-        let eb : a .bytes ≡ joined (take k (drop i ps)) = o .2 ∙ ap (λ (r : List (List ℕ)). joined (take k r)) f in
-        let zero-there : firstOf (writerTests (a .settings) (a .psd) (map length (take k (drop i ps))) (joined (take k (drop i ps))) (length (a .buffer)) m w) ≡ 0 =
+        let eb : a .bytes ≡ concatenated (take k (drop i ps)) = o .2 ∙ ap (λ (r : List (List ℕ)). concatenated (take k r)) f in
+        let zero-there : firstOf (writerTests (a .settings) (a .psd) (map length (take k (drop i ps))) (concatenated (take k (drop i ps))) (length (a .buffer)) m w) ≡ 0 =
         sym (ap₂ (λ (ns bs : List ℕ). firstOf (writerTests (a .settings) (a .psd) ns bs (length (a .buffer)) m w)) el eb) ∙ z in
         let x = made mode stream register m l ps q i s (a .settings) (a .psd) k (length (a .buffer)) (a .psd-bytes) y (v .rest) hq zero-there in
         subst (λ (ns : List ℕ). Made mode stream register m l ps q i s (a .settings) (a .psd) ns (a .bytes) (length (a .buffer))) (sym el)
@@ -152,10 +153,10 @@ module _ (mode stream register : ℕ) (m : Mode) (l : listing mode stream ≡ Li
       → Runs q g i s (pdusFrom (stateAt mode stream register q i s) al) (spansFrom mode stream ps g al) (labelsFrom mode stream ps g al)
   course [] q g i s hq v h = unfold pdusFrom spansFrom labelsFrom in record { loads = []; course = done; labelled = refl }
   course (a ∷ al) q g i s hq v h =
-      go (eqb (numberAt mode stream register m l q i s a) 0) refl (subst (λ (b : Bool). either b (InOrder mode stream ps g al) (Offers (drop (unfinished ps g) ps) a × InOrder mode stream ps (g + placedAt mode stream ps g a) al)) (table-is q g i s a al hq v) h)
+      go (eqb (numberAt mode stream register m l q i s a) 0) refl (subst (λ (b : Bool). cond b (InOrder mode stream ps g al) (Offers (drop (packetAt ps g) ps) a × InOrder mode stream ps (g + placedAt mode stream ps g a) al)) (table-is q g i s a al hq v) h)
       (λ h′. course al q g i s hq v h′) (λ q′ g′ i′ s′ hq′ v′ h′. course al q′ g′ i′ s′ hq′ v′ h′)
     where
-      go : (b : Bool) → eqb (numberAt mode stream register m l q i s a) 0 ≡ b → either (not b) (InOrder mode stream ps g al) (Offers (drop (unfinished ps g) ps) a × InOrder mode stream ps (g + placedAt mode stream ps g a) al)
+      go : (b : Bool) → eqb (numberAt mode stream register m l q i s a) 0 ≡ b → cond (not b) (InOrder mode stream ps g al) (Offers (drop (packetAt ps g) ps) a × InOrder mode stream ps (g + placedAt mode stream ps g a) al)
           → (InOrder mode stream ps g al → Runs q g i s (pdusFrom (stateAt mode stream register q i s) al) (spansFrom mode stream ps g al) (labelsFrom mode stream ps g al))
           → ((q′ g′ i′ s′ : ℕ) → q′ < m .sequences → Stands ps g′ i′ s′ → InOrder mode stream ps g′ al → Runs q′ g′ i′ s′ (pdusFrom (stateAt mode stream register q′ i′ s′) al) (spansFrom mode stream ps g′ al) (labelsFrom mode stream ps g′ al))
           → Runs q g i s (pdusFrom (stateAt mode stream register q i s) (a ∷ al)) (spansFrom mode stream ps g (a ∷ al)) (labelsFrom mode stream ps g (a ∷ al))

@@ -1,6 +1,6 @@
 -- Document 02, Ask 5: a pair's call on a receiver and its carry. A refused one leaves them; one for two copies of a PDU logs what both say together.
 use mathlib.Core.Path.{_≡_, refl, sym, ap, ap₂, subst, _∙_}
-use mathlib.Core.Bool.{Bool, true, false, not, _&&_, cond}
+use mathlib.Core.Bool.{Bool, true, false, not, _&&_}
 use mathlib.Core.List.{List, [], _++_}
 use mathlib.Core.Option.{Option, none, some}
 use Prim.Native.Nat.{ℕ, _+_, _-_, _<_, _≤_}
@@ -8,39 +8,34 @@ use native.Mathlib.Omega.{arith}
 use lib.Dec.{eqb, ltb, leb}
 use borrow.Author.Tests.{eq-eqb, le-ltb}
 use lib.ListN.{length, getD, take, drop}
-use Rattle.refusal.specs.Refusal.{firstOf, anyOf}
+use Rattle.refusal.specs.Refusal.{firstOf}
 use Rattle.refusal.proofs.Rows.{row-off, rest-off}
 use Rattle.modes.specs.Modes.{listing, numberOf}
 use Rattle.modes.specs.declared.Mode.{Mode}
 use Rattle.modes.specs.declared.Listing.the-variants.{Listed}
-use Rattle.buffer.specs.Buffer.{putAt}
 use Rattle.buffer.proofs.Laws.{take-put}
 use Rattle.header.specs.Header.{lengthRefusal}
 use Rattle.layout.specs.Control.{controlAt}
 use Rattle.layout.specs.declared.ControlWord.{ControlWord}
 use Rattle.log.specs.Log.{logWords}
 use Rattle.correction.specs.Correction.{corrected, answerFor, correctionOf, correctedPdu}
-use Rattle.correction.specs.declared.Correction.{Correction}
-use Rattle.correction.specs.declared.Correction.the-variants.{Refused}
 use Rattle.correction.specs.Marks.{correctedWith, correctedPduWith}
 use Rattle.correction.proofs.Decoding.{no-marks}
 use Rattle.correction.proofs.Answers.{no-marks-pdu}
 use Rattle.pdu.specs.Reading.{modeIn, listingOf, correctedTests, readerTests, judged, uncorrectable}
-use Rattle.reassembly.specs.Reassembly.{Outcome, received, remembered}
-use Rattle.reassembly.specs.Rights.{keptAfter}
+use Rattle.reassembly.specs.Reassembly.{Outcome, received}
 use Rattle.reassembly.specs.Tally.{Countable}
-use Rattle.reassembly.specs.Holder.{Come, came, Holder, valueFor, saidTo, holderFor}
-use Rattle.reassembly.specs.Run.{bytesOf}
-use Rattle.reassembly.proofs.Fitting.{SaneSaid, fit-received}
-use Rattle.receiver.specs.Receiving.{labelIn, remembering, modeOf, wrongState}
+use Rattle.reassembly.specs.Holder.{Come, came, Holder, saidTo, holderFor}
+use Rattle.reassembly.proofs.Fitting.{SaneSaid}
+use Rattle.receiver.specs.Receiving.{labelIn}
 use Rattle.receiver.specs.Steps.{stateTests, streamTests}
 use Rattle.receiver.specs.declared.Receiver.{Receiver}
-use Rattle.receiver.specs.declared.Received.{Received}
 use Rattle.batch.proofs.Single.{kept}
-use Rattle.diversity.specs.Diversity.{correctable, sameBytes, pairSaid, pairCome, frontOf, copyNumber, differ, Result, unchanged, firstAlone, secondAlone, come, said, outcome, pairWords, memoryAfter, keptServices, tallyAfter, pairNumber, together, receivedBy, pairReceived}
+use Rattle.diversity.specs.Diversity.{correctable, sameBytes, pairSaid, pairCome, frontOf, copyNumber, differ, Result, come, said, pairWords, tallyAfter, pairNumber, together, receivedBy, pairReceived}
 use Rattle.diversity.proofs.Bytes.{same-itself}
 use Rattle.pair.proofs.Enough.{Passes, taken, passes-taken, passes-most}
-use Rattle.delivery.specs.Delivery.{Station, Call, pair, answerOf, ofOne, stationAfter, loggedBy, defined}
+use Rattle.delivery.proofs.Parts.{answerOf}
+use Rattle.delivery.specs.Delivery.{Station, pair, ofOne, stationAfter, loggedBy, defined}
 use Rattle.delivery.proofs.Copies.{same-slice}
 use Rattle.delivery.proofs.Made.{Heard}
 use Rattle.delivery.proofs.Serving.{rightsBy, Shows, mode-is, taking, outcome-is, tally-is, taking-shows, loggedAlone}

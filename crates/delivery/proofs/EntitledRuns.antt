@@ -13,19 +13,21 @@ use Rattle.expansion.specs.Expansion.{chained}
 use Rattle.expansion.specs.Writing.{expansionBytes}
 use Rattle.packing.specs.Packing.{largestUpTo, mostPieces, fit, wholesFrom, partAfter, partFrom}
 use Rattle.pieces.specs.Pieces.{total}
-use Rattle.log.specs.Log.{Entry, packet, logWords, packetWords}
+use Rattle.log.specs.Log.{packet, logWords, packetWords}
 use Rattle.reassembly.specs.Rights.{Label}
 use Rattle.writer.specs.Writing.{opened as writerOpened, writeAnswer}
 use Rattle.receiver.specs.Entitling.{allowedPrograms}
-use Rattle.runs.specs.Spans.{Span, wholePackets}
-use Rattle.runs.specs.Promise.{arrived}
-use Rattle.delivery.specs.Delivery.{Packets, Writing, spansFrom, InOrder, defined, Step, callOf, freshStation, receptions, logsFrom, runOf, made, spans}
-use Rattle.delivery.specs.Entitlement.{labelsFrom, rightsFor, due, waysBy}
+use Rattle.runs.specs.Spans.{Span}
+use Rattle.runs.proofs.Model.{wholePackets}
+use Rattle.runs.proofs.Promise.{arrivedBy}
+use Rattle.delivery.specs.Delivery.{Packets, Writing, spansFrom, InOrder, defined, Step, callOf, runOf}
+use Rattle.delivery.proofs.Parts.{freshStation, logsFrom, made, spans, dueEntries, waysBy, runWith}
+use Rattle.delivery.specs.Entitlement.{labelsFrom, rightsFor}
 use Rattle.delivery.proofs.Channel.{made-right}
-use Rattle.delivery.proofs.Possible.{asSent, told-receptions, stepsOf, possible}
+use Rattle.delivery.proofs.Possible.{verbatim, told-receptions, stepsOf, possible}
 use Rattle.delivery.proofs.SmallRuns.{carry, carry-room}
-use Rattle.delivery.proofs.Counted.{due-fit}
-use Rattle.delivery.proofs.Theorem.{entitled-delivers}
+use Rattle.delivery.proofs.Claimed.{altered-says}
+use Rattle.delivery.proofs.Damages.{entitled-delivers}
 
 -- settings for a program of class 1 with these applied services, and for one that is free
 abbrev pub paid : ℕ → ℕ → Settings
@@ -115,9 +117,9 @@ paidCalls = stepsOf 1 0 0 ten calls opens right in-order 0 10 received
 
 -- The first two go by the value 0 sent with sequence 0, and are given. After the lost one the value is unknown, and only the PDU of program 3 is given. With the
 -- next sequence 0 comes the value 1
-due-are : due 1 0 third ten calls 0 (waysBy received) ≡ packet 0 (triple 0) ∷ packet 1 (triple 1) ∷ packet 4 (triple 4) ∷ []
+due-are : dueEntries 1 0 third ten calls 0 (waysBy received) ≡ packet 0 (triple 0) ∷ packet 1 (triple 1) ∷ packet 4 (triple 4) ∷ []
 unfolding listing wholePackets
-due-are = (λ i. arrived (rightsFor 1 0 third) 8 0 ten (spans-are i) (labels-are i) (waysBy received)) ∙ refl
+due-are = (λ i. arrivedBy (rightsFor 1 0 third) 8 0 ten (spans-are i) (labels-are i) (waysBy received)) ∙ refl
 
 ten-made : length (runOf 0 10 (made 1 0 0 calls)) ≡ 10
 ten-made =
@@ -127,7 +129,7 @@ ten-made =
 
 pub paid-run : packetWords (logsFrom defined (freshStation defined 1 0 0 third carry) (map callOf paidCalls)) ≡ logWords (packet 0 (triple 0) ∷ packet 1 (triple 1) ∷ packet 4 (triple 4) ∷ [])
 paid-run =
-    entitled-delivers 1 0 0 third ten calls 0 10 carry paidCalls third-allowed (possible 1 0 0 ten calls opens right in-order defined third 0 10 carry received carry-room)
-    (due-fit 1 0 ten calls (let n : length ten ≡ 10 = refl in omega (arith, n)) third 0 (waysBy (receptions paidCalls))) .log
-    ∙ ap (λ (bs : List Bool). logWords (due 1 0 third ten calls 0 (waysBy bs))) (told-receptions [] asSent [] (runOf 0 10 (made 1 0 0 calls)) received refl (sym ten-made))
+    altered-says defined entitled-delivers (runWith 1 0 0 third ten calls 0 10 carry paidCalls) (let n : length ten ≡ 10 = refl in omega (arith, n)) third-allowed
+    (possible 1 0 0 ten calls opens right in-order defined third 0 10 carry received carry-room) .log
+    ∙ ap (λ (bs : List Bool). logWords (dueEntries 1 0 third ten calls 0 (waysBy bs))) (told-receptions [] verbatim [] (runOf 0 10 (made 1 0 0 calls)) received refl (sym ten-made))
     ∙ ap logWords due-are

@@ -23,7 +23,8 @@ use Rattle.receiver.specs.declared.Received.{Received}
 use Rattle.batch.specs.Batches.{Result, unchanged, followed, oneByOne, batchNumber, received}
 use Rattle.batch.specs.declared.Batch.{Batch}
 use Rattle.diversity.specs.Diversity.{Result as PairResult, correctable, unchanged as unchangedPair, outcome as pairOutcome, memoryAfter as pairMemory, keptServices as pairServices, tallyAfter as pairTally, pairWords, wrongInPair, pairNumber, together, receivedBy, pairReceived}
-use Rattle.delivery.specs.Delivery.{Station, Call, receive, batch, pair, markLost, answerOf, logOf, ofOne, ofBatch, defined, stationAfter}
+use Rattle.delivery.proofs.Parts.{answerOf, logOf}
+use Rattle.delivery.specs.Delivery.{Station, Call, receive, batch, pair, markLost, ofOne, defined, stationAfter}
 
 held-only : (held number : ℕ) (a b : List ℕ) → take held a ≡ take held b → partialOf held number a ≡ partialOf held number b
 held-only zero number a b e = refl
@@ -221,7 +222,7 @@ by-record (receive marks pdu log) r a b s =
     record { answer = ap ofOne e; log = receive-log r a b s marks pdu log; after = record { receiver = ap (λ (x : Received). x .receiver) e; carry = receive-alike r a b s marks pdu log } }
 by-record (batch lengths pdus log) r a b s =
     let k = batch-same lengths r a b pdus log s in
-    record { answer = ap ofBatch (k .answer); log = k .log; after = record { receiver = ap (λ (x : Batch). x .receiver) (k .answer); carry = k .after } }
+    record { answer = k .answer; log = k .log; after = record { receiver = ap (λ (x : Batch). x .receiver) (k .answer); carry = k .after } }
 by-record (pair first second log) r a b s =
     let k = pair-same r a b s first second log in
     record { answer = ap ofOne (k .answer); log = k .log; after = record { receiver = ap (λ (x : Received). x .receiver) (k .answer); carry = k .after } }

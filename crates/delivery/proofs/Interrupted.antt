@@ -16,8 +16,10 @@ use Rattle.writer.specs.RoundTrip.{Bytes}
 use Rattle.snapshot.specs.declared.Saved.{Saved}
 use Rattle.snapshot.specs.Snapshot.{savedWords, saveNumber, saved, bytesIn, loadNumber, loaded, carryLoaded}
 use Rattle.snapshot.proofs.Round.{loaded-saved, saved-words, save-room, few-words}
-use Rattle.delivery.specs.Delivery.{Station, Call, receive, batch, pair, markLost, Answer, answerOf, logOf, defined, stationAfter, loggedBy, finally}
-use Rattle.delivery.specs.Interruptions.{written, Interruption, wordsOf, resumed, Resumes, Turn, called, interrupted, callsIn, Seen, seenOf, seenFrom, seenIn, endIn, AllResume, Running, Suffices, EnoughWords, Interruptions}
+use Rattle.delivery.proofs.Parts.{answerOf, logOf}
+use Rattle.batch.specs.declared.Batch.{Batch}
+use Rattle.delivery.specs.Delivery.{Station, Call, receive, batch, pair, markLost, defined, stationAfter, loggedBy, finally, Seen, seenOf, seenFrom}
+use Rattle.delivery.specs.Interruptions.{definedSnapshot, Interruption, wordsOf, resumed, Turn, called, interrupted, callsIn, seenIn, endIn, AllResume, Running, Suffices, Interruptions}
 use Rattle.delivery.proofs.Made.{bytes-of}
 use Rattle.delivery.proofs.Held.{Alike, put-longer, SameHeld, SameCall, same-call}
 use Rattle.delivery.proofs.Running.{still-runs}
@@ -37,7 +39,7 @@ save-last : (x : Station) (words : List ℕ) → Running x → saveNumber (x .ca
 save-last x words h = save-room (x .receiver) (x .carry) words (h .right) (le-ltb (length (x .carry)) 4096 (h .room))
 
 -- the number is that of the answer
-save-number : (x : Station) (words : List ℕ) → written .saved x words .refusal ≡ saveNumber (x .carry) words (x .receiver)
+save-number : (x : Station) (words : List ℕ) → definedSnapshot .saved x words .refusal ≡ saveNumber (x .carry) words (x .receiver)
 unfolding saved
 save-number x words = go (eqb n 0) refl
   where
@@ -54,6 +56,10 @@ save-number x words = go (eqb n 0) refl
     go true f = sym (eqb-true n 0 f)
     go false f = refl
 
+-- a buffer of 1,376 words is never too short
+abbrev EnoughWords : Type 0
+EnoughWords = (x : Station) (words : List ℕ) → Running x → 1376 ≤ length words → ¬ (definedSnapshot .saved x words .refusal ≡ 26)
+
 pub enough-words : EnoughWords
 enough-words x words h long e =
     let n = few-words (x .receiver) (x .carry) (ltb-false 4096 (x .receiver .held) (none-at (wrongState (x .receiver)) 3 (h .right))) in
@@ -61,7 +67,7 @@ enough-words x words h long e =
     save-last x words h ∙ ap (λ (t : Bool). cond t 26 0) (le-ltb (length words) (length (savedWords (x .receiver) (x .carry))) (omega (arith, n, long))) in
     absurd (omega (arith, sym e ∙ save-number x words ∙ z))
 
-module _ (x : Station) (i : Interruption) (h : Running x) (words : ¬ (written .saved x (i .words) .refusal ≡ 26)) (room : 4096 ≤ length (i .carry)) where
+module _ (x : Station) (i : Interruption) (h : Running x) (words : ¬ (definedSnapshot .saved x (i .words) .refusal ≡ 26)) (room : 4096 ≤ length (i .carry)) where
   abbrev r : Receiver
   r = x .receiver
 
@@ -76,21 +82,21 @@ module _ (x : Station) (i : Interruption) (h : Running x) (words : ¬ (written .
   unfolding saved
   save-accepted = rw save-none
 
-  words-are : wordsOf written x i ≡ savedWords r (x .carry)
+  words-are : wordsOf definedSnapshot x i ≡ savedWords r (x .carry)
   words-are = saved-words r (x .carry) (i .words) save-accepted
 
-  pub loaded-is : (loaded (wordsOf written x i) (i .carry) ≡ openedBy 0 r) × (take (r .held) (carryLoaded (wordsOf written x i) (i .carry)) ≡ take (r .held) (x .carry))
+  pub loaded-is : (loaded (wordsOf definedSnapshot x i) (i .carry) ≡ openedBy 0 r) × (take (r .held) (carryLoaded (wordsOf definedSnapshot x i) (i .carry)) ≡ take (r .held) (x .carry))
   loaded-is =
       subst (λ (ws : List ℕ). (loaded ws (i .carry) ≡ openedBy 0 r) × (take (r .held) (carryLoaded ws (i .carry)) ≡ take (r .held) (x .carry))) (sym words-are)
       (loaded-saved r (x .carry) (h .right) (h .register) (h .entitled) (let k = h .counts .0 in omega (arith, k)) (let k = h .counts .1 in omega (arith, k)) (h .room) (bytes-of (take (r .held) (x .carry)) (h .held)) (i .carry) room)
 
-  pub resumes : Resumes written x i
+  pub resumes : (definedSnapshot .saved x (i .words) .refusal ≡ 0) × (definedSnapshot .loaded (wordsOf definedSnapshot x i) (i .carry) .refusal ≡ 0)
   resumes = (save-accepted, ap (λ (o : Opened). o .refusal) (loaded-is .0))
 
-  pub resumed-held : SameHeld x (resumed written x i)
+  pub resumed-held : SameHeld x (resumed definedSnapshot x i)
   resumed-held = record {
     receiver = sym (ap (λ (o : Opened). o .receiver) (loaded-is .0));
-    carry = record { held = sym (loaded-is .1); room = h .room; other = (let k = loaded-longer (wordsOf written x i) (i .carry) in omega (arith, k, room)) };
+    carry = record { held = sym (loaded-is .1); room = h .room; other = (let k = loaded-longer (wordsOf definedSnapshot x i) (i .carry) in omega (arith, k, room)) };
   }
 
 -- ---- a run
@@ -113,7 +119,7 @@ held-runs x y s h =
     (record { right = h .right; register = h .register; entitled = h .entitled; counts = h .counts; room = s .carry .other; held = subst Bytes (s .carry .held) (h .held) })
 
 -- what is logged goes by the answer and the log
-abbrev loggedFor : Call → Answer → List ℕ → List ℕ
+abbrev loggedFor : Call → Batch → List ℕ → List ℕ
 loggedFor (batch lengths pdus l) a log = cond (eqb (a .refusal) 0 || not (eqb (a .taken) 0)) (take (a .words) log) []
 loggedFor (receive marks pdu l) a log = cond (eqb (a .refusal) 0 || not (eqb (cond (eqb (a .refusal) 0) 1 0) 0)) (take (a .words) log) []
 loggedFor (pair first second l) a log = cond (eqb (a .refusal) 0 || not (eqb (cond (eqb (a .refusal) 0) 1 0) 0)) (take (a .words) log) []
@@ -131,8 +137,8 @@ same-seen x y c s =
     λ i. record { answer = s .answer i; log = s .log i; logged = e i }
 
 -- x is as the run with interruptions left it, y as the one without
-same-run : (ts : List Turn) (x y : Station) → SameHeld x y → Running y → Suffices defined written x ts
-    → AllResume defined written x ts × (seenIn defined written x ts ≡ seenFrom defined y (callsIn ts)) × (endIn defined written x ts .receiver ≡ finally defined y (callsIn ts) .receiver)
+same-run : (ts : List Turn) (x y : Station) → SameHeld x y → Running y → Suffices defined definedSnapshot x ts
+    → AllResume defined definedSnapshot x ts × (seenIn defined definedSnapshot x ts ≡ seenFrom defined y (callsIn ts)) × (endIn defined definedSnapshot x ts .receiver ≡ finally defined y (callsIn ts) .receiver)
 same-run [] x y s h g = (tt, refl, s .receiver)
 same-run (called c ∷ ts) x y s h g =
     let k = same-call x y c s in
@@ -140,8 +146,8 @@ same-run (called c ∷ ts) x y s h g =
     (r .0, ap₂ (λ (v : Seen) (vs : List Seen). v ∷ vs) (same-seen x y c k) (r .1), r .2)
 same-run (interrupted i ∷ ts) x y s h g =
     let run : Running x = held-runs y x (held-back x y s) h in
-    let back : SameHeld (resumed written x i) y = held-then (resumed written x i) x y (held-back x (resumed written x i) (resumed-held x i run (g .0) (g .1))) s in
-    let r = same-run ts (resumed written x i) y back h (g .2) in
+    let back : SameHeld (resumed definedSnapshot x i) y = held-then (resumed definedSnapshot x i) x y (held-back x (resumed definedSnapshot x i) (resumed-held x i run (g .0) (g .1))) s in
+    let r = same-run ts (resumed definedSnapshot x i) y back h (g .2) in
     ((resumes x i run (g .0) (g .1), r .0), r .1, r .2)
 
 -- Ask 13: no saving and no loading is refused, and answers and logs are those of the calls alone

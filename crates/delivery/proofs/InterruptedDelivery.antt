@@ -1,7 +1,7 @@
 -- Document 02, Ask 13: the promises over whole runs hold over interrupted ones.
-use mathlib.Core.Path.{_≡_, refl, sym, ap, subst, _∙_}
+use mathlib.Core.Path.{_≡_, refl, sym, ap, subst, subst₂, _∙_}
 use mathlib.Core.Bool.{Bool, true, false, cond}
-use mathlib.Core.List.{List, [], _∷_, _++_, map}
+use mathlib.Core.List.{List, map}
 use Prim.Native.Nat.{ℕ, _<_, _≤_}
 use native.Mathlib.Omega.{arith}
 use borrow.Author.Tests.{not-false}
@@ -12,25 +12,23 @@ use Rattle.modes.specs.declared.Mode.{Mode}
 use Rattle.modes.specs.declared.Listing.the-variants.{Listed}
 use Rattle.modes.proofs.Listable.{listable}
 use Rattle.pdu.specs.Reading.{modeIn}
-use Rattle.log.specs.Log.{Entry, logWords, packetWords}
-use Rattle.reassembly.specs.Tally.{Tally, noTally, tallied}
-use Rattle.writer.specs.Writing.{opened as writerOpened}
 use Rattle.receiver.specs.Entitling.{isListed, allowedPrograms, allPrograms, bitsOf, maskOf}
-use Rattle.receiver.specs.Receiving.{openingTests, openingNumber, openedFor, tallyOf}
+use Rattle.receiver.specs.Receiving.{openingTests, openingNumber, openedFor}
 use Rattle.receiver.specs.declared.Receiver.{Receiver}
-use Rattle.runs.specs.Transmissions.{Close, AddsUp}
-use Rattle.delivery.specs.Delivery.{Station, Call, Answer, defined, callOf, Takes, freshStation, stationAfter, NoneRefused, loggedBy, logsFrom, finally}
-use Rattle.delivery.specs.Diversity.{callOf as pairCall, Takes as PairTakes}
-use Rattle.delivery.specs.Channel.{callOf as channelCall, Takes as ChannelTakes}
-use Rattle.delivery.specs.Interruptions.{written, Turn, callsIn, Seen, seenFrom, seenIn, endIn, logsIn, Running, Suffices, OpenedRuns, Each, Interrupted, InterruptedDemand3, InterruptedEntitled, InterruptedBursts, InterruptedPairs, InterruptedEntitledPairs, InterruptedChannel}
-use Rattle.delivery.proofs.Channel.{fresh-writer, fresh-receiver, shows-fresh, channel-delivers}
-use Rattle.delivery.proofs.Counted.{adds-along}
-use Rattle.delivery.proofs.Entitling.{all-allowed}
+use Rattle.writer.specs.Writing.{opened as writerOpened}
+use Rattle.delivery.specs.Delivery.{Station, Call, defined, callOf, seenFrom, finally, Run, freshStation as freshIn, Delivered, HeaderAltered, Claim, Holds, demand3}
+use Rattle.delivery.specs.Interruptions.{definedSnapshot, seenIn, endIn, Running, OverInterruptions, InterruptedDemand3, InterruptedEntitled, InterruptedBursts, InterruptedPairs, InterruptedEntitledPairs, InterruptedChannel}
+use Rattle.delivery.specs.Copies.{Damaged}
+use Rattle.delivery.specs.Entitlement.{forPrograms}
+use Rattle.delivery.specs.Diversity.{WrongCrc, pairs}
+use Rattle.delivery.specs.Bursts.{Hit}
+use Rattle.delivery.specs.Channel.{WrongOrHit}
+use Rattle.delivery.proofs.Parts.{freshStation}
+use Rattle.delivery.proofs.Channel.{fresh-writer, fresh-receiver, shows-fresh}
 use Rattle.delivery.proofs.Running.{listed-by}
 use Rattle.delivery.proofs.Interrupted.{unnoticed}
-use Rattle.delivery.proofs.Theorem.{entitled-delivers, delivers}
-use Rattle.delivery.proofs.BurstTheorem.{bursts-deliver}
-use Rattle.delivery.proofs.PairTheorem.{entitled-pairs-deliver, pairs-deliver}
+use Rattle.delivery.proofs.Damages.{channel-delivers, entitled-delivers, entitled-pairs-deliver, bursts-deliver}
+use Rattle.delivery.proofs.Theorem.{entitled-all, delivers, pairs-deliver}
 
 -- ---- a freshly opened receiver
 
@@ -48,6 +46,11 @@ fresh-runs mode stream register programs carry m l a g big =
     subst (λ (r : Receiver). Running (record { receiver = r; carry = carry })) (sym (fresh-receiver mode stream register programs m l a))
     (record { right = shows-fresh mode stream register (maskOf programs) m l range carry big .right; register = g; entitled = unfold maskOf in mask-byte (isListed programs); counts = (omega arith, omega arith); room = big; held = tt })
 
+-- a freshly opened receiver may be interrupted
+abbrev OpenedRuns : Type 0
+OpenedRuns = (mode stream register : ℕ) (programs carry : List ℕ) → openedFor mode stream register programs .refusal ≡ 0 → register < 256 → 4096 ≤ length carry
+    → Running (freshStation defined mode stream register programs carry)
+
 pub opened-runs : OpenedRuns
 unfolding openedFor openingNumber
 opened-runs mode stream register programs carry e g big =
@@ -59,69 +62,38 @@ run-runs : (mode stream register : ℕ) (programs carry : List ℕ) → writerOp
     → Running (freshStation defined mode stream register programs carry)
 run-runs mode stream register programs carry e a g big = let f = fresh-writer mode stream register e in fresh-runs mode stream register programs carry (f .line) (f .listed) a g big
 
--- ---- any promise over what is seen of calls
+-- ---- any claim over whole runs
 
-pub kept : (P : List Seen → Type 0) (x : Station) (cs : List Call) (ts : List Turn) → Running x → callsIn ts ≡ cs → Suffices defined written x ts → P (seenFrom defined x cs) → P (seenIn defined written x ts)
-kept P x cs ts h e g p = subst P (sym (unnoticed x ts h g .same ∙ ap (seenFrom defined x) e)) p
-
--- the joined logs
-same-logs : (cs : List Call) (x : Station) → logsIn (seenFrom defined x cs) ≡ logsFrom defined x cs
-same-logs [] x = refl
-same-logs (c ∷ cs) x = ap (λ (l : List ℕ). loggedBy defined x c ++ l) (same-logs cs (stationAfter defined x c))
-
--- so the promise over the calls of steps, of whatever page they are
-module _ {S : Type 0} (call : S → Call) (takes : S → Answer → Type 0) where
-  each-taken : (ss : List S) (x : Station) → NoneRefused defined call takes x ss → Each takes ss (seenFrom defined x (map call ss))
-  each-taken [] x a = tt
-  each-taken (s ∷ ss) x a = (a .0, each-taken ss (stationAfter defined x (call s)) (a .1))
-
-  over : (x : Station) (steps : List S) (packetsDue : List Entry) (indices : List ℕ) → Running x → NoneRefused defined call takes x steps
-      → packetWords (logsFrom defined x (map call steps)) ≡ logWords packetsDue → tallyOf (finally defined x (map call steps) .receiver) ≡ tallied noTally packetsDue
-      → (Close indices → AddsUp indices (tallyOf (finally defined x (map call steps) .receiver)))
-      → Interrupted defined written call takes x steps packetsDue indices
-  over x steps packetsDue indices h a l c u ts e g =
-      let f : endIn defined written x ts .receiver ≡ finally defined x (map call steps) .receiver = unnoticed x ts h g .final ∙ ap (λ (cs : List Call). finally defined x cs .receiver) e in
-      record {
-        resumes = unnoticed x ts h g .resumes;
-        accepted = kept (Each takes steps) x (map call steps) ts h e g (each-taken steps x a);
-        log = kept (λ (vs : List Seen). packetWords (logsIn vs) ≡ logWords packetsDue) x (map call steps) ts h e g (ap packetWords (same-logs (map call steps) x) ∙ l);
-        counts = ap tallyOf f ∙ c;
-        adds-up = adds-along {a = indices} refl (sym (ap tallyOf f)) u;
-      }
+-- the receiver may be interrupted, and what is seen is seen without interruptions
+over : (k : Claim) → Holds k defined → ((r : Run) → k .asked r defined → r .register < 256 → Running (freshIn r defined)) → OverInterruptions defined definedSnapshot k
+over k claim runs r ts g d c e w =
+    let x : Station = freshIn r defined in
+    let u = unnoticed x ts (runs r d g) w in
+    let same : seenFrom defined x (map callOf (r .steps)) ≡ seenIn defined definedSnapshot x ts = sym (u .same ∙ ap (seenFrom defined x) e) in
+    let last : finally defined x (map callOf (r .steps)) .receiver ≡ endIn defined definedSnapshot x ts .receiver = sym (u .final ∙ ap (λ (cs : List Call). finally defined x cs .receiver) e) in
+    (u .resumes, subst₂ (Delivered r (k .due r)) same last (claim r d c))
 
 -- ---- the promises
 
 -- demand 3
 pub interrupted-delivers : InterruptedDemand3
-interrupted-delivers mode stream register packets writings first count carry steps g d k =
-    let r = delivers mode stream register packets writings first count carry steps d k in
-    over callOf Takes _ steps _ _ (run-runs mode stream register allPrograms carry (d .opens) all-allowed g (d .room)) (r .accepted) (r .log) (r .counts) (r .adds-up)
+interrupted-delivers = over demand3 delivers (λ r d g. run-runs (r .mode) (r .stream) (r .register) (r .programs) (r .carry) (d .1 .opens) (entitled-all r (d .0)) g (d .1 .room))
 
 -- Ask 10
 pub interrupted-entitled : InterruptedEntitled
-interrupted-entitled mode stream register programs packets writings first count carry steps g a d k =
-    let r = entitled-delivers mode stream register programs packets writings first count carry steps a d k in
-    over callOf Takes _ steps _ _ (run-runs mode stream register programs carry (d .opens) a g (d .room)) (r .accepted) (r .log) (r .counts) (r .adds-up)
+interrupted-entitled = over (forPrograms (λ register width. HeaderAltered)) entitled-delivers (λ r d g. run-runs (r .mode) (r .stream) (r .register) (r .programs) (r .carry) (d .1 .opens) (d .0) g (d .1 .room))
 
 -- Ask 12
 pub interrupted-bursts : InterruptedBursts
-interrupted-bursts mode stream register programs packets writings first count carry steps g a d k =
-    let r = bursts-deliver mode stream register programs packets writings first count carry steps a d k in
-    over callOf Takes _ steps _ _ (run-runs mode stream register programs carry (d .opens) a g (d .room)) (r .accepted) (r .log) (r .counts) (r .adds-up)
+interrupted-bursts = over (forPrograms (Damaged Hit)) bursts-deliver (λ r d g. run-runs (r .mode) (r .stream) (r .register) (r .programs) (r .carry) (d .1 .opens) (d .0) g (d .1 .room))
 
 -- Ask 5
 pub interrupted-pairs : InterruptedPairs
-interrupted-pairs mode stream register packets writings first count carry steps g d k =
-    let r = pairs-deliver mode stream register packets writings first count carry steps d k in
-    over pairCall PairTakes _ steps _ _ (run-runs mode stream register allPrograms carry (d .opens) all-allowed g (d .room)) (r .accepted) (r .log) (r .counts) (r .adds-up)
+interrupted-pairs = over pairs pairs-deliver (λ r d g. run-runs (r .mode) (r .stream) (r .register) (r .programs) (r .carry) (d .1 .opens) (entitled-all r (d .0)) g (d .1 .room))
 
 pub interrupted-entitled-pairs : InterruptedEntitledPairs
-interrupted-entitled-pairs mode stream register programs packets writings first count carry steps g a d k =
-    let r = entitled-pairs-deliver mode stream register programs packets writings first count carry steps a d k in
-    over pairCall PairTakes _ steps _ _ (run-runs mode stream register programs carry (d .opens) a g (d .room)) (r .accepted) (r .log) (r .counts) (r .adds-up)
+interrupted-entitled-pairs = over (forPrograms (Damaged WrongCrc)) entitled-pairs-deliver (λ r d g. run-runs (r .mode) (r .stream) (r .register) (r .programs) (r .carry) (d .1 .opens) (d .0) g (d .1 .room))
 
 -- over a channel
 pub interrupted-channel : InterruptedChannel
-interrupted-channel mode stream register programs packets writings first count carry steps g d =
-    let r = channel-delivers mode stream register programs packets writings first count carry steps d in
-    over channelCall ChannelTakes _ steps _ _ (run-runs mode stream register programs carry (d .opens) (d .allowed) g (d .room)) (r .accepted) (r .log) (r .counts) (r .adds-up)
+interrupted-channel = over (forPrograms (Damaged WrongOrHit)) channel-delivers (λ r d g. run-runs (r .mode) (r .stream) (r .register) (r .programs) (r .carry) (d .1 .opens) (d .0) g (d .1 .room))

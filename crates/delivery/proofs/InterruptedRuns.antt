@@ -38,9 +38,10 @@ use Rattle.receiver.specs.declared.Opened.{Opened}
 use Rattle.receiver.proofs.Counting.{lost-keeps}
 use Rattle.writer.specs.RoundTrip.{Bytes}
 use Rattle.snapshot.specs.Snapshot.{loaded, carryLoaded}
-use Rattle.delivery.specs.Delivery.{Station, receive, markLost, answerOf, defined, stationAfter, loggedBy}
-use Rattle.delivery.specs.Interruptions.{Snapshot, written, Interruption, wordsOf, resumed, Turn, called, interrupted, Seen, seenIn, logsIn, Running, Suffices, InterruptionsFor}
-use Rattle.delivery.specs.WrongSnapshots.{unregistered, unsequenced, forgetsRegister, forgetsSequence, forgetsHeld, forgetsCounts}
+use Rattle.delivery.proofs.Parts.{answerOf}
+use Rattle.delivery.specs.Delivery.{Station, receive, markLost, defined, stationAfter, loggedBy, Seen, logsIn}
+use Rattle.delivery.specs.Interruptions.{Snapshot, definedSnapshot, Interruption, wordsOf, resumed, Turn, called, interrupted, seenIn, Running, Suffices, InterruptionsFor}
+use Rattle.delivery.proofs.FaultySnapshots.{unregistered, unsequenced, forgetsRegister, forgetsSequence, forgetsHeld, forgetsCounts}
 use Rattle.delivery.proofs.Made.{Heard}
 use Rattle.delivery.proofs.Copies.{corrected-back}
 use Rattle.delivery.proofs.Possible.{words, log-room, as-sent}
@@ -252,11 +253,11 @@ halt = record { words = replicate 1376 0; carry = carry }
 halt-long : 1376 ≤ length (halt .words)
 halt-long = let e : length (halt .words) ≡ 1376 = length-replicate {A = ℕ} 1376 0 in omega (arith, e)
 
-halt-words : ¬ (written .saved held (halt .words) .refusal ≡ 26)
+halt-words : ¬ (definedSnapshot .saved held (halt .words) .refusal ≡ 26)
 halt-words = enough-words held (halt .words) held-runs halt-long
 
-first-words : ¬ (written .saved (stationAfter defined opened (receive [] begins words)) (halt .words) .refusal ≡ 26)
-first-words = subst (λ (x : Station). ¬ (written .saved x (halt .words) .refusal ≡ 26)) (sym first-held) halt-words
+first-words : ¬ (definedSnapshot .saved (stationAfter defined opened (receive [] begins words)) (halt .words) .refusal ≡ 26)
+first-words = subst (λ (x : Station). ¬ (definedSnapshot .saved x (halt .words) .refusal ≡ 26)) (sym first-held) halt-words
 
 -- the first PDU, an interruption, and another PDU
 abbrev turns : List ℕ → List Turn
@@ -275,9 +276,9 @@ unfolding received sequenceStep beginningStep psdEntries contentsStep piecesStep
 again-logged = first-logs 255 held (holding true 7) held-stands begins-heard
 
 -- and with it: the packet, interrupted after two of its four bytes, is logged whole
-pub interrupted-run : logsIn (seenIn defined written opened (turns ends)) ≡ logWords (packet 0 (7 ∷ 7 ∷ 9 ∷ 9 ∷ []) ∷ [])
+pub interrupted-run : logsIn (seenIn defined definedSnapshot opened (turns ends)) ≡ logWords (packet 0 (7 ∷ 7 ∷ 9 ∷ 9 ∷ []) ∷ [])
 interrupted-run =
-    ap logsIn (unnoticed opened (turns ends) opened-runs (suffices written ends first-words (bytes 64 10 9 202 ends-bytes)) .same)
+    ap logsIn (unnoticed opened (turns ends) opened-runs (suffices definedSnapshot ends first-words (bytes 64 10 9 202 ends-bytes)) .same)
     ∙ ap₂ (λ (l : List ℕ) (x : Station). l ++ (loggedBy defined x (receive [] ends words) ++ [])) first-none first-held
     ∙ ap (λ (l : List ℕ). l ++ []) end-logged
     ∙ append-nil (logWords (packet 0 (7 ∷ 7 ∷ 9 ∷ 9 ∷ []) ∷ []))
@@ -295,9 +296,9 @@ differs s p l m k b e f claim =
 
 -- what loading leaves in the carry
 abbrev back : List ℕ
-back = carryLoaded (wordsOf written held halt) carry
+back = carryLoaded (wordsOf definedSnapshot held halt) carry
 
-answered : loaded (wordsOf written held halt) carry ≡ openedBy 0 (held .receiver)
+answered : loaded (wordsOf definedSnapshot held halt) carry ≡ openedBy 0 (held .receiver)
 answered = loaded-is held halt held-runs halt-words carry-room .0
 
 back-stands : (register : ℕ) (known : Bool) → Stands register (at (state register known 2) back) (holding known 7)

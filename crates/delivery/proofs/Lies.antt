@@ -1,17 +1,16 @@
 -- Which bytes are received, by the PDU whose bytes they are among (runs/specs/Spans.antt).
-use mathlib.Core.Path.{_≡_, refl, sym, ap, ap₂, _∙_}
+use mathlib.Core.Path.{_≡_, refl, sym, ap, _∙_}
 use mathlib.Core.Bool.{Bool, true, false, _&&_, _||_, cond}
 use mathlib.Core.List.{List, [], _∷_, _++_}
-use Prim.Native.Nat.{ℕ, zero, suc, _+_, _-_, _%_, _<_, _≤_}
+use Prim.Native.Nat.{ℕ, zero, suc, _+_, _-_, _<_, _≤_}
 use native.Mathlib.Omega.{arith}
 use native.Mathlib.Nat.{not-suc-le-zero, le-of-suc-le-suc}
-use borrow.Author.Tests.{lt-leb, leb-true, ltb-true}
+use borrow.Author.Tests.{lt-leb, ltb-true}
 use lib.Dec.{ltb, leb}
 use lib.ListN.{length, take, drop, replicate}
-use Rattle.log.specs.Log.{Entry, packet}
-use Rattle.runs.specs.Model.{Fate, lose, read, Mark, verdicts, Sized}
-use Rattle.runs.specs.Spans.{packetAt, Span, within, nowhere, lies, every as everyMark, wholePackets as wholeByMarks, wholeIndices as indicesByMarks}
-use Rattle.delivery.specs.Delivery.{inReceived, every, wholePackets, wholeIndices, runOf}
+use Rattle.runs.specs.Spans.{Fate, lose, read, Mark, verdicts, packetAt, Span, covers, lies, every, dueAt, wholeIndices}
+use Rattle.runs.proofs.Model.{Sized}
+use Rattle.delivery.specs.Delivery.{inReceived}
 use Rattle.delivery.proofs.Examples.{second-lost}
 
 -- received, with every piece taken, or lost
@@ -39,7 +38,7 @@ pub received-take : (bs : List Bool) (n : ℕ) (ss : List Span) (j : ℕ) → le
 received-take [] n ss j h = none-received (take n ss) j ∙ sym (none-received ss j)
 received-take (b ∷ bs) zero ss j h = absurd (not-suc-le-zero h)
 received-take (b ∷ bs) (suc n) [] j h = refl
-received-take (b ∷ bs) (suc n) (s ∷ ss) j h = ap (λ (x : Bool). (b && within s j) || x) (received-take bs n ss j (le-of-suc-le-suc h))
+received-take (b ∷ bs) (suc n) (s ∷ ss) j h = ap (λ (x : Bool). (b && covers s j) || x) (received-take bs n ss j (le-of-suc-le-suc h))
 
 below : (b w more : Bool) → w ≡ false → more ≡ false → ((b && w) || more) ≡ false
 below true w more e f = rw e f
@@ -51,7 +50,7 @@ nothing-below zero [] bs g j f h = refl
 nothing-below zero (s ∷ ss) [] g j f h = refl
 nothing-below zero (s ∷ ss) (b ∷ bs) g j f h =
     let e : leb (s .from) j ≡ false = lt-leb (s .from) j (omega (arith, f .0)) in
-    below b (within s j) (inReceived ss bs j) (ap (λ (x : Bool). x && ltb j (s .from + s .count)) e) (nothing-below zero ss bs (g + s .count) j (f .1) (omega arith))
+    below b (covers s j) (inReceived ss bs j) (ap (λ (x : Bool). x && ltb j (s .from + s .count)) e) (nothing-below zero ss bs (g + s .count) j (f .1) (omega arith))
 nothing-below (suc first) [] bs g j f h = refl
 nothing-below (suc first) (s ∷ ss) bs g j f h = nothing-below first ss bs (g + s .count) j (f .1) (omega arith)
 
@@ -60,7 +59,7 @@ and-right true b e = e
 and-right false b e = absurd (let z : _≡_ {A = ℕ} 0 1 = cc in omega arith)
 
 -- a byte of this PDU is in none of those after it
-alone : (first : ℕ) (s : Span) (ss : List Span) (bs : List Bool) (g j : ℕ) → Following g (s ∷ ss) → within s j ≡ true → inReceived (drop first ss) bs j ≡ false
+alone : (first : ℕ) (s : Span) (ss : List Span) (bs : List Bool) (g j : ℕ) → Following g (s ∷ ss) → covers s j ≡ true → inReceived (drop first ss) bs j ≡ false
 alone first s ss bs g j f e = nothing-below first ss bs (g + s .count) j (f .1) (let h = ltb-true j (s .from + s .count) (and-right (leb (s .from) j) _ e) in omega (arith, h, f .0))
 
 one : (b w more : Bool) (k : ℕ) (m : Mark) → (w ≡ true → more ≡ false) → m ≡ marked more → cond w (verdicts (fateBy b) k) m ≡ marked ((b && w) || more)
@@ -78,31 +77,22 @@ pub lies-received : (ps : List (List ℕ)) (first : ℕ) (ss : List Span) (bs : 
 lies-received ps zero [] bs g j f = refl
 lies-received ps zero (s ∷ ss) [] g j f = refl
 lies-received ps zero (s ∷ ss) (b ∷ bs) g j f =
-    one b (within s j) (inReceived ss bs j) (packetAt ps j - packetAt ps (s .from)) (lies ps ss (fatesBy bs) j) (alone zero s ss bs g j f) (lies-received ps zero ss bs (g + s .count) j (f .1))
+    one b (covers s j) (inReceived ss bs j) (packetAt ps j - packetAt ps (s .from)) (lies ps ss (fatesBy bs) j) (alone zero s ss bs g j f) (lies-received ps zero ss bs (g + s .count) j (f .1))
 lies-received ps (suc first) [] bs g j f = refl
 lies-received ps (suc first) (s ∷ ss) bs g j f =
-    before (within s j) (inReceived (drop first ss) bs j) (packetAt ps j - packetAt ps (s .from)) (lies ps ss (replicate first lose ++ fatesBy bs) j) (alone first s ss bs g j f) (lies-received ps first ss bs (g + s .count) j (f .1))
+    before (covers s j) (inReceived (drop first ss) bs j) (packetAt ps j - packetAt ps (s .from)) (lies ps ss (replicate first lose ++ fatesBy bs) j) (alone first s ss bs g j f) (lies-received ps first ss bs (g + s .count) j (f .1))
 
 -- ---- whole packets
-
-every-same : (f : ℕ → Bool) (o n : ℕ) → everyMark f o n ≡ every f o n
-every-same f o zero = refl
-every-same f o (suc n) = ap (λ (b : Bool). f o && b) (every-same f (suc o) n)
 
 twice : (a b : Bool) → (a && (a && b)) ≡ (a && b)
 twice true b = refl
 twice false b = refl
 
-due-same : (f : ℕ → Bool) (o n : ℕ) → 1 ≤ n → (f o && everyMark f o n) ≡ every f o n
+due-same : (f : ℕ → Bool) (o n : ℕ) → 1 ≤ n → dueAt (λ j. marked (f j)) o n ≡ every f o n
 due-same f o zero h = absurd (not-suc-le-zero h)
-due-same f o (suc n) h = twice (f o) (everyMark f (suc o) n) ∙ every-same f o (suc n)
+due-same f o (suc n) h = twice (f o) (every f (suc o) n)
 
-pub whole-same : (f : ℕ → Bool) (o i : ℕ) (ps : List (List ℕ)) → Sized ps → wholeByMarks (λ j. marked (f j)) o i ps ≡ wholePackets f o i ps
-unfolding wholeByMarks wholePackets
-whole-same f o i [] z = refl
-whole-same f o i (p ∷ ps) z = rw (due-same f o (length p) (z .0), whole-same f (o + length p) (suc i) ps (z .2))
-
-pub indices-same : (f : ℕ → Bool) (o i : ℕ) (ps : List (List ℕ)) → Sized ps → indicesByMarks (λ j. marked (f j)) o i ps ≡ wholeIndices f o i ps
-unfolding indicesByMarks wholeIndices
+pub indices-same : (f : ℕ → Bool) (o i : ℕ) (ps : List (List ℕ)) → Sized ps → wholeIndices (dueAt (λ j. marked (f j))) o i ps ≡ wholeIndices (every f) o i ps
+unfolding wholeIndices
 indices-same f o i [] z = refl
 indices-same f o i (p ∷ ps) z = rw (due-same f o (length p) (z .0), indices-same f (o + length p) (suc i) ps (z .2))

@@ -1,7 +1,7 @@
 -- What an accepted writing call makes of the packets offered: what its PDU carries, and what the PDU says to a receiver.
-use mathlib.Core.Path.{_≡_, refl, sym, ap, ap₂, subst, _∙_}
+use mathlib.Core.Path.{_≡_, refl, sym, ap, ap₂, _∙_}
 use mathlib.Core.Bool.{Bool, true, false, _&&_, cond}
-use mathlib.Core.List.{List, [], _∷_, _++_, map}
+use mathlib.Core.List.{List, [], _∷_, map}
 use Prim.Native.Nat.{ℕ, zero, suc, _+_, _-_, _%_, _<_, _≤_}
 use native.Mathlib.Omega.{arith}
 use lib.Dec.{eqb, ltb, leb, eqb·suc-zero}
@@ -38,13 +38,14 @@ use Rattle.writer.proofs.Accepted.{Fine, fine, few}
 use Rattle.writer.proofs.Sending.{extra-small}
 use Rattle.writer.proofs.RoundTrip.{pdu-bytes, code-word}
 use Rattle.header.specs.Header.{isCodeWord}
-use Rattle.runs.specs.Model.{cut, Fits, sentAfter, Plan, lose, later, readPieces, saidOf, Sized}
-use Rattle.runs.specs.Transmissions.{gone, planOf}
-use Rattle.runs.specs.Spans.{bytesIn}
-use Rattle.runs.specs.Calls.{Load, transmissionOf}
+use Rattle.runs.proofs.Model.{cut, Fits, sentAfter, Plan, later, readPieces, saidOf, Sized, bytesIn}
+use Rattle.runs.specs.Spans.{lose}
+use Rattle.runs.specs.Transmissions.{gone}
+use Rattle.runs.proofs.Transmissions.{planOf}
+use Rattle.runs.proofs.Calls.{Load, transmissionOf}
 use Rattle.runs.proofs.Theorem.{Unfinished, unfinished-zero}
 use Rattle.writer.specs.RoundTrip.{Bytes}
-use Rattle.delivery.specs.Delivery.{Packets, joined}
+use Rattle.delivery.specs.Delivery.{Packets, concatenated}
 use Rattle.delivery.specs.Copies.{bytesAt, crcAt}
 use Rattle.delivery.specs.Entitlement.{labelOf}
 use Rattle.crc.specs.Crc.{crcFrom}
@@ -125,9 +126,9 @@ packets-drop zero ps y = y
 packets-drop (suc k) [] y = tt
 packets-drop (suc k) (p ∷ ps) y = packets-drop k ps (y .3)
 
-joined-bytes : (ps : List (List ℕ)) → Packets ps → Bytes (joined ps)
+joined-bytes : (ps : List (List ℕ)) → Packets ps → Bytes (concatenated ps)
 joined-bytes [] y = tt
-joined-bytes (p ∷ ps) y = all-join (λ x. x < 256) p (joined ps) (y .2) (joined-bytes ps (y .3))
+joined-bytes (p ∷ ps) y = all-join (λ x. x < 256) p (concatenated ps) (y .2) (joined-bytes ps (y .3))
 
 -- the pieces of a PDU have bytes
 sane-piece : (b : List ℕ) → Bytes b → 1 ≤ length b → SanePiece (record { cause = 0; bytes = b })
@@ -197,7 +198,7 @@ module _ (mode stream register : ℕ) (m : Mode) (l : listing mode stream ≡ Li
         ≡ stateAt mode stream register (following (m .sequences) q) (i + endedOf settings psd lengths bytes size m (stateAt mode stream register q i s)) (sentAfter s (endedOf settings psd lengths bytes size m (stateAt mode stream register q i s)) (partOf settings psd lengths bytes size m (stateAt mode stream register q i s)))
 
   module _ (settings : Settings) (psd : List ℕ) (k size : ℕ) (hp : Bytes psd) (y : Packets ps) (u : Unfinished s (drop i ps)) (hq : q < m .sequences)
-      (t : firstOf (writerTests settings psd (map length (take k (drop i ps))) (joined (take k (drop i ps))) size m (stateAt mode stream register q i s)) ≡ 0) where
+      (t : firstOf (writerTests settings psd (map length (take k (drop i ps))) (concatenated (take k (drop i ps))) size m (stateAt mode stream register q i s)) ≡ 0) where
     abbrev os : List (List ℕ)
     os = take k (drop i ps)
 
@@ -205,16 +206,16 @@ module _ (mode stream register : ℕ) (m : Mode) (l : listing mode stream ≡ Li
     w = stateAt mode stream register q i s
 
     abbrev extra : ℕ
-    extra = extraOf settings psd (map length os) (joined os) size
+    extra = extraOf settings psd (map length os) (concatenated os) size
 
     abbrev ended : ℕ
-    ended = endedOf settings psd (map length os) (joined os) size m w
+    ended = endedOf settings psd (map length os) (concatenated os) size m w
 
     abbrev over : ℕ
-    over = partOf settings psd (map length os) (joined os) size m w
+    over = partOf settings psd (map length os) (concatenated os) size m w
 
-    f : Fine settings psd (map length os) (joined os) size m w
-    f = fine settings psd (map length os) (joined os) size m w t
+    f : Fine settings psd (map length os) (concatenated os) size m w
+    f = fine settings psd (map length os) (concatenated os) size m w t
 
     yo : Packets os
     yo = packets-take k (drop i ps) (packets-drop i ps y)
@@ -223,48 +224,48 @@ module _ (mode stream register : ℕ) (m : Mode) (l : listing mode stream ≡ Li
     uo = offered-unfinished s k (drop i ps) (f .unfinished) u
 
     fo : Fits s ended over os
-    fo = placed-fits (m .width) extra size os 0 0 s (sized-of os yo) uo (offered-room m extra size s (map length os) (extra-small settings psd (map length os) (joined os) size m w f l) (f .unfinished) (f .room))
+    fo = placed-fits (m .width) extra size os 0 0 s (sized-of os yo) uo (offered-room m extra size s (map length os) (extra-small settings psd (map length os) (concatenated os) size m w f l) (f .unfinished) (f .room))
 
-    lengths-are : placed settings psd (map length os) (joined os) size m w ≡ map length (cut s ended over os)
+    lengths-are : placed settings psd (map length os) (concatenated os) size m w ≡ map length (cut s ended over os)
     lengths-are = placed-lengths (m .width) extra size os 0 0 s fo
 
     more : cut s ended over os ≡ cut s ended over (drop i ps)
     more = cut-more s ended over k (drop i ps) fo
 
-    pieces-are : piecesOf settings psd (map length os) (joined os) size m w ≡ cut s ended over (drop i ps)
-    pieces-are = ap (λ (ns : List ℕ). cutBy ns (drop s (joined os))) lengths-are ∙ cut-joined s ended over os fo (sized-of os yo) uo ∙ more
+    pieces-are : piecesOf settings psd (map length os) (concatenated os) size m w ≡ cut s ended over (drop i ps)
+    pieces-are = ap (λ (ns : List ℕ). cutBy ns (drop s (concatenated os))) lengths-are ∙ cut-joined s ended over os fo (sized-of os yo) uo ∙ more
 
-    said-is : sent settings psd (map length os) (joined os) size m w l t hp (joined-bytes os yo) ≡ saidOf q i s (planFor (loadOf ended over psd (labelOf settings))) false (λ k. 0) (drop i ps)
+    said-is : sent settings psd (map length os) (concatenated os) size m w l t hp (joined-bytes os yo) ≡ saidOf q i s (planFor (loadOf ended over psd (labelOf settings))) false (λ k. 0) (drop i ps)
     said-is =
         ap₂ (λ (n : ℕ) (b : List Piece). record { sequence = q; pfirst = ltb 0 s; plast = ltb 0 over; start = n; psdBytes = psd; pieces = b; withheld = false }) (same-start i (ltb 0 s))
-        (taken-read (piecesOf settings psd (map length os) (joined os) size m w) ∙ ap (readPieces (λ k. 0)) pieces-are)
+        (taken-read (piecesOf settings psd (map length os) (concatenated os) size m w) ∙ ap (readPieces (λ k. 0)) pieces-are)
 
-    counted : length (cut s ended over (drop i ps)) ≡ length (placed settings psd (map length os) (joined os) size m w)
-    counted = sym (ap length pieces-are) ∙ cut-count (placed settings psd (map length os) (joined os) size m w) (drop s (joined os))
+    counted : length (cut s ended over (drop i ps)) ≡ length (placed settings psd (map length os) (concatenated os) size m w)
+    counted = sym (ap length pieces-are) ∙ cut-count (placed settings psd (map length os) (concatenated os) size m w) (drop s (concatenated os))
 
-    pub made : Made settings psd (map length os) (joined os) size
+    pub made : Made settings psd (map length os) (concatenated os) size
     made =
         let fs = fits-more s ended over k (drop i ps) fo in
         record {
           fits = fs;
           counts = ap total lengths-are ∙ bytes-total (cut s ended over os) ∙ ap bytesIn more;
           says = record {
-            bytes = pdu-bytes settings psd (map length os) (joined os) size m w l t hp (joined-bytes os yo);
-            code = code-word settings psd (map length os) (joined os) size m w l t hp (joined-bytes os yo);
-            least = at-least settings psd (map length os) (joined os) size m w l t hp (joined-bytes os yo);
-            most = at-most settings psd (map length os) (joined os) size m w l t hp (joined-bytes os yo);
-            crcs = crcs-right settings psd (map length os) (joined os) size m w l t hp (joined-bytes os yo);
-            accepted = reads-back settings psd (map length os) (joined os) size m w l t hp (joined-bytes os yo);
-            sameMode = ap (λ (c : ControlWord). c .mode) (control-back settings psd (map length os) (joined os) size m w l t hp (joined-bytes os yo));
-            sameStream = ap (λ (c : ControlWord). c .stream) (control-back settings psd (map length os) (joined os) size m w l t hp (joined-bytes os yo));
-            comes = ap (λ (c : ControlWord). comeBy register (m .width) c (pduOf settings psd (map length os) (joined os) size m w)) (control-back settings psd (map length os) (joined os) size m w l t hp (joined-bytes os yo))
-                ∙ come-back settings psd (map length os) (joined os) size m w l t hp (joined-bytes os yo)
+            bytes = pdu-bytes settings psd (map length os) (concatenated os) size m w l t hp (joined-bytes os yo);
+            code = code-word settings psd (map length os) (concatenated os) size m w l t hp (joined-bytes os yo);
+            least = at-least settings psd (map length os) (concatenated os) size m w l t hp (joined-bytes os yo);
+            most = at-most settings psd (map length os) (concatenated os) size m w l t hp (joined-bytes os yo);
+            crcs = crcs-right settings psd (map length os) (concatenated os) size m w l t hp (joined-bytes os yo);
+            accepted = reads-back settings psd (map length os) (concatenated os) size m w l t hp (joined-bytes os yo);
+            sameMode = ap (λ (c : ControlWord). c .mode) (control-back settings psd (map length os) (concatenated os) size m w l t hp (joined-bytes os yo));
+            sameStream = ap (λ (c : ControlWord). c .stream) (control-back settings psd (map length os) (concatenated os) size m w l t hp (joined-bytes os yo));
+            comes = ap (λ (c : ControlWord). comeBy register (m .width) c (pduOf settings psd (map length os) (concatenated os) size m w)) (control-back settings psd (map length os) (concatenated os) size m w l t hp (joined-bytes os yo))
+                ∙ come-back settings psd (map length os) (concatenated os) size m w l t hp (joined-bytes os yo)
                 ∙ ap (λ (d : Said). record { said = d; label = labelOf settings }) said-is;
             labelled = (width-of (settings .programmed) (settings .program) (none-at (wrongValues stream settings) 7 (f .values)), width-of (settings .serviced) (settings .services) (none-at (wrongValues stream settings) 10 (f .values)));
             sane = record {
               psd = (let e = f .extra in let b = listable mode stream m l .limit in omega (arith, e, b), bytes-of psd hp);
               pieces = sane-cut s ended over (drop i ps) fs (packets-drop i ps y) u;
-              few = (let n = few settings psd (map length os) (joined os) size m w f in let b = most-small (m .width) extra in let c = read-count (λ k. 0) (cut s ended over (drop i ps)) in omega (arith, n, b, c, counted));
+              few = (let n = few settings psd (map length os) (concatenated os) size m w f in let b = most-small (m .width) extra in let c = read-count (λ k. 0) (cut s ended over (drop i ps)) in omega (arith, n, b, c, counted));
             };
           };
           next = ap₂ (λ (a b : ℕ). record { mode = mode; stream = stream; register = register; sequence = a; number = (i % 64 + ended) % 64; sent = b }) (next-sequence (m .sequences) q hq) (sent-is s ended over)

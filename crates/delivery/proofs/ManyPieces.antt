@@ -15,12 +15,14 @@ use Rattle.pieces.specs.Pieces.{total}
 use Rattle.log.specs.Log.{Entry, packet, logWords, packetWords}
 use Rattle.writer.specs.Writing.{writeAnswer}
 use Rattle.receiver.specs.Entitling.{allPrograms}
-use Rattle.runs.specs.Spans.{Span}
-use Rattle.delivery.specs.Delivery.{Packets, Writing, spansFrom, InOrder, defined, Step, callOf, freshStation, receptions, inReceived, wholePackets, logsFrom, runOf, made, spans, Asked}
+use Rattle.runs.specs.Spans.{Span, every}
+use Rattle.delivery.specs.Delivery.{Packets, Writing, spansFrom, InOrder, defined, Step, callOf, inReceived, runOf}
+use Rattle.delivery.proofs.Parts.{freshStation, logsFrom, made, spans, Asked}
+use Rattle.runs.proofs.Model.{wholePackets}
 use Rattle.delivery.proofs.Channel.{made-right}
 use Rattle.delivery.proofs.Possible.{stepsFor, told-receptions, goes-through, run-usable}
 use Rattle.delivery.proofs.SmallRuns.{offering, opens, carry, carry-room, altered, headers-altered}
-use Rattle.delivery.proofs.Counted.{arrived-fit}
+use Rattle.delivery.proofs.Claimed.{demand3-says}
 use Rattle.delivery.proofs.Theorem.{delivers}
 
 -- 70 packets of one byte, and two calls, each for a PDU of 300 bytes
@@ -56,7 +58,7 @@ both-made =
     let t = length-take 2 (made 0 0 0 two) in
     omega (arith, e, t)
 
-logged-is : (bs : List Bool) (es : List Entry) → length bs ≡ 2 → wholePackets (inReceived twoSpans bs) 0 0 seventy ≡ es
+logged-is : (bs : List Bool) (es : List Entry) → length bs ≡ 2 → wholePackets (every (inReceived twoSpans bs)) 0 0 seventy ≡ es
     → packetWords (logsFrom defined (freshStation defined 0 0 0 allPrograms carry) (map callOf (calls bs))) ≡ logWords es
 logged-is bs es n e =
     let asked : Asked defined 0 0 0 allPrograms seventy two 0 2 carry (calls bs) = record {
@@ -66,9 +68,9 @@ logged-is bs es n e =
       room = carry-room;
       through = goes-through [] altered defined headers-altered [] (runOf 0 2 (made 0 0 0 two)) bs _ (λ y. tt) (run-usable 0 0 0 seventy two opens (right 70) in-order 0 2);
     } in
-    delivers 0 0 0 seventy two 0 2 carry (calls bs) asked (arrived-fit 0 0 seventy two (let n : length seventy ≡ 70 = refl in omega (arith, n)) 0 2 (receptions (calls bs))) .log
-    ∙ ap (λ (rs : List Bool). logWords (wholePackets (inReceived (runOf 0 2 (spans 0 0 seventy two)) rs) 0 0 seventy)) (told-receptions [] altered [] (runOf 0 2 (made 0 0 0 two)) bs refl (n ∙ sym both-made))
-    ∙ ap (λ (l : List Span). logWords (wholePackets (inReceived (runOf 0 2 l) bs) 0 0 seventy)) spans-are
+    demand3-says defined delivers 0 0 0 seventy two 0 2 carry (calls bs) (let n : length seventy ≡ 70 = refl in omega (arith, n)) asked .log
+    ∙ ap (λ (rs : List Bool). logWords (wholePackets (every (inReceived (runOf 0 2 (spans 0 0 seventy two)) rs)) 0 0 seventy)) (told-receptions [] altered [] (runOf 0 2 (made 0 0 0 two)) bs refl (n ∙ sym both-made))
+    ∙ ap (λ (l : List Span). logWords (wholePackets (every (inReceived (runOf 0 2 l) bs)) 0 0 seventy)) spans-are
     ∙ ap logWords e
 
 -- n of the packets from packet i on

@@ -1,19 +1,19 @@
 -- The placing rule, which goes by lengths, on the packets themselves.
-use mathlib.Core.Path.{_≡_, refl, sym, ap, ap₂, subst, _∙_}
+use mathlib.Core.Path.{_≡_, refl, sym, ap, ap₂, _∙_}
 use mathlib.Core.Bool.{Bool, true, false, cond}
 use mathlib.Core.List.{List, [], _∷_, _++_, map}
 use Prim.Native.Nat.{ℕ, zero, suc, _+_, _-_, _<_, _≤_}
 use native.Mathlib.Omega.{arith}
 use lib.Dec.{eqb·suc-zero}
-use lib.ListN.{length, take, drop, length-drop, length-take}
+use lib.ListN.{length, take, drop, length-drop}
 use lib.Seq.{take-append-seam, drop-append-seam, drop-append-le, take-append-le, length-take-le}
 use Rattle.pieces.specs.Pieces.{cutBy}
-use Rattle.packing.specs.Packing.{overhead, fit, wholesFrom, partAfter, partFrom, ifAny}
+use Rattle.packing.specs.Packing.{fit, wholesFrom, partAfter, partFrom, ifAny}
 use Rattle.packing.proofs.Fitting.{fit-room}
 use Rattle.packing.proofs.Bounds.{part-shorter}
-use Rattle.runs.specs.Model.{cut, Fits, Sized}
+use Rattle.runs.proofs.Model.{cut, Fits, Sized}
 use Rattle.runs.proofs.Theorem.{Unfinished, unfinished-zero}
-use Rattle.delivery.specs.Delivery.{joined}
+use Rattle.delivery.specs.Delivery.{concatenated}
 
 -- ---- pieces cut from the joined bytes
 
@@ -28,14 +28,14 @@ unfolding cutBy
 cut-next b r ns = ap₂ (λ (x y : List ℕ). x ∷ cutBy ns y) (take-append-seam b r) (drop-append-seam b r)
 
 -- of the joined packets from the first unsent byte on
-pub cut-joined : (s e t : ℕ) (os : List (List ℕ)) → Fits s e t os → Sized os → Unfinished s os → cutBy (map length (cut s e t os)) (drop s (joined os)) ≡ cut s e t os
+pub cut-joined : (s e t : ℕ) (os : List (List ℕ)) → Fits s e t os → Sized os → Unfinished s os → cutBy (map length (cut s e t os)) (drop s (concatenated os)) ≡ cut s e t os
 unfolding cut
 cut-joined s e t [] h z u = unfold cutBy in refl
 cut-joined s zero zero (p ∷ os) h z u = unfold cutBy in refl
 cut-joined s zero (suc t) (p ∷ os) h z u =
-    rw (drop-append-le s p (joined os) (omega arith)) (cut-one (suc t) (drop s p) (joined os) (let l = length-drop s p in omega (arith, l, h)))
+    rw (drop-append-le s p (concatenated os) (omega arith)) (cut-one (suc t) (drop s p) (concatenated os) (let l = length-drop s p in omega (arith, l, h)))
 cut-joined s (suc e) t (p ∷ os) h z u =
-    rw (drop-append-le s p (joined os) (omega arith), cut-next (drop s p) (joined os) (map length (cut 0 e t os)))
+    rw (drop-append-le s p (concatenated os) (omega arith), cut-next (drop s p) (concatenated os) (map length (cut 0 e t os)))
     (ap (λ (l : List (List ℕ)). drop s p ∷ l) (cut-joined 0 e t os h (z .2) (unfinished-zero os (z .2))))
 
 -- ---- what is placed

@@ -3,7 +3,7 @@
 use mathlib.Core.Path.{_≡_, refl, sym, ap, ap₂, subst, _∙_, fun-ext}
 use mathlib.Core.Bool.{Bool, true, false, _||_, cond, true≢false}
 use mathlib.Core.List.{List, [], _∷_, _++_, map}
-use Prim.Native.Nat.{ℕ, zero, suc, _+_, _<_, _≤_}
+use Prim.Native.Nat.{ℕ, zero, suc, _+_, _<_}
 use native.Mathlib.Omega.{arith}
 use lib.Dec.{eqb, ltb}
 use lib.ListN.{length, take, drop, replicate}
@@ -11,7 +11,7 @@ use Rattle.algebra.specs.Places.{All}
 use Rattle.refusal.specs.Refusal.{anyOf}
 use Rattle.modes.specs.Modes.{listing}
 use Rattle.crc.specs.Crc.{crcBit, crcBits, crcByte, crcFrom}
-use Rattle.header.specs.Header.{parityOf, lengthRefusal, withParity, distance}
+use Rattle.header.specs.Header.{parityOf, lengthRefusal, withParity}
 use Rattle.header.proofs.Division.{parity-length}
 use Rattle.header.proofs.Lengths.{parity-written}
 use Rattle.layout.specs.Control.{controlBytes, controlOf, controlAt}
@@ -21,30 +21,32 @@ use Rattle.expansion.specs.Expansion.{chained}
 use Rattle.expansion.specs.Writing.{expansionBytes}
 use Rattle.packing.specs.Packing.{largestUpTo, mostPieces, fit, wholesFrom, partAfter, partFrom}
 use Rattle.pieces.specs.Pieces.{cutBy, pieceBytes, locatorsFrom, total}
-use Rattle.correction.specs.Correction.{correctionOf, correctedPdu}
-use Rattle.correction.proofs.Answers.{no-marks-pdu}
-use Rattle.log.specs.Log.{Entry, packet, dataWords, entryWords, logWords, packetWords}
+use Rattle.correction.specs.Correction.{correctionOf}
+use Rattle.log.specs.Log.{packet, dataWords, entryWords, logWords, packetWords}
 use Rattle.writer.specs.Writing.{opened as writerOpened, pduOf, writeAnswer, writtenPdu}
 use Rattle.writer.specs.RoundTrip.{Bytes}
 use Rattle.receiver.specs.Entitling.{allPrograms}
 use Rattle.receiver.specs.Receiving.{wrongState}
 use Rattle.batch.proofs.Single.{refusal-is}
 use Rattle.runs.specs.Transmissions.{Way, gone, here}
-use Rattle.runs.specs.Spans.{Span, lies, wholePackets}
-use Rattle.runs.specs.Calls.{plainFate}
+use Rattle.runs.specs.Spans.{Span, lies, dueAt}
+use Rattle.runs.proofs.Model.{wholePackets}
+use Rattle.runs.proofs.Calls.{plainFate}
 use Rattle.diversity.specs.Diversity.{Choice, neither, theFirst, theSecond, choiceOf, sameBytes, pairReceived}
-use Rattle.delivery.specs.Delivery.{Packets, Writing, bufferAfter, pdusFrom, spansFrom, InOrder, Behaviour, Station, Call, receive, pair, answerOf, logOf, defined, freshStation, RefusedAfter, loggedBy, logsFrom, runOf, made, spans, HeaderAltered, Correctable}
-use Rattle.delivery.specs.Copies.{bytesAt, crcAt, pieceAt, causesFor}
-use Rattle.delivery.specs.Diversity.{asSent, ComesAs, Step, pairs, receives, loses, refuses, callOf, Through, ways, arrived, arrivedIndices, Delivered, PairDeliveryFor}
-use Rattle.delivery.specs.WrongReceivers.{chosen, choosing}
+use Rattle.delivery.specs.Delivery.{Packets, Writing, bufferAfter, pdusFrom, spansFrom, InOrder, Behaviour, Station, receive, pair, defined, RefusedAfter, loggedBy, runOf, HeaderAltered, Correctable, Step, receives, loses, refuses, callOf, alone, paired, Through, Holds}
+use Rattle.delivery.proofs.Parts.{freshStation, logsFrom, made, spans, runWith, answerOf, logOf}
+use Rattle.delivery.specs.Copies.{bytesAt, crcAt, pieceAt, asSent, waysFrom, restored, Damaged}
+use Rattle.delivery.proofs.SoundSteps.{causesFor}
+use Rattle.delivery.specs.Diversity.{WrongCrc, pairs}
+use Rattle.delivery.proofs.FaultyReceivers.{chosenCopy, choosing}
 use Rattle.delivery.proofs.Channel.{Usable, made-right}
-use Rattle.delivery.proofs.Copies.{corrected-back}
 use Rattle.delivery.proofs.Serving.{loggedAlone}
 use Rattle.delivery.proofs.Possible.{words, log-room}
-use Rattle.delivery.proofs.Counted.{marks-fit}
-use Rattle.delivery.proofs.SmallRuns.{offering, bytes-same, opens, carry, carry-room, altered, altered-four, headers-altered, empty-number}
+use Rattle.delivery.proofs.Claimed.{Logged, logged-by}
+use Rattle.delivery.proofs.SmallRuns.{offering, bytes-same, opens, carry, carry-room, altered, headers-altered, empty-number}
 use Rattle.delivery.proofs.Registers.{gets, gets-all}
-use Rattle.delivery.proofs.PairTheorem.{drop-taken, pairs-deliver}
+use Rattle.delivery.proofs.Damages.{drop-taken}
+use Rattle.delivery.proofs.Theorem.{pairs-deliver}
 
 -- packets of 100, 40 and 50 bytes; two go with the first PDU
 abbrev pub packets : List (List ℕ)
@@ -132,23 +134,18 @@ module _ (x y : ℕ) (bytes : Bytes (pdu x y)) where
   pub within : Correctable [] sent (altered (pdu x y))
   within = record { allowed = alters .header .allowed; bytes = alters .header .bytes; long = alters .header .long; few = alters .header .few }
 
-  corrected : correctedPdu (altered (pdu x y)) ≡ pdu x y
-  corrected =
-      sym (no-marks-pdu (altered (pdu x y)))
-      ∙ corrected-back sent [] (altered (pdu x y)) (usable .3) (usable .1) (usable .2) (usable .0) within
-      ∙ ap (λ (l : List ℕ). take 96 sent ++ l) (alters .rest)
+  pub restored-is : restored sent (altered (pdu x y)) ≡ pdu x y
+  restored-is = ap (λ (l : List ℕ). take 96 sent ++ l) (alters .rest)
 
   as-sent : (k : ℕ) → asSent 16 sent (altered (pdu x y)) k ≡ sound x y k
-  as-sent k = ap (λ (l : List ℕ). sameBytes (pieceAt 16 sent l k) (pieceAt 16 sent sent k)) corrected
+  as-sent k = ap (λ (l : List ℕ). sameBytes (pieceAt 16 sent l k) (pieceAt 16 sent sent k)) restored-is
 
-  comes : ((k : ℕ) → k < controlAt sent .nop → sound x y k ≡ false → ¬ (crcFrom 0 (bytesAt 16 sent (pdu x y) k) ≡ crcAt 16 sent (pdu x y) k)) → ComesAs 0 16 sent (altered (pdu x y))
+  comes : ((k : ℕ) → k < controlAt sent .nop → sound x y k ≡ false → ¬ (crcFrom 0 (bytesAt 16 sent (pdu x y) k) ≡ crcAt 16 sent (pdu x y) k)) → Damaged WrongCrc 0 16 [] sent (altered (pdu x y))
   unfolding controlOf
   comes d = record {
-    bytes = alters .header .bytes;
-    long = alters .header .long;
-    few = (let e : distance (take 96 (altered (pdu x y))) (take 96 sent) ≡ 4 = altered-four (pdu x y) (usable .1) in omega (arith, e));
+    header = within;
     front = drop-taken 96 18 (altered (pdu x y)) ∙ sym (drop-taken 96 18 sent);
-    damaged = λ k h e. subst (λ (l : List ℕ). ¬ (crcFrom 0 (bytesAt 16 sent l k) ≡ crcAt 16 sent l k)) (sym corrected) (d k h (sym (as-sent k) ∙ e));
+    pieces = λ k h e. subst (λ (l : List ℕ). ¬ (crcFrom 0 (bytesAt 16 sent l k) ≡ crcAt 16 sent l k)) (sym restored-is) (d k h (sym (as-sent k) ∙ e));
   }
 
 -- ---- the first piece damaged in the first copy, the second in the second
@@ -193,10 +190,10 @@ second-damaged zero h e = λ z. true≢false (sym (second-sound .0) ∙ e)
 second-damaged (suc zero) h e = second-crc
 second-damaged (suc (suc k)) h e = absurd (omega (arith, h))
 
-first-comes : ComesAs 0 16 sent first
+first-comes : Damaged WrongCrc 0 16 [] sent first
 first-comes = comes 9 2 first-bytes first-damaged
 
-second-comes : ComesAs 0 16 sent second
+second-comes : Damaged WrongCrc 0 16 [] sent second
 second-comes = comes 1 9 second-bytes second-damaged
 
 -- ---- the run
@@ -217,26 +214,27 @@ two-are a b f g h = fun-ext each
 
 -- what is asked for
 abbrev askedFor : List Way → List ℕ
-askedFor ws = logWords (wholePackets (lies packets twoSpans (map plainFate ws)) 0 0 packets)
+askedFor ws = logWords (wholePackets (dueAt (lies packets twoSpans (map plainFate ws))) 0 0 packets)
 
 -- the claim for so many of these PDUs
-module _ (b : Behaviour) (claim : PairDeliveryFor b) (count : ℕ) (steps : List Step) (t : Through b 0 16 (freshStation b 0 0 0 allPrograms carry) (runOf 0 count (sent ∷ other ∷ [])) steps) where
-  claimed : Delivered b 0 0 0 allPrograms packets two 0 count carry steps (arrived 0 0 packets two 0 (ways 16 (runOf 0 count (made 0 0 0 two)) steps)) (arrivedIndices 0 0 packets two 0 (ways 16 (runOf 0 count (made 0 0 0 two)) steps))
+module _ (b : Behaviour) (claim : Holds pairs b) (count : ℕ) (steps : List Step) (t : Through b (Damaged WrongCrc 0 16) (freshStation b 0 0 0 allPrograms carry) (runOf 0 count (sent ∷ other ∷ [])) steps) where
+  claimed : Logged b (freshStation b 0 0 0 allPrograms carry) steps (wholePackets (dueAt (lies packets (spans 0 0 packets two) (map plainFate (waysFrom 16 (runOf 0 count (made 0 0 0 two)) steps)))) 0 0 packets)
   unfolding listing
   claimed =
-      claim 0 0 0 packets two 0 count carry steps
-      (record {
-        opens = opens;
-        sized = right;
-        offered = in-order;
-        room = carry-room;
-        through = subst (λ (ps : List (List ℕ)). Through b 0 16 (freshStation b 0 0 0 allPrograms carry) (runOf 0 count ps) steps) (sym made-is) t;
-      })
-      (marks-fit (lies packets (spans 0 0 packets two) (map plainFate (ways 16 (runOf 0 count (made 0 0 0 two)) steps))) packets (let n : length packets ≡ 3 = refl in omega (arith, n)))
+      logged-by pairs b claim (runWith 0 0 0 allPrograms packets two 0 count carry steps) (dueAt (lies packets (spans 0 0 packets two) (map plainFate (waysFrom 16 (runOf 0 count (made 0 0 0 two)) steps)))) refl (
+        refl,
+        record {
+          opens = opens;
+          sized = right;
+          offered = in-order;
+          room = carry-room;
+          through = subst (λ (ps : List (List ℕ)). Through b (Damaged WrongCrc 0 16) (freshStation b 0 0 0 allPrograms carry) (runOf 0 count ps) steps) (sym made-is) t;
+        },
+      )
+      (let n : length packets ≡ 3 = refl in omega (arith, n))
 
-  logged : packetWords (logsFrom b (freshStation b 0 0 0 allPrograms carry) (map callOf steps)) ≡ askedFor (ways 16 (runOf 0 count (sent ∷ other ∷ [])) steps)
-  unfolding listing
-  logged = claimed .log ∙ ap₂ (λ (ss : List Span) (ps : List (List ℕ)). logWords (wholePackets (lies packets ss (map plainFate (ways 16 (runOf 0 count ps) steps))) 0 0 packets)) spans-are made-is
+  logged : packetWords (logsFrom b (freshStation b 0 0 0 allPrograms carry) (map callOf steps)) ≡ askedFor (waysFrom 16 (runOf 0 count (sent ∷ other ∷ [])) steps)
+  logged = claimed .log ∙ ap₂ (λ (ss : List Span) (ps : List (List ℕ)). logWords (wholePackets (dueAt (lies packets ss (map plainFate (waysFrom 16 (runOf 0 count ps) steps)))) 0 0 packets)) spans-are made-is
 
 -- of both copies each piece is taken
 abbrev eitherCause : ℕ → ℕ
@@ -258,13 +256,13 @@ nothing-refused x = go (anyOf (wrongState (x .receiver))) (ltb (length (x .carry
     go false false = ((λ e. absurd (omega (arith, e))), refl)
 
 abbrev pub pairCalls : List Step
-pairCalls = pairs first second words ∷ refuses (pair [] [] []) ∷ loses words ∷ []
+pairCalls = receives (paired first second) words ∷ refuses (pair [] [] []) ∷ loses words ∷ []
 
 -- the packets of the first PDU are delivered, and that of the second is not
 pub pair-run : packetWords (logsFrom defined (freshStation defined 0 0 0 allPrograms carry) (map callOf pairCalls)) ≡ logWords (packet 0 (replicate 100 1) ∷ packet 1 (replicate 40 2) ∷ [])
 unfolding wholePackets
 pair-run =
-    logged defined pairs-deliver 2 pairCalls (first-comes, second-comes, log-room, (nothing-refused _, (log-room, tt)))
+    logged defined pairs-deliver 2 pairCalls ((first-comes, second-comes), log-room, (nothing-refused _, (log-room, tt)))
     ∙ ap (λ (f : ℕ → ℕ). askedFor (here f ∷ gone ∷ [])) either-taken
     ∙ refl
 
@@ -277,7 +275,7 @@ fresh = freshStation defined 0 0 0 allPrograms carry
 first-alone : packetWords (loggedBy defined fresh (receive [] first words) ++ []) ≡ logWords (packet 1 (replicate 40 2) ∷ [])
 unfolding wholePackets
 first-alone =
-    logged defined pairs-deliver 1 (receives first words ∷ []) (first-comes, log-room, tt)
+    logged defined pairs-deliver 1 (receives (alone [] first) words ∷ []) (first-comes, log-room, tt)
     ∙ ap (λ (f : ℕ → ℕ). askedFor (here f ∷ []))
     (two-are 2 0 (causesFor (asSent 16 sent first)) (ap (λ (s : Bool). cond s 0 2) (as-sent 9 2 first-bytes 0 ∙ first-sound .0)) (ap (λ (s : Bool). cond s 0 2) (as-sent 9 2 first-bytes 1 ∙ first-sound .1)))
     ∙ refl
@@ -285,29 +283,29 @@ first-alone =
 second-alone : packetWords (loggedBy defined fresh (receive [] second words) ++ []) ≡ logWords (packet 0 (replicate 100 1) ∷ [])
 unfolding wholePackets
 second-alone =
-    logged defined pairs-deliver 1 (receives second words ∷ []) (second-comes, log-room, tt)
+    logged defined pairs-deliver 1 (receives (alone [] second) words ∷ []) (second-comes, log-room, tt)
     ∙ ap (λ (f : ℕ → ℕ). askedFor (here f ∷ []))
     (two-are 0 2 (causesFor (asSent 16 sent second)) (ap (λ (s : Bool). cond s 0 2) (as-sent 1 9 second-bytes 0 ∙ second-sound .0)) (ap (λ (s : Bool). cond s 0 2) (as-sent 1 9 second-bytes 1 ∙ second-sound .1)))
     ∙ refl
 
 -- and two are asked for
-pub choosing-wrong : ¬ PairDeliveryFor choosing
+pub choosing-wrong : ¬ Holds pairs choosing
 unfolding wholePackets logWords entryWords dataWords
 choosing-wrong claim = go (choiceOf first second) refl
   where
-    through : Through choosing 0 16 fresh (runOf 0 1 (sent ∷ other ∷ [])) (pairs first second words ∷ [])
-    through = (first-comes, second-comes, log-room, tt)
+    through : Through choosing (Damaged WrongCrc 0 16) fresh (runOf 0 1 (sent ∷ other ∷ [])) (receives (paired first second) words ∷ [])
+    through = ((first-comes, second-comes), log-room, tt)
 
     asked : packetWords (loggedBy choosing fresh (pair first second words) ++ []) ≡ logWords (packet 0 (replicate 100 1) ∷ packet 1 (replicate 40 2) ∷ [])
-    asked = logged choosing claim 1 (pairs first second words ∷ []) through ∙ ap (λ (f : ℕ → ℕ). askedFor (here f ∷ [])) either-taken ∙ refl
+    asked = logged choosing claim 1 (receives (paired first second) words ∷ []) through ∙ ap (λ (f : ℕ → ℕ). askedFor (here f ∷ [])) either-taken ∙ refl
 
-    by : (c : Choice) → choiceOf first second ≡ c → loggedBy choosing fresh (pair first second words) ≡ loggedBy defined fresh (receive [] (chosen c first second) words)
-    by c e = ap (λ (t : Choice). loggedAlone (answerOf fresh (receive [] (chosen t first second) words)) (logOf fresh (receive [] (chosen t first second) words))) e
+    by : (c : Choice) → choiceOf first second ≡ c → loggedBy choosing fresh (pair first second words) ≡ loggedBy defined fresh (receive [] (chosenCopy c first second) words)
+    by c e = ap (λ (t : Choice). loggedAlone (answerOf fresh (receive [] (chosenCopy t first second) words)) (logOf fresh (receive [] (chosenCopy t first second) words))) e
 
     go : (c : Choice) → choiceOf first second ≡ c → ⊥
     go neither e =
         empty-number fresh words
         (sym (refusal-is [] carry [] words (fresh .receiver))
-        ∙ subst (λ (t : Choice). answerOf fresh (receive [] (chosen t first second) words) .refusal ≡ 0) e (claimed choosing claim 1 (pairs first second words ∷ []) through .accepted .0))
+        ∙ subst (λ (t : Choice). answerOf fresh (receive [] (chosenCopy t first second) words) .refusal ≡ 0) e (claimed choosing claim 1 (receives (paired first second) words ∷ []) through .accepted .0))
     go theFirst e = let h : _≡_ {A = ℕ} 15 50 = ap length (sym first-alone ∙ ap (λ (l : List ℕ). packetWords (l ++ [])) (sym (by theFirst e)) ∙ asked) in absurd (omega (arith, h))
     go theSecond e = let h : _≡_ {A = ℕ} 35 50 = ap length (sym second-alone ∙ ap (λ (l : List ℕ). packetWords (l ++ [])) (sym (by theSecond e)) ∙ asked) in absurd (omega (arith, h))

@@ -1,24 +1,24 @@
 -- Two copies of a PDU say together what the PDU says, with a wrong CRC for each piece that is sound in neither.
 use mathlib.Core.Path.{_≡_, refl, sym, ap, ap₂, subst, _∙_, fun-ext}
-use mathlib.Core.Bool.{Bool, true, false, _&&_, _||_, cond}
-use mathlib.Core.List.{List, [], _∷_, _++_}
+use mathlib.Core.Bool.{Bool, true, false, _||_, cond}
+use mathlib.Core.List.{List, _∷_}
 use Prim.Native.Nat.{ℕ, zero, suc, _+_, _<_, _≤_}
 use native.Mathlib.Omega.{arith}
 use native.Mathlib.Nat.{zero-add}
 use lib.Dec.{eqb}
 use borrow.Author.Tests.{eq-eqb}
-use lib.ListN.{length, take, drop}
+use lib.ListN.{length, take}
 use Rattle.layout.specs.Control.{controlAt}
 use Rattle.layout.specs.declared.ControlWord.{ControlWord}
 use Rattle.log.proofs.Packets.{Bytes as logBytes}
 use Rattle.correction.specs.Marks.{correctedPduWith}
-use Rattle.pdu.specs.Reading.{psdOf}
-use Rattle.reassembly.specs.Reassembly.{Piece, Said}
+use Rattle.reassembly.specs.Reassembly.{Piece}
 use Rattle.reassembly.proofs.Fitting.{SanePiece, SanePieces, SaneSaid}
 use Rattle.reassembly.proofs.Blind.{blank, blanks, blankSaid}
 use Rattle.receiver.specs.Receiving.{pieceIn, piecesIn, saidBy}
-use Rattle.runs.specs.Model.{later}
-use Rattle.delivery.specs.Copies.{restored, Copy}
+use Rattle.runs.proofs.Model.{later}
+use Rattle.delivery.specs.Copies.{restored}
+use Rattle.delivery.proofs.SoundSteps.{Copy}
 use Rattle.diversity.specs.Diversity.{sameBytes, pairPiece, pairPieces, pairSaid}
 use Rattle.diversity.proofs.Bytes.{same-itself}
 use Rattle.delivery.proofs.Copies.{struck, stricken, blank-two, Plain, sound-piece, unsound-piece, own-right, sane-piece, count-pieces, copy-corrected, copy-control-is, copy-psd}

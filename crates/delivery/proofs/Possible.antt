@@ -15,7 +15,8 @@ use Rattle.writer.specs.RoundTrip.{Bytes, Altered}
 use Rattle.correction.proofs.Marking.{unmarked-self, unmarked-adopted}
 use Rattle.receiver.specs.Receiving.{receiveTests, receiveNumber}
 use Rattle.receiver.specs.declared.Receiver.{Receiver}
-use Rattle.delivery.specs.Delivery.{Packets, Writing, InOrder, Behaviour, Station, receive, markLost, AllCome, Step, receives, batches, loses, callOf, receptions, stationAfter, HeaderAltered, Through, runOf, made, Asked}
+use Rattle.delivery.specs.Delivery.{Packets, Writing, InOrder, Behaviour, Station, receive, markLost, AllCome, Step, receives, alone, batches, loses, callOf, receptions, stationAfter, HeaderAltered, runOf}
+use Rattle.delivery.proofs.Parts.{Through, made, Asked}
 use Rattle.delivery.proofs.Channel.{Usable, made-right}
 
 -- a log of 8,400 words
@@ -49,10 +50,10 @@ repeated-refused carry q log r z = true≢false (row-off (receiveTests (0 ∷ 0 
 abbrev pub Alters : List ℕ → (List ℕ → List ℕ) → Type 0
 Alters marks alter = (p : List ℕ) → Usable p → HeaderAltered marks p (alter p)
 
-abbrev pub asSent : List ℕ → List ℕ
-asSent p = p
+abbrev pub verbatim : List ℕ → List ℕ
+verbatim p = p
 
-pub as-sent : Alters [] asSent
+pub as-sent : Alters [] verbatim
 as-sent p h = unaltered p (h .0)
 
 module _ (marks : List ℕ) (alter : List ℕ → List ℕ) where
@@ -60,7 +61,7 @@ module _ (marks : List ℕ) (alter : List ℕ → List ℕ) where
   unfoldable pub stepsFor : List Step → List (List ℕ) → List Bool → List Step
   stepsFor last [] bs = last
   stepsFor last (p ∷ ps) [] = loses words ∷ stepsFor last ps []
-  stepsFor last (p ∷ ps) (true ∷ bs) = receives marks (alter p) words ∷ stepsFor last ps bs
+  stepsFor last (p ∷ ps) (true ∷ bs) = receives (alone marks (alter p)) words ∷ stepsFor last ps bs
   stepsFor last (p ∷ ps) (false ∷ bs) = loses words ∷ stepsFor last ps bs
 
   -- which PDUs are received: as told, and those not told of are lost
@@ -116,7 +117,7 @@ module _ (mode stream register : ℕ) (packets : List (List ℕ)) (writings : Li
 
   -- the calls for a run, each PDU as it was written, with some lost
   abbrev pub stepsOf : ℕ → ℕ → List Bool → List Step
-  stepsOf first count bs = stepsFor [] asSent [] (runOf first count (made mode stream register writings)) bs
+  stepsOf first count bs = stepsFor [] verbatim [] (runOf first count (made mode stream register writings)) bs
 
   pub possible : (b : Behaviour) (programs : List ℕ) (first count : ℕ) (carry : List ℕ) (bs : List Bool) → 4096 ≤ length carry → Asked b mode stream register programs packets writings first count carry (stepsOf first count bs)
   possible b programs first count carry bs big = record {
@@ -124,5 +125,5 @@ module _ (mode stream register : ℕ) (packets : List (List ℕ)) (writings : Li
     sized = sized;
     offered = offered;
     room = big;
-    through = goes-through [] asSent b as-sent [] (runOf first count (made mode stream register writings)) bs _ (λ y. tt) (run-usable first count);
+    through = goes-through [] verbatim b as-sent [] (runOf first count (made mode stream register writings)) bs _ (λ y. tt) (run-usable first count);
   }

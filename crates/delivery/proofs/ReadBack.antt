@@ -1,8 +1,8 @@
 -- A PDU that an accepted call wrote says what was sent.
 use mathlib.Core.Path.{_≡_, refl, sym, ap, ap₂, subst, _∙_}
 use mathlib.Core.Bool.{Bool, true, false, _||_, cond}
-use mathlib.Core.List.{List, [], _∷_, _++_, map}
-use Prim.Native.Nat.{ℕ, zero, suc, _+_, _-_, _%_, _<_, _≤_}
+use mathlib.Core.List.{List, [], _∷_}
+use Prim.Native.Nat.{ℕ, suc, _+_, _-_, _%_, _<_, _≤_}
 use native.Mathlib.Omega.{arith}
 use lib.Dec.{eqb, ltb}
 use borrow.Author.Tests.{eq-eqb}
@@ -13,7 +13,6 @@ use Rattle.refusal.proofs.Rows.{rest-off}
 use Rattle.modes.specs.Modes.{listing}
 use Rattle.modes.specs.declared.Mode.{Mode}
 use Rattle.modes.specs.declared.Listing.the-variants.{Listed}
-use Rattle.header.proofs.Unique.{all-bytes}
 use Rattle.crc.specs.Crc.{crcFrom}
 use Rattle.layout.specs.Control.{bit, controlAt}
 use Rattle.layout.specs.Locators.{locatorAt}
@@ -32,12 +31,11 @@ use Rattle.pdu.specs.PieceRead.{PieceRead}
 use Rattle.pdu.proofs.ReadBack.{read-accepted}
 use Rattle.reassembly.specs.Reassembly.{Piece, Said}
 use Rattle.reassembly.specs.Rights.{Label}
-use Rattle.reassembly.specs.Holder.{Come}
 use Rattle.receiver.specs.Receiving.{pieceIn, piecesIn, saidBy, labelIn, comeBy}
 use Rattle.writer.specs.Writing.{writerTests, piecesOf, partOf, placed, controlFor, pduOf}
 use Rattle.writer.specs.declared.Writer.{Writer}
 use Rattle.writer.proofs.Bytes.{Byte}
-use Rattle.writer.specs.RoundTrip.{Bytes, Altered, ReadBack}
+use Rattle.writer.specs.RoundTrip.{ReadBack}
 use Rattle.writer.proofs.Accepted.{fine}
 use Rattle.writer.proofs.RoundTrip.{read-back, pdu-length, pdu-bytes}
 use Rattle.delivery.specs.Entitlement.{labelOf}

@@ -1,7 +1,7 @@
 -- Demand 3 is false of a receiver that opens with register 0, whatever is asked for: a PDU written with register 255 is to it a PDU whose piece has a wrong
 -- CRC.
 use mathlib.Core.Path.{_≡_, refl, sym, ap, subst, _∙_}
-use mathlib.Core.Bool.{Bool, true, false, true≢false}
+use mathlib.Core.Bool.{true, false, true≢false}
 use mathlib.Core.List.{List, [], _∷_, _++_, map}
 use Prim.Native.Nat.{ℕ, zero, suc, _<_, _≤_}
 use native.Mathlib.Omega.{arith}
@@ -22,21 +22,22 @@ use Rattle.pieces.specs.Pieces.{cutBy, pieceBytes, locatorsFrom, total}
 use Rattle.correction.specs.Marks.{marksRefusal}
 use Rattle.correction.proofs.Marking.{unmarked-self}
 use Rattle.log.specs.Log.{packet, dataWords, entryWords, logWords, packetWords}
-use Rattle.pdu.specs.Reading.{modeIn}
 use Rattle.writer.specs.Writing.{opened as writerOpened, pduOf, writeAnswer, writtenPdu}
-use Rattle.writer.specs.RoundTrip.{Bytes}
 use Rattle.receiver.specs.Entitling.{allPrograms}
-use Rattle.runs.specs.Calls.{plainFate}
-use Rattle.runs.specs.Spans.{Span, lies, wholePackets as wholeByMarks}
-use Rattle.delivery.specs.Delivery.{Packets, Writing, bufferAfter, pdusFrom, spansFrom, InOrder, receive, defined, Step, receives, freshStation, inReceived, wholePackets, logsFrom, runOf, made, spans, Asked, Delivered, Demand3For}
-use Rattle.delivery.specs.Copies.{wrong, restored, bytesAt, crcAt, Damage, Copy}
-use Rattle.delivery.specs.Channel.{receives as takes, ways, Through}
-use Rattle.delivery.specs.WrongReceivers.{zeroed}
-use Rattle.delivery.proofs.Counted.{arrived-fit, due-fit}
-use Rattle.delivery.proofs.Channel.{Usable, made-right, channel-delivers}
+use Rattle.runs.proofs.Calls.{plainFate}
+use Rattle.runs.specs.Spans.{Span, lies, Mark, every, dueAt}
+use Rattle.runs.proofs.Model.{wholePackets}
+use Rattle.delivery.specs.Delivery.{Packets, Writing, pdusFrom, spansFrom, InOrder, receive, defined, receives, alone, inReceived, runOf, Demand3For}
+use Rattle.delivery.proofs.Parts.{EntriesFit, dueEntries, freshStation, logsFrom, made, spans, Asked}
+use Rattle.delivery.proofs.SoundSteps.{wrong, Damage, Copy, receives as takes, ways, Through}
+use Rattle.delivery.specs.Copies.{restored}
+use Rattle.delivery.proofs.FaultyReceivers.{zeroed}
+use Rattle.delivery.proofs.Counted.{packets-fit}
+use Rattle.delivery.proofs.Claimed.{demand3-says}
+use Rattle.delivery.proofs.Channel.{Usable, made-right, sound-delivers}
 use Rattle.delivery.proofs.Entitling.{all-allowed}
-use Rattle.delivery.proofs.Entitled.{all-due}
-use Rattle.delivery.proofs.Possible.{words, log-room, asSent, stepsFor, possible}
+use Rattle.delivery.proofs.Entitled.{all-marks}
+use Rattle.delivery.proofs.Possible.{words, log-room, verbatim, stepsFor, possible}
 use Rattle.delivery.proofs.SmallRuns.{offering, bytes-same, carry, carry-room}
 
 -- a packet of 100 bytes, and a call for a PDU of 200 bytes, which has room for it
@@ -135,11 +136,14 @@ one-few = let n : length one ≡ 1 = refl in omega (arith, n)
 abbrev logged : List ℕ
 logged = packetWords (logsFrom defined (freshStation defined 0 0 0 allPrograms carry) (receive [] (pdu 255) words ∷ []))
 
+due-fit : EntriesFit (dueEntries 0 0 allPrograms one once 0 (ways (takes [] (pdu 255) words (λ k. false) ∷ [])))
+due-fit = packets-fit _ one one-few
+
 -- no packet is logged
 none-logged : logged ≡ []
-unfolding listing wholeByMarks logWords
+unfolding listing wholePackets logWords
 none-logged =
-    channel-delivers 0 0 0 allPrograms one once 0 1 carry (takes [] (pdu 255) words (λ k. false) ∷ [])
+    sound-delivers 0 0 0 allPrograms one once 0 1 carry (takes [] (pdu 255) words (λ k. false) ∷ [])
     (record {
       opens = opens 0;
       allowed = all-allowed;
@@ -147,19 +151,19 @@ none-logged =
       offered = in-order;
       room = carry-room;
       through = subst (λ (ps : List (List ℕ)). Through 0 16 (freshStation defined 0 0 0 allPrograms carry) (runOf 0 1 ps) (takes [] (pdu 255) words (λ k. false) ∷ [])) (sym (made-is 0)) (copy, log-room, tt);
-      countable = due-fit 0 0 one once one-few allPrograms 0 (ways (takes [] (pdu 255) words (λ k. false) ∷ []));
+      countable = due-fit;
     }) .log
-    ∙ ap logWords (all-due 0 0 0 one once 0 (ways (takes [] (pdu 255) words (λ k. false) ∷ [])) (made-right 0 0 0 one once (opens 0) one-right in-order))
-    ∙ ap (λ (l : List Span). logWords (wholeByMarks (lies one l (map plainFate (ways (takes [] (pdu 255) words (λ k. false) ∷ [])))) 0 0 one)) spans-are
+    ∙ ap (λ (f : ℕ → Mark). logWords (wholePackets (dueAt f) 0 0 one)) (all-marks 0 0 0 one once 0 (ways (takes [] (pdu 255) words (λ k. false) ∷ [])) (made-right 0 0 0 one once (opens 0) one-right in-order))
+    ∙ ap (λ (l : List Span). logWords (wholePackets (dueAt (lies one l (map plainFate (ways (takes [] (pdu 255) words (λ k. false) ∷ []))))) 0 0 one)) spans-are
 
 -- and one is asked for
 pub zeroed-wrong : ¬ Demand3For zeroed
 unfolding stepsFor wholePackets logWords entryWords dataWords
 zeroed-wrong claim =
-    let asked : Asked zeroed 0 0 255 allPrograms one once 0 1 carry (receives [] (pdu 255) words ∷ []) =
-    subst (λ (ps : List (List ℕ)). Asked zeroed 0 0 255 allPrograms one once 0 1 carry (stepsFor [] asSent [] (runOf 0 1 ps) (true ∷ []))) (made-is 255) (possible 0 0 255 one once (opens 255) one-right in-order zeroed allPrograms 0 1 carry (true ∷ []) carry-room) in
+    let asked : Asked zeroed 0 0 255 allPrograms one once 0 1 carry (receives (alone [] (pdu 255)) words ∷ []) =
+    subst (λ (ps : List (List ℕ)). Asked zeroed 0 0 255 allPrograms one once 0 1 carry (stepsFor [] verbatim [] (runOf 0 1 ps) (true ∷ []))) (made-is 255) (possible 0 0 255 one once (opens 255) one-right in-order zeroed allPrograms 0 1 carry (true ∷ []) carry-room) in
     let found : logged ≡ logWords (packet 0 (replicate 100 2) ∷ []) =
-    claim 0 0 255 one once 0 1 carry (receives [] (pdu 255) words ∷ []) asked (arrived-fit 0 0 one once one-few 0 1 (true ∷ [])) .log
-    ∙ ap (λ (l : List Span). logWords (wholePackets (inReceived (runOf 0 1 l) (true ∷ [])) 0 0 one)) spans-are in
+    demand3-says zeroed claim 0 0 255 one once 0 1 carry (receives (alone [] (pdu 255)) words ∷ []) one-few asked .log
+    ∙ ap (λ (l : List Span). logWords (wholePackets (every (inReceived (runOf 0 1 l) (true ∷ []))) 0 0 one)) spans-are in
     let h : _≡_ {A = ℕ} 0 35 = ap length (sym none-logged ∙ found) in
     absurd (omega (arith, h))

@@ -29,7 +29,7 @@ use Rattle.correction.proofs.Answers.{corrected-allowed, no-marks-pdu}
 use Rattle.pdu.specs.Reading.{modeIn, listingOf, readerTests, wrongOf}
 use Rattle.pdu.proofs.Assembling.{nop-small}
 use Rattle.reassembly.specs.Reassembly.{Memory, forgotten, lostEntries}
-use Rattle.reassembly.specs.Tally.{tallied, passesLimit, Countable}
+use Rattle.reassembly.specs.Tally.{passesLimit, Countable}
 use Rattle.reassembly.specs.Holder.{Come, came, Holder, holderFor}
 use Rattle.reassembly.specs.Run.{bytesOf, partialOf, lastOf}
 use Rattle.reassembly.proofs.Fitting.{SanePartial, SaneSaid}

@@ -1,43 +1,44 @@
 -- One call on a receiver and its carry: what they stand for, what is logged, and what they stand for afterwards.
 use mathlib.Core.Path.{_≡_, refl, sym, ap, ap₂, subst, _∙_}
 use mathlib.Core.Bool.{Bool, true, false, not, _&&_, _||_, cond}
-use mathlib.Core.List.{List, [], _∷_, _++_}
+use mathlib.Core.List.{List, [], _∷_}
 use mathlib.Core.Option.{Option, none, some}
-use Prim.Native.Nat.{ℕ, zero, suc, _+_, _<_, _≤_}
+use Prim.Native.Nat.{ℕ, suc, _<_, _≤_}
 use native.Mathlib.Omega.{arith}
 use lib.Dec.{eqb, ltb, leb, eqb·suc-zero}
-use borrow.Author.Tests.{le-ltb, lt-leb, eq-eqb, eqb-true, ltb-false, leb-true}
-use lib.ListN.{length, getD, take, drop}
+use borrow.Author.Tests.{le-ltb, lt-leb, eq-eqb, eqb-true}
+use lib.ListN.{length, getD, take}
 use Rattle.refusal.specs.Refusal.{firstOf, anyOf}
 use Rattle.modes.specs.Modes.{listing, numberOf}
 use Rattle.modes.specs.declared.Mode.{Mode}
-use Rattle.modes.specs.declared.Listing.{Listing}
 use Rattle.modes.specs.declared.Listing.the-variants.{Listed}
 use Rattle.buffer.specs.Buffer.{putAt}
 use Rattle.buffer.proofs.Laws.{put-length, put-nil, take-put}
 use Rattle.layout.specs.Control.{controlAt}
 use Rattle.log.specs.Log.{logWords, entryWords}
-use Rattle.correction.specs.Marks.{marksRefusal, correctedWith, correctedPduWith}
-use Rattle.pdu.specs.Reading.{modeIn, listingOf, correctedTests, readerTests, judged, uncorrectable}
+use Rattle.correction.specs.Marks.{correctedPduWith}
+use Rattle.pdu.specs.Reading.{modeIn, listingOf, correctedTests, judged}
 use Rattle.reassembly.specs.Reassembly.{Partial, nothing, beginning, Memory, Outcome, inSequence, received, remembered, lostEntries, forgotten}
 use Rattle.reassembly.specs.Rights.{Rights, forgetting, inForce, keptAfter}
 use Rattle.reassembly.specs.Tally.{Tally, tallied, passesLimit, Countable}
 use Rattle.reassembly.specs.Holder.{Come, came, lost, Holder, valueFor, saidTo, holderFor}
-use Rattle.reassembly.specs.Run.{bytesOf, numberOf as partialNumber, partialOf, lastOf}
+use Rattle.reassembly.specs.Run.{bytesOf, numberOf as partialNumber, lastOf}
 use Rattle.reassembly.proofs.Fitting.{SanePartial, SaneSaid, fit-received}
 use Rattle.reassembly.proofs.Runs.{partial-kept}
 use Rattle.reassembly.proofs.Tallies.{FairTally, fair-tallied, not-passed}
 use Rattle.receiver.specs.Entitling.{entitles}
-use Rattle.receiver.specs.Receiving.{comeBy, memoryOf, keptOf, tallyOf, remembering, isKnown, orZero, keepsServices, shown, keptBy, modeOf, wrongState, come, outcome, receivedWords, memoryAfter, keptServices, tallyAfter, refusedAnswer, receiveTests, receiveNumber, receiveAnswer, carryAfter, logAfter, lostNumber, lostAnswer, logAfterLost}
+use Rattle.receiver.specs.Receiving.{comeBy, memoryOf, keptOf, tallyOf, remembering, isKnown, orZero, keepsServices, shown, keptBy, modeOf, wrongState, come, outcome, receivedWords, memoryAfter, keptServices, tallyAfter, refusedAnswer, receiveNumber, receiveAnswer, carryAfter, logAfter, lostNumber, lostAnswer, logAfterLost}
 use Rattle.receiver.specs.declared.Receiver.{Receiver}
 use Rattle.receiver.specs.declared.Received.{Received}
 use Rattle.refusal.proofs.Rows.{past, row-off, rest-off}
 use Rattle.receiver.proofs.Enough.{firstTwelve, most}
-use Rattle.delivery.specs.Delivery.{Station, Call, receive, markLost, Answer, ofOne, answerOf, stationAfter, loggedBy, defined}
+use Rattle.delivery.proofs.Parts.{answerOf}
+use Rattle.batch.specs.declared.Batch.{Batch}
+use Rattle.delivery.specs.Delivery.{Station, receive, markLost, ofOne, stationAfter, loggedBy, defined}
 use Rattle.delivery.proofs.Made.{Heard}
 
 -- what is logged by a call that receives a PDU or marks it lost, by its answer and the log after it
-abbrev pub loggedAlone : Answer → List ℕ → List ℕ
+abbrev pub loggedAlone : Batch → List ℕ → List ℕ
 loggedAlone a log = cond (eqb (a .refusal) 0 || not (eqb (cond (eqb (a .refusal) 0) 1 0) 0)) (take (a .words) log) []
 
 -- ---- what is remembered is what is put down

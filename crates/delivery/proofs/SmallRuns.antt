@@ -3,13 +3,13 @@
 use mathlib.Core.Path.{_≡_, refl, sym, ap, ap₂, subst, _∙_}
 use mathlib.Core.Bool.{Bool, true, false, not, _&&_, _||_, cond}
 use mathlib.Core.List.{List, [], _∷_, _++_, map}
-use Prim.Native.Nat.{ℕ, zero, suc, _+_, _*_, _<_, _≤_}
+use Prim.Native.Nat.{ℕ, zero, suc, _+_, _<_, _≤_}
 use native.Mathlib.Omega.{arith}
 use lib.ListN.{length, getD, take, drop, replicate, length-replicate, length-take, length-drop}
 use lib.Dec.{eqb, ltb}
 use borrow.Author.Tests.{eq-eqb, ne-eqb}
 use lib.Seq.{length-take-le, getD-take}
-use Rattle.algebra.specs.Places.{All, below, keep}
+use Rattle.algebra.specs.Places.{below, keep}
 use Rattle.algebra.proofs.Places.{one}
 use Rattle.correction.specs.Marks.{isMarked, marksRefusal, unmarkedDistance}
 use Rattle.correction.proofs.Counting.{keep-le}
@@ -24,16 +24,18 @@ use Rattle.packing.specs.Packing.{largestUpTo, mostPieces, fit, wholesFrom, par
 use Rattle.pieces.specs.Pieces.{total}
 use Rattle.log.specs.Log.{Entry, packet, entryWords, logWords, packetWords}
 use Rattle.writer.specs.Writing.{opened as writerOpened, writeAnswer}
-use Rattle.writer.specs.RoundTrip.{Bytes, Altered}
+use Rattle.writer.specs.RoundTrip.{Bytes}
 use Rattle.receiver.specs.Entitling.{allPrograms}
 use Rattle.receiver.specs.Receiving.{receiveNumber, receiveAnswer, lostNumber, lostAnswer, refusedAnswer, wrongState}
 use Rattle.receiver.specs.declared.Receiver.{Receiver}
 use Rattle.receiver.specs.declared.Received.{Received}
-use Rattle.runs.specs.Spans.{Span}
-use Rattle.delivery.specs.Delivery.{Packets, joined, Writing, spansFrom, InOrder, Station, Call, receive, markLost, answerOf, defined, Step, refuses, callOf, receptions, freshStation, stationAfter, RefusedAfter, inReceived, wholePackets, logsFrom, runOf, made, spans, arrived, Asked}
-use Rattle.delivery.proofs.Channel.{Usable, made-right}
-use Rattle.delivery.proofs.Possible.{four-altered, Alters, asSent, as-sent, stepsFor, told-receptions, goes-through, run-usable, stepsOf, possible}
-use Rattle.delivery.proofs.Counted.{arrived-fit}
+use Rattle.runs.specs.Spans.{Span, every, wholeIndices}
+use Rattle.delivery.specs.Delivery.{Packets, concatenated, Writing, spansFrom, InOrder, Station, Call, receive, markLost, defined, Step, refuses, callOf, receptions, RefusedAfter, inReceived, runOf, Behaviour, batches, loses, arrived as arrivedIn, Demand3For}
+use Rattle.delivery.proofs.Parts.{runWith, freshStation, logsFrom, made, spans, arrivedEntries, Asked, answerOf}
+use Rattle.runs.proofs.Model.{wholePackets}
+use Rattle.delivery.proofs.Channel.{made-right}
+use Rattle.delivery.proofs.Possible.{four-altered, Alters, verbatim, stepsFor, told-receptions, goes-through, run-usable, stepsOf, possible}
+use Rattle.delivery.proofs.Claimed.{Logged, demand3-says}
 use Rattle.delivery.proofs.Theorem.{delivers}
 
 -- plain settings: no expansion fields
@@ -46,7 +48,7 @@ three = replicate 20 1 ∷ replicate 300 2 ∷ replicate 10 3 ∷ []
 
 -- a call that offers these packets, for a PDU of so many bytes
 abbrev pub offering : ℕ → List (List ℕ) → Writing
-offering size ps = record { settings = plain; psd = []; lengths = map length ps; bytes = joined ps; buffer = replicate size 0; psd-bytes = tt }
+offering size ps = record { settings = plain; psd = []; lengths = map length ps; bytes = concatenated ps; buffer = replicate size 0; psd-bytes = tt }
 
 -- six calls. The second is refused with 3, the others make five PDUs; the packet of 300 bytes spans all five
 abbrev pub six : List Writing
@@ -101,10 +103,15 @@ run-length first count n h =
 
 -- the words that demand 3 asks for, of so many PDUs from one on, of which these are received
 abbrev pub askedFor : ℕ → ℕ → List Bool → List ℕ
-askedFor first count bs = logWords (arrived 0 0 three six first count bs)
+askedFor first count bs = logWords (arrivedEntries 0 0 three six first count bs)
 
-pub asked-is : (first count : ℕ) (bs : List Bool) (es : List Entry) → wholePackets (inReceived (runOf first count fiveSpans) bs) 0 0 three ≡ es → askedFor first count bs ≡ logWords es
-asked-is first count bs es e = ap logWords (ap (λ (l : List Span). wholePackets (inReceived (runOf first count l) bs) 0 0 three) spans-are ∙ e)
+pub asked-is : (first count : ℕ) (bs : List Bool) (es : List Entry) → wholePackets (every (inReceived (runOf first count fiveSpans) bs)) 0 0 three ≡ es → askedFor first count bs ≡ logWords es
+asked-is first count bs es e = ap logWords (ap (λ (l : List Span). wholePackets (every (inReceived (runOf first count l) bs)) 0 0 three) spans-are ∙ e)
+
+-- the third of five lost: packets 0 and 2 are asked for
+pub third-lost : arrivedIn (runWith 0 0 0 allPrograms three six 0 5 [] (batches ([] ∷ [] ∷ []) [] ∷ loses [] ∷ batches ([] ∷ [] ∷ []) [] ∷ [])) ≡ 0 ∷ 2 ∷ []
+unfolding wholeIndices spansFrom writeAnswer listing fieldsFor expansionBytes chained total largestUpTo mostPieces fit wholesFrom partAfter partFrom
+third-lost = refl
 
 -- ---- what the receiver logs, each PDU as it was written or marked lost
 
@@ -118,13 +125,17 @@ abbrev pub loggedIn : ℕ → ℕ → List Bool → List ℕ
 loggedIn first count bs = packetWords (logsFrom defined (freshStation defined 0 0 0 allPrograms carry) (map callOf (calls first count bs)))
 
 pub told : (first count : ℕ) (bs : List Bool) → length (runOf first count fiveSpans) ≡ length bs → receptions (calls first count bs) ≡ bs
-told first count bs n = told-receptions [] asSent [] (runOf first count (made 0 0 0 six)) bs refl (sym (run-length first count (length bs) n))
+told first count bs n = told-receptions [] verbatim [] (runOf first count (made 0 0 0 six)) bs refl (sym (run-length first count (length bs) n))
+
+-- what demand 3 says of calls for these PDUs
+pub small-run : (b : Behaviour) → Demand3For b → (first count : ℕ) (c : List ℕ) (steps : List Step) → Asked b 0 0 0 allPrograms three six first count c steps
+    → Logged b (freshStation b 0 0 0 allPrograms c) steps (arrivedEntries 0 0 three six first count (receptions steps))
+small-run b claim first count c steps d = demand3-says b claim 0 0 0 three six first count c steps three-few d
 
 logged-is : (first count : ℕ) (bs : List Bool) (es : List Entry) → length (runOf first count fiveSpans) ≡ length bs
-    → wholePackets (inReceived (runOf first count fiveSpans) bs) 0 0 three ≡ es → loggedIn first count bs ≡ logWords es
+    → wholePackets (every (inReceived (runOf first count fiveSpans) bs)) 0 0 three ≡ es → loggedIn first count bs ≡ logWords es
 logged-is first count bs es n e =
-    delivers 0 0 0 three six first count carry (calls first count bs) (possible 0 0 0 three six opens packets-right in-order defined allPrograms first count carry bs carry-room)
-    (arrived-fit 0 0 three six three-few first count (receptions (calls first count bs))) .log
+    small-run defined delivers first count carry (calls first count bs) (possible 0 0 0 three six opens packets-right in-order defined allPrograms first count carry bs carry-room) .log
     ∙ ap (askedFor first count) (told first count bs n)
     ∙ asked-is first count bs es e
 
@@ -297,7 +308,7 @@ module _ (marks : List ℕ) (alter : List ℕ → List ℕ) (right : Alters mark
   pub altered-run : packetWords (logsFrom defined (freshStation defined 0 0 0 allPrograms carry) (map callOf alteredCalls)) ≡ logWords (packet 0 (replicate 20 1) ∷ packet 2 (replicate 10 3) ∷ [])
   unfolding wholePackets
   altered-run =
-      delivers 0 0 0 three six 0 5 carry alteredCalls altered-asked (arrived-fit 0 0 three six three-few 0 5 (receptions alteredCalls)) .log
+      small-run defined delivers 0 5 carry alteredCalls altered-asked .log
       ∙ ap (askedFor 0 5) (told-receptions marks alter (refuses noLog ∷ []) (runOf 0 5 (made 0 0 0 six)) fourOfFive refl (sym (run-length 0 5 5 refl)))
       ∙ asked-is 0 5 fourOfFive (packet 0 (replicate 20 1) ∷ packet 2 (replicate 10 3) ∷ []) refl
 

@@ -2,39 +2,38 @@
 use mathlib.Core.Path.{_≡_, refl, sym, ap, ap₂, subst, _∙_}
 use mathlib.Core.Bool.{Bool, true, false, not, _||_, cond}
 use mathlib.Core.List.{List, [], _∷_, _++_, map, append-nil}
-use Prim.Native.Nat.{ℕ, zero, suc, _<_, _≤_}
+use Prim.Native.Nat.{ℕ, zero, suc, _≤_}
 use native.Mathlib.Omega.{arith}
 use native.Mathlib.Nat.{not-suc-le-zero, le-of-suc-le-suc}
 use lib.Dec.{eqb}
-use borrow.Author.Tests.{eq-eqb, eqb-true, eqb-false}
-use lib.ListN.{length, getD, take, drop, replicate, length-take}
+use borrow.Author.Tests.{eq-eqb, eqb-false}
+use lib.ListN.{length, getD, take, replicate, length-take}
 use Rattle.buffer.specs.Buffer.{putAt}
 use Rattle.buffer.proofs.Laws.{take-put}
 use Rattle.modes.specs.Modes.{listing}
-use Rattle.layout.specs.Control.{controlBytes}
-use Rattle.layout.specs.Locators.{locatorBytes}
 use Rattle.settings.specs.Settings.{fieldsFor}
 use Rattle.expansion.specs.Expansion.{chained}
 use Rattle.expansion.specs.Writing.{expansionBytes}
 use Rattle.packing.specs.Packing.{largestUpTo, mostPieces, fit, wholesFrom, partAfter, partFrom}
 use Rattle.pieces.specs.Pieces.{cutBy, pieceBytes, locatorsFrom, total}
-use Rattle.log.specs.Log.{Entry, packet, dataWords, entryWords, logWords, kindOf, ofPacket, packetWordsAfter, packetWords, packetsOf}
+use Rattle.log.specs.Log.{packet, dataWords, entryWords, logWords, kindOf, ofPacket, packetWordsAfter, packetWords, packetsOf}
 use Rattle.log.proofs.Packets.{Fit, packet-words}
 use Rattle.reassembly.specs.Reassembly.{lostEntries, remembered}
 use Rattle.writer.specs.Writing.{opened as writerOpened, pduOf, writeAnswer, writtenPdu}
-use Rattle.writer.specs.declared.Writer.{Writer}
 use Rattle.receiver.specs.Entitling.{allowedPrograms, allPrograms}
-use Rattle.receiver.specs.Receiving.{openingNumber, openedFor, tallyOf, remembering, refusedAnswer, receiveNumber, receiveAnswer, lostNumber, lostAnswer, logAfterLost}
-use Rattle.receiver.specs.declared.Receiver.{Receiver}
-use Rattle.runs.specs.Spans.{Span}
+use Rattle.receiver.specs.Receiving.{openingNumber, openedFor, tallyOf, remembering, receiveNumber, receiveAnswer, lostNumber, lostAnswer, logAfterLost}
+use Rattle.runs.specs.Spans.{Span, every}
 use Rattle.reassembly.specs.Tally.{Tally, noTally, counted, tallied}
-use Rattle.delivery.specs.Delivery.{Packets, Writing, bufferAfter, pdusFrom, spansFrom, InOrder, Behaviour, Answer, Station, Call, receive, markLost, answerOf, carryOf, logOf, defined, callOf, Takes, receives, loses, receptions, freshStation, stationAfter, NoneRefused, logCounts, loggedBy, logsFrom, finally, inReceived, wholePackets, runOf, made, spans, arrived, arrivedIndices, Asked, Delivered, Demand3For}
-use Rattle.delivery.specs.WrongReceivers.{withWords, lentLog, silent, untouched, fixedWords, fixed, inventing, advancing, joining, resetting}
+use Rattle.batch.specs.declared.Batch.{Batch}
+use Rattle.delivery.specs.Delivery.{Packets, Writing, bufferAfter, pdusFrom, spansFrom, InOrder, Behaviour, Station, Call, receive, markLost, defined, callOf, Takes, receptions, stationAfter, loggedBy, finally, inReceived, runOf, Demand3For}
+use Rattle.delivery.proofs.Parts.{freshStation, NoneRefused, logCounts, logsFrom, made, spans, arrivedEntries, Asked, answerOf, logOf}
+use Rattle.runs.proofs.Model.{wholePackets}
+use Rattle.delivery.proofs.FaultyReceivers.{withWords, lentLog, silent, untouched, fixedWords, fixed, inventing, advancing, joining, resetting}
 use Rattle.delivery.proofs.Serving.{loggedAlone}
-use Rattle.delivery.proofs.Possible.{words, asSent, stepsFor, possible}
-use Rattle.delivery.proofs.Counted.{arrived-fit}
+use Rattle.delivery.proofs.Possible.{words, verbatim, stepsFor, possible}
+use Rattle.delivery.proofs.Claimed.{Logged, demand3-says}
 use Rattle.delivery.proofs.Theorem.{delivers}
-use Rattle.delivery.proofs.SmallRuns.{three, three-few, spans-are, six, offering, opens, packets-right, in-order, carry, carry-room, calls, run-length, told, askedFor, asked-is, bytes-same}
+use Rattle.delivery.proofs.SmallRuns.{three, small-run, spans-are, six, offering, opens, packets-right, in-order, carry, carry-room, calls, run-length, told, askedFor, asked-is, bytes-same}
 
 -- ---- what is asked for of the five PDUs, all received, and of the second alone
 
@@ -56,10 +55,8 @@ second-asked = asked-is 1 1 (true ∷ []) [] refl
 
 -- the claim for these calls
 module _ (b : Behaviour) (claim : Demand3For b) where
-  claimed : (first count : ℕ) (bs : List Bool) → Delivered b 0 0 0 allPrograms three six first count carry (calls first count bs) (arrived 0 0 three six first count (receptions (calls first count bs)))
-      (arrivedIndices 0 0 three six first count (receptions (calls first count bs)))
-  claimed first count bs = claim 0 0 0 three six first count carry (calls first count bs) (possible 0 0 0 three six opens packets-right in-order b allPrograms first count carry bs carry-room)
-      (arrived-fit 0 0 three six three-few first count (receptions (calls first count bs)))
+  claimed : (first count : ℕ) (bs : List Bool) → Logged b (freshStation b 0 0 0 allPrograms carry) (calls first count bs) (arrivedEntries 0 0 three six first count (receptions (calls first count bs)))
+  claimed first count bs = small-run b claim first count carry (calls first count bs) (possible 0 0 0 three six opens packets-right in-order b allPrograms first count carry bs carry-room)
 
   all-logged : packetWords (logsFrom b (freshStation b 0 0 0 allPrograms carry) (map callOf (calls 0 5 all))) ≡ askedFor 0 5 all
   all-logged = claimed 0 5 all .log ∙ ap (askedFor 0 5) (told 0 5 all refl)
@@ -100,7 +97,7 @@ zeros-if : (b : Bool) (l : List ℕ) → Zeros l → Zeros (cond b l [])
 zeros-if true l h = h
 zeros-if false l h = tt
 
-zeros-logged : (pdus : List (List ℕ)) (bs : List Bool) (x : Station) → Zeros (logsFrom untouched x (map callOf (stepsFor [] asSent [] pdus bs)))
+zeros-logged : (pdus : List (List ℕ)) (bs : List Bool) (x : Station) → Zeros (logsFrom untouched x (map callOf (stepsFor [] verbatim [] pdus bs)))
 unfolding stepsFor
 zeros-logged [] bs x = tt
 zeros-logged (p ∷ ps) [] x =
@@ -129,7 +126,7 @@ second-lost = asked-is 1 1 (false ∷ []) [] refl
 
 module _ (number : ℕ) (bytes : List ℕ) (fits : Fit (packet number bytes)) where
   -- an accepted call that counts its words logs the packet
-  one-logged : (a : Answer) → a .refusal ≡ 0 → ¬ (packetWords (loggedAlone (withWords (length (fixedWords number bytes)) a) (putAt words 0 (fixedWords number bytes)) ++ []) ≡ [])
+  one-logged : (a : Batch) → a .refusal ≡ 0 → ¬ (packetWords (loggedAlone (withWords (length (fixedWords number bytes)) a) (putAt words 0 (fixedWords number bytes)) ++ []) ≡ [])
   unfolding logWords entryWords packetsOf
   one-logged a r e =
       let w : List ℕ = fixedWords number bytes in
@@ -145,8 +142,8 @@ module _ (number : ℕ) (bytes : List ℕ) (fits : Fit (packet number bytes)) wh
   fixed-wrong claim =
       go (runOf 1 1 (made 0 0 0 six)) (run-length 1 1 1 refl) (claimed defined delivers 1 1 (true ∷ []) .accepted) (claimed (fixed number bytes) claim 1 1 (true ∷ []) .log ∙ ap (askedFor 1 1) (told 1 1 (true ∷ []) refl) ∙ second-asked)
     where
-      go : (pdus : List (List ℕ)) → length pdus ≡ 1 → NoneRefused defined callOf Takes (freshStation defined 0 0 0 allPrograms carry) (stepsFor [] asSent [] pdus (true ∷ []))
-          → ¬ (packetWords (logsFrom (fixed number bytes) (freshStation defined 0 0 0 allPrograms carry) (map callOf (stepsFor [] asSent [] pdus (true ∷ [])))) ≡ [])
+      go : (pdus : List (List ℕ)) → length pdus ≡ 1 → NoneRefused defined callOf Takes (freshStation defined 0 0 0 allPrograms carry) (stepsFor [] verbatim [] pdus (true ∷ []))
+          → ¬ (packetWords (logsFrom (fixed number bytes) (freshStation defined 0 0 0 allPrograms carry) (map callOf (stepsFor [] verbatim [] pdus (true ∷ [])))) ≡ [])
       go [] n a e = absurd (omega (arith, n))
       go (p ∷ q ∷ ps) n a e = absurd (omega (arith, n))
       go (p ∷ []) n a e = one-logged (answerOf (freshStation defined 0 0 0 allPrograms carry) (receive [] p words)) (a .0) e
@@ -157,8 +154,8 @@ module _ (number : ℕ) (bytes : List ℕ) (fits : Fit (packet number bytes)) wh
   inventing-wrong claim =
       go (runOf 1 1 (made 0 0 0 six)) (run-length 1 1 1 refl) (claimed defined delivers 1 1 (false ∷ []) .accepted) (claimed (inventing number bytes) claim 1 1 (false ∷ []) .log ∙ ap (askedFor 1 1) (told 1 1 (false ∷ []) refl) ∙ second-lost)
     where
-      go : (pdus : List (List ℕ)) → length pdus ≡ 1 → NoneRefused defined callOf Takes (freshStation defined 0 0 0 allPrograms carry) (stepsFor [] asSent [] pdus (false ∷ []))
-          → ¬ (packetWords (logsFrom (inventing number bytes) (freshStation defined 0 0 0 allPrograms carry) (map callOf (stepsFor [] asSent [] pdus (false ∷ [])))) ≡ [])
+      go : (pdus : List (List ℕ)) → length pdus ≡ 1 → NoneRefused defined callOf Takes (freshStation defined 0 0 0 allPrograms carry) (stepsFor [] verbatim [] pdus (false ∷ []))
+          → ¬ (packetWords (logsFrom (inventing number bytes) (freshStation defined 0 0 0 allPrograms carry) (map callOf (stepsFor [] verbatim [] pdus (false ∷ [])))) ≡ [])
       go [] n a e = absurd (omega (arith, n))
       go (p ∷ q ∷ ps) n a e = absurd (omega (arith, n))
       go (p ∷ []) n a e = one-logged (answerOf (freshStation defined 0 0 0 allPrograms carry) (markLost words)) (a .0) e
@@ -181,7 +178,7 @@ known-kept x marks p log h = go (eqb (receiveNumber marks (x .carry) p log (x .r
     go true e = rw e refl
     go false e = rw e h
 
-only-advances : (n : ℕ) (pdus : List (List ℕ)) (x : Station) → length pdus ≤ n → x .receiver .known ≡ true → logsFrom advancing x (map callOf (stepsFor [] asSent [] pdus (replicate n true))) ≡ []
+only-advances : (n : ℕ) (pdus : List (List ℕ)) (x : Station) → length pdus ≤ n → x .receiver .known ≡ true → logsFrom advancing x (map callOf (stepsFor [] verbatim [] pdus (replicate n true))) ≡ []
 unfolding stepsFor
 only-advances n [] x l h = refl
 only-advances zero (p ∷ ps) x l h = absurd (not-suc-le-zero l)
@@ -207,9 +204,9 @@ unfolding stepsFor logWords entryWords dataWords
 advancing-wrong claim =
     go (made 0 0 0 six) (run-length 0 5 5 refl) (claimed defined delivers 0 1 (true ∷ []) .accepted) (claimed defined delivers 0 1 (true ∷ []) .log ∙ ap (askedFor 0 1) (told 0 1 (true ∷ []) refl) ∙ first-asked) (all-logged advancing claim)
   where
-    go : (ps : List (List ℕ)) → length (runOf 0 5 ps) ≡ 5 → NoneRefused defined callOf Takes fresh (stepsFor [] asSent [] (runOf 0 1 ps) (true ∷ []))
-        → packetWords (logsFrom defined fresh (map callOf (stepsFor [] asSent [] (runOf 0 1 ps) (true ∷ [])))) ≡ logWords (packet 0 (replicate 20 1) ∷ [])
-        → ¬ (packetWords (logsFrom advancing fresh (map callOf (stepsFor [] asSent [] (runOf 0 5 ps) all))) ≡ askedFor 0 5 all)
+    go : (ps : List (List ℕ)) → length (runOf 0 5 ps) ≡ 5 → NoneRefused defined callOf Takes fresh (stepsFor [] verbatim [] (runOf 0 1 ps) (true ∷ []))
+        → packetWords (logsFrom defined fresh (map callOf (stepsFor [] verbatim [] (runOf 0 1 ps) (true ∷ [])))) ≡ logWords (packet 0 (replicate 20 1) ∷ [])
+        → ¬ (packetWords (logsFrom advancing fresh (map callOf (stepsFor [] verbatim [] (runOf 0 5 ps) all))) ≡ askedFor 0 5 all)
     go [] n a l e = absurd (omega (arith, n))
     go (p ∷ ps) n a l e =
         let c : Call = receive [] p words in
@@ -218,7 +215,7 @@ advancing-wrong claim =
         let known : stationAfter advancing fresh c .receiver .known ≡ true =
         ap (λ (b : Bool). cond b (withWords 0 (answerOf fresh c)) (answerOf fresh c) .receiver .known) fresh-unknown ∙ known-after fresh [] p words (a .0) in
         let few : length (take 4 ps) ≤ 4 = (let t = length-take 4 ps in omega (arith, t)) in
-        let logs : logsFrom advancing fresh (map callOf (stepsFor [] asSent [] (runOf 0 5 (p ∷ ps)) all)) ≡ loggedBy defined fresh c ++ [] =
+        let logs : logsFrom advancing fresh (map callOf (stepsFor [] verbatim [] (runOf 0 5 (p ∷ ps)) all)) ≡ loggedBy defined fresh c ++ [] =
         ap₂ (λ (u v : List ℕ). u ++ v) first (only-advances 4 (take 4 ps) (stationAfter advancing fresh c) few known) in
         let h : _≡_ {A = ℕ} 8 114 = ap length (sym l ∙ ap packetWords (sym logs) ∙ e) ∙ all-words .0 in
         absurd (omega (arith, h))
@@ -298,12 +295,11 @@ short-spans = refl
 
 -- the claim for PDUs that are written so
 module _ (b : Behaviour) (claim : Demand3For b) (packets : List (List ℕ)) (writings : List Writing) (z : Packets packets) (o : InOrder 0 0 packets 0 writings) (few : length packets ≤ 4294967295) (pdus : List (List ℕ)) (e : made 0 0 0 writings ≡ pdus) where
-  delivered : (count : ℕ) (bs : List Bool) → Delivered b 0 0 0 allPrograms packets writings 0 count carry (stepsFor [] asSent [] (runOf 0 count pdus) bs) (arrived 0 0 packets writings 0 count (receptions (stepsFor [] asSent [] (runOf 0 count pdus) bs)))
-      (arrivedIndices 0 0 packets writings 0 count (receptions (stepsFor [] asSent [] (runOf 0 count pdus) bs)))
+  delivered : (count : ℕ) (bs : List Bool)
+      → Logged b (freshStation b 0 0 0 allPrograms carry) (stepsFor [] verbatim [] (runOf 0 count pdus) bs) (arrivedEntries 0 0 packets writings 0 count (receptions (stepsFor [] verbatim [] (runOf 0 count pdus) bs)))
   delivered count bs =
-      claim 0 0 0 packets writings 0 count carry (stepsFor [] asSent [] (runOf 0 count pdus) bs)
-      (subst (λ (ps : List (List ℕ)). Asked b 0 0 0 allPrograms packets writings 0 count carry (stepsFor [] asSent [] (runOf 0 count ps) bs)) e (possible 0 0 0 packets writings opens z o b allPrograms 0 count carry bs carry-room))
-      (arrived-fit 0 0 packets writings few 0 count (receptions (stepsFor [] asSent [] (runOf 0 count pdus) bs)))
+      demand3-says b claim 0 0 0 packets writings 0 count carry (stepsFor [] verbatim [] (runOf 0 count pdus) bs) few
+      (subst (λ (ps : List (List ℕ)). Asked b 0 0 0 allPrograms packets writings 0 count carry (stepsFor [] verbatim [] (runOf 0 count ps) bs)) e (possible 0 0 0 packets writings opens z o b allPrograms 0 count carry bs carry-room))
 
 -- words with no packet among them change nothing
 pub no-packet : (l r : List ℕ) → packetWords l ≡ [] → packetWords (l ++ r) ≡ packetWords r
@@ -340,13 +336,13 @@ unfolding stepsFor wholePackets logWords
 first-none =
     ap packetWords (sym (append-nil firstLog))
     ∙ delivered defined delivers short twice short-right short-order short-few _ short-made 1 (true ∷ []) .log
-    ∙ ap (λ (l : List Span). logWords (wholePackets (inReceived (runOf 0 1 l) (true ∷ [])) 0 0 short)) short-spans
+    ∙ ap (λ (l : List Span). logWords (wholePackets (every (inReceived (runOf 0 1 l) (true ∷ []))) 0 0 short)) short-spans
 
 both-joined : packetWords (firstLog ++ (lastLog ++ [])) ≡ logWords (packet 0 (replicate 142 2) ∷ [])
 unfolding stepsFor wholePackets
 both-joined =
     delivered defined delivers short twice short-right short-order short-few _ short-made 2 (true ∷ true ∷ []) .log
-    ∙ ap (λ (l : List Span). logWords (wholePackets (inReceived (runOf 0 2 l) (true ∷ true ∷ [])) 0 0 short)) short-spans
+    ∙ ap (λ (l : List Span). logWords (wholePackets (every (inReceived (runOf 0 2 l) (true ∷ true ∷ []))) 0 0 short)) short-spans
 
 begun-lost : loggedBy defined begun (markLost words) ≡ logWords lostEntries
 unfolding stepsFor
@@ -359,7 +355,7 @@ joining-wrong claim =
     let lost : List ℕ = loggedBy defined begun (markLost words) in
     let asked : packetWords (firstLog ++ (lost ++ (lost ++ (lastLog ++ [])))) ≡ [] =
     delivered joining claim long fourTimes long-right long-order long-few _ long-made 4 (true ∷ false ∷ false ∷ true ∷ []) .log
-    ∙ ap (λ (l : List Span). logWords (wholePackets (inReceived (runOf 0 4 l) (true ∷ false ∷ false ∷ true ∷ [])) 0 0 long)) long-spans in
+    ∙ ap (λ (l : List Span). logWords (wholePackets (every (inReceived (runOf 0 4 l) (true ∷ false ∷ false ∷ true ∷ []))) 0 0 long)) long-spans in
     let found : packetWords (firstLog ++ (lost ++ (lost ++ (lastLog ++ [])))) ≡ packetWords (lastLog ++ []) =
     no-packet firstLog (lost ++ (lost ++ (lastLog ++ []))) first-none ∙ ap (λ (l : List ℕ). packetWords (l ++ (l ++ (lastLog ++ [])))) begun-lost in
     let h : _≡_ {A = ℕ} 49 0 = ap length (sym both-joined ∙ no-packet firstLog (lastLog ++ []) first-none ∙ sym found ∙ asked) in
@@ -370,11 +366,11 @@ joining-wrong claim =
 abbrev firstOfTwo : List Bool
 firstOfTwo = true ∷ false ∷ []
 
-one-due : arrived 0 0 three six 0 2 firstOfTwo ≡ packet 0 (replicate 20 1) ∷ []
+one-due : arrivedEntries 0 0 three six 0 2 firstOfTwo ≡ packet 0 (replicate 20 1) ∷ []
 unfolding wholePackets
-one-due = ap (λ (l : List Span). wholePackets (inReceived (runOf 0 2 l) firstOfTwo) 0 0 three) spans-are ∙ refl
+one-due = ap (λ (l : List Span). wholePackets (every (inReceived (runOf 0 2 l) firstOfTwo)) 0 0 three) spans-are ∙ refl
 
-set-back : (pdus : List (List ℕ)) → length pdus ≡ 2 → tallyOf (finally resetting (freshStation resetting 0 0 0 allPrograms carry) (map callOf (stepsFor [] asSent [] pdus firstOfTwo)) .receiver) ≡ noTally
+set-back : (pdus : List (List ℕ)) → length pdus ≡ 2 → tallyOf (finally resetting (freshStation resetting 0 0 0 allPrograms carry) (map callOf (stepsFor [] verbatim [] pdus firstOfTwo)) .receiver) ≡ noTally
 unfolding stepsFor
 set-back [] n = absurd (omega (arith, n))
 set-back (p ∷ []) n = absurd (omega (arith, n))
@@ -387,7 +383,7 @@ resetting-wrong claim =
     let h : noTally ≡ tallied noTally (packet 0 (replicate 20 1) ∷ []) =
     sym (set-back (runOf 0 2 (made 0 0 0 six)) (run-length 0 2 2 refl))
     ∙ claimed resetting claim 0 2 firstOfTwo .counts
-    ∙ ap (λ (bs : List Bool). tallied noTally (arrived 0 0 three six 0 2 bs)) (told 0 2 firstOfTwo refl)
+    ∙ ap (λ (bs : List Bool). tallied noTally (arrivedEntries 0 0 three six 0 2 bs)) (told 0 2 firstOfTwo refl)
     ∙ ap (tallied noTally) one-due in
     let z : _≡_ {A = ℕ} 0 1 = ap (λ (t : Tally). t .delivered) h in
     absurd (omega (arith, z))

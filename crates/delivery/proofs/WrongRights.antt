@@ -1,12 +1,12 @@
 -- Document 02, Ask 10: the promise is false of a receiver for which applied services that are unknown count as 0, and of one that keeps them over a lost PDU.
 use mathlib.Core.Path.{_≡_, refl, sym, ap, ap₂, subst, subst₂, _∙_}
 use mathlib.Core.Bool.{Bool, true, false}
-use mathlib.Core.List.{List, [], _∷_, _++_, map, append-nil}
+use mathlib.Core.List.{List, [], _∷_, _++_, map}
 use mathlib.Core.Option.{some}
-use Prim.Native.Nat.{ℕ, zero, suc, _<_, _≤_}
+use Prim.Native.Nat.{ℕ, _<_}
 use native.Mathlib.Omega.{arith}
-use lib.ListN.{length, take, drop, replicate}
-use Rattle.refusal.specs.Refusal.{firstOf, anyOf}
+use lib.ListN.{length, take, drop}
+use Rattle.refusal.specs.Refusal.{firstOf}
 use Rattle.modes.specs.Modes.{listing}
 use Rattle.modes.specs.declared.Mode.{Mode}
 use Rattle.modes.specs.declared.Listing.the-variants.{Listed}
@@ -24,26 +24,26 @@ use Rattle.reassembly.specs.Tally.{Tally, noTally, counted, tallied, Countable}
 use Rattle.reassembly.specs.Holder.{Holder, opened, logged, after}
 use Rattle.writer.specs.Writing.{opened as writerOpened, writerTests, endedOf, partOf, pduOf, writeAnswer, writtenPdu}
 use Rattle.receiver.specs.Entitling.{allowedPrograms, maskOf, entitles}
-use Rattle.receiver.specs.Receiving.{fresh as freshFor, memoryOf, keptOf, remembering, wrongState}
+use Rattle.receiver.specs.Receiving.{fresh as freshFor, memoryOf, remembering}
 use Rattle.receiver.specs.declared.Receiver.{Receiver}
-use Rattle.runs.specs.Model.{cut, readPieces, saidOf}
+use Rattle.runs.proofs.Model.{cut, readPieces, saidOf, wholePackets}
 use Rattle.runs.specs.Transmissions.{Way, here}
-use Rattle.runs.specs.Spans.{Span, wholePackets}
-use Rattle.runs.specs.Promise.{arrived}
-use Rattle.runs.specs.Calls.{Speech, heard}
+use Rattle.runs.proofs.Promise.{arrivedBy}
+use Rattle.runs.proofs.Calls.{Speech, heard}
 use Rattle.runs.proofs.Theorem.{Unfinished}
-use Rattle.delivery.specs.Delivery.{Packets, joined, Writing, pdusFrom, spansFrom, InOrder, Behaviour, Station, receive, markLost, answerOf, defined, Step, callOf, freshStation, stationAfter, loggedBy, receptions, logsFrom, runOf, made, spans, Asked}
-use Rattle.delivery.specs.Copies.{causesFor}
-use Rattle.delivery.specs.Entitlement.{labelOf, labelsFrom, rightsFor, due, waysBy, EntitledDeliveryFor}
-use Rattle.delivery.specs.WrongReceivers.{assumed, supposing, servicesKept, keeping}
+use Rattle.delivery.specs.Delivery.{Packets, concatenated, Writing, pdusFrom, spansFrom, InOrder, Behaviour, Station, receive, markLost, defined, Step, callOf, stationAfter, loggedBy, receptions, runOf, HeaderAltered, Holds}
+use Rattle.delivery.proofs.Parts.{freshStation, logsFrom, made, spans, Asked, dueEntries, waysBy, runWith}
+use Rattle.delivery.proofs.SoundSteps.{causesFor}
+use Rattle.delivery.specs.Entitlement.{labelsFrom, rightsFor, forPrograms}
+use Rattle.delivery.proofs.FaultyReceivers.{assumed, supposing, servicesKept, keeping}
 use Rattle.delivery.proofs.Calling.{stateAt}
 use Rattle.delivery.proofs.Made.{Says, loadOf, planFor, made as madeOf}
 use Rattle.delivery.proofs.Copies.{struck-read}
-use Rattle.delivery.proofs.Serving.{rightsBy, Shows, shows-put, lost-accepted, lost-logged}
-use Rattle.delivery.proofs.Bridge.{asSent as allTaken, Speaks, StandsFor, copied, altered-copy, serves}
+use Rattle.delivery.proofs.Serving.{rightsBy, Shows, shows-put, lost-logged}
+use Rattle.delivery.proofs.Bridge.{noCauses as allTaken, Speaks, copied, altered-copy, serves}
 use Rattle.delivery.proofs.Channel.{fresh-receiver, shows-fresh}
-use Rattle.delivery.proofs.Possible.{words, log-room, asSent, as-sent, stepsFor, possible}
-use Rattle.delivery.proofs.Counted.{due-fit}
+use Rattle.delivery.proofs.Possible.{words, log-room, verbatim, as-sent, stepsFor, possible}
+use Rattle.delivery.proofs.Claimed.{altered-says}
 use Rattle.delivery.proofs.SmallRuns.{carry, carry-room}
 use Rattle.delivery.proofs.EntitledRuns.{paid, sending, triple, triplesFrom, triples-right, opens}
 
@@ -95,13 +95,13 @@ unfolding labelsFrom writeAnswer listing fieldsFor expansionBytes chained total 
 threeLabels = refl
 
 -- what is asked for of the third alone, and of all with the second lost: unknown, the third is withheld
-last-due : due 1 0 [] three calls 2 (waysBy (true ∷ [])) ≡ []
+last-due : dueEntries 1 0 [] three calls 2 (waysBy (true ∷ [])) ≡ []
 unfolding listing wholePackets
-last-due = (λ i. arrived (rightsFor 1 0 []) 8 2 three (threeSpans i) (threeLabels i) (waysBy (true ∷ []))) ∙ refl
+last-due = (λ i. arrivedBy (rightsFor 1 0 []) 8 2 three (threeSpans i) (threeLabels i) (waysBy (true ∷ []))) ∙ refl
 
-first-due : due 1 0 [] three calls 0 (waysBy (true ∷ false ∷ true ∷ [])) ≡ packet 0 (triple 0) ∷ []
+first-due : dueEntries 1 0 [] three calls 0 (waysBy (true ∷ false ∷ true ∷ [])) ≡ packet 0 (triple 0) ∷ []
 unfolding listing wholePackets
-first-due = (λ i. arrived (rightsFor 1 0 []) 8 0 three (threeSpans i) (threeLabels i) (waysBy (true ∷ false ∷ true ∷ []))) ∙ refl
+first-due = (λ i. arrivedBy (rightsFor 1 0 []) 8 0 three (threeSpans i) (threeLabels i) (waysBy (true ∷ false ∷ true ∷ []))) ∙ refl
 
 -- ---- what PDU v says, and what is logged of it
 
@@ -114,15 +114,15 @@ speech v f = record { said = saidOf v v 0 (planFor (loadOf 1 0 [] label)) false 
 abbrev came : List Way
 came = here (causesFor (λ k. true)) ∷ []
 
-module _ (v : ℕ) (small : v < 8) (bytes : List ℕ) (next : take 1 (drop v three) ≡ bytes ∷ []) (is : pduOf (paid 1 0) [] (map length (bytes ∷ [])) (joined (bytes ∷ [])) 96 m (stateAt 1 0 0 v v 0) ≡ pduAt v)
+module _ (v : ℕ) (small : v < 8) (bytes : List ℕ) (next : take 1 (drop v three) ≡ bytes ∷ []) (is : pduOf (paid 1 0) [] (map length (bytes ∷ [])) (concatenated (bytes ∷ [])) 96 m (stateAt 1 0 0 v v 0) ≡ pduAt v)
     (u : Unfinished 0 (drop v three))
-    (t : firstOf (writerTests (paid 1 0) [] (map length (take 1 (drop v three))) (joined (take 1 (drop v three))) 96 m (stateAt 1 0 0 v v 0)) ≡ 0)
-    (one : endedOf (paid 1 0) [] (map length (take 1 (drop v three))) (joined (take 1 (drop v three))) 96 m (stateAt 1 0 0 v v 0) ≡ 1)
-    (none : partOf (paid 1 0) [] (map length (take 1 (drop v three))) (joined (take 1 (drop v three))) 96 m (stateAt 1 0 0 v v 0) ≡ 0) where
+    (t : firstOf (writerTests (paid 1 0) [] (map length (take 1 (drop v three))) (concatenated (take 1 (drop v three))) 96 m (stateAt 1 0 0 v v 0)) ≡ 0)
+    (one : endedOf (paid 1 0) [] (map length (take 1 (drop v three))) (concatenated (take 1 (drop v three))) 96 m (stateAt 1 0 0 v v 0) ≡ 1)
+    (none : partOf (paid 1 0) [] (map length (take 1 (drop v three))) (concatenated (take 1 (drop v three))) 96 m (stateAt 1 0 0 v v 0) ≡ 0) where
   says : Says 1 0 0 12 (pduAt v) (speech v allTaken)
   says =
-      subst (λ (p : List ℕ). Says 1 0 0 12 p (speech v allTaken)) (ap (λ (os : List (List ℕ)). pduOf (paid 1 0) [] (map length os) (joined os) 96 m (stateAt 1 0 0 v v 0)) next ∙ is)
-      (subst₂ (λ (a b : ℕ). Says 1 0 0 12 (pduOf (paid 1 0) [] (map length (take 1 (drop v three))) (joined (take 1 (drop v three))) 96 m (stateAt 1 0 0 v v 0)) (record { said = saidOf v v 0 (planFor (loadOf a b [] label)) false (λ k. 0) (drop v three); label = label })) one none
+      subst (λ (p : List ℕ). Says 1 0 0 12 p (speech v allTaken)) (ap (λ (os : List (List ℕ)). pduOf (paid 1 0) [] (map length os) (concatenated os) 96 m (stateAt 1 0 0 v v 0)) next ∙ is)
+      (subst₂ (λ (a b : ℕ). Says 1 0 0 12 (pduOf (paid 1 0) [] (map length (take 1 (drop v three))) (concatenated (take 1 (drop v three))) 96 m (stateAt 1 0 0 v v 0)) (record { said = saidOf v v 0 (planFor (loadOf a b [] label)) false (λ k. 0) (drop v three); label = label })) one none
       (madeOf 1 0 0 m listed three v v 0 (paid 1 0) [] 1 96 tt right u small t .says))
 
   speaks : Speaks 1 0 0 mask m listed range (pduAt v) (speech v)
@@ -189,13 +189,18 @@ few-counted = ((omega arith, omega arith), (omega arith, omega arith))
 
 -- ---- the claim
 
-module _ (b : Behaviour) (claim : EntitledDeliveryFor b) (first count : ℕ) (bs : List Bool) where
-  abbrev steps : List Step
-  steps = stepsFor [] asSent [] (runOf first count (pduAt 0 ∷ pduAt 1 ∷ pduAt 2 ∷ [])) bs
+abbrev EntitledFor : Behaviour → Type 0
+EntitledFor = Holds (forPrograms (λ register width. HeaderAltered))
 
-  claimed : packetWords (logsFrom b (freshStation b 1 0 0 [] carry) (map callOf steps)) ≡ logWords (due 1 0 [] three calls first (waysBy (receptions steps)))
-  claimed = claim 1 0 0 [] three calls first count carry steps none-allowed (subst (λ (ps : List (List ℕ)). Asked b 1 0 0 [] three calls first count carry (stepsFor [] asSent [] (runOf first count ps) bs)) three-made (possible 1 0 0 three calls opens right in-order b [] first count carry bs carry-room))
-      (due-fit 1 0 three calls (let n : length three ≡ 3 = refl in omega (arith, n)) [] first (waysBy (receptions steps))) .log
+module _ (b : Behaviour) (claim : EntitledFor b) (first count : ℕ) (bs : List Bool) where
+  abbrev steps : List Step
+  steps = stepsFor [] verbatim [] (runOf first count (pduAt 0 ∷ pduAt 1 ∷ pduAt 2 ∷ [])) bs
+
+  claimed : packetWords (logsFrom b (freshStation b 1 0 0 [] carry) (map callOf steps)) ≡ logWords (dueEntries 1 0 [] three calls first (waysBy (receptions steps)))
+  claimed =
+      altered-says b claim (runWith 1 0 0 [] three calls first count carry steps) (let n : length three ≡ 3 = refl in omega (arith, n)) none-allowed
+      (subst (λ (ps : List (List ℕ)). Asked b 1 0 0 [] three calls first count carry (stepsFor [] verbatim [] (runOf first count ps) bs)) three-made (possible 1 0 0 three calls opens right in-order b [] first count carry bs carry-room))
+      .log
 
 abbrev fresh : Station
 fresh = record { receiver = freshFor 1 0 0 mask; carry = carry }
@@ -210,7 +215,7 @@ unfolding listing memoryOf
 assumed-shows = record { sameMode = refl; sameStream = refl; sameRegister = refl; sameEntitled = refl; right = refl; room = carry-room; memory = refl; kept = refl; tally = refl; sane = tt; fair = (omega arith, refl); counted = record { last = omega arith; none = λ e. (refl, refl) } }
 
 -- nothing is asked for, and its packet is logged
-pub supposing-wrong : ¬ EntitledDeliveryFor supposing
+pub supposing-wrong : ¬ EntitledFor supposing
 unfolding stepsFor logWords entryWords dataWords packetWordsAfter
 supposing-wrong claim =
     let asked : packetWords (loggedBy defined (assumed fresh) (receive [] (pduAt 2) words) ++ []) ≡ [] =
@@ -240,7 +245,7 @@ kept-shows =
     (shows-put 1 0 0 mask m listed range r (begun fresh .carry) (knowing one) (s .sameMode) (s .sameStream) (s .sameRegister) (s .sameEntitled) (s .room) tt tt (omega arith, refl) (record { last = omega arith; none = λ e. absurd (omega (arith, e)) }))
 
 -- the first packet is asked for, and the third is logged too
-pub keeping-wrong : ¬ EntitledDeliveryFor keeping
+pub keeping-wrong : ¬ EntitledFor keeping
 unfolding stepsFor logWords entryWords dataWords packetWordsAfter
 keeping-wrong claim =
     let asked : packetWords (loggedBy defined fresh (receive [] (pduAt 0) words) ++ (loggedBy defined (begun fresh) (markLost words) ++ (loggedBy defined (kept fresh) (receive [] (pduAt 2) words) ++ []))) ≡ logWords (packet 0 (triple 0) ∷ []) =

@@ -1,21 +1,21 @@
--- How a copy of a PDU may come: its first 96 bytes altered and marked within the bound (Delivery.antt, `Correctable`), bytes 96 to La as
--- sent, and each piece with its CRC byte either as sent or damaged. What may happen to a received PDU is this one notion, by whatever register the CRCs start
--- with (document 02, Ask 2), and each promise is the case in which the rest is empty: demand 3 and marks (Ask 3), no damage (Delivery.antt, `HeaderAltered`); two
--- copies of a PDU (Ask 5), no marks and wrong CRCs (Diversity.antt, `ComesAs`); bursts (Ask 12), no other damage (Bursts.antt, `Bursts`).
+-- How a PDU p with locators of a width may come as q, pieces damaged too: its first 96 bytes altered and marked within the bound (Delivery.antt, `Correctable`),
+-- bytes 96 to La as sent, and each piece with its CRC byte either as sent or damaged. What may happen to a received PDU is this one notion, by whatever register the
+-- CRCs start with (document 02, Ask 2), and each promise is the case in which the rest is empty: demand 3 and marks (Ask 3), no damage (Delivery.antt,
+-- `HeaderAltered`); two copies of a PDU (Ask 5), wrong CRCs (Diversity.antt, `WrongCrc`); bursts (Ask 12), no other damage (Bursts.antt, `Hit`).
 use mathlib.Core.Path.{_≡_}
-use mathlib.Core.Bool.{Bool, true, false, not, cond}
+use mathlib.Core.Bool.{Bool, false, _||_, cond}
 use mathlib.Core.List.{List, [], _∷_, _++_}
-use Prim.Native.Nat.{ℕ, zero, suc, _+_, _-_, _<_}
-use lib.Dec.{eqb}
+use Prim.Native.Nat.{ℕ, _+_, _<_}
 use lib.ListN.{length, getD, take, drop}
-use Rattle.crc.specs.Crc.{crcFrom}
-use Rattle.burst.specs.Burst.{Burst}
 use Rattle.layout.specs.Control.{controlAt}
 use Rattle.layout.specs.Locators.{locatorAt}
-use Rattle.pdu.specs.Reading.{startAt, lengthAt}
-use Rattle.delivery.specs.Delivery.{Correctable}
+use Rattle.modes.specs.Modes.{listing}
+use Rattle.pdu.specs.Reading.{modeIn, startAt, lengthAt}
+use Rattle.runs.specs.Transmissions.{Way, gone, here}
+use Rattle.diversity.specs.Diversity.{sameBytes}
+use Rattle.delivery.specs.Delivery.{Correctable, Copies, alone, paired, Step, receives, batches, stops, loses, refuses, Run, runOf, made}
 
--- what a receiver reads of a PDU p that came as q: the header is p's again
+-- what a receiver reads of a PDU p that came as q, once corrected: the header is p's again
 abbrev pub restored : List ℕ → List ℕ → List ℕ
 restored p q = take 96 p ++ drop 96 q
 
@@ -35,20 +35,49 @@ module _ (width : ℕ) (p : List ℕ) where
   abbrev pub pieceAt : List ℕ → ℕ → List ℕ
   pieceAt y k = bytesAt y k ++ (crcAt y k ∷ [])
 
-module _ (register width : ℕ) (p : List ℕ) where
-  -- what may have become of a piece that is not as sent: its CRC is wrong, or its altered bits, one at least, lie inside eight consecutive bits
-  pub data Damage (y : List ℕ) (k : ℕ) : Type 0 where
-    wrong : ¬ (crcFrom register (bytesAt width p y k) ≡ crcAt width p y k) → Damage y k
-    burst : Burst (pieceAt width p p k) (pieceAt width p y k) → Damage y k
+  -- it is as sent, once q is corrected
+  abbrev pub asSent : List ℕ → ℕ → Bool
+  asSent q k = sameBytes (pieceAt (restored p q) k) (pieceAt p k)
 
-  -- q is p with its first 96 bytes altered and marked within the bound; bytes 96 to La are as sent, and so is each piece with its CRC byte where
-  -- `sound` says so; any other is damaged. Bytes after the last locator may be any
-  pub record Copy (marks q : List ℕ) (sound : ℕ → Bool) : Type 0 where
-    pub header : Correctable marks p q
-    pub front : take (frontLength p) (restored p q) ≡ take (frontLength p) p
-    pub whole : (k : ℕ) → k < controlAt p .nop → sound k ≡ true → (bytesAt width p (restored p q) k ≡ bytesAt width p p k) × (crcAt width p (restored p q) k ≡ crcAt width p p k)
-    pub found : (k : ℕ) → k < controlAt p .nop → sound k ≡ false → Damage (restored p q) k
+  -- in one copy at least
+  abbrev pub soundIn : Copies → ℕ → Bool
+  soundIn (alone marks q) k = asSent q k
+  soundIn (paired q r) k = asSent q k || asSent r k
 
--- the causes of its pieces
-abbrev pub causesFor : (ℕ → Bool) → ℕ → ℕ
-causesFor sound k = cond (sound k) 0 2
+-- what may have become of piece k of p, read as y, by the register that CRCs start with and the locators' width
+abbrev pub Damage : Type 1
+Damage = (register width : ℕ) (p y : List ℕ) (k : ℕ) → Type 0
+
+-- q has p's length, and of the first 96 bytes some are altered and marked within the bound; bytes 96 to La are as sent, and every piece that is not as sent is damaged
+-- so. Bytes after the last locator may be any
+pub record Damaged (damage : Damage) (register width : ℕ) (marks p q : List ℕ) : Type 0 where
+  pub header : Correctable marks p q
+  pub front : drop 96 (take (frontLength p) q) ≡ drop 96 (take (frontLength p) p)
+  pub pieces : (k : ℕ) → k < controlAt p .nop → asSent width p q k ≡ false → damage register width p (restored p q) k
+
+-- ---- how the PDUs of a run came
+
+-- a piece is taken that is sound
+abbrev pub cameAs : (ℕ → Bool) → Way
+cameAs sound = here (λ k. cond (sound k) 0 2)
+
+abbrev pub waysIn : ℕ → List (List ℕ) → List (List ℕ) → List Way
+waysIn width ps [] = []
+waysIn width [] (q ∷ qs) = []
+waysIn width (p ∷ ps) (q ∷ qs) = cameAs (asSent width p q) ∷ waysIn width ps qs
+
+abbrev pub waysFrom : ℕ → List (List ℕ) → List Step → List Way
+waysFrom width ps [] = []
+waysFrom width ps (refuses c ∷ ss) = waysFrom width ps ss
+waysFrom width ps (batches qs log ∷ ss) = waysIn width ps qs ++ waysFrom width (drop (length qs) ps) ss
+waysFrom width ps (stops qs lengths bytes log ∷ ss) = waysIn width ps qs ++ waysFrom width (drop (length qs) ps) ss
+waysFrom width [] (receives copies log ∷ ss) = []
+waysFrom width [] (loses log ∷ ss) = []
+waysFrom width (p ∷ ps) (receives copies log ∷ ss) = cameAs (soundIn width p copies) ∷ waysFrom width ps ss
+waysFrom width (p ∷ ps) (loses log ∷ ss) = gone ∷ waysFrom width ps ss
+
+abbrev pub widthIn : Run → ℕ
+widthIn r = modeIn (listing (r .mode) (r .stream)) .width
+
+abbrev pub waysOf : Run → List Way
+waysOf r = waysFrom (widthIn r) (runOf (r .first) (r .count) (made r)) (r .steps)

@@ -2,20 +2,22 @@
 -- of programs and which PDUs were marked lost (runs/specs/Withheld.antt). Of demand 3's packets it logs those that begin in a PDU not withheld. The packets,
 -- the writing calls, the run and the calls that go through it are demand 3's (Delivery.antt).
 use mathlib.Core.Path.{_≡_}
-use mathlib.Core.Bool.{Bool, true, false, _&&_, cond}
+use mathlib.Core.Bool.{true, _&&_, cond}
 use mathlib.Core.List.{List, [], _∷_, _++_}
 use Prim.Native.Nat.{ℕ, _+_}
 use lib.Dec.{eqb}
+use lib.ListN.{replicate}
 use Rattle.modes.specs.Modes.{listing}
 use Rattle.pdu.specs.Reading.{modeIn}
 use Rattle.settings.specs.Settings.{programOf}
 use Rattle.settings.specs.declared.Settings.{Settings}
-use Rattle.log.specs.Log.{Entry}
 use Rattle.reassembly.specs.Rights.{Rights, Label}
 use Rattle.receiver.specs.Entitling.{isListed, allowedPrograms}
-use Rattle.runs.specs.Transmissions.{Way, gone, here}
-use Rattle.runs.specs.Promise.{arrived, indices}
-use Rattle.delivery.specs.Delivery.{Writing, refusedAt, placedAt, Step, receptions, Behaviour, defined, spans, CountsFit, Asked, Delivered}
+use Rattle.runs.specs.Transmissions.{gone}
+use Rattle.runs.specs.Spans.{Fate, lies, dueAt, wholeIndices}
+use Rattle.runs.specs.Withheld.{arrivalsFrom, fatesTold}
+use Rattle.delivery.specs.Delivery.{Writing, refusedAt, placedAt, HeaderAltered, Coming, defined, Run, spans, Asked, Claim, Holds}
+use Rattle.delivery.specs.Copies.{widthIn, waysOf}
 
 -- ---- what is sent with the PDUs
 
@@ -24,10 +26,10 @@ abbrev pub labelOf : Settings → Label
 labelOf s = record { program = programOf s; services = cond (s .serviced) (s .services) 0 }
 
 -- of each PDU that a list of calls makes, by G, as `spansFrom` has it
-module _ (mode stream : ℕ) (packets : List (List ℕ)) where
-  unfoldable pub labelsFrom : ℕ → List Writing → List Label
-  labelsFrom g [] = []
-  labelsFrom g (a ∷ al) = cond (refusedAt mode stream packets g a) (labelsFrom g al) (labelOf (a .settings) ∷ labelsFrom (g + placedAt mode stream packets g a) al)
+unfoldable pub labelsFrom : (mode stream : ℕ) → List (List ℕ) → ℕ → List Writing → List Label
+labelsFrom mode stream packets g [] = []
+labelsFrom mode stream packets g (a ∷ al) =
+    cond (refusedAt mode stream packets g a) (labelsFrom mode stream packets g al) (labelOf (a .settings) ∷ labelsFrom mode stream packets (g + placedAt mode stream packets g a) al)
 
 -- ---- which packets are due
 
@@ -35,37 +37,22 @@ module _ (mode stream : ℕ) (packets : List (List ℕ)) where
 abbrev pub rightsFor : (mode stream : ℕ) (programs : List ℕ) → Rights
 rightsFor mode stream programs = record { entitled = isListed programs; keeps = eqb stream 0 && eqb (modeIn (listing mode stream) .sequences) 8 }
 
--- the packets with every byte in a piece that is taken, of a PDU of the run, that begin in a PDU not withheld; the PDUs of the run come in these ways, and those
--- before it count as lost
-module _ (mode stream : ℕ) (programs : List ℕ) (packets : List (List ℕ)) (writings : List Writing) where
-  abbrev pub due : (first : ℕ) (ways : List Way) → List Entry
-  due first ways =
-      arrived (rightsFor mode stream programs) (modeIn (listing mode stream) .sequences) first packets (spans mode stream packets writings) (labelsFrom mode stream packets 0 writings) ways
+-- what came of each PDU of a run; those before it count as lost
+abbrev pub fates : Run → List Fate
+fates r =
+    fatesTold (rightsFor (r .mode) (r .stream) (r .programs)) []
+    (arrivalsFrom (modeIn (listing (r .mode) (r .stream)) .sequences) 0 (replicate (r .first) gone ++ waysOf r) (labelsFrom (r .mode) (r .stream) (r .packets) 0 (r .writings)))
 
-  -- their indices
-  abbrev pub dueIndices : (first : ℕ) (ways : List Way) → List ℕ
-  dueIndices first ways =
-      indices (rightsFor mode stream programs) (modeIn (listing mode stream) .sequences) first packets (spans mode stream packets writings) (labelsFrom mode stream packets 0 writings) ways
+-- the packets with every byte in a piece that is taken, of a PDU of the run, that begin in a PDU not withheld
+abbrev pub due : Run → List ℕ
+due r = wholeIndices (dueAt (lies (r .packets) (spans r) (fates r))) 0 0 (r .packets)
 
 -- ---- the claim
 
--- received with every piece taken, or marked lost
-abbrev pub wayBy : Bool → Way
-wayBy true = here (λ k. 0)
-wayBy false = gone
-
-abbrev pub waysBy : List Bool → List Way
-waysBy [] = []
-waysBy (b ∷ bs) = wayBy b ∷ waysBy bs
-
--- for every list of programs that is not refused with 22
-abbrev pub EntitledDeliveryFor : Behaviour → Type 0
-EntitledDeliveryFor b =
-    (mode stream register : ℕ) (programs : List ℕ) (packets : List (List ℕ)) (writings : List Writing) (first count : ℕ) (carry : List ℕ) (steps : List Step) → allowedPrograms programs ≡ true
-    → Asked b mode stream register programs packets writings first count carry steps
-    → CountsFit (due mode stream programs packets writings first (waysBy (receptions steps)))
-    → Delivered b mode stream register programs packets writings first count carry steps (due mode stream programs packets writings first (waysBy (receptions steps))) (dueIndices mode stream programs packets writings first (waysBy (receptions steps)))
+-- the PDUs come so; for every list of programs that is not refused with 22
+abbrev pub forPrograms : ((register width : ℕ) → Coming) → Claim
+forPrograms comes = record { asked = λ r b. (allowedPrograms (r .programs) ≡ true) × Asked r (comes (r .register) (widthIn r)) b; due = due }
 
 -- a run with lost PDUs
 abbrev pub EntitledDelivery : Type 0
-EntitledDelivery = EntitledDeliveryFor defined
+EntitledDelivery = Holds (forPrograms (λ register width. HeaderAltered)) defined

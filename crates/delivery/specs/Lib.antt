@@ -5,5 +5,3 @@ pub mod Delivery
 pub mod Diversity
 pub mod Entitlement
 pub mod Interruptions
-pub mod WrongReceivers
-pub mod WrongSnapshots

@@ -13,8 +13,8 @@ use Rattle.batch.specs.Batches.{Result, unchanged, followed, oneByOne, batchNum
 use Rattle.batch.proofs.Single.{words-fit, log-long}
 use Rattle.join.specs.Join.{isLog}
 use Rattle.join.proofs.Logs.{log-after}
-use Rattle.joinable.specs.Joinable.{Bytes}
-use Rattle.joinable.proofs.Saying.{bytes-take, bytes-drop}
+use Rattle.writer.specs.RoundTrip.{Bytes}
+use Rattle.delivery.proofs.Made.{bytes-take, bytes-drop}
 use Rattle.joinable.proofs.Calls.{no-words, received-log, carry-bytes}
 
 take-past : (xs ys : List ℕ) (w k : ℕ) → length xs ≡ w → take (w + k) (xs ++ ys) ≡ xs ++ take k ys

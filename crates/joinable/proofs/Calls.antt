@@ -2,7 +2,7 @@
 use mathlib.Core.Path.{_≡_, refl, sym, subst}
 use mathlib.Core.Bool.{Bool, true, false, cond}
 use mathlib.Core.List.{List, [], _∷_, _++_}
-use Prim.Native.Nat.{ℕ, _+_}
+use Prim.Native.Nat.{ℕ, _+_, _<_}
 use native.Mathlib.Omega.{arith}
 use lib.Dec.{eqb}
 use borrow.Author.Tests.{eqb-true}
@@ -18,9 +18,11 @@ use Rattle.receiver.specs.Receiving.{memoryOf, modeOf, said, outcome, receivedW
 use Rattle.receiver.specs.declared.Receiver.{Receiver}
 use Rattle.join.specs.Join.{sized, allSized, isLog, entriesOf, sameWords}
 use Rattle.join.proofs.Entries.{words-log}
-use Rattle.joinable.specs.Joinable.{Bytes}
+use Rattle.writer.specs.RoundTrip.{Bytes}
 use Rattle.joinable.proofs.Filled.{sized-all, filled-received}
-use Rattle.joinable.proofs.Saying.{bytes-append, bytes-take, bytes-drop, said-sane, held-before}
+use Rattle.delivery.proofs.Made.{bytes-take, bytes-drop}
+use Rattle.joinable.proofs.Saying.{said-sane, held-before}
+use Rattle.algebra.proofs.Places.{all-join}
 
 pub no-words : isLog [] ≡ true
 unfolding isLog allSized entriesOf sameWords
@@ -36,7 +38,7 @@ held-bytes (beginning n b) s = back-bytes b (s .0)
 
 put-bytes : (l w : List ℕ) (k : ℕ) → Bytes l → Bytes w → Bytes (putAt l k w)
 unfolding putAt
-put-bytes l w k b c = bytes-append (take k l ++ w) (drop (k + length w) l) (bytes-append (take k l) w (bytes-take k l b) c) (bytes-drop (k + length w) l b)
+put-bytes l w k b c = all-join (λ x. x < 256) (take k l ++ w) (drop (k + length w) l) (all-join (λ x. x < 256) (take k l) w (bytes-take k l b) c) (bytes-drop (k + length w) l b)
 
 -- ---- what comes of what a PDU says, both within their bounds
 

@@ -7,13 +7,16 @@ use Rattle.modes.specs.Modes.{listing}
 use Rattle.log.specs.Log.{dataWords, entryWords, logWords}
 use Rattle.receiver.specs.Receiving.{fresh, lostNumber, lostAnswer, logAfterLost}
 use Rattle.join.specs.Join.{bytesOf, dataOf, entryAt, entriesOf, sized, allSized, sameWords, isLog}
-use Rattle.joinable.specs.Joinable.{Call, markLost, logsOf}
+use Rattle.delivery.specs.Delivery.{Station, Call, markLost, defined, seenFrom, logsIn}
 
 -- a PDU marked lost, with a log of two words of which the second is a data word, as it was lent
 abbrev lost : List Call
 lost = markLost (0 ∷ 0x41440000 ∷ []) ∷ []
 
--- its log is the word that its answer counts
-pub lost-counted : isLog (logsOf (fresh 1 0 0 255) [] lost) ≡ true
-unfolding listing lostNumber lostAnswer logAfterLost putAt logWords entryWords dataWords bytesOf dataOf entryAt entriesOf sized allSized sameWords isLog logsOf
+abbrev station : Station
+station = record { receiver = fresh 1 0 0 255; carry = [] }
+
+-- its log is the word that its answer counts, and a log
+pub lost-counted : isLog (logsIn (seenFrom defined station lost)) ≡ true
+unfolding listing lostNumber lostAnswer logAfterLost putAt logWords entryWords dataWords bytesOf dataOf entryAt entriesOf sized allSized sameWords isLog
 lost-counted = refl

@@ -1,8 +1,8 @@
 -- The log of a pair is a log, and the carry stays one of bytes (document 02, Ask 5).
 use mathlib.Core.Path.{_≡_, refl, sym, ap, subst, _∙_}
-use mathlib.Core.Bool.{Bool, true, false, not, cond, true≢false}
+use mathlib.Core.Bool.{Bool, true, false, not, true≢false}
 use mathlib.Core.List.{List, [], _∷_, _++_}
-use Prim.Native.Nat.{ℕ, zero, suc, _+_, _<_, _≤_}
+use Prim.Native.Nat.{ℕ, _+_, _≤_}
 use native.Mathlib.Omega.{arith}
 use lib.Dec.{eqb}
 use borrow.Author.Tests.{eqb-true, eq-eqb}
@@ -13,66 +13,24 @@ use Rattle.modes.specs.declared.Listing.{Listing}
 use Rattle.buffer.proofs.Laws.{take-put}
 use Rattle.header.proofs.Unique.{all-bytes}
 use Rattle.layout.specs.Control.{controlAt}
-use Rattle.layout.specs.declared.ControlWord.{ControlWord}
-use Rattle.layout.specs.Locators.{locatorAt}
 use Rattle.correction.specs.Correction.{correctionOf, correctedPdu}
 use Rattle.correction.specs.Marks.{marksRefusal}
 use Rattle.correction.proofs.Answers.{no-marks-pdu, corrected-allowed}
-use Rattle.pdu.specs.Reading.{startAt, readerTests, listingOf, modeIn}
-use Rattle.pdu.proofs.Assembling.{nop-small}
-use Rattle.pdu.proofs.Sizes.{Sized, sized}
-use Rattle.reassembly.specs.Reassembly.{Piece}
-use Rattle.reassembly.proofs.Fitting.{SanePartial, SanePiece, SanePieces, SaneSaid}
-use Rattle.receiver.specs.Receiving.{pieceIn, saidBy, memoryOf, modeOf}
+use Rattle.pdu.specs.Reading.{readerTests, listingOf, modeIn}
+use Rattle.reassembly.proofs.Fitting.{SanePartial, SaneSaid}
+use Rattle.receiver.specs.Receiving.{memoryOf, modeOf}
 use Rattle.receiver.specs.Steps.{stateTests, streamTests}
 use Rattle.receiver.specs.declared.Receiver.{Receiver}
 use Rattle.receiver.proofs.Enough.{corrected-length}
 use Rattle.receiver.proofs.Rows.{same-listing}
-use Rattle.diversity.specs.Diversity.{correctable, sameBytes, pairPiece, pairPieces, pairSaid, pairCome, copyNumber, lower, differ, Result, said, pairWords, pairTests, pairNumber, together, receivedBy, pairReceived}
-use Rattle.diversity.proofs.Alike.{alike-length, locators-same}
+use Rattle.diversity.specs.Diversity.{correctable, pairSaid, pairCome, copyNumber, lower, differ, Result, said, pairWords, pairTests, pairNumber, together, receivedBy, pairReceived}
 use Rattle.pair.proofs.Calling.{corrected-is}
 use Rattle.pair.proofs.Lowest.{lower-is-zero}
 use Rattle.join.specs.Join.{isLog}
-use Rattle.joinable.specs.Joinable.{Bytes}
-use Rattle.joinable.proofs.Saying.{corrected-bytes, sane-piece, sane-said, held-sane, under-sane}
+use Rattle.writer.specs.RoundTrip.{Bytes}
+use Rattle.delivery.proofs.Accepted.{corrected-bytes, sane-pair}
+use Rattle.joinable.proofs.Saying.{held-sane, under-sane}
 use Rattle.joinable.proofs.Calls.{no-words, entries-log, partial-put, received-log, carry-bytes}
-
--- ---- what two copies say together
-
-sane-both : (a b : Piece) → SanePiece a → SanePiece b → SanePiece (pairPiece a b)
-sane-both a b p q = go (eqb (a .cause) 0) (eqb (b .cause) 0) (sameBytes (a .bytes) (b .bytes))
-  where
-    go : (u v w : Bool) → SanePiece (cond u (cond v (cond w a (record { cause = 7; bytes = a .bytes })) a) b)
-    go true true true = p
-    go true true false = record { bytes = p .bytes; some = p .some; cause = omega arith }
-    go true false w = p
-    go false v w = q
-
-module _ (register width : ℕ) (c : ControlWord) (y z : List ℕ) (s : Sized width c y) (by : Bytes y) (bz : Bytes z) (long : length y ≡ length z)
-    (same : (k : ℕ) → k < c .nop → locatorAt width y k ≡ locatorAt width z k) where
-  start-is : (k : ℕ) → k < c .nop → startAt width c z k ≡ startAt width c y k
-  start-is zero h = refl
-  start-is (suc k) h = ap (λ (n : ℕ). n + 1) (sym (same k (omega arith)))
-
-  one-pair : (k : ℕ) → k < c .nop → SanePiece (pairPiece (pieceIn register width c y k) (pieceIn register width c z k))
-  one-pair k h =
-      let e = same k h in
-      let f = start-is k h in
-      let p = s .past k h in
-      let w = s .within k h in
-      sane-both (pieceIn register width c y k) (pieceIn register width c z k) (sane-piece register width c y k by p w)
-      (sane-piece register width c z k bz (omega (arith, e, f, p)) (omega (arith, e, long, w)))
-
-  all-pairs : (k n : ℕ) → k + n ≤ c .nop → SanePieces (pairPieces register width c y z k n) × (length (pairPieces register width c y z k n) ≡ n)
-  unfolding pairPieces
-  all-pairs k zero h = (tt, refl)
-  all-pairs k (suc n) h = let r = all-pairs (suc k) n (omega arith) in ((one-pair k (omega arith), r .0), ap suc (r .1))
-
-  sane-pair : length y ≤ 20480 → c .nop < 64 → SaneSaid (pairSaid register width c y z)
-  unfolding pairSaid saidBy
-  sane-pair size few =
-      let p = all-pairs 0 (c .nop) (omega arith) in
-      record { psd = sane-said register width c y s by size few .psd; pieces = p .0; few = omega (arith, p .1, few) }
 
 -- ---- rows
 
@@ -131,10 +89,8 @@ module _ (carry first second log : List ℕ) (r : Receiver) (bc : Bytes carry) (
     says =
         let f = copy-bytes first cf bf in
         let c = controlAt y in
-        let s = sized (modeOf r) c y (copy-right r y (rows .1)) in
         under-sane (said carry first second log r .withheld) (pairSaid (r .register) (modeOf r .width) c y z)
-        (sane-pair (r .register) (modeOf r .width) c y z s (f .0) (copy-bytes second cs bs .0) (alike-length y z (rows .2))
-        (locators-same y z (rows .2) (modeOf r .width) c refl (s .la) (s .after)) (f .1) (nop-small y))
+        (sane-pair (r .register) (modeOf r) y z (f .0) (copy-bytes second cs bs .0) (copy-right r y (rows .1)) (rows .2) (f .1))
 
   both : correctable (correctionOf first) ≡ true → correctable (correctionOf second) ≡ true → Right (together carry first second log r)
   unfolding together

@@ -1,7 +1,7 @@
 -- PDUs that come alike but for the bytes of pieces that are not taken leave the same log and the same receiver, withheld or not.
 use Prim.Native.Nat.{ℕ}
 use mathlib.Core.Path.{_≡_, ap, ap₂}
-use mathlib.Core.Bool.{Bool, false}
+use mathlib.Core.Bool.{false}
 use mathlib.Core.Option.{Option, some}
 use Rattle.reassembly.specs.Reassembly.{Said, received, remembered}
 use Rattle.reassembly.specs.Rights.{Rights, Label, forgetting, inForce, keptAfter, withheldBy, under}

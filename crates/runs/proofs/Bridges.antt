@@ -1,20 +1,21 @@
 -- Parts of a bridge: a call for one PDU, a call for none (a refused one, an interruption), and a batch of calls.
-use Prim.Native.Nat.{ℕ, zero, suc, _+_}
+use Prim.Native.Nat.{ℕ, _+_}
 use mathlib.Core.Path.{_≡_, refl, sym, ap, ap₂, subst, subst₂, _∙_}
-use mathlib.Core.Bool.{Bool, true, false, not, _&&_}
-use mathlib.Core.Option.{Option, none, some}
+use mathlib.Core.Bool.{Bool, not, _&&_}
+use mathlib.Core.Option.{Option, none}
 use mathlib.Core.List.{List, [], _∷_, _++_, append-nil}
 use native.Mathlib.Omega.{arith}
 use lib.ListN.{length, length-append}
-use Rattle.log.specs.Log.{Entry, logWords}
+use Rattle.log.specs.Log.{logWords}
 use Rattle.log.proofs.Packets.{FitAll}
 use Rattle.reassembly.specs.Reassembly.{following}
 use Rattle.reassembly.specs.Rights.{Rights, Label, inForce, barred}
 use Rattle.reassembly.specs.Holder.{Event, Holder, entriesFor, holderFor, logged, after}
-use Rattle.runs.specs.Model.{Fate, lose, read}
-use Rattle.runs.specs.Transmissions.{Way, gone, here, fateOf, keptOf, plansFrom}
-use Rattle.runs.specs.Spans.{fatesOf}
-use Rattle.runs.specs.Calls.{Load, transmissionsOf, fatesAlong, labelsOf, plainFate, plainFates, AllEntitled, Speech, eventBy, heard, Matching, Machine, Serves, Bridge, Step, handed, waysOf, Through, logsFrom, finally, AllGood}
+use Rattle.runs.specs.Spans.{Fate, lose, read}
+use Rattle.runs.specs.Transmissions.{Way, gone, here}
+use Rattle.runs.proofs.Transmissions.{fateOf, keptOf, plansFrom}
+use Rattle.runs.proofs.Model.{fatesOf}
+use Rattle.runs.proofs.Calls.{Load, transmissionsOf, fatesAlong, labelsOf, plainFates, AllEntitled, Speech, heard, Matching, Machine, Serves, Bridge, Step, handed, waysHanded, Through, logsFrom, finally, AllGood}
 use Rattle.runs.proofs.General.{Served, serve}
 
 module _ (rights : Rights) (range : ℕ) (M : Machine) (Stands : M .State → Holder → Type 0) where
@@ -56,7 +57,7 @@ module _ (rights : Rights) (range : ℕ) (M : Machine) (B : Bridge rights range 
   logs-are [] x = refl
   logs-are (s ∷ ss) x = ap (λ (l : List ℕ). M .words x (s .call) ++ l) (logs-are ss (M .next x (s .call)))
 
-  pub many : (ss : List (Step B)) (x : M .State) → Through B x ss → length (waysOf B ss) ≡ length (handed B ss)
+  pub many : (ss : List (Step B)) (x : M .State) → Through B x ss → length (waysHanded B ss) ≡ length (handed B ss)
   many [] x h = refl
   many (c ∷ ss) x h =
       let a = B .as-many x (c .call) (c .pdus) (c .ways) (h .0) in
@@ -68,7 +69,7 @@ module _ (rights : Rights) (range : ℕ) (M : Machine) (B : Bridge rights range 
     pub steps : List (Step B)
     pub calls : callsOf steps ≡ cs
     pub pdus : handed B steps ≡ ps
-    pub ways : waysOf B steps ≡ ws
+    pub ways : waysHanded B steps ≡ ws
     pub through : Through B x steps
 
   pub record GoodAll (x : M .State) (cs : List (M .Call)) (ps : List (B .Pdu)) : Type 0 where
@@ -89,10 +90,10 @@ module _ (rights : Rights) (range : ℕ) (M : Machine) (B : Bridge rights range 
     within-less = B .within-less;
     as-many = λ x cs ps ws h. sym (ap length (h .ways)) ∙ many (h .steps) x (h .through) ∙ ap length (h .pdus);
     serves = λ x y cs ps ws ds s h m k.
-        let v : Served rights range M B x y (h .steps) (heard (waysOf B (h .steps)) ds) =
+        let v : Served rights range M B x y (h .steps) (heard (waysHanded B (h .steps)) ds) =
         serve rights range M B (h .steps) x y ds s (h .through) (subst (λ (l : List (B .Pdu)). Matching (B .Says) l ds) (sym (h .pdus)) m)
         (subst (λ (l : List Way). B .Within (after rights range y (heard l ds) .tally)) (sym (h .ways)) k) in
-        let e : heard (waysOf B (h .steps)) ds ≡ heard ws ds = ap (λ (l : List Way). heard l ds) (h .ways) in (
+        let e : heard (waysHanded B (h .steps)) ds ≡ heard ws ds = ap (λ (l : List Way). heard l ds) (h .ways) in (
           record { steps = h .steps; calls = h .calls; pdus = h .pdus; good = v .good },
           record {
             log = ap (wordsAll M x) (sym (h .calls)) ∙ sym (logs-are (h .steps) x) ∙ v .log ∙ ap (λ (l : List Event). logWords (logged rights range y l)) e;
@@ -125,7 +126,7 @@ module _ (rights : Rights) (range : ℕ) where
 
 module _ (rights : Rights) (range : ℕ) (M : Machine) (B : Bridge rights range M) where
   pub uninterrupted : (ss ts : List (Step B)) (x z : M .State) (y : Holder) (ds : List Speech) → B .Stands x y → B .Stands z y → Through B x ss → Through B z ts
-      → Matching (B .Says) (handed B ss) ds → handed B ts ≡ handed B ss → waysOf B ts ≡ waysOf B ss → B .Within (after rights range y (heard (waysOf B ss) ds) .tally)
+      → Matching (B .Says) (handed B ss) ds → handed B ts ≡ handed B ss → waysHanded B ts ≡ waysHanded B ss → B .Within (after rights range y (heard (waysHanded B ss) ds) .tally)
       → logsFrom B x ss ≡ logsFrom B z ts
   uninterrupted ss ts x z y ds a b t u m e f k =
       serve rights range M B ss x y ds a t m k .log

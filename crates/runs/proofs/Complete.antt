@@ -1,13 +1,12 @@
 -- From single calls to all calls of a receiver: batches (document 02, Ask 1) and calls that leave all as it was.
 use Prim.Native.Nat.{ℕ}
-use mathlib.Core.Path.{_≡_, refl, sym, ap, subst, _∙_}
-use mathlib.Core.List.{List, [], _∷_}
+use mathlib.Core.Path.{_≡_, refl, sym, subst, _∙_}
+use mathlib.Core.List.{List, []}
 use lib.ListN.{length}
-use Rattle.log.specs.Log.{logWords}
 use Rattle.reassembly.specs.Rights.{Rights}
-use Rattle.reassembly.specs.Holder.{Holder, logged, after}
+use Rattle.reassembly.specs.Holder.{Holder, after}
 use Rattle.runs.specs.Transmissions.{Way}
-use Rattle.runs.specs.Calls.{Speech, heard, Matching, Machine, Serves, Bridge}
+use Rattle.runs.proofs.Calls.{Speech, heard, Matching, Machine, Serves, Bridge}
 use Rattle.runs.proofs.Bridges.{serves-none, nextAll, wordsAll, HandsAll, GoodAll, batched}
 
 -- a single call, or a batch with its arguments

@@ -1,9 +1,9 @@
 -- Document 02, Ask 14: delivered and missing of a run add up.
-use Prim.Native.Nat.{ℕ, zero, suc, _+_, _-_, _%_, _≤_, _<_}
-use mathlib.Core.Path.{_≡_, refl, sym, ap, ap₂, _∙_}
+use Prim.Native.Nat.{ℕ, suc, _+_, _-_, _%_, _≤_, _<_}
+use mathlib.Core.Path.{_≡_, refl, sym, ap, _∙_}
 use mathlib.Core.Bool.{Bool, true, false, cond}
 use mathlib.Core.List.{List, [], _∷_, _++_}
-use mathlib.Core.Option.{Option, none, some}
+use mathlib.Core.Option.{none}
 use native.Mathlib.Omega.{arith}
 use native.Mathlib.Nat.{add-zero}
 use borrow.Author.Tests.{ne-eqb}
@@ -14,8 +14,10 @@ use Rattle.reassembly.specs.Rights.{Rights}
 use Rattle.reassembly.specs.Tally.{Tally, noTally, gap, counted, tallied}
 use Rattle.reassembly.proofs.Tallies.{tally-append}
 use Rattle.reassembly.specs.Holder.{Event, lost, came, Holder, opened, entriesFor, holderFor, logged, after}
-use Rattle.runs.specs.Model.{Mark, due, wanted, arrived, AllFit, Sized}
-use Rattle.runs.specs.Transmissions.{Transmission, plansFrom, eventsFrom, dueFrom, Close, lastOf, AddsUp}
+use Rattle.runs.specs.Spans.{Mark}
+use Rattle.runs.proofs.Model.{isDue, wanted, runMarks, AllFit, Sized}
+use Rattle.runs.proofs.Transmissions.{Transmission, plansFrom, eventsFrom, dueFrom}
+use Rattle.runs.specs.Transmissions.{Close, lastIndex, AddsUp}
 use Rattle.runs.proofs.Entitled.{entitled-run}
 use Rattle.runs.proofs.Wrong.{value-stays}
 
@@ -51,7 +53,7 @@ numbersOf t (a ∷ l) = numbersOf (counted t (a % 64)) l
 due-tally : (ps : List (List ℕ)) (i : ℕ) (m : List Mark) (t : Tally) → tallied t (wanted i ps m) ≡ numbersOf t (dueFrom i ps m)
 unfolding wanted dueFrom tallied numbersOf
 due-tally [] i m t = refl
-due-tally (p ∷ ps) i m t = go (due (length p) m) (λ t. due-tally ps (suc i) (drop (length p) m) t)
+due-tally (p ∷ ps) i m t = go (isDue (length p) m) (λ t. due-tally ps (suc i) (drop (length p) m) t)
   where
     go : (b : Bool) → ((t : Tally) → tallied t (wanted (suc i) ps (drop (length p) m)) ≡ numbersOf t (dueFrom (suc i) ps (drop (length p) m)))
         → tallied t (cond b (packet (i % 64) p ∷ wanted (suc i) ps (drop (length p) m)) (wanted (suc i) ps (drop (length p) m))) ≡ numbersOf t (cond b (i ∷ []) [] ++ dueFrom (suc i) ps (drop (length p) m))
@@ -71,7 +73,7 @@ rising-less (a ∷ l) i j h r = (omega (arith, r .0), r .1)
 due-rises : (ps : List (List ℕ)) (i : ℕ) (m : List Mark) → Rising i (dueFrom i ps m)
 unfolding dueFrom Rising
 due-rises [] i m = tt
-due-rises (p ∷ ps) i m = go (due (length p) m) (due-rises ps (suc i) (drop (length p) m))
+due-rises (p ∷ ps) i m = go (isDue (length p) m) (due-rises ps (suc i) (drop (length p) m))
   where
     go : (b : Bool) → Rising (suc i) (dueFrom (suc i) ps (drop (length p) m)) → Rising i (cond b (i ∷ []) [] ++ dueFrom (suc i) ps (drop (length p) m))
     go true h = (omega arith, h)
@@ -88,8 +90,8 @@ more-counted t n h = let e : eqb (t .delivered) 0 ≡ false = ne-eqb (t .deliver
 
 record From (a : ℕ) (l : List ℕ) (t r : Tally) : Type 0 where
   delivered : r .delivered ≡ t .delivered + length l
-  both : a + (r .delivered + r .missing) ≡ lastOf a l + (t .delivered + t .missing)
-  last : r .last ≡ lastOf a l % 64
+  both : a + (r .delivered + r .missing) ≡ lastIndex a l + (t .delivered + t .missing)
+  last : r .last ≡ lastIndex a l % 64
 
 sum-from : (l : List ℕ) (a : ℕ) (t : Tally) → ¬ (t .delivered ≡ 0) → t .last ≡ a % 64 → Rising (suc a) l → Close (a ∷ l) → From a l t (numbersOf t l)
 unfolding numbersOf Rising
@@ -122,8 +124,8 @@ counts-of ps m es e c =
 -- Over a run, if fewer than 64 packets are missing between one delivered and the next, delivered plus missing is the number of packets from the
 -- first delivered to the last.
 pub run-counts : (rights : Rights) (range : ℕ) (ps : List (List ℕ)) (cs : List Transmission) → AllFit 0 ps (plansFrom rights range 0 none cs) → Sized ps
-    → Close (dueFrom 0 ps (arrived 0 ps (plansFrom rights range 0 none cs)))
-    → AddsUp (dueFrom 0 ps (arrived 0 ps (plansFrom rights range 0 none cs))) (after rights range opened (eventsFrom rights range 0 0 0 ps cs) .tally)
+    → Close (dueFrom 0 ps (runMarks 0 ps (plansFrom rights range 0 none cs)))
+    → AddsUp (dueFrom 0 ps (runMarks 0 ps (plansFrom rights range 0 none cs))) (after rights range opened (eventsFrom rights range 0 0 0 ps cs) .tally)
 run-counts rights range ps cs h z c =
     rw (run-tally rights range (eventsFrom rights range 0 0 0 ps cs) opened)
-    (counts-of ps (arrived 0 ps (plansFrom rights range 0 none cs)) (logged rights range opened (eventsFrom rights range 0 0 0 ps cs)) (entitled-run rights range ps cs h z) c)
+    (counts-of ps (runMarks 0 ps (plansFrom rights range 0 none cs)) (logged rights range opened (eventsFrom rights range 0 0 0 ps cs)) (entitled-run rights range ps cs h z) c)

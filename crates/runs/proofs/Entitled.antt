@@ -1,17 +1,19 @@
 -- Which PDUs a receiver withholds in a run is what the calls and the sent values tell.
-use Prim.Native.Nat.{ℕ, zero, suc, _+_, _%_, _≤_, _<_}
-use mathlib.Core.Path.{_≡_, refl, sym, ap, ap₂, _∙_}
-use mathlib.Core.Bool.{Bool, true, false, cond}
+use Prim.Native.Nat.{ℕ, _+_}
+use mathlib.Core.Path.{_≡_, refl, ap, _∙_}
+use mathlib.Core.Bool.{true, false}
 use mathlib.Core.List.{List, [], _∷_, _++_}
-use mathlib.Core.Option.{Option, none, some}
+use mathlib.Core.Option.{none, some}
 use borrow.Author.Tests.{eq-eqb}
-use lib.ListN.{length, drop}
+use lib.ListN.{drop}
 use Rattle.log.specs.Log.{Entry, packetsOf}
-use Rattle.reassembly.specs.Reassembly.{Said, following, inSequence, remembered, received}
-use Rattle.reassembly.specs.Rights.{Rights, Label, forgetting, inForce, keptAfter, withheldBy, under}
-use Rattle.reassembly.specs.Holder.{Come, Event, lost, came, Holder, opened, saidTo, entriesFor, holderFor, logged}
-use Rattle.runs.specs.Model.{lose, sentAfter, saidOf, eventOf as eventIn, events, arrived, wanted, AllFit, Sized, logged as loggedOf}
-use Rattle.runs.specs.Transmissions.{Way, gone, here, Transmission, planOf, fateOf, keptOf, plansFrom, eventOf, eventsFrom}
+use Rattle.reassembly.specs.Reassembly.{following, inSequence, remembered, received}
+use Rattle.reassembly.specs.Rights.{Rights, inForce, withheldBy}
+use Rattle.reassembly.specs.Holder.{Come, lost, came, Holder, opened, entriesFor, holderFor, logged}
+use Rattle.runs.specs.Spans.{lose}
+use Rattle.runs.proofs.Model.{sentAfter, saidOf, eventOf as eventIn, events, runMarks, wanted, AllFit, Sized, logged as loggedOf}
+use Rattle.runs.specs.Transmissions.{Way, gone, here}
+use Rattle.runs.proofs.Transmissions.{Transmission, planOf, fateOf, keptOf, plansFrom, eventOf, eventsFrom}
 use Rattle.runs.proofs.Theorem.{run-delivers}
 use Rattle.runs.proofs.Wrong.{value-stays}
 
@@ -43,5 +45,5 @@ module _ (rights : Rights) (range : ℕ) where
 
 -- A fresh receiver with these rights: the packets logged are those whose bytes were all taken and that begin in a PDU not withheld, in order.
 pub entitled-run : (rights : Rights) (range : ℕ) (ps : List (List ℕ)) (cs : List Transmission) → AllFit 0 ps (plansFrom rights range 0 none cs) → Sized ps
-    → packetsOf (logged rights range opened (eventsFrom rights range 0 0 0 ps cs)) ≡ wanted 0 ps (arrived 0 ps (plansFrom rights range 0 none cs))
+    → packetsOf (logged rights range opened (eventsFrom rights range 0 0 0 ps cs)) ≡ wanted 0 ps (runMarks 0 ps (plansFrom rights range 0 none cs))
 entitled-run rights range ps cs h z = ap packetsOf (same-log rights range cs opened 0 0 0 ps refl) ∙ run-delivers range ps (plansFrom rights range 0 none cs) h z

@@ -1,26 +1,26 @@
 -- The general theorem of runs: whatever the calls are, and however each hands its PDUs over, the log holds the packets that are due, and the counts
 -- add up.
-use Prim.Native.Nat.{ℕ, zero, suc, _+_, _-_, _%_, _≤_, _<_}
+use Prim.Native.Nat.{ℕ, zero, suc, _+_, _-_, _≤_}
 use mathlib.Core.Path.{_≡_, refl, sym, ap, ap₂, subst, _∙_, fun-ext}
-use mathlib.Core.Bool.{Bool, true, false, cond}
+use mathlib.Core.Bool.{false, cond}
 use mathlib.Core.List.{List, [], _∷_, _++_, append-assoc}
-use mathlib.Core.Option.{Option, none, some}
+use mathlib.Core.Option.{Option, none}
 use native.Mathlib.Omega.{arith}
 use native.Mathlib.Nat.{le-of-suc-le-suc, not-suc-le-zero}
-use lib.ListN.{length, take, drop, replicate, length-append, length-take, length-drop}
-use lib.Seq.{drop-nil}
-use Rattle.log.specs.Log.{Entry, packet, psd, note, logWords, packetWords, packetsOf}
+use lib.ListN.{length, take, drop, replicate, length-append, length-take}
+use Rattle.log.specs.Log.{Entry, logWords, packetWords, packetsOf}
 use Rattle.log.proofs.Words.{log-append}
 use Rattle.log.proofs.Packets.{FitAll, fit-append, packet-words}
-use Rattle.reassembly.specs.Reassembly.{following, forgotten, lostEntries}
-use Rattle.reassembly.specs.Rights.{Rights, Label}
-use Rattle.reassembly.specs.Tally.{Tally, noTally, counted, tallied, Grows, Countable}
+use Rattle.reassembly.specs.Reassembly.{following}
+use Rattle.reassembly.specs.Rights.{Rights}
+use Rattle.reassembly.specs.Tally.{Tally, noTally, tallied, Grows, Countable}
 use Rattle.reassembly.proofs.Tallies.{tally-grows}
-use Rattle.reassembly.specs.Holder.{Come, Event, lost, came, Holder, opened, entriesFor, holderFor, logged, after}
-use Rattle.runs.specs.Model.{cut, Fits, sentAfter, Fate, Plan, Mark, verdicts, arrived, wanted, AllFit, Sized}
-use Rattle.runs.specs.Transmissions.{Way, gone, here, Transmission, fateOf, keptOf, plansFrom, eventOf, eventsFrom, dueFrom, Close, AddsUp}
-use Rattle.runs.specs.Spans.{packetAt, Span, within, lies, wholePackets, wholeIndices, bytesIn, spansOf, fatesOf}
-use Rattle.runs.specs.Calls.{Load, transmissionOf, transmissionsOf, LoadsFit, spansFrom, Speech, speechesFrom, eventBy, heard, fatesFrom, Matching, Machine, Serves, Bridge, Step, handed, waysOf, Through, logsFrom, finally, AllGood}
+use Rattle.reassembly.specs.Holder.{Event, lost, Holder, opened, entriesFor, holderFor, logged, after}
+use Rattle.runs.proofs.Model.{cut, sentAfter, Plan, runMarks, wanted, AllFit, Sized, wholePackets, bytesIn, spansOf, fatesOf}
+use Rattle.runs.specs.Spans.{Mark, verdicts, packetAt, covers, lies, wholeIndices, dueAt}
+use Rattle.runs.specs.Transmissions.{Way, gone, here, Close, AddsUp}
+use Rattle.runs.proofs.Transmissions.{fateOf, keptOf, plansFrom, eventOf, eventsFrom, dueFrom}
+use Rattle.runs.proofs.Calls.{Load, transmissionOf, transmissionsOf, LoadsFit, spansFrom, Speech, speechesFrom, eventBy, heard, fatesFrom, Matching, Machine, Bridge, Step, handed, waysHanded, Through, logsFrom, finally, AllGood}
 use Rattle.runs.proofs.Entitled.{entitled-run}
 use Rattle.runs.proofs.Counts.{run-tally, tally-packets, counts-of}
 use Rattle.runs.proofs.Spans.{due-whole, due-indices}
@@ -91,14 +91,14 @@ module _ (rights : Rights) (range : ℕ) (M : Machine) (B : Bridge rights range 
     pub stands : B .Stands (finally B x ss) (after rights range y vs)
 
   pub serve : (ss : List (Step B)) (x : M .State) (y : Holder) (ds : List Speech) → B .Stands x y → Through B x ss → Matching (B .Says) (handed B ss) ds
-      → B .Within (after rights range y (heard (waysOf B ss) ds) .tally) → Served x y ss (heard (waysOf B ss) ds)
+      → B .Within (after rights range y (heard (waysHanded B ss) ds) .tally) → Served x y ss (heard (waysHanded B ss) ds)
   serve [] x y ds s t m h = unfold heard logged after logWords in record { good = tt; log = refl; fit = tt; stands = s }
   serve (c ∷ ss) x y ds s t m h =
       let many : length (c .ways) ≡ length (c .pdus) = B .as-many x (c .call) (c .pdus) (c .ways) (t .0) in
       let n : ℕ = length (c .pdus) in
       let a : List Event = heard (c .ways) (take n ds) in
-      let b : List Event = heard (waysOf B ss) (drop n ds) in
-      let e : heard (c .ways ++ waysOf B ss) ds ≡ a ++ b = rw many at (heard-append (c .ways) (waysOf B ss) ds) in
+      let b : List Event = heard (waysHanded B ss) (drop n ds) in
+      let e : heard (c .ways ++ waysHanded B ss) ds ≡ a ++ b = rw many at (heard-append (c .ways) (waysHanded B ss) ds) in
       let sp = matching-split (B .Says) (c .pdus) (handed B ss) ds m in
       let k : B .Within (after rights range y (a ++ b) .tally) = subst (λ (v : List Event). B .Within (after rights range y v .tally)) e h in
       let one = B .serves x y (c .call) (c .pdus) (c .ways) (take n ds) s (t .0) (sp .0) (B .within-less _ _ (grows-on rights range a b y) k) in
@@ -161,7 +161,7 @@ module _ (rights : Rights) (range : ℕ) where
   same-lies (c ∷ cs) [] q g s kept ps rest j = refl
   same-lies (c ∷ cs) (w ∷ ws) q g s kept ps rest j =
       let n : ℕ = bytesIn (cut s (c .whole) (c .over) rest) in
-      ap (λ (m : Mark). cond (within (record { from = g; count = n }) j) (verdicts (fateOf rights range q kept (c .label) w) (packetAt ps j - packetAt ps g)) m)
+      ap (λ (m : Mark). cond (covers (record { from = g; count = n }) j) (verdicts (fateOf rights range q kept (c .label) w) (packetAt ps j - packetAt ps g)) m)
       (same-lies cs ws (following range q) (g + n) (sentAfter s (c .whole) (c .over)) (keptOf rights range q kept (c .label) w) ps (drop (c .whole) rest) j)
 
 -- ---- the theorem
@@ -169,14 +169,14 @@ module _ (rights : Rights) (range : ℕ) where
 module _ (rights : Rights) (range : ℕ) (M : Machine) (B : Bridge rights range M) (ps : List (List ℕ)) (loads : List Load) (made : List (B .Pdu)) (first count : ℕ) (x : M .State) (ss : List (Step B)) where
   -- what came of each byte
   abbrev pub byteMarks : ℕ → Mark
-  byteMarks = lies ps (spansFrom 0 0 ps loads) (fatesFrom rights range first (waysOf B ss) loads)
+  byteMarks = lies ps (spansFrom 0 0 ps loads) (fatesFrom rights range first (waysHanded B ss) loads)
 
   -- the packets with every byte in a piece that is taken, that begin in a PDU not withheld; and their indices
   abbrev pub arrivals : List Entry
-  arrivals = wholePackets byteMarks 0 0 ps
+  arrivals = wholePackets (dueAt byteMarks) 0 0 ps
 
   abbrev pub indices : List ℕ
-  indices = wholeIndices byteMarks 0 0 ps
+  indices = wholeIndices (dueAt byteMarks) 0 0 ps
 
   -- what is asked of the calls
   pub record Asked : Type 0 where
@@ -199,7 +199,7 @@ module _ (rights : Rights) (range : ℕ) (M : Machine) (B : Bridge rights range 
 
   module _ (d : Asked) where
     abbrev ws : List Way
-    ws = waysOf B ss
+    ws = waysHanded B ss
 
     abbrev all : List Way
     all = replicate first gone ++ ws
@@ -216,7 +216,7 @@ module _ (rights : Rights) (range : ℕ) (M : Machine) (B : Bridge rights range 
     fits-all : AllFit 0 ps plans
     fits-all = plans-fit rights range loads all 0 0 none ps (d .fits)
 
-    many : (t : M .State) (s : List (Step B)) → Through B t s → length (waysOf B s) ≡ length (handed B s)
+    many : (t : M .State) (s : List (Step B)) → Through B t s → length (waysHanded B s) ≡ length (handed B s)
     many t [] h = refl
     many t (c ∷ s) h =
         let a = B .as-many t (c .call) (c .pdus) (c .ways) (h .0) in
@@ -239,7 +239,7 @@ module _ (rights : Rights) (range : ℕ) (M : Machine) (B : Bridge rights range 
         same .packets
         ∙ entitled-run rights range ps (transmissionsOf all loads) fits-all (d .sized)
         ∙ due-whole ps (d .sized) plans fits-all
-        ∙ ap (λ (m : ℕ → Mark). wholePackets m 0 0 ps) marks-are
+        ∙ ap (λ (m : ℕ → Mark). wholePackets (dueAt m) 0 0 ps) marks-are
 
     tally-is : after rights range opened vs .tally ≡ tallied noTally arrivals
     tally-is = run-tally rights range vs opened ∙ tally-packets (logged rights range opened vs) noTally ∙ ap (tallied noTally) packets-are
@@ -252,11 +252,11 @@ module _ (rights : Rights) (range : ℕ) (M : Machine) (B : Bridge rights range 
 
     sum : Close indices → AddsUp indices (tallied noTally arrivals)
     sum c =
-        let e : dueFrom 0 ps (arrived 0 ps plans) ≡ indices = due-indices ps (d .sized) plans fits-all ∙ ap (λ (m : ℕ → Mark). wholeIndices m 0 0 ps) marks-are in
-        let w : packetsOf (logged rights range opened vs) ≡ wanted 0 ps (arrived 0 ps plans) = same .packets ∙ entitled-run rights range ps (transmissionsOf all loads) fits-all (d .sized) in
+        let e : dueFrom 0 ps (runMarks 0 ps plans) ≡ indices = due-indices ps (d .sized) plans fits-all ∙ ap (λ (m : ℕ → Mark). wholeIndices (dueAt m) 0 0 ps) marks-are in
+        let w : packetsOf (logged rights range opened vs) ≡ wanted 0 ps (runMarks 0 ps plans) = same .packets ∙ entitled-run rights range ps (transmissionsOf all loads) fits-all (d .sized) in
         let t : tallied noTally (logged rights range opened vs) ≡ tallied noTally arrivals = tally-packets (logged rights range opened vs) noTally ∙ ap (tallied noTally) packets-are in
         subst (λ (l : List ℕ). AddsUp l (tallied noTally arrivals)) e
-        (subst (AddsUp (dueFrom 0 ps (arrived 0 ps plans))) t (counts-of ps (arrived 0 ps plans) (logged rights range opened vs) w (subst Close (sym e) c)))
+        (subst (AddsUp (dueFrom 0 ps (runMarks 0 ps plans))) t (counts-of ps (runMarks 0 ps plans) (logged rights range opened vs) w (subst Close (sym e) c)))
 
     -- no call for a PDU of the run is refused, the log holds exactly the packets that are due, and the counts add up
     pub general : Delivered

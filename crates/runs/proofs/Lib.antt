@@ -1,13 +1,17 @@
 pub mod Blind
 pub mod Bridges
+pub mod Calls
 pub mod Complete
 pub mod Counts
 pub mod Entitled
 pub mod General
 pub mod Looking
+pub mod Model
 pub mod Pieces
+pub mod Promise
 pub mod Promised
 pub mod Secret
 pub mod Spans
 pub mod Theorem
+pub mod Transmissions
 pub mod Wrong

@@ -12,7 +12,8 @@ use lib.Seq.{take-add, drop-at}
 use Rattle.log.specs.Log.{Entry, packet, packetsOf}
 use Rattle.reassembly.specs.Reassembly.{Partial, nothing, beginning, Outcome, dropped, kept, finished, joined, pieceStep}
 use Rattle.reassembly.proofs.Laws.{delivered}
-use Rattle.runs.specs.Model.{Mark, allTaken, due, wanted, Sized}
+use Rattle.runs.specs.Spans.{Mark}
+use Rattle.runs.proofs.Model.{allTaken, isDue, wanted, Sized}
 use Rattle.runs.proofs.Wrong.{value-stays}
 
 -- ---- marks
@@ -28,7 +29,7 @@ positive-is (suc n) = lt-ltb 0 (suc n) (omega arith)
 
 -- all are taken, and begin in a PDU that is not withheld
 abbrev pub intact : List Mark → Bool
-intact m = due (length m) m
+intact m = isDue (length m) m
 
 neither : (c : Bool) → cond c false false ≡ false
 neither true = refl
@@ -51,7 +52,7 @@ taken-first : (a b : List Mark) → allTaken (length a) (a ++ b) ≡ allTaken (l
 taken-first [] b = refl
 taken-first (x ∷ a) b = ap (λ (c : Bool). cond (x .taken) c false) (taken-first a b)
 
-of-first : (a b : List Mark) → due (length a) (a ++ b) ≡ intact a
+of-first : (a b : List Mark) → isDue (length a) (a ++ b) ≡ intact a
 of-first [] b = refl
 of-first (x ∷ a) b = ap (λ (c : Bool). cond (x .free) c false) (taken-first (x ∷ a) b)
 
@@ -60,7 +61,7 @@ taken-few zero m h = absurd (not-suc-le-zero h)
 taken-few (suc n) [] h = refl
 taken-few (suc n) (x ∷ m) h = ap (λ (c : Bool). cond (x .taken) c false) (taken-few n m (le-of-suc-le-suc h)) ∙ neither (x .taken)
 
-pub of-few : (n : ℕ) (m : List Mark) → length m < n → due n m ≡ false
+pub of-few : (n : ℕ) (m : List Mark) → length m < n → isDue n m ≡ false
 of-few zero m h = absurd (not-suc-le-zero h)
 of-few (suc n) [] h = refl
 of-few (suc n) (x ∷ m) h = ap (λ (c : Bool). cond (x .free) c false) (taken-few (suc n) (x ∷ m) h) ∙ neither (x .free)

@@ -1,13 +1,11 @@
 -- Document 02, Ask 10: two withheld PDUs that differ only in PSD and pieces, with nothing to continue, leave the same log and the same receiver.
 use Prim.Native.Nat.{ℕ}
-use mathlib.Core.Path.{_≡_, refl, sym, ap, ap₂, _∙_}
-use mathlib.Core.Bool.{Bool, true, false}
-use mathlib.Core.List.{List}
+use mathlib.Core.Path.{_≡_, sym, ap, ap₂, _∙_}
+use mathlib.Core.Bool.{true}
 use mathlib.Core.Option.{Option, some}
-use Rattle.log.specs.Log.{Entry}
-use Rattle.reassembly.specs.Reassembly.{Said, nothing, Memory, Outcome, sequenceStep, beginningStep, received, remembered}
+use Rattle.reassembly.specs.Reassembly.{nothing, Outcome, sequenceStep, beginningStep, received, remembered}
 use Rattle.reassembly.specs.Rights.{Rights, Label, forgetting, inForce, keptAfter, withheldBy}
-use Rattle.reassembly.specs.Tally.{Tally, tallied}
+use Rattle.reassembly.specs.Tally.{tallied}
 use Rattle.reassembly.specs.Holder.{Come, came, Holder, valueFor, saidTo, entriesFor, holderFor}
 use Rattle.reassembly.proofs.Withheld.{nothing-shown}
 

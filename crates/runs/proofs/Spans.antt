@@ -5,15 +5,14 @@ use mathlib.Core.Bool.{Bool, true, false, _&&_, cond}
 use mathlib.Core.List.{List, [], _∷_, _++_}
 use native.Mathlib.Omega.{arith}
 use native.Mathlib.Decide.{decLt}
-use native.Mathlib.Nat.{add-assoc, zero-add, add-zero, le-of-suc-le-suc, not-suc-le-zero}
+use native.Mathlib.Nat.{add-assoc, zero-add, le-of-suc-le-suc, not-suc-le-zero}
 use borrow.Author.Tests.{lt-ltb, le-ltb, le-leb, lt-leb}
-use lib.Dec.{eqb, ltb, leb}
 use lib.ListN.{length, take, drop, replicate, getD, length-append, length-drop, length-take, length-replicate, getD-replicate, List·getD-append}
 use lib.Seq.{take-add, drop-drop, getD-append-add}
 use Rattle.log.specs.Log.{Entry, packet}
-use Rattle.runs.specs.Model.{cut, Fits, sentAfter, Fate, Plan, later, Mark, marks, verdicts, arrived, allTaken, due, wanted, AllFit, Sized}
-use Rattle.runs.specs.Spans.{packetAt, Span, within, nowhere, lies, every, wholePackets, wholeIndices, bytesIn, spansOf, fatesOf}
-use Rattle.runs.specs.Transmissions.{dueFrom}
+use Rattle.runs.proofs.Model.{cut, Fits, sentAfter, Plan, later, marks, runMarks, allTaken, isDue, wanted, AllFit, Sized, wholePackets, bytesIn, spansOf, fatesOf, nowhere}
+use Rattle.runs.specs.Spans.{Mark, verdicts, packetAt, covers, lies, every, wholeIndices, dueAt, entriesAt}
+use Rattle.runs.proofs.Transmissions.{dueFrom}
 use Rattle.runs.proofs.Theorem.{cut-none, marks-part, marks-whole, Unfinished, unfinished-zero, unfinished-next, sized-drop}
 use Rattle.runs.proofs.Wrong.{value-stays}
 
@@ -35,7 +34,7 @@ taken-every (b ∷ m) zero (suc n) =
     and-cond (b .taken) (allTaken n m) ∙ ap (λ (x : Bool). b .taken && x) (taken-every m zero n ∙ sym (every-shift b m zero n))
 taken-every (b ∷ m) (suc o) (suc n) = taken-every m o (suc n) ∙ sym (every-shift b m o (suc n))
 
-due-every : (m : List Mark) (o n : ℕ) → 0 < n → due n (drop o m) ≡ (getD m o nowhere .free && every (λ j. getD m j nowhere .taken) o n)
+due-every : (m : List Mark) (o n : ℕ) → 0 < n → isDue n (drop o m) ≡ (getD m o nowhere .free && every (λ j. getD m j nowhere .taken) o n)
 due-every m o zero h = absurd (not-suc-le-zero h)
 due-every [] zero (suc n) h = refl
 due-every [] (suc o) (suc n) h = refl
@@ -46,12 +45,12 @@ if-packet : (c : Bool) (x : Entry) (w : List Entry) → cond c (x ∷ w) w ≡ c
 if-packet true x w = refl
 if-packet false x w = refl
 
-marks-bytes : (m : List Mark) (o i : ℕ) (ps : List (List ℕ)) → Sized ps → wanted i ps (drop o m) ≡ wholePackets (λ j. getD m j nowhere) o i ps
+marks-bytes : (m : List Mark) (o i : ℕ) (ps : List (List ℕ)) → Sized ps → wanted i ps (drop o m) ≡ wholePackets (dueAt (λ j. getD m j nowhere)) o i ps
 unfolding wanted wholePackets
 marks-bytes m o i [] z = refl
 marks-bytes m o i (p ∷ ps) z = rw (due-every m o (length p) (z .0), drop-drop, marks-bytes m (o + length p) (suc i) ps (z .2), if-packet)
 
-marks-indices : (m : List Mark) (o i : ℕ) (ps : List (List ℕ)) → Sized ps → dueFrom i ps (drop o m) ≡ wholeIndices (λ j. getD m j nowhere) o i ps
+marks-indices : (m : List Mark) (o i : ℕ) (ps : List (List ℕ)) → Sized ps → dueFrom i ps (drop o m) ≡ wholeIndices (dueAt (λ j. getD m j nowhere)) o i ps
 unfolding dueFrom wholeIndices
 marks-indices m o i [] z = refl
 marks-indices m o i (p ∷ ps) z = rw (due-every m o (length p) (z .0), drop-drop, marks-indices m (o + length p) (suc i) ps (z .2))
@@ -61,13 +60,13 @@ marks-indices m o i (p ∷ ps) z = rw (due-every m o (length p) (z .0), drop-dro
 past : (a b n : ℕ) → a + b + n - a ≡ b + n
 past a b n = omega arith
 
-packet-past : (ps : List (List ℕ)) (i n : ℕ) → i ≤ length ps → packetAt ps (bytesIn (take i ps) + n) ≡ i + packetAt (drop i ps) n
+pub packet-past : (ps : List (List ℕ)) (i n : ℕ) → i ≤ length ps → packetAt ps (bytesIn (take i ps) + n) ≡ i + packetAt (drop i ps) n
 packet-past ps zero n h = rw (zero-add, zero-add)
 packet-past [] (suc i) n h = absurd (not-suc-le-zero h)
 packet-past (p ∷ ps) (suc i) n h =
     rw (le-leb (length p) (length p + bytesIn (take i ps) + n) (omega arith), past (length p) (bytesIn (take i ps)) n, packet-past ps i n (le-of-suc-le-suc h)) (omega arith)
 
-packet-first : (rest : List (List ℕ)) (s : ℕ) → Unfinished s rest → packetAt rest s ≡ 0
+pub packet-first : (rest : List (List ℕ)) (s : ℕ) → Unfinished s rest → packetAt rest s ≡ 0
 packet-first [] s u = refl
 packet-first (p ∷ ps) s u = rw (lt-leb (length p) s u)
 
@@ -163,20 +162,20 @@ module _ (ps : List (List ℕ)) (z : Sized ps) where
       omega (arith, a, b, c)
 
   -- what came of the bytes from g on is what their marks say
-  cover : (cs : List Plan) (g i s : ℕ) → Stands ps g i s → AllFit s (drop i ps) cs → (j : ℕ) → lies ps (spansOf g s (drop i ps) cs) (fatesOf cs) (g + j) ≡ getD (arrived s (drop i ps) cs) j nowhere
-  unfolding spansOf arrived
+  cover : (cs : List Plan) (g i s : ℕ) → Stands ps g i s → AllFit s (drop i ps) cs → (j : ℕ) → lies ps (spansOf g s (drop i ps) cs) (fatesOf cs) (g + j) ≡ getD (runMarks s (drop i ps) cs) j nowhere
+  unfolding spansOf runMarks
   cover [] g i s v h j = refl
   cover (c ∷ cs) g i s v h j =
       let n : ℕ = bytesIn (cut s (c .whole) (c .over) (drop i ps)) in
-      let ih : (k : ℕ) → lies ps (spansOf (g + n) (sentAfter s (c .whole) (c .over)) (drop (i + c .whole) ps) cs) (fatesOf cs) (g + n + k) ≡ getD (arrived (sentAfter s (c .whole) (c .over)) (drop (i + c .whole) ps) cs) k nowhere =
+      let ih : (k : ℕ) → lies ps (spansOf (g + n) (sentAfter s (c .whole) (c .over)) (drop (i + c .whole) ps) cs) (fatesOf cs) (g + n + k) ≡ getD (runMarks (sentAfter s (c .whole) (c .over)) (drop (i + c .whole) ps) cs) k nowhere =
       λ k. cover cs (g + n) (i + c .whole) (sentAfter s (c .whole) (c .over)) (stands-next ps g i s (c .whole) (c .over) z v (h .0)) (rw (drop-drop (c .whole) i ps) at (h .1)) k in
       rw (drop-drop (c .whole) i ps)
-      (go n (lies ps (spansOf (g + n) (sentAfter s (c .whole) (c .over)) (drop (i + c .whole) ps) cs) (fatesOf cs)) (marks (verdicts (c .fate)) (cut s (c .whole) (c .over) (drop i ps))) (arrived (sentAfter s (c .whole) (c .over)) (drop (i + c .whole) ps) cs)
+      (go n (lies ps (spansOf (g + n) (sentAfter s (c .whole) (c .over)) (drop (i + c .whole) ps) cs) (fatesOf cs)) (marks (verdicts (c .fate)) (cut s (c .whole) (c .over) (drop i ps))) (runMarks (sentAfter s (c .whole) (c .over)) (drop (i + c .whole) ps) cs)
       (λ l. marks-piece (verdicts (c .fate)) s (c .whole) (c .over) (drop i ps) (h .0) (sized-drop i ps z) (v .rest) j l) (length-marks (verdicts (c .fate)) (cut s (c .whole) (c .over) (drop i ps))) ih (decLt j n))
     where
       go : (n : ℕ) (l : ℕ → Mark) (m m′ : List Mark)
           → (j < n → getD m j nowhere ≡ verdicts (c .fate) (packetAt (drop i ps) (s + j))) → length m ≡ n → ((k : ℕ) → l (g + n + k) ≡ getD m′ k nowhere) → Dec (j < n)
-          → cond (within (record { from = g; count = n }) (g + j)) (verdicts (c .fate) (packetAt ps (g + j) - packetAt ps g)) (l (g + j)) ≡ getD (m ++ m′) j nowhere
+          → cond (covers (record { from = g; count = n }) (g + j)) (verdicts (c .fate) (packetAt ps (g + j) - packetAt ps g)) (l (g + j)) ≡ getD (m ++ m′) j nowhere
       go n l m m′ f e ih (yes y) =
           rw (le-leb g (g + j) (omega arith), lt-ltb (g + j) (g + n) (omega arith), piece-of g i s j v)
           (sym (f y) ∙ sym (List·getD-append m m′ nowhere j (rw e y)))
@@ -187,12 +186,35 @@ module _ (ps : List (List ℕ)) (z : Sized ps) where
           rw (le-leb g (g + j) (omega arith), le-ltb (g + j) (g + n) (omega arith))
           (ap l e2 ∙ ih k ∙ sym (getD-append-add m m′ k nowhere) ∙ ap (λ (x : ℕ). getD (m ++ m′) x nowhere) (sym e1))
 
-  covered : (cs : List Plan) → AllFit 0 ps cs → (λ j. getD (arrived 0 ps cs) j nowhere) ≡ lies ps (spansOf 0 0 ps cs) (fatesOf cs)
+  covered : (cs : List Plan) → AllFit 0 ps cs → (λ j. getD (runMarks 0 ps cs) j nowhere) ≡ lies ps (spansOf 0 0 ps cs) (fatesOf cs)
   covered cs h = fun-ext (λ j. sym (ap (lies ps (spansOf 0 0 ps cs) (fatesOf cs)) (sym (zero-add j)) ∙ cover cs 0 0 0 (stands-first ps z) h j))
 
   -- what is due by marks is what is whole by bytes
-  pub due-whole : (cs : List Plan) → AllFit 0 ps cs → wanted 0 ps (arrived 0 ps cs) ≡ wholePackets (lies ps (spansOf 0 0 ps cs) (fatesOf cs)) 0 0 ps
-  due-whole cs h = marks-bytes (arrived 0 ps cs) 0 0 ps z ∙ ap (λ (m : ℕ → Mark). wholePackets m 0 0 ps) (covered cs h)
+  pub due-whole : (cs : List Plan) → AllFit 0 ps cs → wanted 0 ps (runMarks 0 ps cs) ≡ wholePackets (dueAt (lies ps (spansOf 0 0 ps cs) (fatesOf cs))) 0 0 ps
+  due-whole cs h = marks-bytes (runMarks 0 ps cs) 0 0 ps z ∙ ap (λ (m : ℕ → Mark). wholePackets (dueAt m) 0 0 ps) (covered cs h)
 
-  pub due-indices : (cs : List Plan) → AllFit 0 ps cs → dueFrom 0 ps (arrived 0 ps cs) ≡ wholeIndices (lies ps (spansOf 0 0 ps cs) (fatesOf cs)) 0 0 ps
-  due-indices cs h = marks-indices (arrived 0 ps cs) 0 0 ps z ∙ ap (λ (m : ℕ → Mark). wholeIndices m 0 0 ps) (covered cs h)
+  pub due-indices : (cs : List Plan) → AllFit 0 ps cs → dueFrom 0 ps (runMarks 0 ps cs) ≡ wholeIndices (dueAt (lies ps (spansOf 0 0 ps cs) (fatesOf cs))) 0 0 ps
+  due-indices cs h = marks-indices (runMarks 0 ps cs) 0 0 ps z ∙ ap (λ (m : ℕ → Mark). wholeIndices (dueAt m) 0 0 ps) (covered cs h)
+
+-- ---- the packets by their indices
+
+at-drop : (i : ℕ) (l : List (List ℕ)) (p : List ℕ) (ps : List (List ℕ)) → drop i l ≡ p ∷ ps → (getD l i [] ≡ p) × (drop (suc i) l ≡ ps)
+at-drop zero [] p ps e = let z : _≡_ {A = ℕ} 0 1 = cc in absurd (omega arith)
+at-drop zero (q ∷ l) p ps e = (cc, cc)
+at-drop (suc i) [] p ps e = let z : _≡_ {A = ℕ} 0 1 = cc in absurd (omega arith)
+at-drop (suc i) (q ∷ l) p ps e = at-drop i l p ps e
+
+entry-first : (all : List (List ℕ)) (c : Bool) (i : ℕ) (l : List ℕ) → entriesAt all (cond c (i ∷ []) [] ++ l) ≡ cond c (packet (i % 64) (getD all i []) ∷ []) [] ++ entriesAt all l
+entry-first all true i l = refl
+entry-first all false i l = refl
+
+entries-from : (f : ℕ → ℕ → Bool) (all ps : List (List ℕ)) (o i : ℕ) → drop i all ≡ ps → entriesAt all (wholeIndices f o i ps) ≡ wholePackets f o i ps
+unfolding wholeIndices wholePackets
+entries-from f all [] o i e = refl
+entries-from f all (p ∷ ps) o i e =
+    let d = at-drop i all p ps e in
+    entry-first all (f o (length p)) i (wholeIndices f (o + length p) (suc i) ps)
+    ∙ ap₂ (λ (q : List ℕ) (l : List Entry). cond (f o (length p)) (packet (i % 64) q ∷ []) [] ++ l) (d .0) (entries-from f all ps (o + length p) (suc i) (d .1))
+
+pub entries-are : (f : ℕ → ℕ → Bool) (packets : List (List ℕ)) → entriesAt packets (wholeIndices f 0 0 packets) ≡ wholePackets f 0 0 packets
+entries-are f packets = entries-from f packets packets 0 0 refl

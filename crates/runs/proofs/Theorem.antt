@@ -9,12 +9,13 @@ use native.Mathlib.Nat.{zero-add, add-zero, suc-add, add-suc}
 use borrow.Author.Tests.{eq-eqb}
 use lib.Dec.{eqb, ltb}
 use lib.ListN.{length, take, drop, replicate, length-append, length-replicate, length-take, length-drop, drop-of-length-le}
-use Rattle.log.specs.Log.{Entry, packetsOf}
-use Rattle.reassembly.specs.Reassembly.{Piece, Partial, nothing, beginning, Memory, Outcome, kept, following, sequenceStep, beginningStep, psdEntries, pieceStep, numberAt, endsHere, piecesStep, contentsStep, received, remembered}
+use Rattle.log.specs.Log.{packetsOf}
+use Rattle.reassembly.specs.Reassembly.{Piece, Partial, nothing, beginning, Memory, Outcome, kept, following, sequenceStep, beginningStep, psdEntries, pieceStep, numberAt, endsHere, piecesStep, contentsStep, received, remembered, forgotten}
 use Rattle.reassembly.proofs.Laws.{delivered}
 use Rattle.reassembly.proofs.Runs.{andThen, ends-drops}
 use Rattle.reassembly.proofs.Withheld.{packets-append, psd-quiet, hidden, Alike, uncovered, withheld-alike}
-use Rattle.runs.specs.Model.{entriesFor, memoryFor, logged, fresh, cut, Fits, sentAfter, Fate, lose, read, Plan, later, readPieces, saidOf, eventOf, events, Mark, marks, verdicts, arrived, wanted, AllFit, Sized}
+use Rattle.runs.proofs.Model.{entriesFor, memoryFor, logged, cut, Fits, sentAfter, Plan, later, readPieces, saidOf, eventOf, events, marks, runMarks, wanted, AllFit, Sized}
+use Rattle.runs.specs.Spans.{Fate, lose, read, Mark, verdicts}
 use Rattle.runs.proofs.Pieces.{intact, of-few, counts, intact-more, wanted-whole, wanted-none, positive, positive-is, heldOf, held-some, held-broken, judged, onto-ends, onto-part, judged-packet, judged-quiet, judged-held}
 
 -- ---- one PDU
@@ -316,15 +317,15 @@ step-packets range q i m rest x c w l h z o v =
 
 -- from any memory that keeps to the writer's place
 run-from : (range q i : ℕ) (m : List Mark) (rest : List (List ℕ)) (x : Memory) (cs : List Plan) → AllFit (length m) rest cs → Sized rest → Unfinished (length m) rest → Keeps range q i m rest x
-    → packetsOf (logged range x (events range q i (length m) rest cs)) ≡ wanted i rest (m ++ arrived (length m) rest cs)
-unfolding logged events arrived packetsOf
+    → packetsOf (logged range x (events range q i (length m) rest cs)) ≡ wanted i rest (m ++ runMarks (length m) rest cs)
+unfolding logged events runMarks packetsOf
 run-from range q i m rest x [] h z o v = rw append-nil (sym (nothing-left i m rest z o))
 run-from range q i m rest x (c ∷ cs) h z o v =
     let e = length-pending (verdicts (c .fate)) m (c .whole) (c .over) in
     rw (
       packets-append (entriesFor range x (eventOf q i (length m) c (c .fate) rest)),
       ← e,
-      step-packets range q i m rest x c (c .fate) (arrived (length (marksOf c m)) (drop (c .whole) rest) cs) (h .0) z o v,
+      step-packets range q i m rest x c (c .fate) (runMarks (length (marksOf c m)) (drop (c .whole) rest) cs) (h .0) z o v,
       run-from range (following range q) (i + c .whole) (marksOf c m) (drop (c .whole) rest) (memoryFor range x (eventOf q i (length m) c (c .fate) rest)) cs
           (rw (← e) at (h .1)) (sized-drop (c .whole) rest z) (rw e (unfinished-next (length m) (c .whole) (c .over) rest (h .0) z o))
           (step-keeps range q i m rest x c (c .fate) (h .0) z v),
@@ -333,6 +334,6 @@ run-from range q i m rest x (c ∷ cs) h z o v =
 -- A fresh receiver, and a fresh writer's PDUs from the first on: the packets logged are those whose bytes were all taken and that begin in a PDU
 -- not withheld, in order. PDUs that the receiver missed before it began count as lost.
 pub run-delivers : (range : ℕ) (ps : List (List ℕ)) (cs : List Plan) → AllFit 0 ps cs → Sized ps
-    → packetsOf (logged range fresh (events range 0 0 0 ps cs)) ≡ wanted 0 ps (arrived 0 ps cs)
+    → packetsOf (logged range forgotten (events range 0 0 0 ps cs)) ≡ wanted 0 ps (runMarks 0 ps cs)
 unfolding heldOf
-run-delivers range ps cs h z = run-from range 0 0 [] ps fresh cs h z (unfinished-zero ps z) (record { expects = tt; holds = refl })
+run-delivers range ps cs h z = run-from range 0 0 [] ps forgotten cs h z (unfinished-zero ps z) (record { expects = tt; holds = refl })

@@ -3,18 +3,18 @@ use mathlib.Core.Path.{_≡_, refl, ap}
 use mathlib.Core.Bool.{Bool, true, false, cond}
 use mathlib.Core.List.{List, [], _∷_, _++_, map}
 use mathlib.Core.Option.{Option, none, some}
-use Prim.Native.Nat.{ℕ, zero, suc}
+use Prim.Native.Nat.{ℕ}
 use native.Mathlib.Omega.{arith}
 use lib.Dec.{eqb}
-use lib.ListN.{length}
-use Rattle.log.specs.Log.{Entry, packet, psd, note, packetsOf}
-use Rattle.reassembly.specs.Reassembly.{Memory, sequenceStep, beginningStep, psdEntries, finished, joined, pieceStep, piecesStep, continuingStep, contentsStep, received, remembered}
+use lib.ListN.{length, replicate}
+use Rattle.log.specs.Log.{Entry, packet, note, packetsOf}
+use Rattle.reassembly.specs.Reassembly.{Memory, sequenceStep, beginningStep, psdEntries, finished, joined, pieceStep, piecesStep, continuingStep, contentsStep, received, remembered, forgotten}
 use Rattle.reassembly.specs.Rights.{Rights, Label}
 use Rattle.runs.specs.Transmissions.{Way, gone, here}
-use Rattle.runs.specs.Spans.{Span, lies, wholePackets}
-use Rattle.runs.specs.Calls.{fatesAlong}
-use Rattle.runs.specs.Withheld.{sentFrom, toldOf, fatesTold}
-use Rattle.runs.specs.Model.{Event, lost, came, entriesFor, memoryFor, logged, fresh, cut, Fate, lose, read, Plan, readPieces, events, marks, arrived, wanted}
+use Rattle.runs.specs.Spans.{Span, lies, dueAt, Fate, lose, read, wholeIndices, entriesAt}
+use Rattle.runs.proofs.Model.{wholePackets, Event, lost, came, entriesFor, memoryFor, logged, cut, Plan, readPieces, events, marks, runMarks, wanted}
+use Rattle.runs.proofs.Calls.{fatesAlong}
+use Rattle.runs.specs.Withheld.{arrivalsFrom, fatesTold}
 
 abbrev taken : Fate
 taken = read false (λ k. 0)
@@ -45,27 +45,27 @@ long b c =
 
 -- ---- the receiver, with a sequence of one bit
 
-all-arrive : logged 2 fresh (events 2 0 0 0 three (four taken taken taken taken)) ≡ packet 0 (1 ∷ 2 ∷ 3 ∷ 4 ∷ 5 ∷ []) ∷ packet 1 (6 ∷ 7 ∷ []) ∷ packet 2 (8 ∷ 9 ∷ 10 ∷ []) ∷ []
+all-arrive : logged 2 forgotten (events 2 0 0 0 three (four taken taken taken taken)) ≡ packet 0 (1 ∷ 2 ∷ 3 ∷ 4 ∷ 5 ∷ []) ∷ packet 1 (6 ∷ 7 ∷ []) ∷ packet 2 (8 ∷ 9 ∷ 10 ∷ []) ∷ []
 unfolding logged events readPieces cut received contentsStep remembered sequenceStep beginningStep psdEntries piecesStep pieceStep joined finished
 all-arrive = refl
 
 -- the second lost: its packets are gone, and the third's first piece continues nothing
-second-lost : logged 2 fresh (events 2 0 0 0 three (four taken lose taken taken)) ≡ note 6 0 ∷ note 3 0 ∷ packet 2 (8 ∷ 9 ∷ 10 ∷ []) ∷ []
+second-lost : logged 2 forgotten (events 2 0 0 0 three (four taken lose taken taken)) ≡ note 6 0 ∷ note 3 0 ∷ packet 2 (8 ∷ 9 ∷ 10 ∷ []) ∷ []
 unfolding logged events readPieces cut received contentsStep remembered sequenceStep beginningStep psdEntries piecesStep pieceStep joined finished
 second-lost = refl
 
 -- a piece with a wrong CRC
-second-bad : logged 2 fresh (events 2 0 0 0 three (four taken (read false (λ k. 2)) taken taken)) ≡ note 2 0 ∷ note 2 1 ∷ note 3 0 ∷ packet 2 (8 ∷ 9 ∷ 10 ∷ []) ∷ []
+second-bad : logged 2 forgotten (events 2 0 0 0 three (four taken (read false (λ k. 2)) taken taken)) ≡ note 2 0 ∷ note 2 1 ∷ note 3 0 ∷ packet 2 (8 ∷ 9 ∷ 10 ∷ []) ∷ []
 unfolding logged events readPieces cut received contentsStep remembered sequenceStep beginningStep psdEntries piecesStep pieceStep joined finished
 second-bad = refl
 
 -- a wrong CRC comes before nothing held
-bad-and-nothing-held : logged 2 fresh (events 2 0 0 0 three (four lose (read false (λ k. 2)) taken taken)) ≡ note 6 0 ∷ note 2 0 ∷ note 2 1 ∷ note 3 0 ∷ packet 2 (8 ∷ 9 ∷ 10 ∷ []) ∷ []
+bad-and-nothing-held : logged 2 forgotten (events 2 0 0 0 three (four lose (read false (λ k. 2)) taken taken)) ≡ note 6 0 ∷ note 2 0 ∷ note 2 1 ∷ note 3 0 ∷ packet 2 (8 ∷ 9 ∷ 10 ∷ []) ∷ []
 unfolding logged events readPieces cut received contentsStep remembered sequenceStep beginningStep psdEntries piecesStep pieceStep joined finished
 bad-and-nothing-held = refl
 
 -- two lost: the fourth PDU's sequence follows the first's, and nothing is joined
-two-lost : logged 2 fresh (events 2 0 0 0 one (long lose lose)) ≡ note 6 0 ∷ note 6 0 ∷ note 3 0 ∷ []
+two-lost : logged 2 forgotten (events 2 0 0 0 one (long lose lose)) ≡ note 6 0 ∷ note 6 0 ∷ note 3 0 ∷ []
 unfolding logged events readPieces cut received contentsStep remembered sequenceStep beginningStep psdEntries piecesStep pieceStep joined finished
 two-lost = refl
 
@@ -75,39 +75,51 @@ abbrev kept-back : Fate
 kept-back = read true (λ k. 0)
 
 -- the second withheld: the packet that it continues is delivered, the one that it begins is not, and the third's first piece continues nothing
-second-withheld : logged 2 fresh (events 2 0 0 0 three (four taken kept-back taken taken)) ≡ note 8 0 ∷ packet 0 (1 ∷ 2 ∷ 3 ∷ 4 ∷ 5 ∷ []) ∷ note 3 0 ∷ packet 2 (8 ∷ 9 ∷ 10 ∷ []) ∷ []
+second-withheld : logged 2 forgotten (events 2 0 0 0 three (four taken kept-back taken taken)) ≡ note 8 0 ∷ packet 0 (1 ∷ 2 ∷ 3 ∷ 4 ∷ 5 ∷ []) ∷ note 3 0 ∷ packet 2 (8 ∷ 9 ∷ 10 ∷ []) ∷ []
 unfolding logged events readPieces cut received contentsStep continuingStep remembered sequenceStep beginningStep psdEntries piecesStep pieceStep joined finished
 second-withheld = refl
 
 -- a packet through two withheld PDUs follows the right of the PDU in which it began
-held-through : logged 2 fresh (events 2 0 0 0 one (long kept-back kept-back)) ≡ note 8 0 ∷ note 8 0 ∷ packet 0 (1 ∷ 2 ∷ 3 ∷ 4 ∷ 5 ∷ 6 ∷ 7 ∷ 8 ∷ []) ∷ []
+held-through : logged 2 forgotten (events 2 0 0 0 one (long kept-back kept-back)) ≡ note 8 0 ∷ note 8 0 ∷ packet 0 (1 ∷ 2 ∷ 3 ∷ 4 ∷ 5 ∷ 6 ∷ 7 ∷ 8 ∷ []) ∷ []
 unfolding logged events readPieces cut received contentsStep continuingStep remembered sequenceStep beginningStep psdEntries piecesStep pieceStep joined finished
 held-through = refl
 
 -- ---- what is asked for
 
 -- the second lost, or withheld
-asked-lost : wanted 0 three (arrived 0 three (four taken lose taken taken)) ≡ packet 2 (8 ∷ 9 ∷ 10 ∷ []) ∷ []
-unfolding wanted arrived marks cut
+asked-lost : wanted 0 three (runMarks 0 three (four taken lose taken taken)) ≡ packet 2 (8 ∷ 9 ∷ 10 ∷ []) ∷ []
+unfolding wanted runMarks marks cut
 asked-lost = refl
 
-asked-withheld : wanted 0 three (arrived 0 three (four taken kept-back taken taken)) ≡ packet 0 (1 ∷ 2 ∷ 3 ∷ 4 ∷ 5 ∷ []) ∷ packet 2 (8 ∷ 9 ∷ 10 ∷ []) ∷ []
-unfolding wanted arrived marks cut
+asked-withheld : wanted 0 three (runMarks 0 three (four taken kept-back taken taken)) ≡ packet 0 (1 ∷ 2 ∷ 3 ∷ 4 ∷ 5 ∷ []) ∷ packet 2 (8 ∷ 9 ∷ 10 ∷ []) ∷ []
+unfolding wanted runMarks marks cut
 asked-withheld = refl
 
 asked-number : wanted 64 ((1 ∷ []) ∷ []) (record { taken = true; free = true } ∷ []) ≡ packet 0 (1 ∷ []) ∷ []
 unfolding wanted
 asked-number = refl
 
--- the same by bytes: the second withheld; its second piece wrong
+-- the same by bytes: the second withheld, or lost; its second piece wrong
 abbrev fourSpans : List Span
 fourSpans = record { from = 0; count = 3 } ∷ record { from = 3; count = 3 } ∷ record { from = 6; count = 3 } ∷ record { from = 9; count = 1 } ∷ []
 
-whole-withheld : wholePackets (lies three fourSpans (taken ∷ kept-back ∷ taken ∷ taken ∷ [])) 0 0 three ≡ packet 0 (1 ∷ 2 ∷ 3 ∷ 4 ∷ 5 ∷ []) ∷ packet 2 (8 ∷ 9 ∷ 10 ∷ []) ∷ []
+whole-withheld : wholePackets (dueAt (lies three fourSpans (taken ∷ kept-back ∷ taken ∷ taken ∷ []))) 0 0 three ≡ packet 0 (1 ∷ 2 ∷ 3 ∷ 4 ∷ 5 ∷ []) ∷ packet 2 (8 ∷ 9 ∷ 10 ∷ []) ∷ []
 unfolding wholePackets
 whole-withheld = refl
 
-whole-wrong : wholePackets (lies three fourSpans (taken ∷ read false (λ k. cond (eqb k 1) 2 0) ∷ taken ∷ taken ∷ [])) 0 0 three ≡ packet 0 (1 ∷ 2 ∷ 3 ∷ 4 ∷ 5 ∷ []) ∷ packet 2 (8 ∷ 9 ∷ 10 ∷ []) ∷ []
+whole-lost : wholePackets (dueAt (lies three fourSpans (taken ∷ lose ∷ taken ∷ taken ∷ []))) 0 0 three ≡ packet 2 (8 ∷ 9 ∷ 10 ∷ []) ∷ []
+unfolding wholePackets
+whole-lost = refl
+
+-- packet 64 has number 0, and the first has index 0
+number-again : entriesAt (replicate 65 (1 ∷ [])) (64 ∷ []) ≡ packet 0 (1 ∷ []) ∷ []
+number-again = refl
+
+first-index : wholeIndices (λ o n. true) 0 0 ((1 ∷ []) ∷ []) ≡ 0 ∷ []
+unfolding wholeIndices
+first-index = refl
+
+whole-wrong : wholePackets (dueAt (lies three fourSpans (taken ∷ read false (λ k. cond (eqb k 1) 2 0) ∷ taken ∷ taken ∷ []))) 0 0 three ≡ packet 0 (1 ∷ 2 ∷ 3 ∷ 4 ∷ 5 ∷ []) ∷ packet 2 (8 ∷ 9 ∷ 10 ∷ []) ∷ []
 unfolding wholePackets
 whole-wrong = refl
 
@@ -136,7 +148,7 @@ seen = here (λ k. 0)
 
 -- the PDUs from sequence q on, with these applied services
 abbrev lookingBack : Bool → ℕ → List Way → List ℕ → List Fate
-lookingBack keeps q ws vs = fatesTold (record { entitled = λ p. false; keeps = keeps }) [] (toldOf ws (sentFrom 8 q (map with-services vs)))
+lookingBack keeps q ws vs = fatesTold (record { entitled = λ p. false; keeps = keeps }) [] (arrivalsFrom 8 q ws (map with-services vs))
 
 -- a lost PDU leaves the value unknown, until the next of sequence 0
 pub lost-unknown : lookingBack true 0 (seen ∷ gone ∷ seen ∷ seen ∷ seen ∷ seen ∷ seen ∷ seen ∷ seen ∷ seen ∷ []) (0 ∷ 0 ∷ 0 ∷ 0 ∷ 0 ∷ 0 ∷ 0 ∷ 0 ∷ 0 ∷ 1 ∷ [])
@@ -194,23 +206,23 @@ keeping x (came d) = remembered 2 x d
 abbrev joining : Rule
 joining = record { entries = λ x v. entriesFor 2 x v; memory = keeping }
 
-silent-wrong : ¬ (packetsOf (loggedBy silent fresh (events 2 0 0 0 three (four taken taken taken taken))) ≡ wanted 0 three (arrived 0 three (four taken taken taken taken)))
-unfolding loggedBy events packetsOf wanted arrived marks cut
+silent-wrong : ¬ (packetsOf (loggedBy silent forgotten (events 2 0 0 0 three (four taken taken taken taken))) ≡ wanted 0 three (runMarks 0 three (four taken taken taken taken)))
+unfolding loggedBy events packetsOf wanted runMarks marks cut
 silent-wrong e = let h : _≡_ {A = ℕ} 0 3 = ap length e in absurd (omega (arith, h))
 
-fixed-wrong : ¬ (packetsOf (loggedBy fixed fresh (events 2 0 0 0 three (four taken taken taken taken))) ≡ wanted 0 three (arrived 0 three (four taken taken taken taken)))
-unfolding loggedBy events packetsOf wanted arrived marks cut
+fixed-wrong : ¬ (packetsOf (loggedBy fixed forgotten (events 2 0 0 0 three (four taken taken taken taken))) ≡ wanted 0 three (runMarks 0 three (four taken taken taken taken)))
+unfolding loggedBy events packetsOf wanted runMarks marks cut
 fixed-wrong e = let h : _≡_ {A = ℕ} 4 3 = ap length e in absurd (omega (arith, h))
 
-idle-wrong : ¬ (packetsOf (loggedBy idle fresh (events 2 0 0 0 three (four taken taken taken taken))) ≡ wanted 0 three (arrived 0 three (four taken taken taken taken)))
-unfolding loggedBy events readPieces cut received contentsStep remembered sequenceStep beginningStep psdEntries piecesStep pieceStep joined finished packetsOf wanted arrived marks
+idle-wrong : ¬ (packetsOf (loggedBy idle forgotten (events 2 0 0 0 three (four taken taken taken taken))) ≡ wanted 0 three (runMarks 0 three (four taken taken taken taken)))
+unfolding loggedBy events readPieces cut received contentsStep remembered sequenceStep beginningStep psdEntries piecesStep pieceStep joined finished packetsOf wanted runMarks marks
 idle-wrong e = let h : _≡_ {A = ℕ} 0 3 = ap length e in absurd (omega (arith, h))
 
 -- a packet glued from the ends of one that did not arrive
-glued : packetsOf (loggedBy joining fresh (events 2 0 0 0 one (long lose lose))) ≡ packet 0 (1 ∷ 2 ∷ 7 ∷ 8 ∷ []) ∷ []
+glued : packetsOf (loggedBy joining forgotten (events 2 0 0 0 one (long lose lose))) ≡ packet 0 (1 ∷ 2 ∷ 7 ∷ 8 ∷ []) ∷ []
 unfolding loggedBy events readPieces cut received contentsStep remembered sequenceStep beginningStep psdEntries piecesStep pieceStep joined finished packetsOf
 glued = refl
 
-joining-wrong : ¬ (packetsOf (loggedBy joining fresh (events 2 0 0 0 one (long lose lose))) ≡ wanted 0 one (arrived 0 one (long lose lose)))
-unfolding loggedBy events readPieces cut received contentsStep remembered sequenceStep beginningStep psdEntries piecesStep pieceStep joined finished packetsOf wanted arrived marks
+joining-wrong : ¬ (packetsOf (loggedBy joining forgotten (events 2 0 0 0 one (long lose lose))) ≡ wanted 0 one (runMarks 0 one (long lose lose)))
+unfolding loggedBy events readPieces cut received contentsStep remembered sequenceStep beginningStep psdEntries piecesStep pieceStep joined finished packetsOf wanted runMarks marks
 joining-wrong e = let h : _≡_ {A = ℕ} 1 0 = ap length e in absurd (omega (arith, h))

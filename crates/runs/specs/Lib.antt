@@ -1,6 +1,3 @@
-pub mod Calls
-pub mod Model
-pub mod Promise
 pub mod Spans
 pub mod Transmissions
 pub mod Withheld

@@ -1,12 +1,30 @@
 -- What a run should deliver, by bytes: the packets joined, counted from 0; where the bytes of each PDU stand among them; and what came of each
 -- PDU: whether it came, whether it is withheld, and which of its pieces are taken.
-use mathlib.Core.Bool.{Bool, true, false, _&&_, cond}
-use mathlib.Core.List.{List, [], _∷_, _++_}
+use mathlib.Core.Bool.{Bool, true, false, not, _&&_, cond}
+use mathlib.Core.List.{List, [], _∷_, _++_, map}
 use Prim.Native.Nat.{ℕ, zero, suc, _+_, _-_, _%_}
-use lib.Dec.{ltb, leb}
-use lib.ListN.{length, drop}
+use lib.Dec.{eqb, ltb, leb}
+use lib.ListN.{length, getD}
 use Rattle.log.specs.Log.{Entry, packet}
-use Rattle.runs.specs.Model.{cut, sentAfter, Fate, Plan, Mark, verdicts}
+
+-- ---- what came of a PDU, and of a byte
+
+-- how a PDU comes to the receiver: lost, or withheld or not, with a cause for each of its pieces, 0 where the piece is taken
+pub data Fate : Type 0 where
+  lose : Fate
+  read : (withheld : Bool) (causes : ℕ → ℕ) → Fate
+
+-- what came of a byte
+pub record Mark : Type 0 where
+  pub taken : Bool  -- it lies in a piece that is taken, of a PDU that came
+  pub free : Bool  -- its PDU is not withheld
+
+-- of a lost PDU no piece is taken
+abbrev pub verdicts : Fate → ℕ → Mark
+verdicts lose k = record { taken = false; free = false }
+verdicts (read w f) k = record { taken = eqb (f k) 0; free = not w }
+
+-- ---- by bytes
 
 -- the packet that byte j is of
 abbrev pub packetAt : List (List ℕ) → ℕ → ℕ
@@ -18,48 +36,30 @@ pub record Span : Type 0 where
   pub from : ℕ
   pub count : ℕ
 
-abbrev pub within : Span → ℕ → Bool
-within s j = leb (s .from) j && ltb j (s .from + s .count)
+abbrev pub covers : Span → ℕ → Bool
+covers s j = leb (s .from) j && ltb j (s .from + s .count)
 
-abbrev pub nowhere : Mark
-nowhere = record { taken = false; free = false }
-
--- what came of byte j. Its piece is the one of its packet: piece 0 is of the packet of the PDU's first byte, piece 1 of the next, and so on
+-- what came of byte j; one that is in none of these PDUs counts as lost. Its piece is the one of its packet: piece 0 is of the packet of the PDU's first byte, piece 1 of the next, and so on
 abbrev pub lies : List (List ℕ) → List Span → List Fate → ℕ → Mark
-lies ps [] ws j = nowhere
-lies ps (s ∷ ss) [] j = nowhere
-lies ps (s ∷ ss) (w ∷ ws) j = cond (within s j) (verdicts w (packetAt ps j - packetAt ps (s .from))) (lies ps ss ws j)
+lies ps [] ws j = verdicts lose j
+lies ps (s ∷ ss) [] j = verdicts lose j
+lies ps (s ∷ ss) (w ∷ ws) j = cond (covers s j) (verdicts w (packetAt ps j - packetAt ps (s .from))) (lies ps ss ws j)
 
 -- n bytes from place o on
 abbrev pub every : (ℕ → Bool) → ℕ → ℕ → Bool
 every f o zero = true
 every f o (suc n) = f o && every f (suc o) n
 
--- the packets with every byte in a piece that is taken, that begin in a PDU not withheld, in list order: the first of these is packet i, and its
--- bytes begin at place o. Packet i, from 0, has number i modulo 64
-unfoldable pub wholePackets : (ℕ → Mark) → ℕ → ℕ → List (List ℕ) → List Entry
-wholePackets m o i [] = []
-wholePackets m o i (p ∷ ps) =
-    cond (m o .free && every (λ j. m j .taken) o (length p)) (packet (i % 64) p ∷ []) [] ++ wholePackets m (o + length p) (suc i) ps
+-- they lie in pieces that are taken, and the first in a PDU that is not withheld
+abbrev pub dueAt : (ℕ → Mark) → ℕ → ℕ → Bool
+dueAt m o n = m o .free && every (λ j. m j .taken) o n
 
--- their indices
-unfoldable pub wholeIndices : (ℕ → Mark) → ℕ → ℕ → List (List ℕ) → List ℕ
-wholeIndices m o i [] = []
-wholeIndices m o i (p ∷ ps) = cond (m o .free && every (λ j. m j .taken) o (length p)) (i ∷ []) [] ++ wholeIndices m (o + length p) (suc i) ps
+-- the packets of which f holds, by their indices, in list order: f is asked of the place where a packet's bytes begin, and of its length. The first of these is
+-- packet i, and its bytes begin at place o
+unfoldable pub wholeIndices : (ℕ → ℕ → Bool) → ℕ → ℕ → List (List ℕ) → List ℕ
+wholeIndices f o i [] = []
+wholeIndices f o i (p ∷ ps) = cond (f o (length p)) (i ∷ []) [] ++ wholeIndices f (o + length p) (suc i) ps
 
--- ---- the spans of plans
-
-abbrev pub bytesIn : List (List ℕ) → ℕ
-bytesIn [] = 0
-bytesIn (p ∷ ps) = length p + bytesIn ps
-
--- from place g on, with s bytes of the first packet of rest sent
-unfoldable pub spansOf : ℕ → ℕ → List (List ℕ) → List Plan → List Span
-spansOf g s rest [] = []
-spansOf g s rest (c ∷ cs) =
-    let n = bytesIn (cut s (c .whole) (c .over) rest) in
-    record { from = g; count = n } ∷ spansOf (g + n) (sentAfter s (c .whole) (c .over)) (drop (c .whole) rest) cs
-
-abbrev pub fatesOf : List Plan → List Fate
-fatesOf [] = []
-fatesOf (c ∷ cs) = c .fate ∷ fatesOf cs
+-- as they are logged: packet i, from 0, has number i modulo 64
+abbrev pub entriesAt : List (List ℕ) → List ℕ → List Entry
+entriesAt packets indices = map (λ (i : ℕ). packet (i % 64) (getD packets i [])) indices

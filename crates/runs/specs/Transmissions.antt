@@ -1,17 +1,9 @@
--- A run for a receiver that withholds (document 02, Ask 10) and counts (Ask 14): which PDUs are withheld, from the calls for the run's PDUs and
--- from what the writer sent alone; which packets should be delivered, by their indices.
-use Prim.Native.Nat.{ℕ, zero, suc, _+_, _%_, _≤_, _<_}
+-- How the PDUs of a run come to the receiver; and what its counts are to be (document 02, Ask 14), by the indices of the packets delivered.
+use Prim.Native.Nat.{ℕ, suc, _+_, _%_, _≤_}
 use mathlib.Core.Path.{_≡_}
-use mathlib.Core.Bool.{Bool, true, false, cond}
-use mathlib.Core.List.{List, [], _∷_, _++_}
-use mathlib.Core.Option.{Option, none, some}
-use lib.ListN.{length, drop}
-use Rattle.log.specs.Log.{Entry}
-use Rattle.reassembly.specs.Reassembly.{following}
-use Rattle.reassembly.specs.Rights.{Rights, Label, inForce, keptAfter, withheldBy}
+use mathlib.Core.List.{List, [], _∷_}
+use lib.ListN.{length}
 use Rattle.reassembly.specs.Tally.{Tally, noTally}
-use Rattle.reassembly.specs.Holder.{Come, Event, lost, came}
-use Rattle.runs.specs.Model.{Fate, lose, read, Plan, saidOf, sentAfter, Mark, due}
 
 -- ---- how the PDUs of a run come
 
@@ -20,49 +12,7 @@ pub data Way : Type 0 where
   gone : Way
   here : (causes : ℕ → ℕ) → Way
 
-pub record Transmission : Type 0 where
-  pub whole : ℕ
-  pub over : ℕ
-  pub psdBytes : List ℕ
-  pub label : Label
-  pub way : Way
-
-abbrev pub planOf : Transmission → Fate → Plan
-planOf c w = record { whole = c .whole; over = c .over; psdBytes = c .psdBytes; fate = w }
-
-module _ (rights : Rights) (range : ℕ) where
-  -- ---- which are withheld
-
-  -- the PDU of sequence q, where `kept` is the value kept from the PDUs of the run before it
-  abbrev pub fateOf : ℕ → Option ℕ → Label → Way → Fate
-  fateOf q kept l gone = lose
-  fateOf q kept l (here f) = read (withheldBy (rights .entitled) (l .program) (inForce (rights .keeps) q (l .services) kept)) f
-
-  -- a lost one forgets it
-  abbrev pub keptOf : ℕ → Option ℕ → Label → Way → Option ℕ
-  keptOf q kept l gone = none
-  keptOf q kept l (here f) = keptAfter (rights .keeps) (inForce (rights .keeps) q (l .services) kept)
-
-  unfoldable pub plansFrom : ℕ → Option ℕ → List Transmission → List Plan
-  plansFrom q kept [] = []
-  plansFrom q kept (c ∷ cs) = planOf c (fateOf q kept (c .label) (c .way)) ∷ plansFrom (following range q) (keptOf q kept (c .label) (c .way)) cs
-
-  -- ---- what comes to the receiver
-
-  abbrev pub eventOf : ℕ → ℕ → ℕ → Transmission → Way → List (List ℕ) → Event
-  eventOf q i sent c gone rest = lost
-  eventOf q i sent c (here f) rest = came (record { said = saidOf q i sent (planOf c lose) false f rest; label = c .label })
-
-  unfoldable pub eventsFrom : ℕ → ℕ → ℕ → List (List ℕ) → List Transmission → List Event
-  eventsFrom q i sent rest [] = []
-  eventsFrom q i sent rest (c ∷ cs) =
-      eventOf q i sent c (c .way) rest ∷ eventsFrom (following range q) (i + c .whole) (sentAfter sent (c .whole) (c .over)) (drop (c .whole) rest) cs
-
--- ---- the packets that are due, by their indices
-
-unfoldable pub dueFrom : ℕ → List (List ℕ) → List Mark → List ℕ
-dueFrom i [] m = []
-dueFrom i (p ∷ ps) m = cond (due (length p) m) (i ∷ []) [] ++ dueFrom (suc i) ps (drop (length p) m)
+-- ---- delivered and missing, by the indices of the packets delivered
 
 -- fewer than 64 packets are missing between one and the next
 abbrev pub Close : List ℕ → Type 0
@@ -70,11 +20,11 @@ Close [] = Unit {0}
 Close (a ∷ []) = Unit {0}
 Close (a ∷ b ∷ l) = (b ≤ a + 64) × Close (b ∷ l)
 
-abbrev pub lastOf : ℕ → List ℕ → ℕ
-lastOf a [] = a
-lastOf a (b ∷ l) = lastOf b l
+abbrev pub lastIndex : ℕ → List ℕ → ℕ
+lastIndex a [] = a
+lastIndex a (b ∷ l) = lastIndex b l
 
 -- delivered plus missing: the packets from the first delivered to the last
 abbrev pub AddsUp : List ℕ → Tally → Type 0
 AddsUp [] t = t ≡ noTally
-AddsUp (a ∷ l) t = (t .delivered ≡ suc (length l)) × (a + (t .delivered + t .missing) ≡ suc (lastOf a l)) × (t .last ≡ lastOf a l % 64)
+AddsUp (a ∷ l) t = (t .delivered ≡ suc (length l)) × (a + (t .delivered + t .missing) ≡ suc (lastIndex a l)) × (t .last ≡ lastIndex a l % 64)

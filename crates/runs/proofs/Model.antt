@@ -2,12 +2,13 @@
 -- it should deliver. Bytes are numbers; nothing of a PDU's byte layout stands here.
 use Prim.Native.Nat.{ℕ, zero, suc, _+_, _%_, _≤_, _<_}
 use mathlib.Core.Path.{_≡_}
-use mathlib.Core.Bool.{Bool, true, false, not, cond}
+use mathlib.Core.Bool.{Bool, true, false, cond}
 use mathlib.Core.List.{List, [], _∷_, _++_}
-use lib.Dec.{eqb, ltb}
+use lib.Dec.{ltb}
 use lib.ListN.{length, take, drop, replicate}
 use Rattle.log.specs.Log.{Entry, packet}
 use Rattle.reassembly.specs.Reassembly.{Piece, Said, Memory, following, received, remembered, lostEntries, forgotten}
+use Rattle.runs.specs.Spans.{Fate, lose, read, Mark, verdicts, Span}
 
 -- ---- the receiver over a list of events
 
@@ -30,10 +31,6 @@ memoryFor range x (came d) = remembered range x d
 unfoldable pub logged : ℕ → Memory → List Event → List Entry
 logged range x [] = []
 logged range x (v ∷ vs) = entriesFor range x v ++ logged range (memoryFor range x v) vs
-
--- a receiver before its first PDU
-abbrev pub fresh : Memory
-fresh = forgotten
 
 -- ---- the writer: what a PDU carries
 
@@ -58,11 +55,6 @@ sentAfter sent zero over = sent + over
 sentAfter sent (suc whole) over = over
 
 -- ---- a run
-
--- how a PDU comes to the receiver: lost, or withheld or not, with a cause for each of its pieces, 0 where the piece is taken
-pub data Fate : Type 0 where
-  lose : Fate
-  read : (withheld : Bool) (causes : ℕ → ℕ) → Fate
 
 pub record Plan : Type 0 where
   pub whole : ℕ
@@ -103,26 +95,20 @@ events range q i sent rest (c ∷ cs) =
 
 -- ---- what should be delivered
 
--- what came of a byte
-pub record Mark : Type 0 where
-  pub taken : Bool  -- it lies in a piece that is taken, of a PDU that came
-  pub free : Bool  -- its PDU is not withheld
+-- the mark of a byte in no PDU
+abbrev pub nowhere : Mark
+nowhere = verdicts lose 0
 
 -- a mark for each byte of the pieces
 unfoldable pub marks : (ℕ → Mark) → List (List ℕ) → List Mark
 marks v [] = []
 marks v (b ∷ bs) = replicate (length b) (v 0) ++ marks (later v) bs
 
--- of a lost PDU no piece is taken
-abbrev pub verdicts : Fate → ℕ → Mark
-verdicts lose k = record { taken = false; free = false }
-verdicts (read w f) k = record { taken = eqb (f k) 0; free = not w }
-
 -- the marks of all bytes that the PDUs of a run carry
-unfoldable pub arrived : ℕ → List (List ℕ) → List Plan → List Mark
-arrived sent rest [] = []
-arrived sent rest (c ∷ cs) =
-    marks (verdicts (c .fate)) (cut sent (c .whole) (c .over) rest) ++ arrived (sentAfter sent (c .whole) (c .over)) (drop (c .whole) rest) cs
+unfoldable pub runMarks : ℕ → List (List ℕ) → List Plan → List Mark
+runMarks sent rest [] = []
+runMarks sent rest (c ∷ cs) =
+    marks (verdicts (c .fate)) (cut sent (c .whole) (c .over) rest) ++ runMarks (sentAfter sent (c .whole) (c .over)) (drop (c .whole) rest) cs
 
 -- the first n bytes are taken
 abbrev pub allTaken : ℕ → List Mark → Bool
@@ -131,17 +117,17 @@ allTaken (suc n) [] = false
 allTaken (suc n) (b ∷ m) = cond (b .taken) (allTaken n m) false
 
 -- they are taken, and begin in a PDU that is not withheld
-abbrev pub due : ℕ → List Mark → Bool
-due zero m = true
-due (suc n) [] = false
-due (suc n) (b ∷ m) = cond (b .free) (allTaken (suc n) (b ∷ m)) false
+abbrev pub isDue : ℕ → List Mark → Bool
+isDue zero m = true
+isDue (suc n) [] = false
+isDue (suc n) (b ∷ m) = cond (b .free) (allTaken (suc n) (b ∷ m)) false
 
 -- the packets, from number i on, that are due
 unfoldable pub wanted : ℕ → List (List ℕ) → List Mark → List Entry
 wanted i [] m = []
 wanted i (p ∷ ps) m =
     let w = wanted (suc i) ps (drop (length p) m) in
-    cond (due (length p) m) (packet (i % 64) p ∷ w) w
+    cond (isDue (length p) m) (packet (i % 64) p ∷ w) w
 
 -- ---- premises
 
@@ -154,3 +140,27 @@ AllFit sent rest (c ∷ cs) = Fits sent (c .whole) (c .over) rest × AllFit (sen
 abbrev pub Sized : List (List ℕ) → Type 0
 Sized [] = Unit {0}
 Sized (p ∷ ps) = (1 ≤ length p) × (length p ≤ 4096) × Sized ps
+
+-- ---- by bytes
+
+-- the packets of which f holds (`wholeIndices`), as they are logged
+unfoldable pub wholePackets : (ℕ → ℕ → Bool) → ℕ → ℕ → List (List ℕ) → List Entry
+wholePackets f o i [] = []
+wholePackets f o i (p ∷ ps) = cond (f o (length p)) (packet (i % 64) p ∷ []) [] ++ wholePackets f (o + length p) (suc i) ps
+
+-- ---- the spans of plans
+
+abbrev pub bytesIn : List (List ℕ) → ℕ
+bytesIn [] = 0
+bytesIn (p ∷ ps) = length p + bytesIn ps
+
+-- from place g on, with s bytes of the first packet of rest sent
+unfoldable pub spansOf : ℕ → ℕ → List (List ℕ) → List Plan → List Span
+spansOf g s rest [] = []
+spansOf g s rest (c ∷ cs) =
+    let n = bytesIn (cut s (c .whole) (c .over) rest) in
+    record { from = g; count = n } ∷ spansOf (g + n) (sentAfter s (c .whole) (c .over)) (drop (c .whole) rest) cs
+
+abbrev pub fatesOf : List Plan → List Fate
+fatesOf [] = []
+fatesOf (c ∷ cs) = c .fate ∷ fatesOf cs

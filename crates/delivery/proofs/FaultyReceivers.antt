@@ -1,9 +1,9 @@
 -- The receivers that document 01 wants thrown out by demand 3, one that delivers a packet for a PDU marked lost, one that joins across a lost PDU, one that
 -- does not take the register it is given, one whose batches forget, one that takes the whole of the better copy, one that looks at no CRC, and one whose counts
--- marking lost sets back. Each is the receiver of document 01 but for what its line says; demand 3 is shown false of `zeroed` in proofs/Registers.antt, of `forgetting` in proofs/BatchRuns.antt, and of the others in
+-- marking lost sets back. Each is the receiver of document 01 but for what its line says; demand 3 is shown false of `zeroed` in proofs/Registers.antt, of `handingBack` in proofs/BatchRuns.antt, and of the others in
 -- proofs/WrongReceivers.antt, but the promise over runs of pairs of `choosing`, in proofs/PairRuns.antt, the promise for entitled programs of `supposing` and
 -- `keeping`, in proofs/WrongRights.antt, and the promise over bursts of `trusting`, in proofs/WrongBursts.antt.
-use mathlib.Core.Bool.{Bool, true, false, _||_, cond}
+use mathlib.Core.Bool.{_||_, cond}
 use mathlib.Core.List.{List, [], _∷_, map}
 use Prim.Native.Nat.{ℕ}
 use lib.Dec.{eqb}
@@ -15,14 +15,20 @@ use Rattle.reassembly.specs.Holder.{Come}
 use Rattle.receiver.specs.Receiving.{memoryOf, keptOf, tallyOf, remembering, keepsServices, shown, modeOf, come}
 use Rattle.receiver.specs.declared.Receiver.{Receiver}
 use Rattle.diversity.specs.Diversity.{Choice, neither, theFirst, theSecond, choiceOf}
-use Rattle.delivery.specs.Delivery.{Behaviour, Answer, Station, Call, receive, batch, pair, markLost, answerOf, carryOf, logOf, defined}
+use Rattle.delivery.proofs.Parts.{answerOf, carryOf, logOf}
+use Rattle.batch.specs.declared.Batch.{Batch}
+use Rattle.delivery.specs.Delivery.{Behaviour, Station, Call, receive, batch, pair, markLost, defined}
+
+-- a receiver by what each of its calls answers and leaves in carry and log
+abbrev behaving : ((mode stream register : ℕ) (programs : List ℕ) → Receiver) → (Station → Call → Batch) → (Station → Call → List ℕ) → (Station → Call → List ℕ) → Behaviour
+behaving opening answer carry log = record { opening = opening; effect = λ x c. record { answer = answer x c; carry = carry x c; log = log x c } }
 
 -- an answer with another count of words, or with another receiver
-abbrev pub withWords : ℕ → Answer → Answer
-withWords n a = record { refusal = a .refusal; taken = a .taken; words = n; receiver = a .receiver }
+abbrev pub withWords : ℕ → Batch → Batch
+withWords n a = record { refusal = a .refusal; wrong = a .wrong; taken = a .taken; words = n; receiver = a .receiver }
 
-abbrev pub withReceiver : Receiver → Answer → Answer
-withReceiver r a = record { refusal = a .refusal; taken = a .taken; words = a .words; receiver = r }
+abbrev pub withReceiver : Receiver → Batch → Batch
+withReceiver r a = record { refusal = a .refusal; wrong = a .wrong; taken = a .taken; words = a .words; receiver = r }
 
 -- the log as it was lent
 abbrev pub lentLog : Call → List ℕ
@@ -33,18 +39,18 @@ lentLog (markLost log) = log
 
 -- an empty log for everything
 abbrev pub silent : Behaviour
-silent = record { opening = defined .opening; answer = λ x c. withWords 0 (answerOf x c); carry = carryOf; log = λ x c. lentLog c }
+silent = behaving (defined .opening) (λ x c. withWords 0 (answerOf x c)) carryOf (λ x c. lentLog c)
 
 -- it leaves the log untouched
 abbrev pub untouched : Behaviour
-untouched = record { opening = defined .opening; answer = answerOf; carry = carryOf; log = λ x c. lentLog c }
+untouched = behaving (defined .opening) answerOf carryOf (λ x c. lentLog c)
 
 -- it delivers one fixed packet for every PDU handed to it by a single call, also for one that it refuses
 module _ (number : ℕ) (bytes : List ℕ) where
   abbrev pub fixedWords : List ℕ
   fixedWords = logWords (packet number bytes ∷ [])
 
-  abbrev pub fixedAnswer : Station → Call → Answer
+  abbrev pub fixedAnswer : Station → Call → Batch
   fixedAnswer x (receive marks pdu log) = withWords (length fixedWords) (answerOf x (receive marks pdu log))
   fixedAnswer x (batch lengths pdus log) = answerOf x (batch lengths pdus log)
   fixedAnswer x (pair first second log) = answerOf x (pair first second log)
@@ -57,14 +63,14 @@ module _ (number : ℕ) (bytes : List ℕ) where
   fixedLog x (markLost log) = logOf x (markLost log)
 
   abbrev pub fixed : Behaviour
-  fixed = record { opening = defined .opening; answer = fixedAnswer; carry = carryOf; log = fixedLog }
+  fixed = behaving (defined .opening) fixedAnswer carryOf fixedLog
 
   -- it delivers the packet for every PDU marked lost, and says that it took none
-  abbrev pub inventingAnswer : Station → Call → Answer
+  abbrev pub inventingAnswer : Station → Call → Batch
   inventingAnswer x (receive marks pdu log) = answerOf x (receive marks pdu log)
   inventingAnswer x (batch lengths pdus log) = answerOf x (batch lengths pdus log)
   inventingAnswer x (pair first second log) = answerOf x (pair first second log)
-  inventingAnswer x (markLost log) = record { refusal = answerOf x (markLost log) .refusal; taken = 0; words = length fixedWords; receiver = answerOf x (markLost log) .receiver }
+  inventingAnswer x (markLost log) = record { refusal = answerOf x (markLost log) .refusal; wrong = 0; taken = 0; words = length fixedWords; receiver = answerOf x (markLost log) .receiver }
 
   abbrev pub inventingLog : Station → Call → List ℕ
   inventingLog x (receive marks pdu log) = logOf x (receive marks pdu log)
@@ -73,56 +79,56 @@ module _ (number : ℕ) (bytes : List ℕ) where
   inventingLog x (markLost log) = putAt log 0 fixedWords
 
   abbrev pub inventing : Behaviour
-  inventing = record { opening = defined .opening; answer = inventingAnswer; carry = carryOf; log = inventingLog }
+  inventing = behaving (defined .opening) inventingAnswer carryOf inventingLog
 
 -- it joins in the first PDU, and then, by single calls, only advances
-abbrev pub advancingAnswer : Station → Call → Answer
+abbrev pub advancingAnswer : Station → Call → Batch
 advancingAnswer x (receive marks pdu log) = cond (x .receiver .known) (withWords 0 (answerOf x (receive marks pdu log))) (answerOf x (receive marks pdu log))
 advancingAnswer x (batch lengths pdus log) = answerOf x (batch lengths pdus log)
 advancingAnswer x (pair first second log) = answerOf x (pair first second log)
 advancingAnswer x (markLost log) = answerOf x (markLost log)
 
 abbrev pub advancing : Behaviour
-advancing = record { opening = defined .opening; answer = advancingAnswer; carry = carryOf; log = logOf }
+advancing = behaving (defined .opening) advancingAnswer carryOf logOf
 
 -- marking lost leaves it as it was, so that the one-bit sequence may fit again
-abbrev pub joiningAnswer : Station → Call → Answer
+abbrev pub joiningAnswer : Station → Call → Batch
 joiningAnswer x (receive marks pdu log) = answerOf x (receive marks pdu log)
 joiningAnswer x (batch lengths pdus log) = answerOf x (batch lengths pdus log)
 joiningAnswer x (pair first second log) = answerOf x (pair first second log)
 joiningAnswer x (markLost log) = withReceiver (x .receiver) (answerOf x (markLost log))
 
 abbrev pub joining : Behaviour
-joining = record { opening = defined .opening; answer = joiningAnswer; carry = carryOf; log = logOf }
+joining = behaving (defined .opening) joiningAnswer carryOf logOf
 
 -- it opens with a register of 0, whatever is asked for (document 02, Ask 2)
 abbrev pub zeroed : Behaviour
-zeroed = record { opening = λ mode stream register programs. defined .opening mode stream 0 programs; answer = answerOf; carry = carryOf; log = logOf }
+zeroed = behaving (λ mode stream register programs. defined .opening mode stream 0 programs) answerOf carryOf logOf
 
 -- a batch hands back the receiver that it got (document 02, Ask 1)
-abbrev pub forgettingAnswer : Station → Call → Answer
+abbrev pub forgettingAnswer : Station → Call → Batch
 forgettingAnswer x (receive marks pdu log) = answerOf x (receive marks pdu log)
 forgettingAnswer x (batch lengths pdus log) = withReceiver (x .receiver) (answerOf x (batch lengths pdus log))
 forgettingAnswer x (pair first second log) = answerOf x (pair first second log)
 forgettingAnswer x (markLost log) = answerOf x (markLost log)
 
-abbrev pub forgetting : Behaviour
-forgetting = record { opening = defined .opening; answer = forgettingAnswer; carry = carryOf; log = logOf }
+abbrev pub handingBack : Behaviour
+handingBack = behaving (defined .opening) forgettingAnswer carryOf logOf
 
 -- it chooses the better copy of a pair and receives that one alone (document 02, Ask 5)
-abbrev pub chosen : Choice → List ℕ → List ℕ → List ℕ
-chosen neither first second = []
-chosen theFirst first second = first
-chosen theSecond first second = second
+abbrev pub chosenCopy : Choice → List ℕ → List ℕ → List ℕ
+chosenCopy neither first second = []
+chosenCopy theFirst first second = first
+chosenCopy theSecond first second = second
 
-abbrev pub better : Call → Call
-better (receive marks pdu log) = receive marks pdu log
-better (batch lengths pdus log) = batch lengths pdus log
-better (pair first second log) = receive [] (chosen (choiceOf first second) first second) log
-better (markLost log) = markLost log
+abbrev pub betterAlone : Call → Call
+betterAlone (receive marks pdu log) = receive marks pdu log
+betterAlone (batch lengths pdus log) = batch lengths pdus log
+betterAlone (pair first second log) = receive [] (chosenCopy (choiceOf first second) first second) log
+betterAlone (markLost log) = markLost log
 
 abbrev pub choosing : Behaviour
-choosing = record { opening = defined .opening; answer = λ x c. answerOf x (better c); carry = λ x c. carryOf x (better c); log = λ x c. logOf x (better c) }
+choosing = behaving (defined .opening) (λ x c. answerOf x (betterAlone c)) (λ x c. carryOf x (betterAlone c)) (λ x c. logOf x (betterAlone c))
 
 -- ---- document 02, Ask 10, for core of sequence range 0-7
 
@@ -148,20 +154,20 @@ abbrev pub assumed : Station → Station
 assumed x = record { receiver = assuming (x .receiver); carry = x .carry }
 
 abbrev pub supposing : Behaviour
-supposing = record { opening = defined .opening; answer = λ x c. answerOf (assumed x) c; carry = λ x c. carryOf (assumed x) c; log = λ x c. logOf (assumed x) c }
+supposing = behaving (defined .opening) (λ x c. answerOf (assumed x) c) (λ x c. carryOf (assumed x) c) (λ x c. logOf (assumed x) c)
 
 -- marking lost keeps the applied services
 abbrev pub servicesKept : Station → Receiver
 servicesKept x = remembering (x .receiver) forgotten (keptOf (x .receiver)) (tallyOf (x .receiver))
 
-abbrev pub keepingAnswer : Station → Call → Answer
+abbrev pub keepingAnswer : Station → Call → Batch
 keepingAnswer x (receive marks pdu log) = answerOf x (receive marks pdu log)
 keepingAnswer x (batch lengths pdus log) = answerOf x (batch lengths pdus log)
 keepingAnswer x (pair first second log) = answerOf x (pair first second log)
 keepingAnswer x (markLost log) = withReceiver (servicesKept x) (answerOf x (markLost log))
 
 abbrev pub keeping : Behaviour
-keeping = record { opening = defined .opening; answer = keepingAnswer; carry = carryOf; log = logOf }
+keeping = behaving (defined .opening) keepingAnswer carryOf logOf
 
 -- ---- document 02, Ask 12: by single calls it logs a PDU as if the CRC of each piece were right
 
@@ -191,7 +197,7 @@ module _ (x : Station) (marks pdu log : List ℕ) where
   abbrev pub trustedWords : List ℕ
   trustedWords = logWords trustedEntries
 
-abbrev pub trustingAnswer : Station → Call → Answer
+abbrev pub trustingAnswer : Station → Call → Batch
 trustingAnswer x (receive marks pdu log) =
     let a = answerOf x (receive marks pdu log) in
     withWords (cond (eqb (a .refusal) 0) (length (trustedWords x marks pdu log)) 0) a
@@ -206,7 +212,7 @@ trustingLog x (pair first second log) = logOf x (pair first second log)
 trustingLog x (markLost log) = logOf x (markLost log)
 
 abbrev pub trusting : Behaviour
-trusting = record { opening = defined .opening; answer = trustingAnswer; carry = carryOf; log = trustingLog }
+trusting = behaving (defined .opening) trustingAnswer carryOf trustingLog
 
 -- ---- document 02, Ask 14
 
@@ -228,11 +234,11 @@ uncounted r = record {
   last = 0;
 }
 
-abbrev pub resettingAnswer : Station → Call → Answer
+abbrev pub resettingAnswer : Station → Call → Batch
 resettingAnswer x (receive marks pdu log) = answerOf x (receive marks pdu log)
 resettingAnswer x (batch lengths pdus log) = answerOf x (batch lengths pdus log)
 resettingAnswer x (pair first second log) = answerOf x (pair first second log)
 resettingAnswer x (markLost log) = withReceiver (uncounted (answerOf x (markLost log) .receiver)) (answerOf x (markLost log))
 
 abbrev pub resetting : Behaviour
-resetting = record { opening = defined .opening; answer = resettingAnswer; carry = carryOf; log = logOf }
+resetting = behaving (defined .opening) resettingAnswer carryOf logOf

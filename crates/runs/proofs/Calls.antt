@@ -1,21 +1,23 @@
 -- One notion of a call for the PDUs of a run. A call hands over some of them, in order: one (alone, with marks, as a pair of copies), several (a
 -- batch), or none (a refused call, an interruption). Each comes to the receiver in some way: lost, or with a cause for each of its pieces.
 -- What states and calls are, and how a call hands PDUs over, is a parameter.
-use Prim.Native.Nat.{ℕ, zero, suc, _+_, _%_, _≤_, _<_}
+use Prim.Native.Nat.{ℕ, _+_}
 use mathlib.Core.Path.{_≡_}
-use mathlib.Core.Bool.{Bool, true, false, cond}
+use mathlib.Core.Bool.{true, false}
 use mathlib.Core.List.{List, [], _∷_, _++_}
-use mathlib.Core.Option.{Option, none, some}
-use lib.ListN.{length, take, drop, replicate}
-use Rattle.log.specs.Log.{Entry, logWords}
+use mathlib.Core.Option.{Option, none}
+use lib.ListN.{length, drop, replicate}
+use Rattle.log.specs.Log.{logWords}
 use Rattle.log.proofs.Packets.{FitAll}
 use Rattle.reassembly.specs.Reassembly.{following}
 use Rattle.reassembly.specs.Rights.{Rights, Label}
 use Rattle.reassembly.specs.Tally.{Tally, Grows}
-use Rattle.reassembly.specs.Holder.{Come, Event, lost, came, Holder, opened, logged, after}
-use Rattle.runs.specs.Model.{cut, Fits, sentAfter, Fate, lose, read, Plan, saidOf, Mark}
-use Rattle.runs.specs.Transmissions.{Way, gone, here, Transmission, planOf, fateOf, keptOf, plansFrom}
-use Rattle.runs.specs.Spans.{Span, bytesIn, fatesOf}
+use Rattle.reassembly.specs.Holder.{Come, Event, lost, came, Holder, logged, after}
+use Rattle.runs.proofs.Model.{cut, Fits, sentAfter, saidOf, bytesIn, fatesOf}
+use Rattle.runs.specs.Spans.{Fate, lose, Span}
+use Rattle.runs.specs.Transmissions.{Way, gone, here}
+use Rattle.runs.proofs.Transmissions.{Transmission, planOf, fateOf, keptOf, plansFrom}
+use Rattle.runs.specs.Withheld.{fateIn}
 
 -- ---- the writer's PDUs
 
@@ -83,8 +85,7 @@ labelsOf (c ∷ cs) = c .label ∷ labelsOf cs
 
 -- where nothing is withheld
 abbrev pub plainFate : Way → Fate
-plainFate gone = lose
-plainFate (here f) = read false f
+plainFate = fateIn false
 
 unfoldable pub plainFates : List Way → List Label → List Fate
 plainFates ws [] = []
@@ -141,9 +142,9 @@ module _ {rights : Rights} {range : ℕ} {M : Machine} (B : Bridge rights range 
   handed [] = []
   handed (s ∷ ss) = s .pdus ++ handed ss
 
-  abbrev pub waysOf : List Step → List Way
-  waysOf [] = []
-  waysOf (s ∷ ss) = s .ways ++ waysOf ss
+  abbrev pub waysHanded : List Step → List Way
+  waysHanded [] = []
+  waysHanded (s ∷ ss) = s .ways ++ waysHanded ss
 
   abbrev pub Through : M .State → List Step → Type 0
   Through x [] = Unit {0}

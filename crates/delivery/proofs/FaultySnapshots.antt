@@ -4,11 +4,11 @@ use mathlib.Core.Bool.{false}
 use Rattle.receiver.specs.declared.Receiver.{Receiver}
 use Rattle.snapshot.specs.Snapshot.{loaded}
 use Rattle.delivery.specs.Delivery.{Station}
-use Rattle.delivery.specs.Interruptions.{Snapshot, written}
+use Rattle.delivery.specs.Interruptions.{Snapshot, definedSnapshot}
 
 -- what is loaded comes back otherwise
 abbrev pub changing : (Receiver → Receiver) → Snapshot
-changing f = record { saved = written .saved; words = written .words; loaded = λ ws c. record { refusal = loaded ws c .refusal; receiver = f (loaded ws c .receiver) }; carry = written .carry }
+changing f = record { saved = definedSnapshot .saved; words = definedSnapshot .words; loaded = λ ws c. record { refusal = loaded ws c .refusal; receiver = f (loaded ws c .receiver) }; carry = definedSnapshot .carry }
 
 -- the starting register: CRCs start with 0
 abbrev pub unregistered : Receiver → Receiver
@@ -26,9 +26,9 @@ forgetsSequence = changing unsequenced
 
 -- the held bytes: the carry stays as it was lent
 abbrev pub forgetsHeld : Snapshot
-forgetsHeld = record { saved = written .saved; words = written .words; loaded = written .loaded; carry = λ ws c. c }
+forgetsHeld = record { saved = definedSnapshot .saved; words = definedSnapshot .words; loaded = definedSnapshot .loaded; carry = λ ws c. c }
 
--- the counts: no word of kind 6 is written (document 02, Ask 14). Its words are those of the receiver with nothing delivered
+-- the counts: no word of kind 6 is definedSnapshot (document 02, Ask 14). Its words are those of the receiver with nothing delivered
 abbrev pub uncounted : Station → Station
 uncounted x =
     let r = x .receiver in
@@ -38,4 +38,4 @@ uncounted x =
     }
 
 abbrev pub forgetsCounts : Snapshot
-forgetsCounts = record { saved = λ x. written .saved (uncounted x); words = λ x. written .words (uncounted x); loaded = written .loaded; carry = written .carry }
+forgetsCounts = record { saved = λ x. definedSnapshot .saved (uncounted x); words = λ x. definedSnapshot .words (uncounted x); loaded = definedSnapshot .loaded; carry = definedSnapshot .carry }
