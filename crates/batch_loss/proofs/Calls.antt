@@ -15,7 +15,7 @@ use Rattle.receiver.specs.Receiving.{memoryOf, modeOf, tallyOf, remembering, sa
 use Rattle.receiver.specs.declared.Receiver.{Receiver}
 use Rattle.receiver.proofs.Counting.{counts-fair}
 use Rattle.receiver.proofs.Enough.{firstTwelve}
-use Rattle.joinable.specs.Joinable.{Bytes}
+use Rattle.writer.specs.RoundTrip.{Bytes}
 use Rattle.joinable.proofs.Saying.{said-sane, held-before}
 use Rattle.loss.specs.Column.{afterWords}
 use Rattle.loss.proofs.Words.{entries-tallied}

@@ -15,8 +15,8 @@ use Rattle.receiver.specs.declared.Received.{Received}
 use Rattle.batch.specs.Batches.{Result, unchanged, followed, oneByOne, wordEnds, batchNumber, received, endsAfter}
 use Rattle.batch.proofs.OneByOne.{first, firstLog, first-taken, first-refused, end-taken, end-refused}
 use Rattle.batch.proofs.Single.{words-fit, log-long}
-use Rattle.joinable.specs.Joinable.{Bytes}
-use Rattle.joinable.proofs.Saying.{bytes-take, bytes-drop}
+use Rattle.writer.specs.RoundTrip.{Bytes}
+use Rattle.delivery.proofs.Made.{bytes-take, bytes-drop}
 use Rattle.joinable.proofs.Calls.{carry-bytes}
 use Rattle.loss.specs.Column.{afterWords}
 use Rattle.loss.proofs.Words.{words-append}

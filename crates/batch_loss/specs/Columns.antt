@@ -9,7 +9,7 @@ use Rattle.reassembly.specs.Tally.{Tally}
 use Rattle.receiver.specs.Receiving.{tallyOf, receiveAnswer, carryAfter, logAfter}
 use Rattle.receiver.specs.declared.Receiver.{Receiver}
 use Rattle.batch.specs.Batches.{Result, batchNumber, received, endsAfter}
-use Rattle.joinable.specs.Joinable.{Bytes}
+use Rattle.writer.specs.RoundTrip.{Bytes}
 use Rattle.loss.specs.Column.{afterWords}
 
 -- ---- from the words
