@@ -1,6 +1,6 @@
 /*
- * Barzhilup: the audio transport layer of HD Radio, as a C library (libcapi.a,
- * and libpanel.a for the panel's functions).
+ * Barzhilup: the audio transport layer of HD Radio, as a C library (libbarzhilup.a
+ * and libbarzhilup.so).
  *
  * "Document 01" below is the paper with the rules, "document 02" the one with
  * what was asked for after it; "001" is 1017s Rev. H, the standard that document
@@ -42,6 +42,22 @@
 #ifdef __cplusplus
 extern "C" {
 #endif
+
+/* ---- Version ------------------------------------------------------------ */
+
+/* The version of this header, as three numbers, as text, and as one number: the
+ * first in bits 23-16, the second in 15-8, the third in 7-0. */
+#define BARZHILUP_VERSION_MAJOR 0
+#define BARZHILUP_VERSION_MINOR 1
+#define BARZHILUP_VERSION_PATCH 0
+#define BARZHILUP_VERSION_STRING "0.1.0"
+#define BARZHILUP_VERSION 0x000100
+
+/* The version of the library that a program runs with, in the form of
+ * BARZHILUP_VERSION. A program fits a shared library whose first number is the
+ * same and whose version is not lower: the first rises where programs have to be
+ * compiled again. */
+uint32_t barzhilup_version(void);
 
 /* ---- Sizes -------------------------------------------------------------- */
 
@@ -1157,9 +1173,6 @@ barzhilup_waiting_packets(uint8_t mode, uint8_t stream,
                           size_t first, uint32_t *waiting, size_t length);
 
 /* ---- Panel (document 01, "After that, for the panel") -------------------- */
-
-/* These three functions are in libpanel.a. It needs nothing of libcapi.a; a
- * program may link both. */
 
 /* A piece of a PDU. */
 typedef struct {

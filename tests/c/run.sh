@@ -1,51 +1,39 @@
 #!/usr/bin/env bash
-# Builds the C tests against the static libraries and runs them, plainly and with gcc's sanitizers, compares the header code with libfec where
+# Builds the C tests against the static library and runs them, plainly and with gcc's sanitizers, compares the header code with libfec where
 # that is installed, and tries the header in C++.
-# Needs gcc and g++ and built libcapi.a and libpanel.a: in target/staticlib under the project's root, or in the directory that BARZHILUP_LIB
-# names.
+# Needs gcc and g++ and a built libbarzhilup.a (scripts/libraries): in target/staticlib under the project's root, or in the directory that
+# BARZHILUP_LIB names.
 set -euo pipefail
 
 root=$(cd "$(dirname "$0")/../.." && pwd)
 libraries=${BARZHILUP_LIB:-$root/target/staticlib}
-library=$libraries/libcapi.a
-panel=$libraries/libpanel.a
-for built in "$library" "$panel"; do
-    if [ ! -f "$built" ]; then
-        echo "C: no $built; build the libraries first, or name their directory in BARZHILUP_LIB" >&2
-        exit 1
-    fi
-done
+library=$libraries/libbarzhilup.a
+if [ ! -f "$library" ]; then
+    echo "C: no $library; build it first (scripts/libraries), or name its directory in BARZHILUP_LIB" >&2
+    exit 1
+fi
 
 build=$(mktemp -d)
 trap 'rm -rf "$build"' EXIT
 warnings=(-Wall -Wextra -Wpedantic -Werror -I "$root/include")
 
-# A test, and the libraries that it is linked with.
-run() {
+# Builds and runs a test.
+run() { # NAME
     local test=$1
-    shift
     echo "C99, gcc, $test:"
-    gcc -std=c99 "${warnings[@]}" -O2 -o "$build/$test" "$root/tests/c/$test.c" "$@"
+    gcc -std=c99 "${warnings[@]}" -O2 -o "$build/$test" "$root/tests/c/$test.c" "$library"
     "$build/$test"
 
     echo "C99, gcc, $test, address and undefined behaviour sanitizers:"
     gcc -std=c99 "${warnings[@]}" -O2 -g -fsanitize=address,undefined -fno-sanitize-recover=all \
-        -o "$build/sanitized" "$root/tests/c/$test.c" "$@"
+        -o "$build/sanitized" "$root/tests/c/$test.c" "$library"
     "$build/sanitized"
 }
 
-for test in header_test marks_test writer_test receiver_test latency_test; do
-    run "$test" "$library"
+for test in header_test marks_test writer_test receiver_test latency_test shares_test batch_test pair_test entitled_test join_test snapshot_test \
+    panel_test registers_test counts_test; do
+    run "$test"
 done
-run shares_test "$library"
-run batch_test "$library"
-run pair_test "$library"
-run entitled_test "$library"
-run join_test "$library"
-run snapshot_test "$library"
-run panel_test "$panel" "$library"
-run registers_test "$panel" "$library"
-run counts_test "$panel" "$library"
 
 # libfec, where it is installed (Debian: apt-get install libfec-dev).
 if gcc -std=c99 "${warnings[@]}" -O2 -o "$build/fec_test" "$root/tests/c/fec_test.c" "$library" -lfec 2>"$build/fec.log"; then
@@ -94,9 +82,12 @@ int main()
     const bool opened =
         barzhilup_open_receiver_with(0, 0, BARZHILUP_CRC_START_OFF_AIR).receiver.crc_start == 255
         && barzhilup_crc8_from(255, piece, sizeof piece) == 0x9d;
-    return barzhilup_crc8(piece, sizeof piece) == 0x31 && lost && listed && chosen && opened ? 0 : 1;
+    const bool version = barzhilup_version() == BARZHILUP_VERSION;
+    return barzhilup_crc8(piece, sizeof piece) == 0x31 && lost && listed && chosen && opened && version
+               ? 0
+               : 1;
 }
 CPP
-g++ -std=c++11 "${warnings[@]}" -o "$build/header_cpp" "$build/header.cpp" "$panel" "$library"
+g++ -std=c++11 "${warnings[@]}" -o "$build/header_cpp" "$build/header.cpp" "$library"
 "$build/header_cpp"
 echo "C++11, g++: the header compiles, and calls through it answer right"
