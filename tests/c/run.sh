@@ -1,6 +1,6 @@
 #!/usr/bin/env bash
-# Builds the C tests against the static library and runs them, plainly and with gcc's sanitizers, compares the header code with libfec where
-# that is installed, and tries the header in C++.
+# Builds the C tests against the static library and runs them, plainly and with gcc's sanitizers, and some of them under valgrind where that is
+# installed, compares the header code with libfec where that is, and tries the header in C from C99 to C23 and in C++ from C++11 to C++20.
 # Needs gcc and g++ and a built libbarzhilup.a (scripts/libraries): in target/staticlib under the project's root, or in the directory that
 # BARZHILUP_LIB names.
 set -euo pipefail
@@ -31,9 +31,19 @@ run() { # NAME
 }
 
 for test in header_test marks_test writer_test receiver_test latency_test shares_test batch_test pair_test entitled_test join_test snapshot_test \
-    panel_test registers_test counts_test; do
+    panel_test registers_test counts_test inline_test; do
     run "$test"
 done
+
+# The sanitizers do not see inside the library; valgrind does. These are the tests that take it a few seconds each.
+if command -v valgrind >/dev/null; then
+    for test in inline_test writer_test entitled_test latency_test shares_test; do
+        echo "valgrind, $test:"
+        valgrind --quiet --error-exitcode=9 --leak-check=no "$build/$test"
+    done
+else
+    echo "valgrind is not installed: no test is run under it"
+fi
 
 # libfec, where it is installed (Debian: apt-get install libfec-dev).
 if gcc -std=c99 "${warnings[@]}" -O2 -o "$build/fec_test" "$root/tests/c/fec_test.c" "$library" -lfec 2>"$build/fec.log"; then
@@ -88,6 +98,13 @@ int main()
                : 1;
 }
 CPP
-g++ -std=c++11 "${warnings[@]}" -o "$build/header_cpp" "$build/header.cpp" "$library"
-"$build/header_cpp"
-echo "C++11, g++: the header compiles, and calls through it answer right"
+for standard in c++11 c++14 c++17 c++20; do
+    g++ -std="$standard" "${warnings[@]}" -Wconversion -Wold-style-cast -o "$build/header_cpp" "$build/header.cpp" "$library"
+    "$build/header_cpp"
+done
+echo "C++11 to C++20, g++: the header compiles, and calls through it answer right"
+
+for standard in c99 c11 c17 c2x; do
+    gcc -std="$standard" "${warnings[@]}" -Wconversion -fsyntax-only -x c "$root/include/barzhilup.h"
+done
+echo "C99 to C23, gcc: the header compiles by itself"
