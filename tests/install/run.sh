@@ -73,6 +73,13 @@ else
     echo "pkg-config is not installed: the example is not built through it"
 fi
 
+# The Python module, with the library that is installed beside it.
+if python3 -c 'import sys; sys.exit(sys.version_info < (3, 8))' 2>/dev/null; then
+    found=$(cd / && env -u BARZHILUP_LIB PYTHONDONTWRITEBYTECODE=1 PYTHONPATH="$prefix/share/barzhilup/python" \
+        python3 -c 'import barzhilup; print(barzhilup._c._name, barzhilup.Writer(0).write([b"audio"], 96).ended)')
+    same "the Python module finds the library and writes" "$prefix/lib/libbarzhilup.so.0 1" "$found"
+fi
+
 # Manual pages, with a page for each subcommand.
 subs=$("$prefix/bin/barzhilup" --help | sed -n 's/^  \([a-z]\+\) .*/\1/p')
 for name in barzhilup $(printf 'barzhilup-%s ' $subs); do
