@@ -49,11 +49,11 @@ fn count(log: Log) -> usize {
 
 /// Receives a PDU, which is marked lost where it is refused; how many packets it
 /// brought.
-fn receive(receiver: &mut Receiver, pdu: &mut [u8]) -> Result<usize, Refusal> {
+fn receive(receiver: &mut Receiver, pdu: &mut [u8]) -> usize {
     if let Ok(log) = receiver.receive(pdu) {
-        return Ok(count(log));
+        return count(log);
     }
-    receiver.mark_lost().map(count)
+    count(receiver.mark_lost())
 }
 
 fn main() -> Result<(), Refusal> {
@@ -64,12 +64,12 @@ fn main() -> Result<(), Refusal> {
     let (mut alone, mut paired) = ([0; 2], 0);
     for (place, pdu) in pdus.iter().enumerate() {
         for (antenna, receiver) in antennas.iter_mut().enumerate() {
-            alone[antenna] += receive(receiver, &mut heard(place, antenna, pdu))?;
+            alone[antenna] += receive(receiver, &mut heard(place, antenna, pdu));
         }
         let (mut first, mut second) = (heard(place, 0, pdu), heard(place, 1, pdu));
         paired += match both.receive_pair(&mut first, &mut second) {
             Ok(log) => count(log),
-            Err(_) => both.mark_lost().map(count)?,
+            Err(_) => count(both.mark_lost()),
         };
     }
     println!("{} packets in {} PDUs", packets.len(), pdus.len());

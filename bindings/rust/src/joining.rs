@@ -5,12 +5,11 @@ use crate::log::Data;
 use crate::Refusal;
 use std::iter::FusedIterator;
 
-/// Set in the first word of an enhanced packet in the words of [`Joined`], and in
-/// no packet's first word of a log. (Document 02, Ask 11.)
+/// Set in the first word of an enhanced packet in the words of [`Joined`], and
+/// in no packet's first word of a log.
 pub const JOINED_ENHANCED: u32 = 0x2000_0000;
 
-/// Joins two logs of one frame, core and enhanced, by packet number. (Document
-/// 02, Ask 11.)
+/// Joins two logs of one frame, core and enhanced, by packet number.
 ///
 /// Each is the words of one call's log, or of several calls' joined. In the
 /// core's order the result has each core packet, alone or with the enhanced packet
@@ -20,11 +19,12 @@ pub const JOINED_ENHANCED: u32 = 0x2000_0000;
 /// # Errors
 ///
 /// The first of these that applies:
-/// [`Refusal::LogWords`]: the words are not as document 01 lays a log out; those of
-/// a receiver are. The result of a join with a pair is no log, one without a pair
-/// is.
-/// [`Refusal::Numbers`]: packet numbers do not rise strictly within a log, counted
-/// from its own first packet, modulo 64. Not looked at if there is no core packet.
+///
+/// - [`Refusal::LogWords`]: the words are no log, as [`Log`](crate::Log) says; those
+///   of a receiver are. The result of a join with a pair is no log, one without a
+///   pair is.
+/// - [`Refusal::Numbers`]: packet numbers do not rise strictly within a log, counted
+///   from its own first packet, modulo 64. Not looked at if there is no core packet.
 ///
 /// # Example
 ///
@@ -34,10 +34,10 @@ pub const JOINED_ENHANCED: u32 = 0x2000_0000;
 /// let core = [0x003F_0001, 0x4111_0000, 0x0000_0001, 0x4122_0000]; // packets 63 and 0
 /// let enhanced = [0x0000_0001, 0x4133_0000]; // packet 0
 /// let joined = join(&core, &enhanced)?;
-/// let numbers: Vec<_> = joined
-///     .packets()
-///     .map(|packet| (packet.number, packet.enhanced.is_some()))
-///     .collect();
+/// let mut numbers = Vec::new();
+/// for packet in &joined {
+///     numbers.push((packet.number, packet.enhanced.is_some()));
+/// }
 /// assert_eq!(numbers, [(63, false), (0, true)]);
 /// # Ok::<(), barzhilup::Refusal>(())
 /// ```
@@ -50,8 +50,9 @@ pub fn join(core: &[u32], enhanced: &[u32]) -> Result<Joined, Refusal> {
     Ok(Joined { words })
 }
 
-/// Two logs joined. (Document 02, Ask 11.)
+/// Two logs joined.
 #[derive(Clone, Debug, PartialEq, Eq)]
+#[must_use = "the packets stand in this answer alone"]
 pub struct Joined {
     words: Vec<u32>,
 }
@@ -59,6 +60,7 @@ pub struct Joined {
 impl Joined {
     /// The words: each core packet's, and for a pair the enhanced packet's after
     /// them, with [`JOINED_ENHANCED`] set in its first.
+    #[must_use]
     pub fn words(&self) -> &[u32] {
         &self.words
     }
@@ -69,8 +71,16 @@ impl Joined {
     }
 }
 
-/// A core packet, and the enhanced one of its number if there is one. (Document 02,
-/// Ask 11.)
+impl<'a> IntoIterator for &'a Joined {
+    type Item = JoinedPacket<'a>;
+    type IntoIter = JoinedPackets<'a>;
+
+    fn into_iter(self) -> JoinedPackets<'a> {
+        self.packets()
+    }
+}
+
+/// A core packet, and the enhanced one of its number if there is one.
 #[derive(Clone, Copy, Debug, PartialEq, Eq)]
 pub struct JoinedPacket<'a> {
     /// Its number, 0 to 63.
@@ -83,6 +93,7 @@ pub struct JoinedPacket<'a> {
 
 /// The packets of [`Joined`], one after another.
 #[derive(Clone, Debug)]
+#[must_use = "packets are read only when they are asked for"]
 pub struct JoinedPackets<'a> {
     words: &'a [u32],
 }

@@ -1,17 +1,11 @@
 //! A bench for latency settings (document 02, Ask 7).
-//!
-//! Its input is the count of packets that end in each PDU, as
-//! [`Writer::write`](crate::Writer::write) answers it. One PDU's count is added
-//! at tick 0 and every N ticks; N is 4 for modes and streams of PDU sequence 0
-//! to 7, and 32 for those of 0 to 1. A latency v takes nothing before tick 2
-//! times v; from there each tick takes one packet, after any adding, or is dry
-//! if none waits. The bench runs N ticks for each count.
 
 use crate::ffi::latency as ffi;
 use crate::{Mode, Refusal, Stream};
 
-/// What came of trying one latency. (Document 02, Ask 7.)
+/// What came of trying one latency.
 #[derive(Clone, Copy, Debug, PartialEq, Eq)]
+#[must_use = "what came of the trial stands in this answer alone"]
 pub struct LatencyTrial {
     /// How many ticks the bench ran: N for each count.
     pub ticks: u32,
@@ -24,17 +18,25 @@ pub struct LatencyTrial {
     pub most_waiting: u32,
 }
 
-/// The smallest latency from 0 to 7 without a dry tick, or `None` where all eight
-/// have one. (Document 02, Ask 7.)
+/// The smallest latency from 0 to 7 without a dry tick, or `None` where all
+/// eight have one.
 ///
-/// `counts` has the packets that end in each PDU: 1 to 4,096 counts, each 0 to
-/// 63.
+/// `counts` has the packets that end in each PDU, as
+/// [`Writer::write`](crate::Writer::write) answers them: 1 to 4,096 counts, each 0
+/// to 63.
+///
+/// The packets of one PDU are added to those that wait at tick 0 and every N ticks;
+/// N is 4 for modes and streams of PDU sequence 0 to 7, and 32 for those of 0 to 1.
+/// With latency v nothing is taken before tick 2 times v; from there each tick takes
+/// one packet, after any adding, or is dry if none waits. There are N ticks for each
+/// count.
 ///
 /// # Errors
 ///
 /// The first of these that applies:
-/// [`Refusal::Mode`]: the mode and stream are not in the table.
-/// [`Refusal::Counts`]: no counts, more than 4,096, or one over 63.
+///
+/// - [`Refusal::Mode`]: the mode has no such stream.
+/// - [`Refusal::Counts`]: no counts, more than 4,096, or one over 63.
 ///
 /// # Example
 ///
@@ -50,8 +52,8 @@ pub fn smallest_latency(mode: Mode, stream: Stream, counts: &[u32]) -> Result<Op
     Ok(answer.found.then_some(answer.latency as u8))
 }
 
-/// Tries one latency, 0 to 7; a larger one, which no PDU can say, is tried all the
-/// same. (Document 02, Ask 7.)
+/// Tries one latency, 0 to 7, by the rules that stand at [`smallest_latency`]; a
+/// larger one, which no PDU can say, is tried all the same.
 ///
 /// # Errors
 ///
@@ -88,9 +90,9 @@ pub fn try_latency(
 }
 
 /// Writes the packets that wait at each tick into `waiting`, from tick `first`
-/// on, after any adding and before one is taken: as many ticks as the run has from
-/// there, and as `waiting` has room for. Answers how many; later entries stay as
-/// they are. (Document 02, Ask 7.)
+/// on, after any adding and before one is taken: as many ticks as the run has
+/// from there, and as `waiting` has room for. Answers how many; later entries
+/// stay as they are.
 ///
 /// # Errors
 ///

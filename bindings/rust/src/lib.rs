@@ -4,9 +4,28 @@
 //! log. No audio is decoded.
 //!
 //! This crate is a thin layer over the C library `libcapi.a` and `libpanel.a`,
-//! which does the work. "Document 01" in these pages is the paper with the
-//! rules, "document 02" the one with what was asked for after it; "001" is 1017s
-//! Rev. H, the standard that document 01 is taken from.
+//! which does the work. The rules are those of the HD Radio standard 1017s,
+//! Rev. H.
+//!
+//! # A PDU
+//!
+//! A PDU has 96 to 20,480 bytes, and these parts, in this order:
+//!
+//! - Parity, bytes 0 to 7. The first 96 bytes are the header, a word of a
+//!   Reed-Solomon code over GF(256): up to four wrong bytes in it are corrected,
+//!   wherever they are, and up to eight at places that are known.
+//! - The control word, bytes 8 to 13: [`ControlWord`].
+//! - A locator for each piece, the place of the piece's CRC byte, of 12 or 16 bits.
+//! - Expansion bytes, up to 16, if there are any: [`Expansion`].
+//! - PSD, if there is any, to byte La, which the control word names.
+//! - The pieces, up to 63, each with its CRC byte after it. A piece is a packet or
+//!   a part of one: the first may continue a packet of the PDU before (Pfirst), and
+//!   the last may be continued by the PDU after (Plast).
+//! - Reserved bytes, written zero and ignored on reading.
+//!
+//! Packets have 1 to 4,096 bytes and are numbered 0 to 63 and from 0 again. PDUs
+//! have a sequence number too. Its range, the width of the locators and the most
+//! PSD are the mode's: see [`Mode`].
 //!
 //! # Example
 //!
@@ -22,7 +41,8 @@
 //!     pdu[3] ^= 0x40; // noise in the header, which the receiver corrects
 //!
 //!     let mut receiver = Receiver::open(Mode::M0, Stream::Core)?;
-//!     for entry in receiver.receive(&mut pdu)? {
+//!     let log = receiver.receive(&mut pdu)?;
+//!     for entry in &log {
 //!         match entry {
 //!             Entry::Packet { number, data } => {
 //!                 assert_eq!((number, data.to_vec()), (0, b"audio".to_vec()));
@@ -36,11 +56,14 @@
 //!
 //! # Recordings off the air
 //!
-//! Each piece of a PDU has a CRC, whose register starts at 0 in document 01.
-//! Recordings off the air check with one that starts at [`CRC_START_OFF_AIR`]: a
-//! writer and a receiver are opened with it by [`Writer::open_with`] and
-//! [`Receiver::open_with`], and [`list_pieces`] is given it. Any byte will do, if
-//! both ends have the same.
+//! [`Records`] reads the PDUs of a recording, one after another, from a file as the
+//! program `barzhilup` writes it.
+//!
+//! Each piece of a PDU has a CRC. The standard names no value for its register to
+//! start with, and where none is given it is 0, [`CRC_START`]. Recordings off the
+//! air check with one that starts at [`CRC_START_OFF_AIR`]: a writer and a receiver
+//! are opened with it by [`Writer::open_with`] and [`Receiver::open_with`], and
+//! [`list_pieces`] is given it. Any byte will do, if both ends have the same.
 //!
 //! # A receiver that goes on after a restart
 //!
@@ -56,26 +79,32 @@
 //!
 //! # Refusals
 //!
-//! A call that can't be done is refused: it answers with a [`Refusal`], which
-//! has the number of document 01's table "What is turned down" or of document
-//! 02. A refused call changes nothing: the PDU, the list of pieces, the
-//! [`Writer`] and the [`Receiver`] are as they were. If several causes apply, the
-//! refusal has the lowest number, except that 19 comes directly after 3, 18
-//! directly after 2, 20 directly after 12, and 27 directly after 13. A batch of PDUs
-//! stops at a refused one; those before it are received, and its [`Batch`] says so.
-//! Joining two logs checks 23, 24 and then 13.
+//! A call that can't be done is refused: it answers with a [`Refusal`], whose
+//! number, 1 to 27, is the one that the C library and the program have for it. A
+//! refused call changes nothing: the PDU, the list of pieces, the [`Writer`] and
+//! the [`Receiver`] are as they were. If several causes apply, the refusal has the
+//! lowest number, except that 19 comes directly after 3, and 18 before any PDU of
+//! the batch is looked at. A batch of PDUs stops at a refused one; those before it
+//! are received, and its [`Batch`] says so.
 //!
-//! Every call ends, on every input, and none panics.
+//! A call that can't be refused answers no `Result`. Every call ends, on every
+//! input, and none panics.
+//!
+//! [`Refusal`], [`Cause`], [`Mode`] and [`RecordError`] may grow: a match on one of
+//! them has a last arm for what is new.
 //!
 //! # Linking
 //!
 //! The two libraries are looked for in `target/staticlib` under the project's
-//! root, or in the directory that the environment variable `BARZHILUP_LIB` names
-//! when the crate is built.
+//! root, where `rt staticlib capi` and `rt staticlib panel` make them, or in the
+//! directory that the environment variable `BARZHILUP_LIB` names when the crate is
+//! built. Where one is missing, the build says so.
 
 #![deny(missing_docs)]
 #![deny(unsafe_code)]
 #![warn(clippy::all)]
+#![warn(clippy::missing_errors_doc)]
+#![warn(clippy::must_use_candidate)]
 
 #[allow(unsafe_code)]
 mod ffi;
@@ -87,6 +116,7 @@ mod mode;
 mod pairs;
 mod reading;
 mod receiver;
+mod records;
 mod refusal;
 mod shares;
 mod writer;
@@ -101,68 +131,65 @@ pub use mode::{Mode, Stream};
 pub use pairs::choose;
 pub use reading::{list_pieces, read, ControlWord, Expansion, Piece, Reading};
 pub use receiver::{Batch, Receiver, ReceiverState};
+pub use records::{Record, RecordError, Records};
 pub use refusal::Refusal;
 pub use shares::add_parity_share;
 pub use writer::{ProgramType, Services, Settings, Writer, WriterState};
 
 /// Bytes of a header: the first 96 bytes of a PDU are one word of the header
-/// code. (Document 01, "Header code"; 001, 5.2.3.1.)
+/// code.
 pub const HEADER_BYTES: usize = 96;
 
 /// Parity bytes of a header, its bytes 0 to 7; also how many syndromes there
-/// are. (Document 01, "Header code".)
+/// are.
 pub const PARITY_BYTES: usize = 8;
 
 /// The most bytes of a header that are corrected where no place is marked.
-/// (Document 01, "Header code".)
 pub const CORRECTED_MAX: usize = 4;
 
-/// The most places of a header that can be marked; also the most bytes of it that
-/// are corrected with marks. (Document 02, Ask 3.)
+/// The most places of a header that can be marked; also the most bytes of it
+/// that are corrected with marks.
 pub const MARKS_MAX: usize = 8;
 
-/// The value that the CRC's register starts with where none is given: that of
-/// document 01. (Document 02, Ask 2.)
+/// The value that the CRC's register starts with where none is given.
 pub const CRC_START: u8 = 0;
 
-/// The value with which recordings off the air check. (Document 02, Ask 2.)
+/// The value with which recordings off the air check.
 pub const CRC_START_OFF_AIR: u8 = 255;
 
-/// The shortest PDU, in bytes. (Document 01, "What is turned down".)
+/// The shortest PDU, in bytes.
 pub const PDU_MIN: usize = 96;
 
-/// The longest PDU, in bytes. (Document 01, "What is turned down".)
+/// The longest PDU, in bytes.
 pub const PDU_MAX: usize = 20_480;
 
 /// The longest PDU that a writer writes with locators of 12 bits, in bytes.
-/// (Document 01, "Writer".)
+/// [`Mode`] says which modes and streams have them.
 pub const PDU_MAX_12_BITS: usize = 4_096;
 
-/// The longest packet, in bytes. (Document 01, "Writer".)
+/// The longest packet, in bytes.
 pub const PACKET_MAX: usize = 4_096;
 
 /// The most pieces of a PDU: as many as its six-bit count can say. A list of so
-/// many entries is long enough for every PDU. (Document 02, Ask 9.)
+/// many entries is long enough for every PDU.
 pub const PIECES_MAX: usize = 63;
 
 /// Bytes of a carry buffer, in which a receiver keeps the beginning of a packet
-/// between calls. (Document 01, "Receiver".)
+/// between calls.
 pub const CARRY_BYTES: usize = 4_096;
 
-/// A log of so many words is long enough for every call. (Document 01,
-/// "Receiver".)
+/// A log of so many words is long enough for every PDU.
 pub const LOG_WORDS: usize = 8_400;
 
 /// A buffer of so many words is long enough for every receiver that is saved.
-/// (Document 02, Asks 13 and 14.)
 pub const SNAPSHOT_WORDS: usize = 1_376;
 
-/// The most counts that a bench for latency settings takes. (Document 02, Ask 7.)
+/// The most counts that a bench for latency settings takes.
 pub const COUNTS_MAX: usize = 4_096;
 
-/// The largest count of packets ended in a PDU that a bench for latency settings
-/// takes. (Document 02, Ask 7.)
+/// The largest count of packets ended in a PDU that a bench for latency
+/// settings takes.
 pub const COUNT_MAX: u32 = 63;
 
-/// The largest latency. (Document 01, "Control word".)
+/// The largest latency that a control word can say.
 pub const LATENCY_MAX: u8 = 7;

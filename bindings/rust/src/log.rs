@@ -4,12 +4,40 @@ use std::error::Error;
 use std::fmt;
 use std::iter::FusedIterator;
 
-/// The log of a call: a row of words of 32 bits. (Document 01, "Receiver".)
+/// The log of a call: a row of words of 32 bits, which is gone through entry by
+/// entry.
 ///
-/// A word's bits 31-30 are its kind. 0: packet, bits 21-16 its number, 15-0 its
-/// length. 1: data, 25-24 how many bytes (1 to 3), the first in 23-16, unused
-/// ones zero. 2: PSD, 15-0 its length. 3: note, 29-16 its cause, 15-0 the piece.
-/// Data words follow kinds 0 and 2.
+/// Bits 31-30 of a word are its kind:
+///
+/// | kind | what | bits |
+/// |---|---|---|
+/// | 0 | packet | 21-16 its number, 15-0 its length; data words follow |
+/// | 1 | data | 25-24 how many bytes, 1 to 3; the first in 23-16, then 15-8, then 7-0; unused ones zero |
+/// | 2 | PSD | 15-0 its length; data words follow |
+/// | 3 | note | 29-16 its cause, 15-0 the piece, 0 if none |
+///
+/// # Example
+///
+/// ```
+/// use barzhilup::{Entry, Mode, Receiver, Settings, Stream, Writer};
+///
+/// # fn main() -> Result<(), barzhilup::Refusal> {
+/// let mut pdu = [0; 96];
+/// Writer::open(Mode::M0, Stream::Core)?
+///     .write(&Settings::default(), b"title", &[b"audio"], &mut pdu)?;
+/// let mut receiver = Receiver::open(Mode::M0, Stream::Core)?;
+/// let log = receiver.receive(&mut pdu)?;
+/// for entry in &log {
+///     match entry {
+///         Entry::Packet { number, data } => println!("packet {number}, {} bytes", data.len()),
+///         Entry::Psd(data) => println!("PSD, {} bytes", data.len()),
+///         Entry::Note { cause, piece } => println!("note on {piece:?}: {cause}"),
+///     }
+/// }
+/// assert_eq!(log.words()[0], 0x8000_0005); // PSD of five bytes
+/// # Ok(())
+/// # }
+/// ```
 #[derive(Clone, Copy, Debug, PartialEq, Eq)]
 pub struct Log<'a> {
     words: &'a [u32],
@@ -20,7 +48,8 @@ impl<'a> Log<'a> {
     ///
     /// # Errors
     ///
-    /// The place of a word that is not as document 01 lays a log out. Logs of a
+    /// The place of a word that is not as a log has it: of another kind, length or
+    /// cause than can stand there, or with a bit set that has no meaning. Logs of a
     /// receiver never have one.
     ///
     /// # Example
@@ -53,6 +82,7 @@ impl<'a> Log<'a> {
     }
 
     /// The words.
+    #[must_use]
     pub fn words(&self) -> &'a [u32] {
         self.words
     }
@@ -64,6 +94,15 @@ impl<'a> Log<'a> {
 }
 
 impl<'a> IntoIterator for Log<'a> {
+    type Item = Entry<'a>;
+    type IntoIter = Entries<'a>;
+
+    fn into_iter(self) -> Entries<'a> {
+        self.entries()
+    }
+}
+
+impl<'a> IntoIterator for &Log<'a> {
     type Item = Entry<'a>;
     type IntoIter = Entries<'a>;
 
@@ -88,7 +127,7 @@ impl fmt::Display for MalformedLog {
 
 impl Error for MalformedLog {}
 
-/// An entry of a log. (Document 01, "Receiver".)
+/// An entry of a log. A log has no others: its words have no further kinds.
 #[derive(Clone, Copy, Debug, PartialEq, Eq)]
 pub enum Entry<'a> {
     /// A packet that arrived whole.
@@ -109,8 +148,9 @@ pub enum Entry<'a> {
     },
 }
 
-/// The cause of a note. (Document 01, "Receiver".)
+/// The cause of a note. There may be more causes in time.
 #[derive(Clone, Copy, Debug, PartialEq, Eq, Hash)]
+#[non_exhaustive]
 pub enum Cause {
     /// 1: the PDU sequence is not the one after the last. What was held is
     /// dropped. About no piece.
@@ -126,19 +166,19 @@ pub enum Cause {
     TooLong,
     /// 6: the PDU was marked lost. What was held is dropped. About no piece.
     Lost,
-    /// 7: the piece has a right CRC in both copies of a pair, and other bytes in
-    /// one than in the other. It stands where [`Cause::Crc`] would. (Document 02,
-    /// Ask 5.)
+    /// 7: the piece has a right CRC in both copies of a pair, and other bytes
+    /// in one than in the other. It stands where [`Cause::Crc`] would.
     CopiesDiffer,
     /// 8: the PDU is withheld: its applied services are 1, or unknown, and the
     /// receiver is not entitled to its program. It stands where the PSD would.
-    /// [`Receiver::open_entitled`](crate::Receiver::open_entitled) says more. About no
-    /// piece. (Document 02, Ask 10.)
+    /// [`Receiver::open_entitled`](crate::Receiver::open_entitled) says more.
+    /// About no piece.
     Withheld,
 }
 
 impl Cause {
-    /// The cause's number in document 01, 1 to 6, or in document 02, 7 and 8.
+    /// The cause's number, 1 to 8, as a log's word has it.
+    #[must_use]
     pub const fn number(self) -> u16 {
         match self {
             Cause::Sequence => 1,
@@ -207,11 +247,13 @@ impl<'a> Data<'a> {
     }
 
     /// How many bytes there are.
+    #[must_use]
     pub fn len(&self) -> usize {
         self.length
     }
 
     /// Whether there are none. In a log there is always one.
+    #[must_use]
     pub fn is_empty(&self) -> bool {
         self.length == 0
     }
@@ -226,12 +268,22 @@ impl<'a> Data<'a> {
     }
 
     /// The bytes, joined.
+    #[must_use]
     pub fn to_vec(&self) -> Vec<u8> {
         self.bytes().collect()
     }
 }
 
 impl<'a> IntoIterator for Data<'a> {
+    type Item = u8;
+    type IntoIter = Bytes<'a>;
+
+    fn into_iter(self) -> Bytes<'a> {
+        self.bytes()
+    }
+}
+
+impl<'a> IntoIterator for &Data<'a> {
     type Item = u8;
     type IntoIter = Bytes<'a>;
 
@@ -254,6 +306,7 @@ impl fmt::Debug for Data<'_> {
 
 /// The bytes of [`Data`], one after another.
 #[derive(Clone, Debug)]
+#[must_use = "bytes are read only when they are asked for"]
 pub struct Bytes<'a> {
     words: &'a [u32],
     place: usize,
@@ -285,6 +338,7 @@ impl FusedIterator for Bytes<'_> {}
 /// The entries of a [`Log`], one after another. Words are looked at only when
 /// their entry is asked for.
 #[derive(Clone, Debug)]
+#[must_use = "entries are read only when they are asked for"]
 pub struct Entries<'a> {
     words: &'a [u32],
 }

@@ -3,11 +3,35 @@
 use crate::Refusal;
 use std::fmt;
 
-/// An audio codec mode that document 01's table has.
+/// An audio codec mode.
 ///
 /// Together with the [`Stream`] it decides the width of the locators, the range
-/// of the PDU sequence and how much PSD a PDU may have. (Document 01, "Modes".)
+/// of the PDU sequence, and how many bytes of PSD and expansion together a writer
+/// may put into a PDU:
+///
+/// | mode, stream | locator bits | PDU sequence | PSD plus expansion |
+/// |---|---|---|---|
+/// | 0, core | 16 | 0 to 1 | 128 |
+/// | 1, 2, 3, core | 12 | 0 to 7 | 21 |
+/// | 1, 2, 3, enhanced | 16 | 0 to 1 | 16, no PSD |
+/// | 10, core | 12 | 0 to 1 | 128 |
+/// | 10, enhanced | 12 | 0 to 7 | 16, no PSD |
+/// | 13, core | 12 | 0 to 7 | 21 |
+///
+/// A mode and stream that the table has not are refused with [`Refusal::Mode`].
+/// The standard leaves room for other modes, so this enum may grow.
+///
+/// # Example
+///
+/// ```
+/// use barzhilup::{Mode, Refusal};
+///
+/// assert_eq!(Mode::try_from(10), Ok(Mode::M10));
+/// assert_eq!(Mode::M10.number(), 10);
+/// assert_eq!(Mode::try_from(4), Err(Refusal::Mode));
+/// ```
 #[derive(Clone, Copy, Debug, PartialEq, Eq, PartialOrd, Ord, Hash)]
+#[non_exhaustive]
 pub enum Mode {
     /// Mode 0: core only.
     M0,
@@ -25,6 +49,7 @@ pub enum Mode {
 
 impl Mode {
     /// The mode's number, as the control word has it.
+    #[must_use]
     pub const fn number(self) -> u8 {
         match self {
             Mode::M0 => 0,
@@ -40,7 +65,7 @@ impl Mode {
 impl TryFrom<u8> for Mode {
     type Error = Refusal;
 
-    /// The mode with this number; refused with 5 if the table has none.
+    /// The mode with this number; refused with [`Refusal::Mode`] if there is none.
     fn try_from(number: u8) -> Result<Mode, Refusal> {
         match number {
             0 => Ok(Mode::M0),
@@ -60,7 +85,7 @@ impl fmt::Display for Mode {
     }
 }
 
-/// One of the two streams of a mode. (Document 01, "Modes"; 001, table 5-1.)
+/// One of the two streams of a mode. There are no others.
 #[derive(Clone, Copy, Debug, PartialEq, Eq, PartialOrd, Ord, Hash)]
 pub enum Stream {
     /// Stream 0, core.
@@ -71,6 +96,7 @@ pub enum Stream {
 
 impl Stream {
     /// The stream's number, as the control word has it.
+    #[must_use]
     pub const fn number(self) -> u8 {
         match self {
             Stream::Core => 0,
@@ -82,7 +108,8 @@ impl Stream {
 impl TryFrom<u8> for Stream {
     type Error = Refusal;
 
-    /// The stream with this number; refused with 5 if there is none.
+    /// The stream with this number; refused with [`Refusal::Mode`] if there is
+    /// none.
     fn try_from(number: u8) -> Result<Stream, Refusal> {
         match number {
             0 => Ok(Stream::Core),

@@ -4,8 +4,8 @@ use crate::ffi;
 
 /// Of two copies of a PDU, the one to take: the one in whose header fewer bytes
 /// have to be corrected, the first if equal; the other where one can't be
-/// corrected. A length that no PDU has, under 96 or over 20,480, counts as one that
-/// can't. Where neither can, an empty part of the first. (Document 02, Ask 5.)
+/// corrected. A length that no PDU has, under 96 or over 20,480, counts as one
+/// that can't. Where neither can, an empty part of the first.
 ///
 /// What is handed back is the chosen buffer itself, whole and uncorrected. The
 /// lengths may differ. Nothing is refused, and nothing else is judged: mode,
@@ -28,6 +28,7 @@ use crate::ffi;
 /// assert_eq!(choose(&first[..95], &second), second);
 /// assert!(choose(&first[..95], &second[..95]).is_empty());
 /// ```
+#[must_use]
 pub fn choose<'a>(first: &'a [u8], second: &'a [u8]) -> &'a [u8] {
     match ffi::pairs::choose(first, second) {
         1 => first,

@@ -4,8 +4,7 @@
 use crate::{ffi, Mode, Refusal, Stream};
 use std::ops::Range;
 
-/// The control word, bytes 8 to 13 of a PDU. (Document 01, "Control word, bytes 8
-/// to 13".)
+/// The control word, bytes 8 to 13 of a PDU.
 #[derive(Clone, Copy, Debug, PartialEq, Eq)]
 pub struct ControlWord {
     /// The mode.
@@ -36,8 +35,7 @@ pub struct ControlWord {
     pub la: u8,
 }
 
-/// The expansion fields of a PDU; 0 where not sent or not interpreted. (Document
-/// 01, "Expansion, PSD, pieces".)
+/// The expansion fields of a PDU; 0 where not sent or not interpreted.
 #[derive(Clone, Copy, Debug, Default, PartialEq, Eq)]
 pub struct Expansion {
     /// Class, 1 to 15 if sent.
@@ -56,7 +54,7 @@ pub struct Expansion {
     pub marker: u32,
 }
 
-/// What a PDU holds. (Document 01, "Receiver": reading without a receiver.)
+/// What a PDU holds.
 #[derive(Clone, Debug, PartialEq, Eq)]
 pub struct Reading {
     /// The control word.
@@ -124,16 +122,19 @@ fn expansion(fields: &ffi::Expansion) -> Expansion {
     }
 }
 
-/// Reads a PDU without a receiver: corrects its header in place and says what it
-/// holds. (Document 01, "Receiver".)
+/// Reads a PDU without a receiver: corrects its header in place and says what
+/// it holds.
 ///
-/// Locators past byte 95, those of a PDU with more than 41 pieces (locators of 16
-/// bits) or 54 (12 bits), are outside the header code: they are taken as they
-/// came. (Document 02, Ask 9.)
+/// Locators past byte 95, those of a PDU with more than 41 pieces (locators of
+/// 16 bits) or 54 (12 bits), are outside the header code: they are taken as
+/// they came.
 ///
 /// # Errors
 ///
-/// Refused with 3 to 5 or 7 to 12, and then the PDU is as it was.
+/// The first of these that applies, and then the PDU is as it was:
+/// [`Refusal::PduLength`], [`Refusal::Uncorrectable`], [`Refusal::Mode`],
+/// [`Refusal::Sequence`], [`Refusal::Pieces`], [`Refusal::La`],
+/// [`Refusal::Expansion`], [`Refusal::Locator`], [`Refusal::Displacement`].
 ///
 /// # Example
 ///
@@ -152,7 +153,7 @@ pub fn read(pdu: &mut [u8]) -> Result<Reading, Refusal> {
     Reading::accepted(ffi::read(pdu))
 }
 
-/// A piece of a PDU, as [`list_pieces`] lists it. (Document 01, for the panel.)
+/// A piece of a PDU, as [`list_pieces`] lists it.
 #[repr(C)]
 #[derive(Clone, Copy, Debug, Default, PartialEq, Eq)]
 pub struct Piece {
@@ -166,6 +167,7 @@ pub struct Piece {
 
 impl Piece {
     /// Where the piece stands in the PDU, without its CRC byte.
+    #[must_use]
     pub fn range(&self) -> Range<usize> {
         range(self.start.into(), self.length.into())
     }
@@ -173,19 +175,37 @@ impl Piece {
 
 /// Reads a PDU without a receiver, as [`read`] does, and fills a list with its
 /// pieces: entry k is piece k, for k below NOP. Entries from NOP on keep what
-/// they held. A wrong CRC is a verdict, and no refusal. (Document 01, for the
-/// panel.)
+/// they held. A wrong CRC is a verdict, and no refusal.
 ///
-/// `crc_start` is the value that the register of the CRCs starts with, any byte:
-/// the one that the PDU was written with. It decides verdicts and nothing else. 0
-/// is document 01's, [`CRC_START`](crate::CRC_START); recordings off the air check
-/// with [`CRC_START_OFF_AIR`](crate::CRC_START_OFF_AIR). (Document 02, Ask 2.)
+/// `crc_start` is the value that the register of the CRCs starts with, any
+/// byte: the one that the PDU was written with. It decides verdicts and nothing
+/// else. Where nothing else was said it is [`CRC_START`](crate::CRC_START);
+/// recordings off the air check with
+/// [`CRC_START_OFF_AIR`](crate::CRC_START_OFF_AIR).
 ///
 /// # Errors
 ///
 /// Refused as [`read`] is, and with [`Refusal::LogLength`] for a list of fewer
 /// than NOP entries; then the PDU and the list are as they were. A list of
 /// [`PIECES_MAX`](crate::PIECES_MAX) entries is always long enough.
+///
+/// # Example
+///
+/// ```
+/// use barzhilup::{list_pieces, Mode, Piece, Settings, Stream, Writer, CRC_START, PIECES_MAX};
+///
+/// let mut pdu = [0; 300];
+/// let mut writer = Writer::open(Mode::M1, Stream::Core)?;
+/// writer.write(&Settings::default(), b"", &[[1; 100], [2; 100]], &mut pdu)?;
+/// pdu[200] ^= 0x10; // noise in the second packet
+///
+/// let mut list = [Piece::default(); PIECES_MAX];
+/// let reading = list_pieces(&mut pdu, CRC_START, &mut list)?;
+/// let pieces = &list[..reading.control.nop.into()];
+/// assert_eq!(pieces.iter().map(|piece| piece.right).collect::<Vec<_>>(), [true, false]);
+/// assert_eq!(&pdu[pieces[0].range()], [1; 100]);
+/// # Ok::<(), barzhilup::Refusal>(())
+/// ```
 pub fn list_pieces(pdu: &mut [u8], crc_start: u8, list: &mut [Piece]) -> Result<Reading, Refusal> {
     Reading::accepted(ffi::list_pieces(pdu, crc_start, list))
 }

@@ -12,18 +12,15 @@ pub use batch::Batch;
 
 /// What a receiver was opened with and what it remembers between calls, beside
 /// its carry buffer: to be kept and to go on from with [`Receiver::resume`].
-/// (Document 01, "Receiver".)
 #[derive(Clone, Copy, Debug, PartialEq, Eq)]
 pub struct ReceiverState {
     /// The mode.
     pub mode: Mode,
     /// The stream.
     pub stream: Stream,
-    /// The value that the CRC's register starts with, any byte. (Document 02, Ask
-    /// 2.)
+    /// The value that the CRC's register starts with, any byte.
     pub crc_start: u8,
-    /// The programs that it is entitled to: bit p for program p. (Document 02, Ask
-    /// 10.)
+    /// The programs that it is entitled to: bit p for program p.
     pub entitled: u8,
     /// The last PDU's sequence, if it is known.
     pub sequence: Option<u8>,
@@ -32,11 +29,11 @@ pub struct ReceiverState {
     pub held: u16,
     /// That packet's number, 0 to 63; 0 if nothing is held.
     pub number: u8,
-    /// The applied services in force, 0 to 7, if they are known: only for the core
-    /// streams of modes 1, 2, 3 and 13, which keep them from one PDU to the next.
-    /// (Document 02, Ask 10.)
+    /// The applied services in force, 0 to 7, if they are known: only for the
+    /// core streams of modes 1, 2, 3 and 13, which keep them from one PDU to
+    /// the next.
     pub services: Option<u8>,
-    /// How many packets were delivered since the opening. (Document 02, Ask 14.)
+    /// How many packets were delivered since the opening.
     pub delivered: u32,
     /// How many packets are missing between those delivered, by their numbers
     /// ([`Receiver::missing`]); 0 where none is delivered.
@@ -83,8 +80,7 @@ impl ReceiverState {
     }
 }
 
-/// Joins the pieces of PDUs to packets and logs packets, PSD and notes. (Document
-/// 01, "Receiver".)
+/// Joins the pieces of PDUs to packets and logs packets, PSD and notes.
 ///
 /// It owns its carry buffer, of 4,096 bytes, and a log that is long enough for
 /// every call; each accepted call hands out the log of that call. A refused call
@@ -100,8 +96,8 @@ pub struct Receiver {
 
 impl Receiver {
     /// Opens a receiver for a mode and stream: no sequence is known, nothing is
-    /// held or delivered. The register of its CRCs starts at [`CRC_START`], 0, as in document
-    /// 01's examples. It is entitled to programs 0 to 7: no PDU is withheld.
+    /// held or delivered. The register of its CRCs starts at [`CRC_START`], 0. It is
+    /// entitled to programs 0 to 7: no PDU is withheld.
     ///
     /// # Errors
     ///
@@ -113,7 +109,7 @@ impl Receiver {
     /// Opens a receiver for a mode and stream, and with the value that the
     /// register of its CRCs starts with, any byte: the one that the PDUs were
     /// written with. Recordings off the air check with
-    /// [`CRC_START_OFF_AIR`](crate::CRC_START_OFF_AIR). (Document 02, Ask 2.)
+    /// [`CRC_START_OFF_AIR`](crate::CRC_START_OFF_AIR).
     ///
     /// Nothing is promised for a writer and a receiver with unequal values; what a
     /// user sees then is [`Cause::Crc`](crate::Cause::Crc) for every piece that came
@@ -129,9 +125,9 @@ impl Receiver {
         Ok(Receiver::new(state, vec![0; CARRY_BYTES]))
     }
 
-    /// Opens a receiver that is entitled to some programs only: `programs` has their
-    /// numbers, each 0 to 7 and none twice, in any order. With none it is entitled to
-    /// none, with all eight this is [`Receiver::open_with`]. (Document 02, Ask 10.)
+    /// Opens a receiver that is entitled to some programs only: `programs` has
+    /// their numbers, each 0 to 7 and none twice, in any order. With none it is
+    /// entitled to none, with all eight this is [`Receiver::open_with`].
     ///
     /// A PDU is withheld if its applied services are 1 and its program is not listed.
     /// Other applied services withhold nothing; not sent, they count as 0, and so does
@@ -147,8 +143,10 @@ impl Receiver {
     ///
     /// # Errors
     ///
-    /// [`Refusal::Mode`]: the mode has no such stream.
-    /// [`Refusal::Programs`]: a program number is over 7, or repeated.
+    /// The first of these that applies:
+    ///
+    /// - [`Refusal::Mode`]: the mode has no such stream.
+    /// - [`Refusal::Programs`]: a program number is over 7, or repeated.
     ///
     /// # Example
     ///
@@ -195,8 +193,33 @@ impl Receiver {
     ///
     /// # Errors
     ///
-    /// [`Refusal::State`]: a field is outside its range.
-    /// [`Refusal::CarryLength`]: the carry buffer has under 4,096 bytes.
+    /// The first of these that applies:
+    ///
+    /// - [`Refusal::State`]: a field is outside its range, or the mode has no such
+    ///   stream.
+    /// - [`Refusal::CarryLength`]: the carry buffer has under 4,096 bytes.
+    ///
+    /// # Example
+    ///
+    /// ```
+    /// use barzhilup::{Mode, Receiver, Settings, Stream, Writer};
+    ///
+    /// # fn main() -> Result<(), barzhilup::Refusal> {
+    /// let mut writer = Writer::open(Mode::M0, Stream::Core)?;
+    /// let mut receiver = Receiver::open(Mode::M0, Stream::Core)?;
+    /// let mut pdu = [0; 96];
+    /// writer.write(&Settings::default(), b"", &[[7; 100]], &mut pdu)?;
+    /// receiver.receive(&mut pdu)?; // packet 0 begins
+    /// let (state, carry) = (receiver.state(), receiver.carry().to_vec());
+    ///
+    /// let mut receiver = Receiver::resume(state, &carry)?;
+    /// assert_eq!(receiver.held(), [7; 79]);
+    /// writer.write(&Settings::default(), b"", &[[7; 100]], &mut pdu)?;
+    /// receiver.receive(&mut pdu)?; // and ends
+    /// assert_eq!(receiver.delivered(), 1);
+    /// # Ok(())
+    /// # }
+    /// ```
     pub fn resume(state: ReceiverState, carry: &[u8]) -> Result<Receiver, Refusal> {
         let mut carry = carry.to_vec();
         // A PDU of no bytes is refused with 3 where state and carry are right.
@@ -217,33 +240,37 @@ impl Receiver {
     }
 
     /// What the receiver remembers.
+    #[must_use]
     pub fn state(&self) -> ReceiverState {
         self.state
     }
 
     /// The carry buffer, of at least 4,096 bytes.
+    #[must_use]
     pub fn carry(&self) -> &[u8] {
         &self.carry
     }
 
     /// The bytes that are held: the beginning of an unfinished packet. They are
     /// the first ones of the carry buffer.
+    #[must_use]
     pub fn held(&self) -> &[u8] {
         &self.carry[..usize::from(self.state.held)]
     }
 
-    /// How many packets were delivered since the opening: those that the logs of all
-    /// calls had together. Marking lost keeps it, and so do [`Receiver::save`] and
-    /// [`Receiver::load`]. (Document 02, Ask 14.)
+    /// How many packets were delivered since the opening: those that the logs
+    /// of all calls had together. Marking lost keeps it, and so do
+    /// [`Receiver::save`] and [`Receiver::load`].
+    #[must_use]
     pub fn delivered(&self) -> u32 {
         self.state.delivered
     }
 
-    /// How many packets are missing between those delivered. It is told from their
-    /// numbers, which run from 0 to 63 and from 0 again: from the second packet
-    /// delivered on, each adds its number minus the last one's minus 1, modulo 64. Lost,
-    /// damaged and withheld packets are missing alike; none is counted before the first
-    /// packet delivered, nor after the last. (Document 02, Ask 14.)
+    /// How many packets are missing between those delivered. It is told from
+    /// their numbers, which run from 0 to 63 and from 0 again: from the second
+    /// packet delivered on, each adds its number minus the last one's minus 1,
+    /// modulo 64. Lost, damaged and withheld packets are missing alike; none is
+    /// counted before the first packet delivered, nor after the last.
     ///
     /// Where each PDU of a writer is received or marked lost, once and in their order,
     /// and fewer than 64 packets are missing between each one delivered and the next,
@@ -264,7 +291,7 @@ impl Receiver {
     /// for turn in 0..3 {
     ///     writer.write(&Settings::default(), b"", &[b"one", b"two"], &mut pdu)?;
     ///     match turn {
-    ///         1 => receiver.mark_lost()?, // packets 2 and 3 are lost
+    ///         1 => receiver.mark_lost(), // packets 2 and 3 are lost
     ///         _ => receiver.receive(&mut pdu)?,
     ///     };
     /// }
@@ -273,12 +300,13 @@ impl Receiver {
     /// # Ok(())
     /// # }
     /// ```
+    #[must_use]
     pub fn missing(&self) -> u32 {
         self.state.missing
     }
 
-    /// The number, 0 to 63, of the last packet delivered, if one was. (Document 02, Ask
-    /// 14.)
+    /// The number, 0 to 63, of the last packet delivered, if one was.
+    #[must_use]
     pub fn last_number(&self) -> Option<u8> {
         (self.state.delivered > 0).then_some(self.state.last)
     }
@@ -292,8 +320,45 @@ impl Receiver {
     ///
     /// # Errors
     ///
-    /// Refused with 3 to 12, or with [`Refusal::CountLimit`] where a count of packets
-    /// would pass 4,294,967,295; then the receiver and the PDU are as they were.
+    /// The first of these that applies, and then the receiver and the PDU are as they
+    /// were: [`Refusal::PduLength`], [`Refusal::Uncorrectable`], [`Refusal::Mode`],
+    /// [`Refusal::OtherMode`], [`Refusal::Sequence`], [`Refusal::Pieces`],
+    /// [`Refusal::La`], [`Refusal::Expansion`], [`Refusal::Locator`],
+    /// [`Refusal::Displacement`], and [`Refusal::CountLimit`] where a count of packets
+    /// would pass 4,294,967,295.
+    ///
+    /// A PDU that is refused still had its place in the row: mark it lost, so that
+    /// nothing is joined across it.
+    ///
+    /// # Example
+    ///
+    /// ```
+    /// use barzhilup::{Entry, Mode, Receiver, Settings, Stream, Writer};
+    ///
+    /// # fn main() -> Result<(), barzhilup::Refusal> {
+    /// let mut writer = Writer::open(Mode::M1, Stream::Core)?;
+    /// let mut receiver = Receiver::open(Mode::M1, Stream::Core)?;
+    /// let mut pdu = [0; 96];
+    /// writer.write(&Settings::default(), b"title", &[b"audio"], &mut pdu)?;
+    /// let log = match receiver.receive(&mut pdu) {
+    ///     Ok(log) => log,
+    ///     Err(refusal) => {
+    ///         eprintln!("{refusal}");
+    ///         receiver.mark_lost()
+    ///     }
+    /// };
+    /// let mut kinds = Vec::new();
+    /// for entry in &log {
+    ///     kinds.push(match entry {
+    ///         Entry::Packet { .. } => "packet",
+    ///         Entry::Psd(_) => "PSD",
+    ///         Entry::Note { .. } => "note",
+    ///     });
+    /// }
+    /// assert_eq!(kinds, ["PSD", "packet"]);
+    /// # Ok(())
+    /// # }
+    /// ```
     pub fn receive(&mut self, pdu: &mut [u8]) -> Result<Log<'_>, Refusal> {
         let answer = ffi::receive(self.state.to_c(), &mut self.carry, pdu, &mut self.log);
         self.step(answer)
@@ -302,7 +367,6 @@ impl Receiver {
     /// Receives one PDU of whose header some places are marked, as
     /// [`Receiver::receive`] does; the header is corrected as
     /// [`correct_header_marked`](crate::correct_header_marked) corrects it.
-    /// (Document 02, Ask 3.)
     ///
     /// `marks` has the marked places of this PDU, each 0 to 95, at most eight and
     /// none twice; those of other PDUs make no difference. With none this is
@@ -310,8 +374,8 @@ impl Receiver {
     ///
     /// # Errors
     ///
-    /// Refused with 3, 19, 4 to 12 or 27, in this order; then the receiver and the PDU
-    /// are as they were.
+    /// As for [`Receiver::receive`], and after [`Refusal::PduLength`] with
+    /// [`Refusal::Marks`]: more than eight marks, one over 95, or one repeated.
     ///
     /// # Example
     ///
@@ -342,20 +406,38 @@ impl Receiver {
     /// [`Cause::Lost`](crate::Cause::Lost), drops what is held and forgets the
     /// sequence and the applied services. The counts and the last number stay.
     ///
-    /// # Errors
+    /// It is never refused, and its log is that one note.
     ///
-    /// None that a receiver can have: its state is in range, and its log long
-    /// enough. The answer has the form of all operations.
-    pub fn mark_lost(&mut self) -> Result<Log<'_>, Refusal> {
+    /// # Example
+    ///
+    /// ```
+    /// use barzhilup::{Cause, Entry, Mode, Receiver, Stream};
+    ///
+    /// let mut receiver = Receiver::open(Mode::M0, Stream::Core)?;
+    /// let log = receiver.mark_lost();
+    /// let lost = Entry::Note { cause: Cause::Lost, piece: None };
+    /// assert!(log.entries().eq([lost]));
+    /// # Ok::<(), barzhilup::Refusal>(())
+    /// ```
+    pub fn mark_lost(&mut self) -> Log<'_> {
         let answer = ffi::mark_lost(self.state.to_c(), &mut self.log);
-        self.step(answer)
+        assert_eq!(
+            answer.refusal, 0,
+            "the state is in range, and the log has room for a note"
+        );
+        self.accept(answer)
+    }
+
+    /// Hands out the log of an answer that is accepted.
+    fn step(&mut self, answer: ffi::Received) -> Result<Log<'_>, Refusal> {
+        Refusal::check(answer.refusal, answer.wrong_locator)?;
+        Ok(self.accept(answer))
     }
 
     /// Takes over the state of an accepted answer, and hands out its log.
-    fn step(&mut self, answer: ffi::Received) -> Result<Log<'_>, Refusal> {
-        Refusal::check(answer.refusal, answer.wrong_locator)?;
+    fn accept(&mut self, answer: ffi::Received) -> Log<'_> {
         self.state = ReceiverState::after(self.state.mode, self.state.stream, answer.receiver);
-        Ok(Log::written(&self.log[..answer.words as usize]))
+        Log::written(&self.log[..answer.words as usize])
     }
 }
 

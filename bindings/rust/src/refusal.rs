@@ -3,15 +3,27 @@
 use std::error::Error;
 use std::fmt;
 
-/// Why a call was refused: a row of document 01's table "What is turned down", or
-/// a number of document 02.
+/// Why a call was refused. Each cause has a number, the one that the C library and
+/// the program `barzhilup` have for it; there may be more causes in time.
 ///
-/// A refused call has changed nothing. If several causes applied, this is the
-/// one with the lowest number, except that 19 comes directly after 3, 18 directly
-/// after 2, 20 directly after 12, and 27 directly after 13. A batch that stopped at a
-/// refused PDU has received those before it: see [`Batch`](crate::Batch). Joining two
-/// logs checks 23, 24 and then 13.
+/// A refused call has changed nothing. If several causes applied, this is the one
+/// with the lowest number, except that 19 comes directly after 3, and 18 before any
+/// PDU of the batch is looked at. A batch that stopped at a refused PDU has received
+/// those before it: see [`Batch`](crate::Batch).
+///
+/// # Example
+///
+/// ```
+/// use barzhilup::{Mode, Receiver, Refusal, Stream};
+///
+/// let mut receiver = Receiver::open(Mode::M0, Stream::Core)?;
+/// let refusal = receiver.receive(&mut [0; 95]).unwrap_err();
+/// assert_eq!((refusal, refusal.number()), (Refusal::PduLength, 3));
+/// assert_eq!(refusal.to_string(), "refusal 3: a PDU can't have this length");
+/// # Ok::<(), Refusal>(())
+/// ```
 #[derive(Clone, Copy, Debug, PartialEq, Eq, Hash)]
+#[non_exhaustive]
 pub enum Refusal {
     /// 1: a field of a writer's or receiver's state is outside its range.
     State,
@@ -24,85 +36,83 @@ pub enum Refusal {
     /// for none is twice the differing unmarked bytes plus the count of marks at
     /// most eight.
     Uncorrectable,
-    /// 5: the mode and stream are not in the table of document 01, "Modes".
+    /// 5: there is no such mode and stream: the table at [`Mode`](crate::Mode) has
+    /// those that there are.
     Mode,
-    /// 6: the PDU's mode and stream are in the table, but are not those that the
-    /// receiver was opened for.
+    /// 6: there are such a mode and stream as the PDU's, but they are not those that
+    /// the receiver was opened for.
     OtherMode,
     /// 7: the PDU sequence is outside its mode's range.
     Sequence,
     /// 8: Pfirst or Plast is set with NOP 0. Any count of pieces is read: one
     /// whose locators go past La, or past the PDU's end, is refused with
-    /// [`Refusal::La`]. (Document 02, Ask 9.)
+    /// [`Refusal::La`].
     Pieces,
     /// 9: La is before the last locator byte, or not below the length.
     La,
-    /// 10: the expansion is over 16 bytes, past La, out of order, with class 0 or
-    /// with a field cut; or a writer may not send it (document 01, "Expansion,
-    /// PSD, pieces").
+    /// 10: the expansion is over 16 bytes, past La, out of order, with class 0
+    /// or with a field cut; or a writer may not send it: see
+    /// [`Settings`](crate::Settings).
     Expansion,
     /// 11: a locator is under its piece's start plus 1, or not below the length.
     Locator {
-        /// The number of the first wrong locator, from 0: the smallest, if there
-        /// are several. (Document 02, Ask 6.)
+        /// The number of the first wrong locator, from 0: the smallest, if
+        /// there are several.
         k: u32,
     },
     /// 12: the displacement is before the last piece's end, or not below the
     /// length.
     Displacement,
-    /// 13: the log is shorter than the words that the call would write, or the
-    /// list of pieces has fewer than NOP entries.
+    /// 13: the list of pieces has fewer than NOP entries. In C a log can be too short
+    /// too; that of a [`Receiver`](crate::Receiver) never is.
     LogLength,
     /// 14: a setting that is not sent: blend 3, or nonzero with a nonzero
     /// program; core gain 7 to 23; a value past its width. Or a place outside 8
-    /// to 95, whose byte has no share in the parity (document 02, Ask 8).
+    /// to 95, whose byte has no share in the parity.
     Value,
     /// 15: a packet's length is 0 or over 4,096, or the unfinished packet is not
     /// offered first and whole.
     Packets,
-    /// 16: PSD plus expansion is past the mode's limit, or there is PSD on a
-    /// stream without.
+    /// 16: PSD plus expansion is past the limit of the mode and stream, or there is
+    /// PSD on an enhanced stream: see the table at [`Mode`](crate::Mode).
     Psd,
     /// 17: there is no room for a piece of one byte; with no packet offered, none
     /// for the overhead.
     Room,
-    /// 18: the lengths of a batch's PDUs do not sum to the buffer (document 02, Ask
-    /// 1).
+    /// 18: the lengths of a batch's PDUs do not sum to the buffer.
     Lengths,
-    /// 19: more than eight marks, one over 95, or one repeated (document 02, Ask
-    /// 3).
+    /// 19: more than eight marks, one over 95, or one repeated.
     Marks,
-    /// 20: two copies of a PDU, of which both can be corrected, have other lengths
-    /// or other corrected bytes 8 to La. Damage of one copy in bytes 96 to La, which
-    /// no parity covers, can give it too. (Document 02, Ask 5.)
+    /// 20: two copies of a PDU, of which both can be corrected, have other
+    /// lengths or other corrected bytes 8 to La. Damage of one copy in bytes 96
+    /// to La, which no parity covers, can give it too.
     Pair,
     /// 21: a bench for latency settings has no counts, more than 4,096, or one
-    /// over 63 (document 02, Ask 7).
+    /// over 63.
     Counts,
-    /// 22: a list of entitled programs has a number over 7, or one repeated
-    /// (document 02, Ask 10).
+    /// 22: a list of entitled programs has a number over 7, or one repeated.
     Programs,
-    /// 23: words to be joined are no log (document 02, Ask 11).
+    /// 23: words to be joined are no log.
     LogWords,
-    /// 24: packet numbers do not rise strictly within a log to be joined, counted
-    /// from its own first packet, modulo 64 (document 02, Ask 11).
+    /// 24: packet numbers do not rise strictly within a log to be joined,
+    /// counted from its own first packet, modulo 64.
     Numbers,
-    /// 25: the words that a receiver is loaded from are not those of a receiver, or a
-    /// field in them is outside its range (document 02, Ask 13).
+    /// 25: the words that a receiver is loaded from are not those of a
+    /// receiver, or a field in them is outside its range.
     Words,
-    /// 26: the buffer for a receiver's words is too short (document 02, Ask 13).
+    /// 26: the buffer for a receiver's words is too short.
     WordBuffer,
     /// 27: [`Receiver::delivered`](crate::Receiver::delivered) or
-    /// [`Receiver::missing`](crate::Receiver::missing) would pass 4,294,967,295. A PDU
-    /// that delivers no packet is never refused with it. To go on, write both down and
-    /// [resume](crate::Receiver::resume) the state with `delivered`, `missing` and `last`
-    /// 0. (Document 02, Ask 14.)
+    /// [`Receiver::missing`](crate::Receiver::missing) would pass
+    /// 4,294,967,295. A PDU that delivers no packet is never refused with it.
+    /// To go on, write both down and [resume](crate::Receiver::resume) the
+    /// state with `delivered`, `missing` and `last` 0.
     CountLimit,
 }
 
 impl Refusal {
-    /// The number in document 01's table, 1 to 17, or in document 02, 18 to
-    /// 27.
+    /// The cause's number, 1 to 27.
+    #[must_use]
     pub const fn number(self) -> u32 {
         match self {
             Refusal::State => 1,

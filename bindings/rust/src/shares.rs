@@ -3,7 +3,6 @@
 use crate::{ffi, Refusal, PARITY_BYTES};
 
 /// Adds the share of a byte to the parity of a header that is filled piecemeal.
-/// (Document 02, Ask 8.)
 ///
 /// Begin with eight zero bytes. When the shares of bytes 8 to 95 are added, in
 /// any order, each once, they are what [`parity`](crate::parity) gives for that

@@ -3,11 +3,14 @@
 use crate::{ffi, Mode, Refusal, Stream, CRC_START};
 
 /// A PDU's settings: what its control word and its expansion say beside the
-/// packets. [`Settings::default`] is 0 everywhere and no expansion. (Document 01,
-/// "Control word, bytes 8 to 13" and "Expansion, PSD, pieces".)
+/// packets. [`Settings::default`] is 0 everywhere and no expansion.
 ///
 /// An expansion field that is `None` is not asked for. The program field is sent
-/// whenever any is, with program 0 if it is not asked for.
+/// whenever any is, with program 0 if it is not asked for. Class is 1 only, and
+/// goes with a nonzero program and access 1; access 1 and applied services 1 go
+/// with class 1. Anything else in these three is refused with
+/// [`Refusal::Expansion`], and another value outside its range with
+/// [`Refusal::Value`].
 #[derive(Clone, Copy, Debug, Default, PartialEq, Eq)]
 pub struct Settings {
     /// Blend, 0 to 2; 0 with a nonzero program.
@@ -31,8 +34,7 @@ pub struct Settings {
     pub services: Option<Services>,
 }
 
-/// Access and type of a program, an expansion field. (Document 01, "Expansion,
-/// PSD, pieces", ID 2.)
+/// Access and type of a program, an expansion field.
 #[derive(Clone, Copy, Debug, Default, PartialEq, Eq)]
 pub struct ProgramType {
     /// Access, 0 or (with class 1) 1.
@@ -41,8 +43,7 @@ pub struct ProgramType {
     pub type_code: u8,
 }
 
-/// Applied services and marker, an expansion field. (Document 01, "Expansion,
-/// PSD, pieces", ID 4.)
+/// Applied services and marker, an expansion field.
 #[derive(Clone, Copy, Debug, Default, PartialEq, Eq)]
 pub struct Services {
     /// Applied services, 0 or (with class 1) 1.
@@ -76,16 +77,15 @@ impl Settings {
     }
 }
 
-/// What a writer was opened with and what it remembers between calls: to be kept
-/// and to go on from with [`Writer::resume`]. (Document 01, "Writer".)
+/// What a writer was opened with and what it remembers between calls: to be
+/// kept and to go on from with [`Writer::resume`].
 #[derive(Clone, Copy, Debug, PartialEq, Eq)]
 pub struct WriterState {
     /// The mode.
     pub mode: Mode,
     /// The stream.
     pub stream: Stream,
-    /// The value that the CRC's register starts with, any byte. (Document 02, Ask
-    /// 2.)
+    /// The value that the CRC's register starts with, any byte.
     pub crc_start: u8,
     /// The next PDU's sequence.
     pub sequence: u8,
@@ -109,7 +109,7 @@ impl WriterState {
     }
 }
 
-/// Packs packets and PSD into PDUs. (Document 01, "Writer".)
+/// Packs packets and PSD into PDUs.
 ///
 /// A refused call leaves the writer as it was.
 #[derive(Clone, Debug, PartialEq, Eq)]
@@ -119,19 +119,27 @@ pub struct Writer {
 
 impl Writer {
     /// Opens a writer for a mode and stream: its first PDU has sequence 0, its
-    /// first packet number 0. The register of its CRCs starts at [`CRC_START`], 0,
-    /// as in document 01's examples.
+    /// first packet number 0. The register of its CRCs starts at [`CRC_START`], 0.
     ///
     /// # Errors
     ///
     /// [`Refusal::Mode`]: the mode has no such stream.
+    ///
+    /// # Example
+    ///
+    /// ```
+    /// use barzhilup::{Mode, Refusal, Stream, Writer};
+    ///
+    /// assert!(Writer::open(Mode::M1, Stream::Enhanced).is_ok());
+    /// assert_eq!(Writer::open(Mode::M0, Stream::Enhanced), Err(Refusal::Mode));
+    /// ```
     pub fn open(mode: Mode, stream: Stream) -> Result<Writer, Refusal> {
         Writer::open_with(mode, stream, CRC_START)
     }
 
-    /// Opens a writer for a mode and stream, and with the value that the register
-    /// of its CRCs starts with, any byte. Recordings off the air check with
-    /// [`CRC_START_OFF_AIR`](crate::CRC_START_OFF_AIR). (Document 02, Ask 2.)
+    /// Opens a writer for a mode and stream, and with the value that the
+    /// register of its CRCs starts with, any byte. Recordings off the air check
+    /// with [`CRC_START_OFF_AIR`](crate::CRC_START_OFF_AIR).
     ///
     /// Open the receiver of its PDUs with the same value. Nothing is promised for
     /// unequal ones; what a user sees then is [`Cause::Crc`](crate::Cause::Crc) for
@@ -172,7 +180,25 @@ impl Writer {
     ///
     /// # Errors
     ///
-    /// [`Refusal::State`]: a field is outside its range.
+    /// [`Refusal::State`]: a field is outside its range, or the mode has no such
+    /// stream.
+    ///
+    /// # Example
+    ///
+    /// ```
+    /// use barzhilup::{Mode, Settings, Stream, Writer};
+    ///
+    /// let (mut first, mut second) = ([0; 96], [0; 96]);
+    /// let mut writer = Writer::open(Mode::M0, Stream::Core)?;
+    /// writer.write(&Settings::default(), b"", &[[7; 100]], &mut first)?;
+    /// let kept = writer.state();
+    /// assert_eq!((kept.sequence, kept.number, kept.sent), (1, 0, 79));
+    ///
+    /// let mut writer = Writer::resume(kept)?;
+    /// let ended = writer.write(&Settings::default(), b"", &[[7; 100]], &mut second)?;
+    /// assert_eq!(ended, 1);
+    /// # Ok::<(), barzhilup::Refusal>(())
+    /// ```
     pub fn resume(state: WriterState) -> Result<Writer, Refusal> {
         // A PDU of no bytes is refused with 3 for every state in range.
         let answer = ffi::write(
@@ -190,6 +216,7 @@ impl Writer {
     }
 
     /// What the writer remembers.
+    #[must_use]
     pub fn state(&self) -> WriterState {
         self.state
     }
@@ -203,16 +230,27 @@ impl Writer {
     /// are offered are copied once, so offer no more than a PDU may take, if time
     /// counts.
     ///
-    /// A PDU gets no more pieces than the largest count up to 63 for which La is at
-    /// most 255 (document 02, Ask 9). That is 63 with locators of 12 bits, and with
-    /// 16 bits where PSD and expansion together have up to 116 bytes; from there on
-    /// it is one fewer for every two bytes more: 62 with 117 and 118, 57 with 127
+    /// A PDU gets no more pieces than the largest count up to 63 for which La
+    /// is at most 255. That is 63 with locators of 12 bits, and with 16 bits
+    /// where PSD and expansion together have up to 116 bytes; from there on it
+    /// is one fewer for every two bytes more: 62 with 117 and 118, 57 with 127
     /// and 128.
     ///
     /// # Errors
     ///
-    /// Refused with 3, 10 or 14 to 17; then the writer and the PDU are as they
-    /// were.
+    /// The first of these that applies, and then the writer and the PDU are as they
+    /// were:
+    ///
+    /// - [`Refusal::PduLength`]: the PDU has not 96 to 20,480 bytes; with locators of
+    ///   12 bits not 96 to 4,096.
+    /// - [`Refusal::Expansion`]: expansion fields that do not go together, or the
+    ///   displacement is asked for in a PDU of over 16,384 bytes.
+    /// - [`Refusal::Value`]: a setting that is not sent.
+    /// - [`Refusal::Packets`]: a packet is empty or over 4,096 bytes, or the unfinished
+    ///   one is not offered first and whole.
+    /// - [`Refusal::Psd`]: too much PSD and expansion for the mode and stream.
+    /// - [`Refusal::Room`]: the PDU has no room for a byte of a packet, or for what
+    ///   stands before the pieces.
     ///
     /// # Example
     ///

@@ -115,7 +115,7 @@ fn refused_at_each_place() {
             let mut receiver = Receiver::open(row.mode, row.stream).unwrap();
             let answer = compare(&mut receiver, frame.clone());
             assert_eq!(answer, (place, Some(Refusal::PduLength)));
-            receiver.mark_lost().unwrap();
+            receiver.mark_lost();
             let rest = Frame {
                 bytes: frame.bytes[start + 95..].to_vec(),
                 lengths: frame.lengths[place + 1..].to_vec(),

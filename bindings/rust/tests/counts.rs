@@ -59,9 +59,12 @@ fn each_number_after_each() {
     }
 }
 
+/// A call that receives a PDU: why it is refused, if it is.
+type Call = fn(&mut Receiver, &mut [u8]) -> Option<Refusal>;
+
 /// A PDU by each of the receiving calls: why it is refused, if it is.
 fn each_call(receiver: &Receiver, pdu: &[u8]) -> [(Receiver, Option<Refusal>); 4] {
-    let calls: [fn(&mut Receiver, &mut [u8]) -> Option<Refusal>; 4] = [
+    let calls: [Call; 4] = [
         |receiver, pdu| receiver.receive(pdu).err(),
         |receiver, pdu| receiver.receive_marked(pdu, &[5, 95]).err(),
         |receiver, pdu| {
@@ -160,7 +163,7 @@ fn lost_keeps_counts() {
             counted(row, u32::MAX, u32::MAX, 63),
         ] {
             let mut lost = receiver.clone();
-            lost.mark_lost().unwrap();
+            lost.mark_lost();
             assert_eq!(says(&lost), says(&receiver));
         }
     }
@@ -190,9 +193,9 @@ fn drives() {
                 .unwrap();
             let log = match random.below(100) < loss {
                 true => receiver.mark_lost(),
-                false => receiver.receive(&mut pdu),
+                false => receiver.receive(&mut pdu).unwrap(),
             };
-            for entry in log.unwrap() {
+            for entry in &log {
                 if let Entry::Packet { data, .. } = entry {
                     delivered.push(usize::from(data.to_vec()[0]));
                 }

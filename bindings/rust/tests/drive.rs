@@ -3,8 +3,8 @@
 //! makes of them (document 01, "Receiver"; demand 3; document 02, Asks 2 and 3).
 
 use barzhilup::{
-    read, Cause, Entry, Log, Mode, Receiver, Refusal, Settings, Stream, Writer, WriterState,
-    CRC_START, MARKS_MAX,
+    read, Cause, Entry, Log, Mode, Receiver, ReceiverState, Refusal, Settings, Stream, Writer,
+    WriterState, CARRY_BYTES, CRC_START, MARKS_MAX,
 };
 use std::ops::Range;
 
@@ -108,7 +108,7 @@ fn drive(random: &mut Random, row: Row, crc_start: u8, receive: Receive) -> (usi
     let mut words = Vec::new();
     for Pdu { mut bytes, sent } in pdus {
         if random.below(5) == 0 {
-            words.extend_from_slice(receiver.mark_lost().unwrap().words());
+            words.extend_from_slice(receiver.mark_lost().words());
             continue;
         }
         assert_eq!(receiver.receive(&mut bytes[..95]), Err(Refusal::PduLength));
@@ -254,13 +254,51 @@ fn note_5_for_a_packet_that_is_too_long() {
 #[test]
 fn note_6_for_a_pdu_marked_lost() {
     let mut receiver = holding();
-    let log = receiver.mark_lost().unwrap();
+    let log = receiver.mark_lost();
     assert_eq!(log.words(), [0xC006_0000]);
     assert_eq!(notes_of(log), [(Cause::Lost, None)]);
     assert_eq!(receiver, Receiver::open(Mode::M0, Stream::Core).unwrap());
     let mut end = pdu_from(1, 0, 79, &[vec![0x77; 100]]);
     let log = receiver.receive(&mut end).unwrap();
     assert_eq!(notes_of(log), [(Cause::NothingHeld, Some(0))]);
+}
+
+/// Marking lost is never refused, whatever the receiver remembers: at the ends of
+/// every range it logs its one note, and keeps the counts.
+#[test]
+fn marking_lost_from_every_state() {
+    let carry = vec![7; CARRY_BYTES];
+    let mut states = 0;
+    for row in TABLE {
+        let opened = Receiver::open(row.mode, row.stream).unwrap().state();
+        for (sequence, held, counts) in [
+            (None, 0, (0, 0, 0)),
+            (Some(0), 1, (1, u32::MAX, 0)),
+            (Some(row.sequences - 1), 4_096, (u32::MAX, u32::MAX, 63)),
+        ] {
+            let state = ReceiverState {
+                sequence,
+                held,
+                number: if held > 0 { 63 } else { 0 },
+                entitled: held as u8,
+                delivered: counts.0,
+                missing: counts.1,
+                last: counts.2,
+                ..opened
+            };
+            let mut receiver = Receiver::resume(state, &carry).unwrap();
+            assert_eq!(receiver.mark_lost().words(), [0xC006_0000]);
+            let wanted = ReceiverState {
+                sequence: None,
+                held: 0,
+                number: 0,
+                ..state
+            };
+            assert_eq!(receiver.state(), wanted);
+            states += 1;
+        }
+    }
+    assert_eq!(states, 30);
 }
 
 #[test]

@@ -115,7 +115,7 @@ fn packets_follow_their_beginning() {
             with_psd(vec![Plain::Packet(0)])
         );
         // Marking lost keeps the programs and forgets the value.
-        receiver.mark_lost().unwrap();
+        receiver.mark_lost();
         let state = receiver.state();
         assert_eq!((state.entitled, state.services), (6, None));
         let wanted = match keeps {

@@ -116,7 +116,7 @@ fn received(stream: Stream, packets: &[&[u8]], lost: impl Fn(usize) -> bool) -> 
             .unwrap();
         left = &left[ended..];
         let log = if lost(count) {
-            receiver.mark_lost().unwrap()
+            receiver.mark_lost()
         } else {
             receiver.receive(&mut pdu).unwrap()
         };
@@ -133,7 +133,7 @@ fn what_receivers_logged() {
     let enhanced = received(Stream::Enhanced, &packets, |count| count % 3 == 1);
     let joined = join(&core, &enhanced).unwrap();
     let (mut alone, mut pairs) = (0, 0);
-    for packet in joined.packets() {
+    for packet in &joined {
         let sent = packets[usize::from(packet.number)];
         assert_eq!(packet.core.to_vec(), sent);
         match packet.enhanced {
@@ -149,6 +149,7 @@ fn what_receivers_logged() {
     let core = received(Stream::Core, &packets, |_| false);
     let joined = join(&core, &core).unwrap();
     assert_eq!(joined.packets().count(), packets.len());
+    assert!((&joined).into_iter().eq(joined.packets()));
     assert!(joined
         .packets()
         .all(|packet| packet.enhanced == Some(packet.core)));

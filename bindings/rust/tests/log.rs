@@ -115,6 +115,44 @@ fn data_knows_its_length_while_it_is_read() {
     assert!(data != [0x11, 0x22, 0x33][..]);
 }
 
+/// A log and its data can be gone through by reference, as often as one likes.
+#[test]
+fn by_reference() {
+    let words = [0xC001_0000, 0x0005_0004, 0x4311_2233, 0x4144_0000];
+    let log = Log::new(&words).unwrap();
+    for _ in 0..2 {
+        let mut seen = Vec::new();
+        for entry in &log {
+            match entry {
+                Entry::Packet { number, data } => {
+                    seen.push(number);
+                    for byte in &data {
+                        seen.push(byte);
+                    }
+                    assert_eq!(data.len(), 4);
+                }
+                Entry::Psd(_) => panic!("no PSD"),
+                Entry::Note { cause, .. } => assert_eq!(cause, Cause::Sequence),
+            }
+        }
+        assert_eq!(seen, [5, 0x11, 0x22, 0x33, 0x44]);
+    }
+    assert!((&log).into_iter().eq(log.entries()));
+    assert!(log.into_iter().eq(log.entries()));
+}
+
+/// What a log holds outlives the borrow that it was gone through with.
+#[test]
+fn entries_outlive_the_reference() {
+    let words = [0x0005_0001, 0x4111_0000];
+    let first = |log: Log<'static>| (&log).into_iter().next();
+    let words: &'static [u32] = Box::leak(Box::new(words));
+    let Some(Entry::Packet { number: 5, data }) = first(Log::new(words).unwrap()) else {
+        panic!("packet 5");
+    };
+    assert_eq!(data.to_vec(), [0x11]);
+}
+
 #[test]
 fn a_first_word_that_does_not_fit() {
     let wrong = [

@@ -249,18 +249,18 @@ fn take(receiver: &mut Receiver, call: Call, pdu: &[u8]) -> Vec<u32> {
     let mut copy = pdu.clone();
     pdu[40] ^= 0x99;
     let log = match call {
-        Call::Single => receiver.receive(&mut pdu),
-        Call::Marked => receiver.receive_marked(&mut pdu, &[40, 3]),
+        Call::Single => receiver.receive(&mut pdu).unwrap(),
+        Call::Marked => receiver.receive_marked(&mut pdu, &[40, 3]).unwrap(),
         Call::Batch => {
             let lengths = [pdu.len()];
             let batch = receiver.receive_batch(&mut pdu, &lengths).unwrap();
             assert_eq!((batch.taken, batch.refusal), (1, None));
-            Ok(batch.log)
+            batch.log
         }
-        Call::Pair => receiver.receive_pair(&mut pdu, &mut copy),
+        Call::Pair => receiver.receive_pair(&mut pdu, &mut copy).unwrap(),
         Call::Lost => receiver.mark_lost(),
     };
-    log.unwrap().words().to_vec()
+    log.words().to_vec()
 }
 
 /// A drive interrupted anywhere, any number of times, logs as one never interrupted.

@@ -102,7 +102,7 @@ batches-through =
     )
 
 -- the two count as received: every packet is delivered
-pub batch-run : packetWords (logsFrom defined fresh batchCalls) ≡ logWords (packet 0 (replicate 20 1) ∷ packet 1 (replicate 300 2) ∷ packet 2 (replicate 10 3) ∷ [])
+pub batch-run : packetWords (logsFrom defined fresh (map callOf batchCalls)) ≡ logWords (packet 0 (replicate 20 1) ∷ packet 1 (replicate 300 2) ∷ packet 2 (replicate 10 3) ∷ [])
 unfolding wholePackets
 batch-run =
     delivers 0 0 0 three six 0 5 carry batchCalls (asked-of 0 5 batchCalls batches-through) (arrived-fit 0 0 three six three-few 0 5 (receptions batchCalls)) .log
@@ -126,7 +126,7 @@ both-usable = subst (All Usable) two-made (made-right 0 0 0 short twice opens sh
 
 -- the claim for these PDUs, from any carry
 module _ (b : Behaviour) (claim : Demand3For b) (first count : ℕ) (c : List ℕ) (steps : List Step) where
-  claimed : 4096 ≤ length c → Through b (freshStation b 0 0 0 allPrograms c) (runOf first count both) steps → packetWords (logsFrom b (freshStation b 0 0 0 allPrograms c) steps) ≡ logWords (wholePackets (inReceived (runOf first count shortSpans) (receptions steps)) 0 0 short)
+  claimed : 4096 ≤ length c → Through b (freshStation b 0 0 0 allPrograms c) (runOf first count both) steps → packetWords (logsFrom b (freshStation b 0 0 0 allPrograms c) (map callOf steps)) ≡ logWords (wholePackets (inReceived (runOf first count shortSpans) (receptions steps)) 0 0 short)
   claimed room t =
       claim 0 0 0 short twice first count c steps (record { opens = opens; sized = short-right; offered = short-order; room = room; through = subst (λ (ps : List (List ℕ)). Through b (freshStation b 0 0 0 allPrograms c) (runOf first count ps) steps) (sym two-made) t }) (arrived-fit 0 0 short twice short-few first count (receptions steps)) .log
       ∙ ap (λ (l : List Span). logWords (wholePackets (inReceived (runOf first count l) (receptions steps)) 0 0 short)) short-spans

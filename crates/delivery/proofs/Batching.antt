@@ -32,7 +32,7 @@ use Rattle.runs.specs.Calls.{Speech, heard, Matching, Machine, Serves, Bridge, 
 use Rattle.runs.proofs.General.{Served, serve, countable-less}
 use Rattle.delivery.specs.Delivery.{joined, Station, Call, receive, batch, pair, markLost, answerOf, logOf, defined, stationAfter, RefusedAfter, logCounts, loggedBy}
 use Rattle.delivery.specs.Copies.{Copy, causesFor}
-use Rattle.delivery.specs.Channel.{Came, pdusIn, Step, receives, pairs, batches, stops, loses, refuses, callOf, waysIn, NotRefused}
+use Rattle.delivery.specs.Channel.{Came, pdusIn, Step, receives, pairs, batches, stops, loses, refuses, callOf, Takes, waysIn}
 use Rattle.delivery.proofs.Serving.{rightsBy, Shows}
 use Rattle.delivery.proofs.Bridge.{stations, copied, paired, losing, refusing, Speaks, StandsFor, bridge}
 
@@ -316,7 +316,7 @@ module _ (mode stream register entitled : ℕ) (m : Mode) (l : listing mode stre
     }
 
   pub serves : (x : Station) (y : Holder) (s : Step) (ps : List (List ℕ)) (ws : List Way) (ds : List Speech) → Stands x y → Handing x s ps ws → Spoken ps ds
-      → Countable (after rights (m .sequences) y (heard ws ds) .tally) → NotRefused x s × Serves rights (m .sequences) steps Stands x y s (heard ws ds)
+      → Countable (after rights (m .sequences) y (heard ws ds) .tally) → Takes s (answerOf x (callOf s)) × Serves rights (m .sequences) steps Stands x y s (heard ws ds)
   serves x y s ps ws ds t (receiving {marks = n} {p = p} {q = q} {log = log} {sound = v} a b) g fits =
       let r = one .serves x y (receive n q log) (p ∷ []) (here (causesFor v) ∷ []) ds t (copied a b) g fits in
       (r .0, record { log = r .1 .log; fit = r .1 .fit; stands = r .1 .stands })
@@ -342,7 +342,7 @@ module _ (mode stream register entitled : ℕ) (m : Mode) (l : listing mode stre
     Says = Speaks mode stream register entitled m l range;
     Stands = Stands;
     Hands = Handing;
-    Good = λ x s ps. NotRefused x s;
+    Good = λ x s ps. Takes s (answerOf x (callOf s));
     Within = Countable;
     within-less = countable-less;
     as-many = as-many;

@@ -2,7 +2,7 @@
 -- of its second piece, whose last byte comes as 9 in place of 2. The second PDU comes as sent.
 use mathlib.Core.Path.{_≡_, refl, sym, ap, ap₂, subst, _∙_}
 use mathlib.Core.Bool.{Bool, true, false, cond}
-use mathlib.Core.List.{List, [], _∷_, _++_}
+use mathlib.Core.List.{List, [], _∷_, _++_, map}
 use Prim.Native.Nat.{ℕ, zero, suc, _<_}
 use native.Mathlib.Omega.{arith}
 use lib.ListN.{length, take, drop, replicate}
@@ -26,7 +26,7 @@ use Rattle.runs.specs.Spans.{wholePackets}
 use Rattle.runs.specs.Promise.{arrived}
 use Rattle.runs.specs.Transmissions.{here}
 use Rattle.diversity.specs.Diversity.{sameBytes}
-use Rattle.delivery.specs.Delivery.{Station, defined, Step, receives, freshStation, ThroughBy, logsFrom, runOf, made, HeaderAltered}
+use Rattle.delivery.specs.Delivery.{Station, defined, Step, receives, callOf, freshStation, ThroughBy, logsFrom, runOf, made, HeaderAltered}
 use Rattle.delivery.specs.Entitlement.{labelsFrom, rightsFor, due}
 use Rattle.delivery.specs.Copies.{restored, pieceAt, causesFor}
 use Rattle.delivery.specs.Bursts.{notHit, Bursts, ways}
@@ -101,7 +101,7 @@ due-are : due 0 0 allPrograms packets two 0 (here (firstTwo 0 2 causes) ∷ here
 unfolding listing wholePackets
 due-are = (λ i. arrived (rightsFor 0 0 allPrograms) 2 0 packets (spans-are i) (labels-are i) (here (firstTwo 0 2 causes) ∷ here (λ k. 0) ∷ [])) ∙ refl
 
-pub burst-run : packetWords (logsFrom defined fresh burstCalls) ≡ logWords (packet 0 (replicate 100 1) ∷ packet 2 (replicate 50 3) ∷ [])
+pub burst-run : packetWords (logsFrom defined fresh (map callOf burstCalls)) ≡ logWords (packet 0 (replicate 100 1) ∷ packet 2 (replicate 50 3) ∷ [])
 unfolding listing
 burst-run =
     bursts-deliver 0 0 0 allPrograms packets two 0 2 carry burstCalls all-allowed (record {

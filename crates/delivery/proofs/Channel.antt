@@ -36,9 +36,9 @@ use Rattle.runs.specs.Promise.{arrived, indices}
 use Rattle.runs.specs.Calls.{Load, labelsOf, LoadsFit, Machine, spansFrom as spansOfLoads, speechesFrom, Matching, Bridge, Step as Part, handed, waysOf, Through as Goes, logsFrom as logsOf, finally as lastOf, AllGood}
 use Rattle.runs.proofs.General.{Asked as RunAsked, general}
 use Rattle.runs.proofs.Promised.{arrivals-told, promised}
-use Rattle.delivery.specs.Delivery.{Packets, Writing, pdusFrom, spansFrom, InOrder, Station, Call, receive, pair, markLost, answerOf, defined, freshStation, stationAfter, loggedBy, runOf, made as madeBy, spans as spansOf, CountsFit}
+use Rattle.delivery.specs.Delivery.{Packets, Writing, pdusFrom, spansFrom, InOrder, Station, Call, receive, pair, markLost, answerOf, defined, freshStation, stationAfter, NoneRefused, loggedBy, logsFrom, finally, runOf, made as madeBy, spans as spansOf, CountsFit}
 use Rattle.delivery.specs.Copies.{causesFor}
-use Rattle.delivery.specs.Channel.{Came, Step, receives, pairs, batches, stops, loses, refuses, callOf, AllCopies, Through, waysIn, ways, logsFrom, finally, NoneRefused, Asked, Delivered, ChannelDelivery}
+use Rattle.delivery.specs.Channel.{Came, Step, receives, pairs, batches, stops, loses, refuses, callOf, AllCopies, Through, Takes, waysIn, ways, Asked, Delivered, ChannelDelivery}
 use Rattle.delivery.specs.Entitlement.{labelsFrom, rightsFor, due, dueIndices}
 use Rattle.delivery.proofs.Counting.{stands-first}
 use Rattle.delivery.proofs.Calling.{stateAt, next-in-range}
@@ -118,9 +118,9 @@ module _ (mode stream register entitled : ℕ) (m : Mode) (l : listing mode stre
     through : Goes all x gs
     pdus′ : handed all gs ≡ pdus
     ways : waysOf all gs ≡ ways ss
-    logs : logsOf all x gs ≡ logsFrom x ss
-    final : lastOf all x gs ≡ finally x ss
-    good : AllGood all x gs → NoneRefused x ss
+    logs : logsOf all x gs ≡ logsFrom defined x (map callOf ss)
+    final : lastOf all x gs ≡ finally defined x (map callOf ss)
+    good : AllGood all x gs → NoneRefused defined callOf Takes x ss
 
   -- a call, and those after it
   module _ (s : Step) (ss : List Step) (x : Station) (ps qs : List (List ℕ)) (ws : List Way) (hands : Handing mode stream register entitled m l range x s ps ws) (gs : List (Part all)) (r : Parted (stationAfter defined x (callOf s)) ss qs gs) where
@@ -267,17 +267,17 @@ module _ (mode stream register : ℕ) (programs : List ℕ) (packets : List (Lis
   }
 
   -- the receiver's counts at the end
-  counts-are : tallyOf (finally (freshStation defined mode stream register programs carry) steps .receiver)
+  counts-are : tallyOf (finally defined (freshStation defined mode stream register programs carry) (map callOf steps) .receiver)
       ≡ general (rightsBy mask stream m) (m .sequences) machine bridge packets cs made first count station gs asked .last .tally
   counts-are =
-      ap (λ (s : Station). tallyOf (finally s steps .receiver)) station-is
+      ap (λ (s : Station). tallyOf (finally defined s (map callOf steps) .receiver)) station-is
       ∙ ap (λ (s : Station). tallyOf (s .receiver)) (sym (split .final))
       ∙ general (rightsBy mask stream m) (m .sequences) machine bridge packets cs made first count station gs asked .stands .tally
 
   delivered : Delivered mode stream register programs packets writings first count carry steps
   delivered = record {
-    accepted = subst (λ (s : Station). NoneRefused s steps) (sym station-is) (split .good (general (rightsBy mask stream m) (m .sequences) machine bridge packets cs made first count station gs asked .good));
-    log = ap (λ (s : Station). packetWords (logsFrom s steps)) station-is
+    accepted = subst (λ (s : Station). NoneRefused defined callOf Takes s steps) (sym station-is) (split .good (general (rightsBy mask stream m) (m .sequences) machine bridge packets cs made first count station gs asked .good));
+    log = ap (λ (s : Station). packetWords (logsFrom defined s (map callOf steps))) station-is
         ∙ ap packetWords (sym (split .logs))
         ∙ promised (rightsBy mask stream m) (m .sequences) machine bridge packets cs made first count station gs asked .holds
         ∙ ap logWords due-are;

@@ -2,7 +2,7 @@
 -- with the second PDU of sequence 0, one sent with sequence 1 is not taken, and the third PDU is lost.
 use mathlib.Core.Path.{_≡_, refl, sym, ap, _∙_}
 use mathlib.Core.Bool.{Bool, true, false}
-use mathlib.Core.List.{List, [], _∷_, _++_}
+use mathlib.Core.List.{List, [], _∷_, _++_, map}
 use Prim.Native.Nat.{ℕ, zero, suc, _+_, _≤_}
 use native.Mathlib.Omega.{arith}
 use lib.ListN.{length, replicate, length-take}
@@ -19,7 +19,7 @@ use Rattle.writer.specs.Writing.{opened as writerOpened, writeAnswer}
 use Rattle.receiver.specs.Entitling.{allowedPrograms}
 use Rattle.runs.specs.Spans.{Span, wholePackets}
 use Rattle.runs.specs.Promise.{arrived}
-use Rattle.delivery.specs.Delivery.{Packets, Writing, spansFrom, InOrder, defined, Step, freshStation, receptions, logsFrom, runOf, made, spans}
+use Rattle.delivery.specs.Delivery.{Packets, Writing, spansFrom, InOrder, defined, Step, callOf, freshStation, receptions, logsFrom, runOf, made, spans}
 use Rattle.delivery.specs.Entitlement.{labelsFrom, rightsFor, due, waysBy}
 use Rattle.delivery.proofs.Channel.{made-right}
 use Rattle.delivery.proofs.Possible.{asSent, told-receptions, stepsOf, possible}
@@ -125,7 +125,7 @@ ten-made =
     let t = length-take 10 (made 1 0 0 calls) in
     omega (arith, e, t)
 
-pub paid-run : packetWords (logsFrom defined (freshStation defined 1 0 0 third carry) paidCalls) ≡ logWords (packet 0 (triple 0) ∷ packet 1 (triple 1) ∷ packet 4 (triple 4) ∷ [])
+pub paid-run : packetWords (logsFrom defined (freshStation defined 1 0 0 third carry) (map callOf paidCalls)) ≡ logWords (packet 0 (triple 0) ∷ packet 1 (triple 1) ∷ packet 4 (triple 4) ∷ [])
 paid-run =
     entitled-delivers 1 0 0 third ten calls 0 10 carry paidCalls third-allowed (possible 1 0 0 ten calls opens right in-order defined third 0 10 carry received carry-room)
     (due-fit 1 0 ten calls (let n : length ten ≡ 10 = refl in omega (arith, n)) third 0 (waysBy (receptions paidCalls))) .log

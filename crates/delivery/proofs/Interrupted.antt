@@ -16,8 +16,8 @@ use Rattle.writer.specs.RoundTrip.{Bytes}
 use Rattle.snapshot.specs.declared.Saved.{Saved}
 use Rattle.snapshot.specs.Snapshot.{savedWords, saveNumber, saved, bytesIn, loadNumber, loaded, carryLoaded}
 use Rattle.snapshot.proofs.Round.{loaded-saved, saved-words, save-room, few-words}
-use Rattle.delivery.specs.Delivery.{Station, Call, receive, batch, pair, markLost, Answer, answerOf, logOf, defined, stationAfter, loggedBy}
-use Rattle.delivery.specs.Interruptions.{written, Interruption, wordsOf, resumed, Resumes, Turn, called, interrupted, callsIn, Seen, seenOf, seenFrom, endFrom, seenIn, endIn, AllResume, Running, Suffices, EnoughWords, Interruptions}
+use Rattle.delivery.specs.Delivery.{Station, Call, receive, batch, pair, markLost, Answer, answerOf, logOf, defined, stationAfter, loggedBy, finally}
+use Rattle.delivery.specs.Interruptions.{written, Interruption, wordsOf, resumed, Resumes, Turn, called, interrupted, callsIn, Seen, seenOf, seenFrom, seenIn, endIn, AllResume, Running, Suffices, EnoughWords, Interruptions}
 use Rattle.delivery.proofs.Made.{bytes-of}
 use Rattle.delivery.proofs.Held.{Alike, put-longer, SameHeld, SameCall, same-call}
 use Rattle.delivery.proofs.Running.{still-runs}
@@ -132,7 +132,7 @@ same-seen x y c s =
 
 -- x is as the run with interruptions left it, y as the one without
 same-run : (ts : List Turn) (x y : Station) → SameHeld x y → Running y → Suffices defined written x ts
-    → AllResume defined written x ts × (seenIn defined written x ts ≡ seenFrom defined y (callsIn ts)) × (endIn defined written x ts .receiver ≡ endFrom defined y (callsIn ts) .receiver)
+    → AllResume defined written x ts × (seenIn defined written x ts ≡ seenFrom defined y (callsIn ts)) × (endIn defined written x ts .receiver ≡ finally defined y (callsIn ts) .receiver)
 same-run [] x y s h g = (tt, refl, s .receiver)
 same-run (called c ∷ ts) x y s h g =
     let k = same-call x y c s in

@@ -19,10 +19,11 @@ use Rattle.receiver.specs.Entitling.{isListed, allowedPrograms, allPrograms, bi
 use Rattle.receiver.specs.Receiving.{openingTests, openingNumber, openedFor, tallyOf}
 use Rattle.receiver.specs.declared.Receiver.{Receiver}
 use Rattle.runs.specs.Transmissions.{Close, AddsUp}
-use Rattle.delivery.specs.Delivery.{Station, Call, Answer, defined, Step, receives, batches, stops, loses, refuses, callOf, freshStation, stationAfter, loggedBy, NoneRefused, logsFrom, finally}
-use Rattle.delivery.specs.Diversity.{Step as PairStep, pairs, receives as receivesCopy, batches as batchesCopies, stops as stopsCopies, loses as losesPair, refuses as refusesPair, callOf as pairCall, NoneRefused as NoPairRefused, logsFrom as pairLogs, finally as pairsFinally}
-use Rattle.delivery.specs.Interruptions.{written, Turn, callsIn, Seen, seenFrom, endFrom, seenIn, endIn, logsIn, Running, Suffices, OpenedRuns, Takes, TakesPair, Each, Interrupted, InterruptedDemand3, InterruptedEntitled, InterruptedBursts, InterruptedPairs, InterruptedEntitledPairs}
-use Rattle.delivery.proofs.Channel.{fresh-writer, fresh-receiver, shows-fresh}
+use Rattle.delivery.specs.Delivery.{Station, Call, Answer, defined, callOf, Takes, freshStation, stationAfter, NoneRefused, loggedBy, logsFrom, finally}
+use Rattle.delivery.specs.Diversity.{callOf as pairCall, Takes as PairTakes}
+use Rattle.delivery.specs.Channel.{callOf as channelCall, Takes as ChannelTakes}
+use Rattle.delivery.specs.Interruptions.{written, Turn, callsIn, Seen, seenFrom, seenIn, endIn, logsIn, Running, Suffices, OpenedRuns, Each, Interrupted, InterruptedDemand3, InterruptedEntitled, InterruptedBursts, InterruptedPairs, InterruptedEntitledPairs, InterruptedChannel}
+use Rattle.delivery.proofs.Channel.{fresh-writer, fresh-receiver, shows-fresh, channel-delivers}
 use Rattle.delivery.proofs.Counted.{adds-along}
 use Rattle.delivery.proofs.Entitling.{all-allowed}
 use Rattle.delivery.proofs.Running.{listed-by}
@@ -63,72 +64,30 @@ run-runs mode stream register programs carry e a g big = let f = fresh-writer mo
 pub kept : (P : List Seen → Type 0) (x : Station) (cs : List Call) (ts : List Turn) → Running x → callsIn ts ≡ cs → Suffices defined written x ts → P (seenFrom defined x cs) → P (seenIn defined written x ts)
 kept P x cs ts h e g p = subst P (sym (unnoticed x ts h g .same ∙ ap (seenFrom defined x) e)) p
 
--- so the promise over the calls of these steps
-module _ {S : Type 0} (call : S → Call) (takes : S → Answer → Type 0) (x : Station) (steps : List S) (packetsDue : List Entry) (indices : List ℕ) (h : Running x) where
-  over : Each takes steps (seenFrom defined x (map call steps)) → packetWords (logsIn (seenFrom defined x (map call steps))) ≡ logWords packetsDue
-      → tallyOf (endFrom defined x (map call steps) .receiver) ≡ tallied noTally packetsDue
-      → (Close indices → AddsUp indices (tallyOf (endFrom defined x (map call steps) .receiver)))
+-- the joined logs
+same-logs : (cs : List Call) (x : Station) → logsIn (seenFrom defined x cs) ≡ logsFrom defined x cs
+same-logs [] x = refl
+same-logs (c ∷ cs) x = ap (λ (l : List ℕ). loggedBy defined x c ++ l) (same-logs cs (stationAfter defined x c))
+
+-- so the promise over the calls of steps, of whatever page they are
+module _ {S : Type 0} (call : S → Call) (takes : S → Answer → Type 0) where
+  each-taken : (ss : List S) (x : Station) → NoneRefused defined call takes x ss → Each takes ss (seenFrom defined x (map call ss))
+  each-taken [] x a = tt
+  each-taken (s ∷ ss) x a = (a .0, each-taken ss (stationAfter defined x (call s)) (a .1))
+
+  over : (x : Station) (steps : List S) (packetsDue : List Entry) (indices : List ℕ) → Running x → NoneRefused defined call takes x steps
+      → packetWords (logsFrom defined x (map call steps)) ≡ logWords packetsDue → tallyOf (finally defined x (map call steps) .receiver) ≡ tallied noTally packetsDue
+      → (Close indices → AddsUp indices (tallyOf (finally defined x (map call steps) .receiver)))
       → Interrupted defined written call takes x steps packetsDue indices
-  over a l c u ts e g =
-      let f : endIn defined written x ts .receiver ≡ endFrom defined x (map call steps) .receiver = unnoticed x ts h g .final ∙ ap (λ (cs : List Call). endFrom defined x cs .receiver) e in
+  over x steps packetsDue indices h a l c u ts e g =
+      let f : endIn defined written x ts .receiver ≡ finally defined x (map call steps) .receiver = unnoticed x ts h g .final ∙ ap (λ (cs : List Call). finally defined x cs .receiver) e in
       record {
         resumes = unnoticed x ts h g .resumes;
-        accepted = kept (Each takes steps) x (map call steps) ts h e g a;
-        log = kept (λ (vs : List Seen). packetWords (logsIn vs) ≡ logWords packetsDue) x (map call steps) ts h e g l;
+        accepted = kept (Each takes steps) x (map call steps) ts h e g (each-taken steps x a);
+        log = kept (λ (vs : List Seen). packetWords (logsIn vs) ≡ logWords packetsDue) x (map call steps) ts h e g (ap packetWords (same-logs (map call steps) x) ∙ l);
         counts = ap tallyOf f ∙ c;
         adds-up = adds-along {a = indices} refl (sym (ap tallyOf f)) u;
       }
-
--- ---- what is seen of the calls of a run
-
-each-taken : (ss : List Step) (x : Station) → NoneRefused defined x ss → Each Takes ss (seenFrom defined x (map callOf ss))
-each-taken [] x a = tt
-each-taken (receives marks q log ∷ ss) x a = (a .0, each-taken ss (stationAfter defined x (callOf (receives marks q log))) (a .1))
-each-taken (batches qs log ∷ ss) x a = (a .0, each-taken ss (stationAfter defined x (callOf (batches qs log))) (a .1))
-each-taken (stops qs lengths bytes log ∷ ss) x a = (a .0, each-taken ss (stationAfter defined x (callOf (stops qs lengths bytes log))) (a .1))
-each-taken (loses log ∷ ss) x a = (a .0, each-taken ss (stationAfter defined x (callOf (loses log))) (a .1))
-each-taken (refuses c ∷ ss) x a = (a .0, each-taken ss (stationAfter defined x c) (a .1))
-
-same-logs : (ss : List Step) (x : Station) → logsIn (seenFrom defined x (map callOf ss)) ≡ logsFrom defined x ss
-same-logs [] x = refl
-same-logs (s ∷ ss) x = ap (λ (l : List ℕ). loggedBy defined x (callOf s) ++ l) (same-logs ss (stationAfter defined x (callOf s)))
-
-each-pair : (ss : List PairStep) (x : Station) → NoPairRefused defined x ss → Each TakesPair ss (seenFrom defined x (map pairCall ss))
-each-pair [] x a = tt
-each-pair (pairs q r log ∷ ss) x a = (a .0, each-pair ss (stationAfter defined x (pairCall (pairs q r log))) (a .1))
-each-pair (receivesCopy q log ∷ ss) x a = (a .0, each-pair ss (stationAfter defined x (pairCall (receivesCopy q log))) (a .1))
-each-pair (batchesCopies qs log ∷ ss) x a = (a .0, each-pair ss (stationAfter defined x (pairCall (batchesCopies qs log))) (a .1))
-each-pair (stopsCopies qs lengths bytes log ∷ ss) x a = (a .0, each-pair ss (stationAfter defined x (pairCall (stopsCopies qs lengths bytes log))) (a .1))
-each-pair (losesPair log ∷ ss) x a = (a .0, each-pair ss (stationAfter defined x (pairCall (losesPair log))) (a .1))
-each-pair (refusesPair c ∷ ss) x a = (a .0, each-pair ss (stationAfter defined x c) (a .1))
-
-same-pair-logs : (ss : List PairStep) (x : Station) → logsIn (seenFrom defined x (map pairCall ss)) ≡ pairLogs defined x ss
-same-pair-logs [] x = refl
-same-pair-logs (s ∷ ss) x = ap (λ (l : List ℕ). loggedBy defined x (pairCall s) ++ l) (same-pair-logs ss (stationAfter defined x (pairCall s)))
-
--- receiver and carry at the end
-same-end : (ss : List Step) (x : Station) → endFrom defined x (map callOf ss) ≡ finally defined x ss
-same-end [] x = refl
-same-end (s ∷ ss) x = same-end ss (stationAfter defined x (callOf s))
-
-same-pair-end : (ss : List PairStep) (x : Station) → endFrom defined x (map pairCall ss) ≡ pairsFinally defined x ss
-same-pair-end [] x = refl
-same-pair-end (s ∷ ss) x = same-pair-end ss (stationAfter defined x (pairCall s))
-
-module _ (x : Station) (packetsDue : List Entry) (indices : List ℕ) (h : Running x) where
-  over-steps : (ss : List Step) → NoneRefused defined x ss → packetWords (logsFrom defined x ss) ≡ logWords packetsDue → tallyOf (finally defined x ss .receiver) ≡ tallied noTally packetsDue
-      → (Close indices → AddsUp indices (tallyOf (finally defined x ss .receiver)))
-      → Interrupted defined written callOf Takes x ss packetsDue indices
-  over-steps ss a l c u =
-      let e = ap (λ (y : Station). tallyOf (y .receiver)) (same-end ss x) in
-      over callOf Takes x ss packetsDue indices h (each-taken ss x a) (ap packetWords (same-logs ss x) ∙ l) (e ∙ c) (adds-along {a = indices} refl (sym e) u)
-
-  over-pairs : (ss : List PairStep) → NoPairRefused defined x ss → packetWords (pairLogs defined x ss) ≡ logWords packetsDue → tallyOf (pairsFinally defined x ss .receiver) ≡ tallied noTally packetsDue
-      → (Close indices → AddsUp indices (tallyOf (pairsFinally defined x ss .receiver)))
-      → Interrupted defined written pairCall TakesPair x ss packetsDue indices
-  over-pairs ss a l c u =
-      let e = ap (λ (y : Station). tallyOf (y .receiver)) (same-pair-end ss x) in
-      over pairCall TakesPair x ss packetsDue indices h (each-pair ss x a) (ap packetWords (same-pair-logs ss x) ∙ l) (e ∙ c) (adds-along {a = indices} refl (sym e) u)
 
 -- ---- the promises
 
@@ -136,27 +95,33 @@ module _ (x : Station) (packetsDue : List Entry) (indices : List ℕ) (h : Runni
 pub interrupted-delivers : InterruptedDemand3
 interrupted-delivers mode stream register packets writings first count carry steps g d k =
     let r = delivers mode stream register packets writings first count carry steps d k in
-    over-steps _ _ _ (run-runs mode stream register allPrograms carry (d .opens) all-allowed g (d .room)) steps (r .accepted) (r .log) (r .counts) (r .adds-up)
+    over callOf Takes _ steps _ _ (run-runs mode stream register allPrograms carry (d .opens) all-allowed g (d .room)) (r .accepted) (r .log) (r .counts) (r .adds-up)
 
 -- Ask 10
 pub interrupted-entitled : InterruptedEntitled
 interrupted-entitled mode stream register programs packets writings first count carry steps g a d k =
     let r = entitled-delivers mode stream register programs packets writings first count carry steps a d k in
-    over-steps _ _ _ (run-runs mode stream register programs carry (d .opens) a g (d .room)) steps (r .accepted) (r .log) (r .counts) (r .adds-up)
+    over callOf Takes _ steps _ _ (run-runs mode stream register programs carry (d .opens) a g (d .room)) (r .accepted) (r .log) (r .counts) (r .adds-up)
 
 -- Ask 12
 pub interrupted-bursts : InterruptedBursts
 interrupted-bursts mode stream register programs packets writings first count carry steps g a d k =
     let r = bursts-deliver mode stream register programs packets writings first count carry steps a d k in
-    over-steps _ _ _ (run-runs mode stream register programs carry (d .opens) a g (d .room)) steps (r .accepted) (r .log) (r .counts) (r .adds-up)
+    over callOf Takes _ steps _ _ (run-runs mode stream register programs carry (d .opens) a g (d .room)) (r .accepted) (r .log) (r .counts) (r .adds-up)
 
 -- Ask 5
 pub interrupted-pairs : InterruptedPairs
 interrupted-pairs mode stream register packets writings first count carry steps g d k =
     let r = pairs-deliver mode stream register packets writings first count carry steps d k in
-    over-pairs _ _ _ (run-runs mode stream register allPrograms carry (d .opens) all-allowed g (d .room)) steps (r .accepted) (r .log) (r .counts) (r .adds-up)
+    over pairCall PairTakes _ steps _ _ (run-runs mode stream register allPrograms carry (d .opens) all-allowed g (d .room)) (r .accepted) (r .log) (r .counts) (r .adds-up)
 
 pub interrupted-entitled-pairs : InterruptedEntitledPairs
 interrupted-entitled-pairs mode stream register programs packets writings first count carry steps g a d k =
     let r = entitled-pairs-deliver mode stream register programs packets writings first count carry steps a d k in
-    over-pairs _ _ _ (run-runs mode stream register programs carry (d .opens) a g (d .room)) steps (r .accepted) (r .log) (r .counts) (r .adds-up)
+    over pairCall PairTakes _ steps _ _ (run-runs mode stream register programs carry (d .opens) a g (d .room)) (r .accepted) (r .log) (r .counts) (r .adds-up)
+
+-- over a channel
+pub interrupted-channel : InterruptedChannel
+interrupted-channel mode stream register programs packets writings first count carry steps g d =
+    let r = channel-delivers mode stream register programs packets writings first count carry steps d in
+    over channelCall ChannelTakes _ steps _ _ (run-runs mode stream register programs carry (d .opens) (d .allowed) g (d .room)) (r .accepted) (r .log) (r .counts) (r .adds-up)

@@ -1,8 +1,8 @@
 -- Document 02, Ask 13: a run interrupted in the middle of a packet, computed; and the claim is false of a way to write a receiver out that forgets its
--- register, its sequence or its held bytes: for each, a run whose log differs.
+-- register, its sequence or its held bytes: for each, a run whose log differs; and of one that forgets the counts (Ask 14): a run whose answers differ.
 use mathlib.Core.Path.{_≡_, refl, sym, ap, ap₂, subst, _∙_}
 use mathlib.Core.Bool.{Bool, true, false}
-use mathlib.Core.List.{List, [], _∷_, _++_, append-nil}
+use mathlib.Core.List.{List, [], _∷_, _++_, map, append-nil}
 use mathlib.Core.Option.{none, some}
 use Prim.Native.Nat.{ℕ, zero, suc, _<_, _≤_}
 use native.Mathlib.Omega.{arith}
@@ -19,14 +19,14 @@ use Rattle.header.proofs.Unique.{all-bytes, bytes-all, all-drop, parity-right}
 use Rattle.layout.specs.Control.{controlOf, controlAt}
 use Rattle.layout.specs.Locators.{locator16}
 use Rattle.buffer.specs.Buffer.{putAt}
-use Rattle.buffer.proofs.Laws.{take-put}
+use Rattle.buffer.proofs.Laws.{take-put, put-nil}
 use Rattle.log.proofs.Packets.{Bytes as logBytes}
 use Rattle.log.specs.Log.{packet, note, dataWords, entryWords, logWords}
 use Rattle.correction.specs.Marks.{marksRefusal, correctedPduWith}
 use Rattle.correction.proofs.Marking.{with-self}
 use Rattle.pdu.specs.Reading.{judged, uncorrectable, anyBelow, wrongLocator}
 use Rattle.reassembly.specs.Reassembly.{Piece, beginning, Memory, forgotten, received, remembered, sequenceStep, beginningStep, psdEntries, finished, joined, pieceStep, piecesStep, contentsStep}
-use Rattle.reassembly.specs.Tally.{noTally, tallied, Countable}
+use Rattle.reassembly.specs.Tally.{Tally, noTally, counted, tallied, Countable}
 use Rattle.reassembly.specs.Holder.{Come, saidTo}
 use Rattle.reassembly.specs.Run.{lastOf}
 use Rattle.reassembly.proofs.Fitting.{SanePieces, SaneSaid}
@@ -35,11 +35,12 @@ use Rattle.receiver.specs.Entitling.{entitles}
 use Rattle.receiver.specs.Receiving.{piecesIn, saidBy, comeBy, memoryOf, remembering, wrongState, openedBy}
 use Rattle.receiver.specs.declared.Receiver.{Receiver}
 use Rattle.receiver.specs.declared.Opened.{Opened}
+use Rattle.receiver.proofs.Counting.{lost-keeps}
 use Rattle.writer.specs.RoundTrip.{Bytes}
 use Rattle.snapshot.specs.Snapshot.{loaded, carryLoaded}
-use Rattle.delivery.specs.Delivery.{Station, receive, defined, stationAfter, loggedBy}
-use Rattle.delivery.specs.Interruptions.{Snapshot, written, Interruption, wordsOf, resumed, Turn, called, interrupted, seenIn, logsIn, Running, Suffices, InterruptionsFor}
-use Rattle.delivery.specs.WrongSnapshots.{unregistered, unsequenced, forgetsRegister, forgetsSequence, forgetsHeld}
+use Rattle.delivery.specs.Delivery.{Station, receive, markLost, answerOf, defined, stationAfter, loggedBy}
+use Rattle.delivery.specs.Interruptions.{Snapshot, written, Interruption, wordsOf, resumed, Turn, called, interrupted, Seen, seenIn, logsIn, Running, Suffices, InterruptionsFor}
+use Rattle.delivery.specs.WrongSnapshots.{unregistered, unsequenced, forgetsRegister, forgetsSequence, forgetsHeld, forgetsCounts}
 use Rattle.delivery.proofs.Made.{Heard}
 use Rattle.delivery.proofs.Copies.{corrected-back}
 use Rattle.delivery.proofs.Possible.{words, log-room, as-sent}
@@ -212,6 +213,9 @@ module _ (register : ℕ) (x : Station) (z : Memory) (s : Stands register x z) w
   last-logs : (cause : ℕ) → cause < 16384 → Heard 0 0 register 16 [] ends (end-says cause) → loggedBy defined x (receive [] ends words) ≡ logs (end-says cause)
   last-logs cause k h = receive-logged 0 0 register 255 line listed range x _ s [] ends words (end-says cause) h (said-sane (end-says cause) cause 9 refl refl k (omega arith)) (omega arith) (omega arith) (all-bytes ends (bytes 64 10 9 202 ends-bytes)) log-room (few z (end-says cause) (omega arith))
 
+  last-takes : (cause : ℕ) → cause < 16384 → Heard 0 0 register 16 [] ends (end-says cause) → stationAfter defined x (receive [] ends words) ≡ taking 0 0 register 255 line listed range x (end-says cause)
+  last-takes cause k h = receive-takes 0 0 register 255 line listed range x _ s [] ends words (end-says cause) h (said-sane (end-says cause) cause 9 refl refl k (omega arith)) (omega arith) (omega arith) (all-bytes ends (bytes 64 10 9 202 ends-bytes)) log-room (few z (end-says cause) (omega arith))
+
 -- ---- a run
 
 -- freshly opened, and after the first PDU
@@ -338,4 +342,42 @@ pub held-wrong : ¬ InterruptionsFor defined forgetsHeld
 unfolding logWords entryWords dataWords
 held-wrong claim =
     let h : _≡_ {A = ℕ} 0x43000009 0x43070709 = ap (λ (l : List ℕ). getD l 1 0) (differs forgetsHeld ends _ _ first-words (bytes 64 10 9 202 ends-bytes) end-logged bytes-logged claim) in
+    absurd (omega (arith, h))
+
+-- the counts: both PDUs, an interruption, and a PDU marked lost. The logs are the same, but the receiver in the last answer has 0 delivered in place of 1
+abbrev counting : ℕ → Station
+counting n = at (record { mode = 0; stream = 0; register = 255; entitled = 255; known = true; sequence = 1; held = 0; number = 0; serviced = false; services = 0; delivered = n; missing = 0; last = 0 }) (held .carry)
+
+second-counted : stationAfter defined held (receive [] ends words) ≡ counting 1
+unfolding listing memoryOf remembering remembered received sequenceStep beginningStep psdEntries contentsStep piecesStep pieceStep joined finished entitles tallied counted putAt
+second-counted = last-takes 255 held (holding true 7) held-stands 0 (omega arith) ends-heard ∙ ap (at (counting 1 .receiver)) (put-nil (held .carry) 0)
+
+both-counted : stationAfter defined (stationAfter defined opened (receive [] begins words)) (receive [] ends words) ≡ counting 1
+both-counted = ap (λ (x : Station). stationAfter defined x (receive [] ends words)) first-held ∙ second-counted
+
+uncounted-runs : Running (counting 0)
+unfolding listing
+uncounted-runs = record { right = refl; register = omega arith; entitled = omega arith; counts = (omega arith, omega arith); room = held-runs .room; held = tt }
+
+uncounted-words : ¬ (forgetsCounts .saved (counting 1) (halt .words) .refusal ≡ 26)
+uncounted-words = enough-words (counting 0) (halt .words) uncounted-runs halt-long
+
+-- delivered, in the answer to marking a PDU lost
+abbrev deliveredAt : Station → ℕ
+deliveredAt x = answerOf x (markLost words) .receiver .delivered
+
+lost-same : (x : Station) → deliveredAt x ≡ x .receiver .delivered
+lost-same x = ap (λ (t : Tally). t .delivered) (lost-keeps words (x .receiver))
+
+uncounted-none : deliveredAt (resumed forgetsCounts (counting 1) halt) ≡ 0
+uncounted-none = lost-same (resumed forgetsCounts (counting 1) halt) ∙ ap (λ (o : Opened). o .receiver .delivered) (loaded-is (counting 0) halt uncounted-runs uncounted-words carry-room .0)
+
+pub counts-wrong : ¬ InterruptionsFor defined forgetsCounts
+counts-wrong claim =
+    let x : Station = stationAfter defined (stationAfter defined opened (receive [] begins words)) (receive [] ends words) in
+    let enough : ¬ (forgetsCounts .saved x (halt .words) .refusal ≡ 26) = subst (λ (y : Station). ¬ (forgetsCounts .saved y (halt .words) .refusal ≡ 26)) (sym both-counted) uncounted-words in
+    let same = claim opened (called (receive [] begins words) ∷ called (receive [] ends words) ∷ interrupted halt ∷ called (markLost words) ∷ []) opened-runs
+    (bytes 0 4 7 184 begins-bytes, (bytes 64 10 9 202 ends-bytes, (enough, carry-room, (tt, tt)))) .same in
+    let e : deliveredAt (resumed forgetsCounts x halt) ≡ deliveredAt x = ap (λ (vs : List Seen). getD (map (λ (v : Seen). v .answer .receiver .delivered) vs) 2 0) same in
+    let h : _≡_ {A = ℕ} 0 1 = sym (ap (λ (y : Station). deliveredAt (resumed forgetsCounts y halt)) both-counted ∙ uncounted-none) ∙ e ∙ ap deliveredAt both-counted ∙ lost-same (counting 1) in
     absurd (omega (arith, h))

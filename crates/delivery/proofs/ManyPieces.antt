@@ -2,7 +2,7 @@
 -- Four bytes of each header are altered, and bytes from 96 on come as sent.
 use mathlib.Core.Path.{_≡_, refl, sym, ap, _∙_}
 use mathlib.Core.Bool.{Bool, true, false}
-use mathlib.Core.List.{List, [], _∷_}
+use mathlib.Core.List.{List, [], _∷_, map}
 use Prim.Native.Nat.{ℕ, zero, suc, _%_}
 use native.Mathlib.Omega.{arith}
 use lib.ListN.{length, drop, replicate, length-take}
@@ -16,7 +16,7 @@ use Rattle.log.specs.Log.{Entry, packet, logWords, packetWords}
 use Rattle.writer.specs.Writing.{writeAnswer}
 use Rattle.receiver.specs.Entitling.{allPrograms}
 use Rattle.runs.specs.Spans.{Span}
-use Rattle.delivery.specs.Delivery.{Packets, Writing, spansFrom, InOrder, defined, Step, freshStation, receptions, inReceived, wholePackets, logsFrom, runOf, made, spans, Asked}
+use Rattle.delivery.specs.Delivery.{Packets, Writing, spansFrom, InOrder, defined, Step, callOf, freshStation, receptions, inReceived, wholePackets, logsFrom, runOf, made, spans, Asked}
 use Rattle.delivery.proofs.Channel.{made-right}
 use Rattle.delivery.proofs.Possible.{stepsFor, told-receptions, goes-through, run-usable}
 use Rattle.delivery.proofs.SmallRuns.{offering, opens, carry, carry-room, altered, headers-altered}
@@ -57,7 +57,7 @@ both-made =
     omega (arith, e, t)
 
 logged-is : (bs : List Bool) (es : List Entry) → length bs ≡ 2 → wholePackets (inReceived twoSpans bs) 0 0 seventy ≡ es
-    → packetWords (logsFrom defined (freshStation defined 0 0 0 allPrograms carry) (calls bs)) ≡ logWords es
+    → packetWords (logsFrom defined (freshStation defined 0 0 0 allPrograms carry) (map callOf (calls bs))) ≡ logWords es
 logged-is bs es n e =
     let asked : Asked defined 0 0 0 allPrograms seventy two 0 2 carry (calls bs) = record {
       opens = opens;
@@ -77,11 +77,11 @@ packetsFrom i zero = []
 packetsFrom i (suc n) = packet (i % 64) (5 ∷ []) ∷ packetsFrom (suc i) n
 
 -- both received: all 70 are delivered
-pub both-received : packetWords (logsFrom defined (freshStation defined 0 0 0 allPrograms carry) (calls (true ∷ true ∷ []))) ≡ logWords (packetsFrom 0 70)
+pub both-received : packetWords (logsFrom defined (freshStation defined 0 0 0 allPrograms carry) (map callOf (calls (true ∷ true ∷ [])))) ≡ logWords (packetsFrom 0 70)
 unfolding wholePackets packetsFrom
 both-received = logged-is (true ∷ true ∷ []) (packetsFrom 0 70) refl refl
 
 -- the PDU with 63 pieces lost: the last seven, with the numbers 63 and 0 to 5
-pub second-received : packetWords (logsFrom defined (freshStation defined 0 0 0 allPrograms carry) (calls (false ∷ true ∷ []))) ≡ logWords (packetsFrom 63 7)
+pub second-received : packetWords (logsFrom defined (freshStation defined 0 0 0 allPrograms carry) (map callOf (calls (false ∷ true ∷ [])))) ≡ logWords (packetsFrom 63 7)
 unfolding wholePackets packetsFrom
 second-received = logged-is (false ∷ true ∷ []) (packetsFrom 63 7) refl refl

@@ -33,9 +33,9 @@ use Rattle.runs.specs.Transmissions.{Way, gone, here}
 use Rattle.runs.specs.Spans.{Span, lies, wholePackets}
 use Rattle.runs.specs.Calls.{plainFate}
 use Rattle.diversity.specs.Diversity.{Choice, neither, theFirst, theSecond, choiceOf, sameBytes, pairReceived}
-use Rattle.delivery.specs.Delivery.{Packets, Writing, bufferAfter, pdusFrom, spansFrom, InOrder, Behaviour, Station, Call, receive, pair, answerOf, logOf, defined, freshStation, RefusedAfter, loggedBy, runOf, made, spans, HeaderAltered, Correctable}
+use Rattle.delivery.specs.Delivery.{Packets, Writing, bufferAfter, pdusFrom, spansFrom, InOrder, Behaviour, Station, Call, receive, pair, answerOf, logOf, defined, freshStation, RefusedAfter, loggedBy, logsFrom, runOf, made, spans, HeaderAltered, Correctable}
 use Rattle.delivery.specs.Copies.{bytesAt, crcAt, pieceAt, causesFor}
-use Rattle.delivery.specs.Diversity.{asSent, ComesAs, Step, pairs, receives, loses, refuses, Through, ways, NoneRefused, logsFrom, arrived, arrivedIndices, Delivered, PairDeliveryFor}
+use Rattle.delivery.specs.Diversity.{asSent, ComesAs, Step, pairs, receives, loses, refuses, callOf, Through, ways, arrived, arrivedIndices, Delivered, PairDeliveryFor}
 use Rattle.delivery.specs.WrongReceivers.{chosen, choosing}
 use Rattle.delivery.proofs.Channel.{Usable, made-right}
 use Rattle.delivery.proofs.Copies.{corrected-back}
@@ -234,7 +234,7 @@ module _ (b : Behaviour) (claim : PairDeliveryFor b) (count : ℕ) (steps : List
       })
       (marks-fit (lies packets (spans 0 0 packets two) (map plainFate (ways 16 (runOf 0 count (made 0 0 0 two)) steps))) packets (let n : length packets ≡ 3 = refl in omega (arith, n)))
 
-  logged : packetWords (logsFrom b (freshStation b 0 0 0 allPrograms carry) steps) ≡ askedFor (ways 16 (runOf 0 count (sent ∷ other ∷ [])) steps)
+  logged : packetWords (logsFrom b (freshStation b 0 0 0 allPrograms carry) (map callOf steps)) ≡ askedFor (ways 16 (runOf 0 count (sent ∷ other ∷ [])) steps)
   unfolding listing
   logged = claimed .log ∙ ap₂ (λ (ss : List Span) (ps : List (List ℕ)). logWords (wholePackets (lies packets ss (map plainFate (ways 16 (runOf 0 count ps) steps))) 0 0 packets)) spans-are made-is
 
@@ -261,7 +261,7 @@ abbrev pub pairCalls : List Step
 pairCalls = pairs first second words ∷ refuses (pair [] [] []) ∷ loses words ∷ []
 
 -- the packets of the first PDU are delivered, and that of the second is not
-pub pair-run : packetWords (logsFrom defined (freshStation defined 0 0 0 allPrograms carry) pairCalls) ≡ logWords (packet 0 (replicate 100 1) ∷ packet 1 (replicate 40 2) ∷ [])
+pub pair-run : packetWords (logsFrom defined (freshStation defined 0 0 0 allPrograms carry) (map callOf pairCalls)) ≡ logWords (packet 0 (replicate 100 1) ∷ packet 1 (replicate 40 2) ∷ [])
 unfolding wholePackets
 pair-run =
     logged defined pairs-deliver 2 pairCalls (first-comes, second-comes, log-room, (nothing-refused _, (log-room, tt)))

@@ -28,7 +28,7 @@ use Rattle.writer.specs.RoundTrip.{Bytes}
 use Rattle.receiver.specs.Entitling.{allPrograms}
 use Rattle.runs.specs.Calls.{plainFate}
 use Rattle.runs.specs.Spans.{Span, lies, wholePackets as wholeByMarks}
-use Rattle.delivery.specs.Delivery.{Packets, Writing, bufferAfter, pdusFrom, spansFrom, InOrder, defined, Step, receives, freshStation, inReceived, wholePackets, logsFrom, runOf, made, spans, Asked, Delivered, Demand3For}
+use Rattle.delivery.specs.Delivery.{Packets, Writing, bufferAfter, pdusFrom, spansFrom, InOrder, receive, defined, Step, receives, freshStation, inReceived, wholePackets, logsFrom, runOf, made, spans, Asked, Delivered, Demand3For}
 use Rattle.delivery.specs.Copies.{wrong, restored, bytesAt, crcAt, Damage, Copy}
 use Rattle.delivery.specs.Channel.{receives as takes, ways, Through}
 use Rattle.delivery.specs.WrongReceivers.{zeroed}
@@ -133,7 +133,7 @@ one-few : length one ≤ 4294967295
 one-few = let n : length one ≡ 1 = refl in omega (arith, n)
 
 abbrev logged : List ℕ
-logged = packetWords (logsFrom defined (freshStation defined 0 0 0 allPrograms carry) (receives [] (pdu 255) words ∷ []))
+logged = packetWords (logsFrom defined (freshStation defined 0 0 0 allPrograms carry) (receive [] (pdu 255) words ∷ []))
 
 -- no packet is logged
 none-logged : logged ≡ []

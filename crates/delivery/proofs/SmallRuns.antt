@@ -30,7 +30,7 @@ use Rattle.receiver.specs.Receiving.{receiveNumber, receiveAnswer, lostNumber, 
 use Rattle.receiver.specs.declared.Receiver.{Receiver}
 use Rattle.receiver.specs.declared.Received.{Received}
 use Rattle.runs.specs.Spans.{Span}
-use Rattle.delivery.specs.Delivery.{Packets, joined, Writing, spansFrom, InOrder, Station, Call, receive, markLost, answerOf, defined, Step, refuses, receptions, freshStation, stationAfter, RefusedAfter, inReceived, wholePackets, logsFrom, runOf, made, spans, arrived, Asked}
+use Rattle.delivery.specs.Delivery.{Packets, joined, Writing, spansFrom, InOrder, Station, Call, receive, markLost, answerOf, defined, Step, refuses, callOf, receptions, freshStation, stationAfter, RefusedAfter, inReceived, wholePackets, logsFrom, runOf, made, spans, arrived, Asked}
 use Rattle.delivery.proofs.Channel.{Usable, made-right}
 use Rattle.delivery.proofs.Possible.{four-altered, Alters, asSent, as-sent, stepsFor, told-receptions, goes-through, run-usable, stepsOf, possible}
 use Rattle.delivery.proofs.Counted.{arrived-fit}
@@ -115,7 +115,7 @@ abbrev pub calls : ℕ → ℕ → List Bool → List Step
 calls first count bs = stepsOf 0 0 0 three six opens packets-right in-order first count bs
 
 abbrev pub loggedIn : ℕ → ℕ → List Bool → List ℕ
-loggedIn first count bs = packetWords (logsFrom defined (freshStation defined 0 0 0 allPrograms carry) (calls first count bs))
+loggedIn first count bs = packetWords (logsFrom defined (freshStation defined 0 0 0 allPrograms carry) (map callOf (calls first count bs)))
 
 pub told : (first count : ℕ) (bs : List Bool) → length (runOf first count fiveSpans) ≡ length bs → receptions (calls first count bs) ≡ bs
 told first count bs n = told-receptions [] asSent [] (runOf first count (made 0 0 0 six)) bs refl (sym (run-length first count (length bs) n))
@@ -294,7 +294,7 @@ module _ (marks : List ℕ) (alter : List ℕ → List ℕ) (right : Alters mark
     );
   }
 
-  pub altered-run : packetWords (logsFrom defined (freshStation defined 0 0 0 allPrograms carry) alteredCalls) ≡ logWords (packet 0 (replicate 20 1) ∷ packet 2 (replicate 10 3) ∷ [])
+  pub altered-run : packetWords (logsFrom defined (freshStation defined 0 0 0 allPrograms carry) (map callOf alteredCalls)) ≡ logWords (packet 0 (replicate 20 1) ∷ packet 2 (replicate 10 3) ∷ [])
   unfolding wholePackets
   altered-run =
       delivers 0 0 0 three six 0 5 carry alteredCalls altered-asked (arrived-fit 0 0 three six three-few 0 5 (receptions alteredCalls)) .log
@@ -302,7 +302,7 @@ module _ (marks : List ℕ) (alter : List ℕ → List ℕ) (right : Alters mark
       ∙ asked-is 0 5 fourOfFive (packet 0 (replicate 20 1) ∷ packet 2 (replicate 10 3) ∷ []) refl
 
 -- four bytes of each, and no mark
-pub four-run : packetWords (logsFrom defined (freshStation defined 0 0 0 allPrograms carry) (alteredCalls [] altered headers-altered)) ≡ logWords (packet 0 (replicate 20 1) ∷ packet 2 (replicate 10 3) ∷ [])
+pub four-run : packetWords (logsFrom defined (freshStation defined 0 0 0 allPrograms carry) (map callOf (alteredCalls [] altered headers-altered))) ≡ logWords (packet 0 (replicate 20 1) ∷ packet 2 (replicate 10 3) ∷ [])
 four-run = altered-run [] altered headers-altered
 
 -- ---- document 02, Ask 3: six marked bytes and another one altered in each header, twice one plus six being eight
@@ -368,5 +368,5 @@ headers-marked p h = record {
   rest = alter-rest seven p;
 }
 
-pub marked-run : packetWords (logsFrom defined (freshStation defined 0 0 0 allPrograms carry) (alteredCalls firstSix sevenAltered headers-marked)) ≡ logWords (packet 0 (replicate 20 1) ∷ packet 2 (replicate 10 3) ∷ [])
+pub marked-run : packetWords (logsFrom defined (freshStation defined 0 0 0 allPrograms carry) (map callOf (alteredCalls firstSix sevenAltered headers-marked))) ≡ logWords (packet 0 (replicate 20 1) ∷ packet 2 (replicate 10 3) ∷ [])
 marked-run = altered-run firstSix sevenAltered headers-marked

@@ -28,7 +28,7 @@ use Rattle.receiver.specs.Receiving.{openingNumber, openedFor, tallyOf, remembe
 use Rattle.receiver.specs.declared.Receiver.{Receiver}
 use Rattle.runs.specs.Spans.{Span}
 use Rattle.reassembly.specs.Tally.{Tally, noTally, counted, tallied}
-use Rattle.delivery.specs.Delivery.{Packets, Writing, bufferAfter, pdusFrom, spansFrom, InOrder, Behaviour, Answer, Station, Call, receive, markLost, answerOf, carryOf, logOf, defined, Step, callOf, receives, loses, receptions, freshStation, stationAfter, NoneRefused, logCounts, loggedBy, logsFrom, finally, inReceived, wholePackets, runOf, made, spans, arrived, arrivedIndices, Asked, Delivered, Demand3For}
+use Rattle.delivery.specs.Delivery.{Packets, Writing, bufferAfter, pdusFrom, spansFrom, InOrder, Behaviour, Answer, Station, Call, receive, markLost, answerOf, carryOf, logOf, defined, callOf, Takes, receives, loses, receptions, freshStation, stationAfter, NoneRefused, logCounts, loggedBy, logsFrom, finally, inReceived, wholePackets, runOf, made, spans, arrived, arrivedIndices, Asked, Delivered, Demand3For}
 use Rattle.delivery.specs.WrongReceivers.{withWords, lentLog, silent, untouched, fixedWords, fixed, inventing, advancing, joining, resetting}
 use Rattle.delivery.proofs.Serving.{loggedAlone}
 use Rattle.delivery.proofs.Possible.{words, asSent, stepsFor, possible}
@@ -61,7 +61,7 @@ module _ (b : Behaviour) (claim : Demand3For b) where
   claimed first count bs = claim 0 0 0 three six first count carry (calls first count bs) (possible 0 0 0 three six opens packets-right in-order b allPrograms first count carry bs carry-room)
       (arrived-fit 0 0 three six three-few first count (receptions (calls first count bs)))
 
-  all-logged : packetWords (logsFrom b (freshStation b 0 0 0 allPrograms carry) (calls 0 5 all)) ≡ askedFor 0 5 all
+  all-logged : packetWords (logsFrom b (freshStation b 0 0 0 allPrograms carry) (map callOf (calls 0 5 all))) ≡ askedFor 0 5 all
   all-logged = claimed 0 5 all .log ∙ ap (askedFor 0 5) (told 0 5 all refl)
 
 -- ---- an empty log for everything
@@ -70,15 +70,14 @@ nothing-counted : (b : Bool) (l : List ℕ) → cond b (take 0 l) [] ≡ []
 nothing-counted true l = refl
 nothing-counted false l = refl
 
-nothing-logged : (ss : List Step) (x : Station) → logsFrom silent x ss ≡ []
+nothing-logged : (cs : List Call) (x : Station) → logsFrom silent x cs ≡ []
 nothing-logged [] x = refl
-nothing-logged (s ∷ ss) x =
-    ap₂ (λ (l m : List ℕ). l ++ m) (nothing-counted (logCounts silent x (callOf s)) (lentLog (callOf s))) (nothing-logged ss (stationAfter silent x (callOf s)))
+nothing-logged (c ∷ cs) x = ap₂ (λ (l m : List ℕ). l ++ m) (nothing-counted (logCounts silent x c) (lentLog c)) (nothing-logged cs (stationAfter silent x c))
 
 pub silent-wrong : ¬ Demand3For silent
 unfolding packetWordsAfter
 silent-wrong claim =
-    let e : [] ≡ askedFor 0 5 all = ap packetWords (sym (nothing-logged (calls 0 5 all) (freshStation silent 0 0 0 allPrograms carry))) ∙ all-logged silent claim in
+    let e : [] ≡ askedFor 0 5 all = ap packetWords (sym (nothing-logged (map callOf (calls 0 5 all)) (freshStation silent 0 0 0 allPrograms carry))) ∙ all-logged silent claim in
     let h : _≡_ {A = ℕ} 0 114 = ap length e ∙ all-words .0 in
     absurd (omega (arith, h))
 
@@ -101,7 +100,7 @@ zeros-if : (b : Bool) (l : List ℕ) → Zeros l → Zeros (cond b l [])
 zeros-if true l h = h
 zeros-if false l h = tt
 
-zeros-logged : (pdus : List (List ℕ)) (bs : List Bool) (x : Station) → Zeros (logsFrom untouched x (stepsFor [] asSent [] pdus bs))
+zeros-logged : (pdus : List (List ℕ)) (bs : List Bool) (x : Station) → Zeros (logsFrom untouched x (map callOf (stepsFor [] asSent [] pdus bs)))
 unfolding stepsFor
 zeros-logged [] bs x = tt
 zeros-logged (p ∷ ps) [] x =
@@ -119,7 +118,7 @@ zeros-first (w ∷ l) h = rw (h .0) refl
 pub untouched-wrong : ¬ Demand3For untouched
 untouched-wrong claim =
     let z = zeros-logged (runOf 0 5 (made 0 0 0 six)) all (freshStation untouched 0 0 0 allPrograms carry) in
-    let h : _≡_ {A = ℕ} 0 20 = sym (zeros-first (logsFrom untouched (freshStation untouched 0 0 0 allPrograms carry) (calls 0 5 all)) z) ∙ ap (λ (l : List ℕ). getD l 0 0) (all-logged untouched claim) ∙ all-words .1 in
+    let h : _≡_ {A = ℕ} 0 20 = sym (zeros-first (logsFrom untouched (freshStation untouched 0 0 0 allPrograms carry) (map callOf (calls 0 5 all))) z) ∙ ap (λ (l : List ℕ). getD l 0 0) (all-logged untouched claim) ∙ all-words .1 in
     absurd (omega (arith, h))
 
 -- ---- one fixed packet for every PDU received, or for every one marked lost: of the second PDU alone, none is asked for
@@ -146,8 +145,8 @@ module _ (number : ℕ) (bytes : List ℕ) (fits : Fit (packet number bytes)) wh
   fixed-wrong claim =
       go (runOf 1 1 (made 0 0 0 six)) (run-length 1 1 1 refl) (claimed defined delivers 1 1 (true ∷ []) .accepted) (claimed (fixed number bytes) claim 1 1 (true ∷ []) .log ∙ ap (askedFor 1 1) (told 1 1 (true ∷ []) refl) ∙ second-asked)
     where
-      go : (pdus : List (List ℕ)) → length pdus ≡ 1 → NoneRefused defined (freshStation defined 0 0 0 allPrograms carry) (stepsFor [] asSent [] pdus (true ∷ []))
-          → ¬ (packetWords (logsFrom (fixed number bytes) (freshStation defined 0 0 0 allPrograms carry) (stepsFor [] asSent [] pdus (true ∷ []))) ≡ [])
+      go : (pdus : List (List ℕ)) → length pdus ≡ 1 → NoneRefused defined callOf Takes (freshStation defined 0 0 0 allPrograms carry) (stepsFor [] asSent [] pdus (true ∷ []))
+          → ¬ (packetWords (logsFrom (fixed number bytes) (freshStation defined 0 0 0 allPrograms carry) (map callOf (stepsFor [] asSent [] pdus (true ∷ [])))) ≡ [])
       go [] n a e = absurd (omega (arith, n))
       go (p ∷ q ∷ ps) n a e = absurd (omega (arith, n))
       go (p ∷ []) n a e = one-logged (answerOf (freshStation defined 0 0 0 allPrograms carry) (receive [] p words)) (a .0) e
@@ -158,8 +157,8 @@ module _ (number : ℕ) (bytes : List ℕ) (fits : Fit (packet number bytes)) wh
   inventing-wrong claim =
       go (runOf 1 1 (made 0 0 0 six)) (run-length 1 1 1 refl) (claimed defined delivers 1 1 (false ∷ []) .accepted) (claimed (inventing number bytes) claim 1 1 (false ∷ []) .log ∙ ap (askedFor 1 1) (told 1 1 (false ∷ []) refl) ∙ second-lost)
     where
-      go : (pdus : List (List ℕ)) → length pdus ≡ 1 → NoneRefused defined (freshStation defined 0 0 0 allPrograms carry) (stepsFor [] asSent [] pdus (false ∷ []))
-          → ¬ (packetWords (logsFrom (inventing number bytes) (freshStation defined 0 0 0 allPrograms carry) (stepsFor [] asSent [] pdus (false ∷ []))) ≡ [])
+      go : (pdus : List (List ℕ)) → length pdus ≡ 1 → NoneRefused defined callOf Takes (freshStation defined 0 0 0 allPrograms carry) (stepsFor [] asSent [] pdus (false ∷ []))
+          → ¬ (packetWords (logsFrom (inventing number bytes) (freshStation defined 0 0 0 allPrograms carry) (map callOf (stepsFor [] asSent [] pdus (false ∷ [])))) ≡ [])
       go [] n a e = absurd (omega (arith, n))
       go (p ∷ q ∷ ps) n a e = absurd (omega (arith, n))
       go (p ∷ []) n a e = one-logged (answerOf (freshStation defined 0 0 0 allPrograms carry) (markLost words)) (a .0) e
@@ -182,7 +181,7 @@ known-kept x marks p log h = go (eqb (receiveNumber marks (x .carry) p log (x .r
     go true e = rw e refl
     go false e = rw e h
 
-only-advances : (n : ℕ) (pdus : List (List ℕ)) (x : Station) → length pdus ≤ n → x .receiver .known ≡ true → logsFrom advancing x (stepsFor [] asSent [] pdus (replicate n true)) ≡ []
+only-advances : (n : ℕ) (pdus : List (List ℕ)) (x : Station) → length pdus ≤ n → x .receiver .known ≡ true → logsFrom advancing x (map callOf (stepsFor [] asSent [] pdus (replicate n true))) ≡ []
 unfolding stepsFor
 only-advances n [] x l h = refl
 only-advances zero (p ∷ ps) x l h = absurd (not-suc-le-zero l)
@@ -208,9 +207,9 @@ unfolding stepsFor logWords entryWords dataWords
 advancing-wrong claim =
     go (made 0 0 0 six) (run-length 0 5 5 refl) (claimed defined delivers 0 1 (true ∷ []) .accepted) (claimed defined delivers 0 1 (true ∷ []) .log ∙ ap (askedFor 0 1) (told 0 1 (true ∷ []) refl) ∙ first-asked) (all-logged advancing claim)
   where
-    go : (ps : List (List ℕ)) → length (runOf 0 5 ps) ≡ 5 → NoneRefused defined fresh (stepsFor [] asSent [] (runOf 0 1 ps) (true ∷ []))
-        → packetWords (logsFrom defined fresh (stepsFor [] asSent [] (runOf 0 1 ps) (true ∷ []))) ≡ logWords (packet 0 (replicate 20 1) ∷ [])
-        → ¬ (packetWords (logsFrom advancing fresh (stepsFor [] asSent [] (runOf 0 5 ps) all)) ≡ askedFor 0 5 all)
+    go : (ps : List (List ℕ)) → length (runOf 0 5 ps) ≡ 5 → NoneRefused defined callOf Takes fresh (stepsFor [] asSent [] (runOf 0 1 ps) (true ∷ []))
+        → packetWords (logsFrom defined fresh (map callOf (stepsFor [] asSent [] (runOf 0 1 ps) (true ∷ [])))) ≡ logWords (packet 0 (replicate 20 1) ∷ [])
+        → ¬ (packetWords (logsFrom advancing fresh (map callOf (stepsFor [] asSent [] (runOf 0 5 ps) all))) ≡ askedFor 0 5 all)
     go [] n a l e = absurd (omega (arith, n))
     go (p ∷ ps) n a l e =
         let c : Call = receive [] p words in
@@ -219,7 +218,7 @@ advancing-wrong claim =
         let known : stationAfter advancing fresh c .receiver .known ≡ true =
         ap (λ (b : Bool). cond b (withWords 0 (answerOf fresh c)) (answerOf fresh c) .receiver .known) fresh-unknown ∙ known-after fresh [] p words (a .0) in
         let few : length (take 4 ps) ≤ 4 = (let t = length-take 4 ps in omega (arith, t)) in
-        let logs : logsFrom advancing fresh (stepsFor [] asSent [] (runOf 0 5 (p ∷ ps)) all) ≡ loggedBy defined fresh c ++ [] =
+        let logs : logsFrom advancing fresh (map callOf (stepsFor [] asSent [] (runOf 0 5 (p ∷ ps)) all)) ≡ loggedBy defined fresh c ++ [] =
         ap₂ (λ (u v : List ℕ). u ++ v) first (only-advances 4 (take 4 ps) (stationAfter advancing fresh c) few known) in
         let h : _≡_ {A = ℕ} 8 114 = ap length (sym l ∙ ap packetWords (sym logs) ∙ e) ∙ all-words .0 in
         absurd (omega (arith, h))
@@ -375,7 +374,7 @@ one-due : arrived 0 0 three six 0 2 firstOfTwo ≡ packet 0 (replicate 20 1) ∷
 unfolding wholePackets
 one-due = ap (λ (l : List Span). wholePackets (inReceived (runOf 0 2 l) firstOfTwo) 0 0 three) spans-are ∙ refl
 
-set-back : (pdus : List (List ℕ)) → length pdus ≡ 2 → tallyOf (finally resetting (freshStation resetting 0 0 0 allPrograms carry) (stepsFor [] asSent [] pdus firstOfTwo) .receiver) ≡ noTally
+set-back : (pdus : List (List ℕ)) → length pdus ≡ 2 → tallyOf (finally resetting (freshStation resetting 0 0 0 allPrograms carry) (map callOf (stepsFor [] asSent [] pdus firstOfTwo)) .receiver) ≡ noTally
 unfolding stepsFor
 set-back [] n = absurd (omega (arith, n))
 set-back (p ∷ []) n = absurd (omega (arith, n))

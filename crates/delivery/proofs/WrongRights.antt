@@ -32,7 +32,7 @@ use Rattle.runs.specs.Spans.{Span, wholePackets}
 use Rattle.runs.specs.Promise.{arrived}
 use Rattle.runs.specs.Calls.{Speech, heard}
 use Rattle.runs.proofs.Theorem.{Unfinished}
-use Rattle.delivery.specs.Delivery.{Packets, joined, Writing, pdusFrom, spansFrom, InOrder, Behaviour, Station, receive, markLost, answerOf, defined, Step, freshStation, stationAfter, loggedBy, receptions, logsFrom, runOf, made, spans, Asked}
+use Rattle.delivery.specs.Delivery.{Packets, joined, Writing, pdusFrom, spansFrom, InOrder, Behaviour, Station, receive, markLost, answerOf, defined, Step, callOf, freshStation, stationAfter, loggedBy, receptions, logsFrom, runOf, made, spans, Asked}
 use Rattle.delivery.specs.Copies.{causesFor}
 use Rattle.delivery.specs.Entitlement.{labelOf, labelsFrom, rightsFor, due, waysBy, EntitledDeliveryFor}
 use Rattle.delivery.specs.WrongReceivers.{assumed, supposing, servicesKept, keeping}
@@ -193,7 +193,7 @@ module _ (b : Behaviour) (claim : EntitledDeliveryFor b) (first count : ℕ) (bs
   abbrev steps : List Step
   steps = stepsFor [] asSent [] (runOf first count (pduAt 0 ∷ pduAt 1 ∷ pduAt 2 ∷ [])) bs
 
-  claimed : packetWords (logsFrom b (freshStation b 1 0 0 [] carry) steps) ≡ logWords (due 1 0 [] three calls first (waysBy (receptions steps)))
+  claimed : packetWords (logsFrom b (freshStation b 1 0 0 [] carry) (map callOf steps)) ≡ logWords (due 1 0 [] three calls first (waysBy (receptions steps)))
   claimed = claim 1 0 0 [] three calls first count carry steps none-allowed (subst (λ (ps : List (List ℕ)). Asked b 1 0 0 [] three calls first count carry (stepsFor [] asSent [] (runOf first count ps) bs)) three-made (possible 1 0 0 three calls opens right in-order b [] first count carry bs carry-room))
       (due-fit 1 0 three calls (let n : length three ≡ 3 = refl in omega (arith, n)) [] first (waysBy (receptions steps))) .log
 

@@ -14,7 +14,7 @@ use Rattle.writer.specs.Writing.{opened as writerOpened}
 use Rattle.receiver.specs.Entitling.{allowedPrograms}
 use Rattle.receiver.specs.Receiving.{tallyOf}
 use Rattle.runs.specs.Transmissions.{Way, gone, here, Close, AddsUp}
-use Rattle.delivery.specs.Delivery.{Packets, joined, Writing, InOrder, Station, Call, receive, batch, pair, markLost, answerOf, defined, freshStation, stationAfter, takenBy, RefusedAfter, loggedBy, runOf, made, CountsFit}
+use Rattle.delivery.specs.Delivery.{Packets, joined, Writing, InOrder, Station, Call, receive, batch, pair, markLost, Answer, defined, freshStation, stationAfter, RefusedAfter, NoneRefused, logsFrom, finally, runOf, made, CountsFit}
 use Rattle.delivery.specs.Entitlement.{due, dueIndices}
 use Rattle.delivery.specs.Copies.{Copy, causesFor}
 
@@ -44,6 +44,15 @@ callOf (batches came log) = batch (map length (pdusIn came)) (joined (pdusIn cam
 callOf (stops came lengths bytes log) = batch (map length (pdusIn came) ++ lengths) (joined (pdusIn came) ++ bytes) log
 callOf (loses log) = markLost log
 callOf (refuses c) = c
+
+-- what is promised of a call's answer: a call for PDUs of the run alone is not refused, and a batch of them takes them all
+abbrev pub Takes : Step → Answer → Type 0
+Takes (receives marks pdu log sound) a = a .refusal ≡ 0
+Takes (pairs first second log sound other) a = a .refusal ≡ 0
+Takes (batches came log) a = (a .refusal ≡ 0) × (a .taken ≡ length came)
+Takes (stops came lengths bytes log) a = Unit {0}
+Takes (loses log) a = a .refusal ≡ 0
+Takes (refuses c) a = Unit {0}
 
 -- Copies are by the register that CRCs start with, and the locators' width
 module _ (register width : ℕ) where
@@ -83,28 +92,6 @@ ways (stops came lengths bytes log ∷ ss) = waysIn came ++ ways ss
 ways (loses log ∷ ss) = gone ∷ ways ss
 ways (refuses c ∷ ss) = ways ss
 
-abbrev pub logsFrom : Station → List Step → List ℕ
-logsFrom x [] = []
-logsFrom x (s ∷ ss) = loggedBy defined x (callOf s) ++ logsFrom (stationAfter defined x (callOf s)) ss
-
--- receiver and carry after them
-abbrev pub finally : Station → List Step → Station
-finally x [] = x
-finally x (s ∷ ss) = finally (stationAfter defined x (callOf s)) ss
-
--- a call for PDUs of the run alone is not refused, and a batch of them takes them all
-abbrev pub NotRefused : Station → Step → Type 0
-NotRefused x (receives marks q log s) = answerOf x (receive marks q log) .refusal ≡ 0
-NotRefused x (pairs q r log s t) = answerOf x (pair q r log) .refusal ≡ 0
-NotRefused x (batches cs log) = (answerOf x (callOf (batches cs log)) .refusal ≡ 0) × (takenBy defined x (callOf (batches cs log)) ≡ length cs)
-NotRefused x (stops cs lengths bytes log) = Unit {0}
-NotRefused x (loses log) = answerOf x (markLost log) .refusal ≡ 0
-NotRefused x (refuses c) = Unit {0}
-
-abbrev pub NoneRefused : Station → List Step → Type 0
-NoneRefused x [] = Unit {0}
-NoneRefused x (s ∷ ss) = NotRefused x s × NoneRefused (stationAfter defined x (callOf s)) ss
-
 module _ (mode stream register : ℕ) (programs : List ℕ) (packets : List (List ℕ)) (writings : List Writing) (first count : ℕ) (carry : List ℕ) (steps : List Step) where
   -- what is asked of the calls; the list of programs is not refused with 22, and neither count would pass its limit (document 02, Ask 14)
   pub record Asked : Type 0 where
@@ -118,11 +105,11 @@ module _ (mode stream register : ℕ) (programs : List ℕ) (packets : List (Lis
 
   -- what is promised of them
   pub record Delivered : Type 0 where
-    pub accepted : NoneRefused (freshStation defined mode stream register programs carry) steps
-    pub log : packetWords (logsFrom (freshStation defined mode stream register programs carry) steps) ≡ logWords (due mode stream programs packets writings first (ways steps))
-    pub counts : tallyOf (finally (freshStation defined mode stream register programs carry) steps .receiver) ≡ tallied noTally (due mode stream programs packets writings first (ways steps))
+    pub accepted : NoneRefused defined callOf Takes (freshStation defined mode stream register programs carry) steps
+    pub log : packetWords (logsFrom defined (freshStation defined mode stream register programs carry) (map callOf steps)) ≡ logWords (due mode stream programs packets writings first (ways steps))
+    pub counts : tallyOf (finally defined (freshStation defined mode stream register programs carry) (map callOf steps) .receiver) ≡ tallied noTally (due mode stream programs packets writings first (ways steps))
     pub adds-up : Close (dueIndices mode stream programs packets writings first (ways steps))
-        → AddsUp (dueIndices mode stream programs packets writings first (ways steps)) (tallyOf (finally (freshStation defined mode stream register programs carry) steps .receiver))
+        → AddsUp (dueIndices mode stream programs packets writings first (ways steps)) (tallyOf (finally defined (freshStation defined mode stream register programs carry) (map callOf steps) .receiver))
 
 abbrev pub ChannelDelivery : Type 0
 ChannelDelivery =

@@ -208,6 +208,14 @@ callOf (stops pdus lengths bytes log) = batch (map length pdus ++ lengths) (join
 callOf (loses log) = markLost log
 callOf (refuses c) = c
 
+-- what is promised of a call's answer: a call for PDUs of the run alone is not refused, and a batch of them takes them all
+abbrev pub Takes : Step → Answer → Type 0
+Takes (receives marks pdu log) a = a .refusal ≡ 0
+Takes (batches pdus log) a = (a .refusal ≡ 0) × (a .taken ≡ length pdus)
+Takes (stops pdus lengths bytes log) a = Unit {0}
+Takes (loses log) a = a .refusal ≡ 0
+Takes (refuses c) a = Unit {0}
+
 -- which PDUs of the run are received
 abbrev pub receptions : List Step → List Bool
 receptions [] = []
@@ -254,17 +262,10 @@ module _ (b : Behaviour) where
   abbrev pub Through : Station → List (List ℕ) → List Step → Type 0
   Through = ThroughBy HeaderAltered
 
-  -- a call for PDUs of the run alone is not refused, and a batch of them takes them all
-  abbrev pub NotRefused : Station → Step → Type 0
-  NotRefused x (receives marks q log) = b .answer x (receive marks q log) .refusal ≡ 0
-  NotRefused x (batches qs log) = (b .answer x (callOf (batches qs log)) .refusal ≡ 0) × (takenBy x (callOf (batches qs log)) ≡ length qs)
-  NotRefused x (stops qs lengths bytes log) = Unit {0}
-  NotRefused x (loses log) = b .answer x (markLost log) .refusal ≡ 0
-  NotRefused x (refuses c) = Unit {0}
-
-  abbrev pub NoneRefused : Station → List Step → Type 0
-  NoneRefused x [] = Unit {0}
-  NoneRefused x (s ∷ ss) = NotRefused x s × NoneRefused (stationAfter x (callOf s)) ss
+  -- each answer to the calls of a list of steps, of this page, Diversity.antt or Channel.antt, is as promised
+  abbrev pub NoneRefused : {S : Type 0} → (S → Call) → (S → Answer → Type 0) → Station → List S → Type 0
+  NoneRefused call takes x [] = Unit {0}
+  NoneRefused call takes x (s ∷ ss) = takes s (b .answer x (call s)) × NoneRefused call takes (stationAfter x (call s)) ss
 
   -- a call's log counts if it is accepted, or took PDUs before it was refused
   abbrev pub logCounts : Station → Call → Bool
@@ -275,14 +276,14 @@ module _ (b : Behaviour) where
   loggedBy x c = cond (logCounts x c) (take (b .answer x c .words) (b .log x c)) []
 
   -- the calls' logs, joined
-  abbrev pub logsFrom : Station → List Step → List ℕ
+  abbrev pub logsFrom : Station → List Call → List ℕ
   logsFrom x [] = []
-  logsFrom x (s ∷ ss) = loggedBy x (callOf s) ++ logsFrom (stationAfter x (callOf s)) ss
+  logsFrom x (c ∷ cs) = loggedBy x c ++ logsFrom (stationAfter x c) cs
 
   -- receiver and carry after them
-  abbrev pub finally : Station → List Step → Station
+  abbrev pub finally : Station → List Call → Station
   finally x [] = x
-  finally x (s ∷ ss) = finally (stationAfter x (callOf s)) ss
+  finally x (c ∷ cs) = finally (stationAfter x c) cs
 
 -- ---- what the log must hold
 
@@ -353,10 +354,10 @@ module _ (b : Behaviour) (mode stream register : ℕ) (programs : List ℕ) (pac
   -- packets from the first delivered to the last
   pub record Delivered (due : List Entry) (indices : List ℕ) : Type 0 where
     pub as-many : length (spans mode stream packets writings) ≡ length (made mode stream register writings)
-    pub accepted : NoneRefused b (freshStation b mode stream register programs carry) steps
-    pub log : packetWords (logsFrom b (freshStation b mode stream register programs carry) steps) ≡ logWords due
-    pub counts : tallyOf (finally b (freshStation b mode stream register programs carry) steps .receiver) ≡ tallied noTally due
-    pub adds-up : Close indices → AddsUp indices (tallyOf (finally b (freshStation b mode stream register programs carry) steps .receiver))
+    pub accepted : NoneRefused b callOf Takes (freshStation b mode stream register programs carry) steps
+    pub log : packetWords (logsFrom b (freshStation b mode stream register programs carry) (map callOf steps)) ≡ logWords due
+    pub counts : tallyOf (finally b (freshStation b mode stream register programs carry) (map callOf steps) .receiver) ≡ tallied noTally due
+    pub adds-up : Close indices → AddsUp indices (tallyOf (finally b (freshStation b mode stream register programs carry) (map callOf steps) .receiver))
 
 abbrev pub Demand3For : Behaviour → Type 0
 Demand3For b =

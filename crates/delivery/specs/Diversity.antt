@@ -22,7 +22,7 @@ use Rattle.runs.specs.Transmissions.{Way, gone, here, Close, AddsUp}
 use Rattle.runs.specs.Calls.{plainFate}
 use Rattle.runs.specs.Spans.{lies, wholePackets, wholeIndices}
 use Rattle.diversity.specs.Diversity.{sameBytes}
-use Rattle.delivery.specs.Delivery.{Packets, joined, Writing, InOrder, Station, Call, receive, batch, pair, markLost, Behaviour, defined, freshStation, stationAfter, takenBy, RefusedAfter, loggedBy, runOf, made, spans, CountsFit}
+use Rattle.delivery.specs.Delivery.{Packets, joined, Writing, InOrder, Station, Call, receive, batch, pair, markLost, Answer, Behaviour, defined, freshStation, stationAfter, RefusedAfter, NoneRefused, logsFrom, finally, runOf, made, spans, CountsFit}
 use Rattle.delivery.specs.Entitlement.{due, dueIndices}
 use Rattle.delivery.specs.Copies.{frontLength, bytesAt, crcAt, pieceAt, causesFor}
 
@@ -67,6 +67,15 @@ callOf (stops pdus lengths bytes log) = batch (map length pdus ++ lengths) (join
 callOf (loses log) = markLost log
 callOf (refuses c) = c
 
+-- what is promised of a call's answer: a call for PDUs of the run alone is not refused, and a batch of them takes them all
+abbrev pub Takes : Step → Answer → Type 0
+Takes (pairs first second log) a = a .refusal ≡ 0
+Takes (receives pdu log) a = a .refusal ≡ 0
+Takes (batches pdus log) a = (a .refusal ≡ 0) × (a .taken ≡ length pdus)
+Takes (stops pdus lengths bytes log) a = Unit {0}
+Takes (loses log) a = a .refusal ≡ 0
+Takes (refuses c) a = Unit {0}
+
 -- how these PDUs came: a piece is taken that is as sent in one copy at least
 abbrev pub waysIn : ℕ → List (List ℕ) → List (List ℕ) → List Way
 waysIn width ps [] = []
@@ -104,29 +113,6 @@ module _ (b : Behaviour) where
   Through register width x [] (loses log ∷ ss) = ⊥
   Through register width x (p ∷ ps) (loses log ∷ ss) = (8400 ≤ length log) × Through register width (stationAfter b x (markLost log)) ps ss
 
-  -- a call for PDUs of the run alone is not refused, and a batch of them takes them all
-  abbrev pub NotRefused : Station → Step → Type 0
-  NotRefused x (pairs q r log) = b .answer x (pair q r log) .refusal ≡ 0
-  NotRefused x (receives q log) = b .answer x (receive [] q log) .refusal ≡ 0
-  NotRefused x (batches qs log) = (b .answer x (callOf (batches qs log)) .refusal ≡ 0) × (takenBy b x (callOf (batches qs log)) ≡ length qs)
-  NotRefused x (stops qs lengths bytes log) = Unit {0}
-  NotRefused x (loses log) = b .answer x (markLost log) .refusal ≡ 0
-  NotRefused x (refuses c) = Unit {0}
-
-  abbrev pub NoneRefused : Station → List Step → Type 0
-  NoneRefused x [] = Unit {0}
-  NoneRefused x (s ∷ ss) = NotRefused x s × NoneRefused (stationAfter b x (callOf s)) ss
-
-  -- the calls' logs, joined
-  abbrev pub logsFrom : Station → List Step → List ℕ
-  logsFrom x [] = []
-  logsFrom x (s ∷ ss) = loggedBy b x (callOf s) ++ logsFrom (stationAfter b x (callOf s)) ss
-
-  -- receiver and carry after them
-  abbrev pub finally : Station → List Step → Station
-  finally x [] = x
-  finally x (s ∷ ss) = finally (stationAfter b x (callOf s)) ss
-
 -- ---- the claim
 
 module _ (b : Behaviour) (mode stream register : ℕ) (programs : List ℕ) (packets : List (List ℕ)) (writings : List Writing) (first count : ℕ) (carry : List ℕ) (steps : List Step) where
@@ -148,10 +134,10 @@ module _ (b : Behaviour) (mode stream register : ℕ) (programs : List ℕ) (pac
   -- what is promised of them: none of the run is refused, and the joined logs hold exactly these packets, which have these indices; the receiver's counts are
   -- theirs, and add up (document 02, Ask 14), as in Delivery.antt
   pub record Delivered (packetsDue : List Entry) (indices : List ℕ) : Type 0 where
-    pub accepted : NoneRefused b (freshStation b mode stream register programs carry) steps
-    pub log : packetWords (logsFrom b (freshStation b mode stream register programs carry) steps) ≡ logWords packetsDue
-    pub counts : tallyOf (finally b (freshStation b mode stream register programs carry) steps .receiver) ≡ tallied noTally packetsDue
-    pub adds-up : Close indices → AddsUp indices (tallyOf (finally b (freshStation b mode stream register programs carry) steps .receiver))
+    pub accepted : NoneRefused b callOf Takes (freshStation b mode stream register programs carry) steps
+    pub log : packetWords (logsFrom b (freshStation b mode stream register programs carry) (map callOf steps)) ≡ logWords packetsDue
+    pub counts : tallyOf (finally b (freshStation b mode stream register programs carry) (map callOf steps) .receiver) ≡ tallied noTally packetsDue
+    pub adds-up : Close indices → AddsUp indices (tallyOf (finally b (freshStation b mode stream register programs carry) (map callOf steps) .receiver))
 
 -- the packets with every byte in PDUs of the run, each of whose pieces is, once corrected, as sent in one copy at least; PDUs before the run count as lost
 abbrev pub arrived : (mode stream : ℕ) (packets : List (List ℕ)) (writings : List Writing) (first : ℕ) → List Way → List Entry

@@ -19,10 +19,11 @@ use Rattle.receiver.specs.declared.Opened.{Opened}
 use Rattle.runs.specs.Transmissions.{Close, AddsUp}
 use Rattle.snapshot.specs.Snapshot.{saved, wordsAfter, loaded, carryLoaded}
 use Rattle.snapshot.specs.declared.Saved.{Saved}
-use Rattle.delivery.specs.Delivery.{Writing, Station, Call, receive, batch, pair, markLost, Answer, Behaviour, defined, Step, receives, batches, stops, loses, refuses, callOf, receptions, freshStation, stationAfter, loggedBy, runOf, made, arrived, arrivedIndices, CountsFit, Asked, AskedBy}
+use Rattle.delivery.specs.Delivery.{Writing, Station, Call, receive, batch, pair, markLost, Answer, Behaviour, defined, Step, callOf, Takes, receptions, freshStation, stationAfter, loggedBy, finally, runOf, made, arrived, arrivedIndices, CountsFit, Asked, AskedBy}
 use Rattle.delivery.specs.Entitlement.{due, dueIndices, waysBy}
 use Rattle.delivery.specs.Bursts.{Bursts, ways}
-use Rattle.delivery.specs.Diversity.{Step as PairStep, pairs, receives as receivesCopy, batches as batchesCopies, stops as stopsCopies, loses as losesPair, refuses as refusesPair, callOf as pairCall, ways as pairWays, arrived as pairArrived, arrivedIndices as pairIndices, Asked as PairAsked}
+use Rattle.delivery.specs.Diversity.{Step as PairStep, callOf as pairCall, Takes as PairTakes, ways as pairWays, arrived as pairArrived, arrivedIndices as pairIndices, Asked as PairAsked}
+use Rattle.delivery.specs.Channel.{Step as ChannelStep, callOf as channelCall, Takes as ChannelTakes, ways as channelWays, Asked as ChannelAsked}
 
 -- ---- an interruption
 
@@ -88,11 +89,6 @@ module _ (b : Behaviour) where
   seenFrom x [] = []
   seenFrom x (c ∷ cs) = seenOf x c ∷ seenFrom (stationAfter b x c) cs
 
-  -- receiver and carry after them
-  abbrev pub endFrom : Station → List Call → Station
-  endFrom x [] = x
-  endFrom x (c ∷ cs) = endFrom (stationAfter b x c) cs
-
   module _ (s : Snapshot) where
     -- of the calls of a run with interruptions: the next call gets receiver and carry as the call or the interruption before it left them
     abbrev pub seenIn : Station → List Turn → List Seen
@@ -100,6 +96,7 @@ module _ (b : Behaviour) where
     seenIn x (called c ∷ ts) = seenOf x c ∷ seenIn (stationAfter b x c) ts
     seenIn x (interrupted i ∷ ts) = seenIn (resumed s x i) ts
 
+    -- receiver and carry after them
     abbrev pub endIn : Station → List Turn → Station
     endIn x [] = x
     endIn x (called c ∷ ts) = endIn (stationAfter b x c) ts
@@ -152,7 +149,7 @@ module _ (b : Behaviour) (s : Snapshot) where
   pub record Unnoticed (x : Station) (ts : List Turn) : Type 0 where
     pub resumes : AllResume b s x ts
     pub same : seenIn b s x ts ≡ seenFrom b x (callsIn ts)
-    pub final : endIn b s x ts .receiver ≡ endFrom b x (callsIn ts) .receiver
+    pub final : endIn b s x ts .receiver ≡ finally b x (callsIn ts) .receiver
 
   abbrev pub InterruptionsFor : Type 0
   InterruptionsFor = (x : Station) (ts : List Turn) → Running x → Suffices b s x ts → Unnoticed x ts
@@ -167,23 +164,7 @@ OpenedRuns = (mode stream register : ℕ) (programs carry : List ℕ) → opened
 
 -- ---- the promises over whole runs
 
--- of what is seen, a call for PDUs of the run alone is not refused, and a batch of them takes them all (`NotRefused` of Delivery.antt and Diversity.antt)
-abbrev pub Takes : Step → Answer → Type 0
-Takes (receives marks pdu log) a = a .refusal ≡ 0
-Takes (batches pdus log) a = (a .refusal ≡ 0) × (a .taken ≡ length pdus)
-Takes (stops pdus lengths bytes log) a = Unit {0}
-Takes (loses log) a = a .refusal ≡ 0
-Takes (refuses c) a = Unit {0}
-
-abbrev pub TakesPair : PairStep → Answer → Type 0
-TakesPair (pairs first second log) a = a .refusal ≡ 0
-TakesPair (receivesCopy pdu log) a = a .refusal ≡ 0
-TakesPair (batchesCopies pdus log) a = (a .refusal ≡ 0) × (a .taken ≡ length pdus)
-TakesPair (stopsCopies pdus lengths bytes log) a = Unit {0}
-TakesPair (losesPair log) a = a .refusal ≡ 0
-TakesPair (refusesPair c) a = Unit {0}
-
--- one for each step
+-- of what is seen of the calls of a list of steps, each answer is as promised (`Takes` of Delivery.antt, Diversity.antt and Channel.antt)
 abbrev pub Each : {S : Type 0} → (S → Answer → Type 0) → List S → List Seen → Type 0
 Each takes [] [] = Unit {0}
 Each takes [] (v ∷ vs) = ⊥
@@ -239,7 +220,7 @@ module _ (b : Behaviour) (s : Snapshot) where
       → PairAsked b mode stream register allPrograms packets writings first count carry steps
       → let came = pairWays (modeIn (listing mode stream) .width) (runOf first count (made mode stream register writings)) steps in
       CountsFit (pairArrived mode stream packets writings first came)
-      → Interrupted b s pairCall TakesPair (freshStation b mode stream register allPrograms carry) steps (pairArrived mode stream packets writings first came) (pairIndices mode stream packets writings first came)
+      → Interrupted b s pairCall PairTakes (freshStation b mode stream register allPrograms carry) steps (pairArrived mode stream packets writings first came) (pairIndices mode stream packets writings first came)
 
   -- Ask 5 with Ask 10
   abbrev pub InterruptedEntitledPairsFor : Type 0
@@ -248,7 +229,7 @@ module _ (b : Behaviour) (s : Snapshot) where
       → allowedPrograms programs ≡ true → PairAsked b mode stream register programs packets writings first count carry steps
       → let came = pairWays (modeIn (listing mode stream) .width) (runOf first count (made mode stream register writings)) steps in
       CountsFit (due mode stream programs packets writings first came)
-      → Interrupted b s pairCall TakesPair (freshStation b mode stream register programs carry) steps (due mode stream programs packets writings first came) (dueIndices mode stream programs packets writings first came)
+      → Interrupted b s pairCall PairTakes (freshStation b mode stream register programs carry) steps (due mode stream programs packets writings first came) (dueIndices mode stream programs packets writings first came)
 
 abbrev pub InterruptedDemand3 : Type 0
 InterruptedDemand3 = InterruptedDemand3For defined written
@@ -264,3 +245,11 @@ InterruptedPairs = InterruptedPairsFor defined written
 
 abbrev pub InterruptedEntitledPairs : Type 0
 InterruptedEntitledPairs = InterruptedEntitledPairsFor defined written
+
+-- over a channel: PDUs received with marks or without, in batches and as pairs, and marked lost, in one run (Channel.antt)
+abbrev pub InterruptedChannel : Type 0
+InterruptedChannel =
+    (mode stream register : ℕ) (programs : List ℕ) (packets : List (List ℕ)) (writings : List Writing) (first count : ℕ) (carry : List ℕ) (steps : List ChannelStep) → register < 256
+    → ChannelAsked mode stream register programs packets writings first count carry steps
+    → Interrupted defined written channelCall ChannelTakes (freshStation defined mode stream register programs carry) steps
+    (due mode stream programs packets writings first (channelWays steps)) (dueIndices mode stream programs packets writings first (channelWays steps))

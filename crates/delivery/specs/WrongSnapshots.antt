@@ -3,6 +3,7 @@
 use mathlib.Core.Bool.{false}
 use Rattle.receiver.specs.declared.Receiver.{Receiver}
 use Rattle.snapshot.specs.Snapshot.{loaded}
+use Rattle.delivery.specs.Delivery.{Station}
 use Rattle.delivery.specs.Interruptions.{Snapshot, written}
 
 -- what is loaded comes back otherwise
@@ -26,3 +27,15 @@ forgetsSequence = changing unsequenced
 -- the held bytes: the carry stays as it was lent
 abbrev pub forgetsHeld : Snapshot
 forgetsHeld = record { saved = written .saved; words = written .words; loaded = written .loaded; carry = λ ws c. c }
+
+-- the counts: no word of kind 6 is written (document 02, Ask 14). Its words are those of the receiver with nothing delivered
+abbrev pub uncounted : Station → Station
+uncounted x =
+    let r = x .receiver in
+    record {
+      receiver = record { mode = r .mode; stream = r .stream; register = r .register; entitled = r .entitled; known = r .known; sequence = r .sequence; held = r .held; number = r .number; serviced = r .serviced; services = r .services; delivered = 0; missing = 0; last = 0 };
+      carry = x .carry;
+    }
+
+abbrev pub forgetsCounts : Snapshot
+forgetsCounts = record { saved = λ x. written .saved (uncounted x); words = λ x. written .words (uncounted x); loaded = written .loaded; carry = written .carry }

@@ -1,11 +1,12 @@
 // The loss column (document 02, Ask 14): delivered and missing, as the receiver's record has them, and the last delivered number.
 use receiver::Receiver;
-use words::Word;
 ghost use mathlib.Core.Path.{_≡_};
 ghost use mathlib.Core.Bool.{cond};
 ghost use Prim.Native.Nat.{_%_, _≤_};
 ghost use lib.Dec.{eqb};
 ghost use Rattle.reassembly.specs.Tally.{gap};
+ghost use Rattle.receiver.specs.Receiving.{tallyOf};
+ghost use Rattle.loss.specs.Column.{tallyIn, withTally, afterWord, afterWords};
 
 // With delivered 0 the other two are 0.
 pub struct Loss {
@@ -15,7 +16,9 @@ pub struct Loss {
 }
 
 // The loss column of a record.
-pub fn of_record(r: Receiver) -> Loss {
+pub fn of_record(r: Receiver) -> Loss
+    ensures { λ l. ⌜ tallyIn l ≡ tallyOf r ⌝ }
+{
     Loss {
         delivered: r.delivered,
         missing: r.missing,
@@ -24,7 +27,9 @@ pub fn of_record(r: Receiver) -> Loss {
 }
 
 // A record with another loss column.
-pub fn in_record(r: Receiver, l: Loss) -> Receiver {
+pub fn in_record(r: Receiver, l: Loss) -> Receiver
+    ensures { λ next. ⌜ next ≡ withTally r (tallyIn l) ⌝ }
+{
     let mut next = r;
     next.delivered = l.delivered;
     next.missing = l.missing;
@@ -43,7 +48,10 @@ fn missing_before(l: Loss, number: u8) -> u32
 }
 
 // The loss column after a word of a log: one that begins a packet is a delivery.
-fn after_word(l: Loss, w: Word) -> Loss {
+fn after_word(l: Loss, word: u32) -> Loss
+    ensures { λ next. ⌜ tallyIn next ≡ afterWord (tallyIn l) word ⌝ }
+{
+    let w = words::split(word);
     if w.kind != words::PACKET {
         return l;
     }
@@ -57,11 +65,13 @@ fn after_word(l: Loss, w: Word) -> Loss {
 
 // The loss column after the log of a PDU that was received with others in one call: its record is not seen. Such a call takes no PDU with which a count would pass
 // 4,294,967,295.
-pub fn after(start: Loss, log: &[u32]) -> Loss {
+pub fn after(start: Loss, log: &[u32]) -> Loss
+    ensures { λ l. ⌜ tallyIn l ≡ afterWords (tallyIn start) (now (log .entry)) ⌝ }
+{
     let mut l = start;
     let mut i: usize = 0;
     while i < log.len() {
-        let next = after_word(l, words::split(log[i]));
+        let next = after_word(l, log[i]);
         l = next;
         i += 1;
     }

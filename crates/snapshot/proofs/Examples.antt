@@ -37,13 +37,13 @@ pub counts-absent : countWords running ≡ []
 unfolding countWords
 counts-absent = refl
 
--- the same with 65,538 packets delivered, three missing, and number 4 the last
+-- the same with no services in force, 65,538 packets delivered, three missing, and number 4 the last
 abbrev counting : Receiver
-counting = record { mode = 1; stream = 0; register = 255; entitled = 0x81; known = true; sequence = 3; held = 4; number = 5; serviced = true; services = 1; delivered = 65538; missing = 3; last = 4 }
+counting = record { mode = 1; stream = 0; register = 255; entitled = 0x81; known = true; sequence = 3; held = 4; number = 5; serviced = false; services = 0; delivered = 65538; missing = 3; last = 4 }
 
 abbrev countingWords : List ℕ
 countingWords =
-    0x00000001 ∷ 0x10000003 ∷ 0x20050004 ∷ 0x300000FF ∷ 0x40000981 ∷ 0x530A0B0C ∷ 0x510D0000 ∷ 0x60000001 ∷ 0x60000002 ∷ 0x60000000 ∷ 0x60000003 ∷ 0x60000004 ∷ []
+    0x00000001 ∷ 0x10000003 ∷ 0x20050004 ∷ 0x300000FF ∷ 0x40000081 ∷ 0x530A0B0C ∷ 0x510D0000 ∷ 0x60000001 ∷ 0x60000002 ∷ 0x60000000 ∷ 0x60000003 ∷ 0x60000004 ∷ []
 
 pub counts-written : wordsWith today counting (0x0A ∷ 0x0B ∷ 0x0C ∷ 0x0D ∷ []) ≡ countingWords
 unfolding wordsWith headWords byteWords countWords dataWords

@@ -3,23 +3,24 @@
 use super::{Receiver, ReceiverState};
 use crate::{ffi, Log, Refusal, LOG_WORDS};
 
-/// What came of receiving a batch of PDUs. (Document 02, Ask 1.)
+/// What came of receiving a batch of PDUs.
 #[derive(Clone, Copy, Debug, PartialEq, Eq)]
+#[must_use = "a batch may have stopped at a PDU that was refused"]
 pub struct Batch<'a> {
     /// How many PDUs were received, from the first on: all of them, or those
     /// before the first one that was refused.
     pub taken: usize,
     /// Their logs, one after another.
     pub log: Log<'a>,
-    /// Why the PDU after them was refused, if one was: 3 to 12 or 27. It and those
-    /// after it are as they were.
+    /// Why the PDU after them was refused, if one was, as [`Receiver::receive`]
+    /// refuses it. It and those after it are as they were.
     pub refusal: Option<Refusal>,
 }
 
 impl Receiver {
     /// Receives PDUs that stand joined in one buffer, as [`Receiver::receive`]
-    /// would one after another, and hands out their logs, one following the other.
-    /// (Document 02, Ask 1.)
+    /// would one after another, and hands out their logs, one following the
+    /// other.
     ///
     /// `lengths` has the PDUs' lengths, in their order. Any count will do, also
     /// none. It stops at the first PDU that is refused, and the answer says how

@@ -4,8 +4,8 @@ use super::Receiver;
 use crate::{ffi, Log, Refusal};
 
 impl Receiver {
-    /// Receives a pair of PDUs, two copies of one from two receivers on one signal,
-    /// and hands out the log of this call: that of one PDU. (Document 02, Ask 5.)
+    /// Receives a pair of PDUs, two copies of one from two receivers on one
+    /// signal, and hands out the log of this call: that of one PDU.
     ///
     /// Each piece is taken from a copy in which its CRC is right. Where it is right
     /// in both and the bytes differ, the note is
@@ -17,13 +17,18 @@ impl Receiver {
     ///
     /// # Errors
     ///
-    /// Refused with 4 where neither copy can be corrected; with 5 to 12, the lowest
-    /// that applies to a copy that can be corrected, however good the other is, and
-    /// 11 with the smallest k over both; or with [`Refusal::Pair`] where both can be
-    /// corrected, and lengths or corrected bytes 8 to La differ: they are not of one
-    /// PDU, or bytes 96 to La of one are damaged; or with 27 where a count of packets
-    /// would pass 4,294,967,295. Then the receiver and both PDUs are as they were, and a
-    /// copy can still be received alone.
+    /// The first of these that applies:
+    ///
+    /// - [`Refusal::Uncorrectable`]: neither copy can be corrected.
+    /// - One from [`Refusal::Mode`] to [`Refusal::Displacement`], numbers 5 to 12: the
+    ///   lowest that applies to a copy that can be corrected, however good the other
+    ///   is; [`Refusal::Locator`] with the smallest k over both.
+    /// - [`Refusal::Pair`]: both can be corrected, and lengths or corrected bytes 8 to
+    ///   La differ. They are not of one PDU, or bytes 96 to La of one are damaged.
+    /// - [`Refusal::CountLimit`]: a count of packets would pass 4,294,967,295.
+    ///
+    /// Then the receiver and both PDUs are as they were, and a copy can still be
+    /// received alone.
     ///
     /// # Example
     ///

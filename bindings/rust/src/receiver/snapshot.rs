@@ -4,11 +4,11 @@ use super::{Receiver, ReceiverState};
 use crate::{ffi, Mode, Refusal, Stream, CARRY_BYTES};
 
 impl Receiver {
-    /// Saves the receiver as words of 32 bits, for a program that goes on later:
-    /// writes them into `words`, from the first on, and answers how many there are. A
-    /// buffer of [`SNAPSHOT_WORDS`](crate::SNAPSHOT_WORDS) words is long enough for
-    /// every receiver; those after the ones written stay as they are. (Document 02,
-    /// Asks 13 and 14.)
+    /// Saves the receiver as words of 32 bits, for a program that goes on
+    /// later: writes them into `words`, from the first on, and answers how many
+    /// there are. A buffer of [`SNAPSHOT_WORDS`](crate::SNAPSHOT_WORDS) words
+    /// is long enough for every receiver; those after the ones written stay as
+    /// they are.
     ///
     /// What the receiver that [`Receiver::load`] makes of these words logs from there
     /// on is what this one would have logged, whatever the calls are.
@@ -62,8 +62,8 @@ impl Receiver {
         Ok(answer.words as usize)
     }
 
-    /// Loads a receiver from the words that [`Receiver::save`] wrote, just these: it
-    /// remembers and holds what the saved one did. (Document 02, Ask 13.)
+    /// Loads a receiver from the words that [`Receiver::save`] wrote, just
+    /// these: it remembers and holds what the saved one did.
     ///
     /// Words of older firmware may lack kind 3, 4 or 6: then the register of the CRCs
     /// starts at 0, the receiver is entitled to no program and the applied services are

@@ -1,26 +1,32 @@
 use borrow.Author.Needs.{needs}
-use Prim.Native.Nat.{_-_, _≤_}
-use lib.ListN.{length}
+use native.Mathlib.Omega.{arith}
+use mathlib.Core.Path.{_≡_, refl, ap, _∙_}
+use Prim.Native.Nat.{_+_, _-_, _≤_}
+use lib.ListN.{length, drop}
+use Rattle.reassembly.specs.Tally.{Tally}
+use Rattle.loss.specs.Column.{tallyIn, afterWords}
+use Rattle.loss.proofs.Words.{words-next, words-end}
 use Rattle.loss.proofs.after.Statement.{statement}
 use Rattle.loss.proofs.after.Tie as tie
+use Rattle.loss.proofs.after.Reads as reads
+use Rattle.loss.proofs.after.Lts as lts
+use Rattle.loss.proofs.after_word.Reads as after-word-reads
 
+-- the words that are left, from the column so far, are all of them from the first
 abbrev Inv-loop : tie.InvT-loop
-Inv-loop log l₀ i₀ l i = i ≤ length log
+Inv-loop log l₀ i₀ l i = (i ≤ length log) × (afterWords (tallyIn l) (drop i log) ≡ afterWords (tallyIn l₀) log)
 
 abbrev μ-loop : tie.MeasureT-loop
 μ-loop log l₀ i₀ l i = length log - i
 
 loop-holds : tie.Need-loop-holds Inv-loop μ-loop
-loop-holds c = search needs
+loop-holds c = (omega arith, refl)
 
-mul-split : tie.Need-mul-split Inv-loop μ-loop
-mul-split c = search needs
+mul-after-word : tie.Need-mul-after-word Inv-loop μ-loop
+mul-after-word c = search needs
 
-shared-slice-read-split : tie.Need-shared-slice-read-split Inv-loop μ-loop
-shared-slice-read-split c = search needs
-
-split-requires : tie.Need-split-requires Inv-loop μ-loop
-split-requires c κs = search needs
+shared-slice-read-after-word : tie.Need-shared-slice-read-after-word Inv-loop μ-loop
+shared-slice-read-after-word c = search needs
 
 after-word-requires : tie.Need-after-word-requires Inv-loop μ-loop
 after-word-requires c κs = search needs
@@ -32,10 +38,15 @@ loop-less : tie.Need-loop-less Inv-loop μ-loop
 loop-less c = search needs
 
 loop-again : tie.Need-loop-again Inv-loop μ-loop
-loop-again c = search needs
+loop-again c =
+    let l = c .before .before .before .loop in
+    let log = c .before .before .before .before .before .args .log .now in
+    (omega arith, ap (λ (t : Tally). afterWords t (drop (l .i + 1) log)) (c .after-word .ensures) ∙ words-next log (l .i) (tallyIn (l .l)) (omega arith) ∙ l .inv .1)
 
 returns : tie.Need-returns Inv-loop μ-loop
-returns c = search needs
+returns c =
+    let l = c .before .loop in
+    words-end (c .before .before .before .args .log .now) (l .i) (tallyIn (l .l)) (omega arith) ∙ l .inv .1
 
 pub after-spec : {M : Type 1} → statement M
 after-spec =
@@ -44,9 +55,8 @@ after-spec =
     Inv-loop
     μ-loop
     loop-holds
-    mul-split
-    shared-slice-read-split
-    split-requires
+    mul-after-word
+    shared-slice-read-after-word
     after-word-requires
     add-i
     loop-less
