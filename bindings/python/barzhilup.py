@@ -914,6 +914,10 @@ class Batch(NamedTuple):
     refusal: Optional[Refusal]
 
 
+#: The most PDUs that :meth:`Receiver.receive_batch` hands over in one call.
+_FRAME = 64
+
+
 class Logged(NamedTuple):
     """What came of a PDU of a recording."""
 
@@ -1030,13 +1034,20 @@ class Receiver:
     def receive_batch(self, pdus: Sequence[Buffer]) -> Batch:
         """Receives several PDUs in one call, up to the first that is refused: that one and those after it are left."""
         plain = [bytes(pdu) for pdu in pdus]
-        data, length = _copied(b"".join(plain))
-        lengths, count = _listed("length", map(len, plain), _size, 2**32)
-        log = _lent(_u32, LOG_WORDS * count)
-        answer = _c.barzhilup_receive_batch(self._state, self._carry, CARRY_BYTES, data, length, lengths, count, log, LOG_WORDS * count)
-        self._state = answer.receiver
-        refusal = Refusal(answer.refusal, answer.wrong_locator) if answer.refusal else None
-        return Batch(int(answer.taken), Log(log[:answer.words]), refusal)
+        taken, words = 0, array("I")
+        room = LOG_WORDS * min(len(plain), _FRAME)
+        log = _lent(_u32, room)
+        # A long list goes in parts, so that its log does not take 33 KB for each PDU.
+        for at in range(0, len(plain), _FRAME):
+            data, length = _copied(b"".join(plain[at:at + _FRAME]))
+            lengths, count = _listed("length", map(len, plain[at:at + _FRAME]), _size, 2**32)
+            answer = _c.barzhilup_receive_batch(self._state, self._carry, CARRY_BYTES, data, length, lengths, count, log, room)
+            self._state = answer.receiver
+            taken += int(answer.taken)
+            words.extend(log[:answer.words])
+            if answer.refusal:
+                return Batch(taken, Log(words), Refusal(answer.refusal, answer.wrong_locator))
+        return Batch(taken, Log(words), None)
 
     def receive_pair(self, first: Buffer, second: Buffer) -> Log:
         """Receives two copies of a PDU as one: each piece from a copy in which its CRC is right. A copy that did not come is given as ``b""``.

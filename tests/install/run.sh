@@ -93,7 +93,7 @@ same "the manual has libbarzhilup(3)" yes "$([ -s "$prefix/share/man/man3/libbar
 for function in $(grep -o 'barzhilup_[a-z0-9_]*' "$prefix/share/man/man3/libbarzhilup.3" | sort -u); do
     same "libbarzhilup(3) has $function from the header" yes "$(grep -q "\b$function(" "$prefix/include/barzhilup.h" && echo yes)"
 done
-if command -v man >/dev/null; then
+if man --version 2>/dev/null | grep -q '^man '; then
     for page in "$prefix"/share/man/man[13]/*; do
         same "${page##*/} has no fault" "" "$(LC_ALL=C.UTF-8 MANWIDTH=100 man --warnings -l "$page" 2>&1 >/dev/null)"
     done

@@ -383,6 +383,9 @@ class Programs(Case):
         self.assertGreater(stops, 10)
         self.assertEqual((together, receiver.save()), (words, alone.save()))
         self.assertEqual(receiver.receive_batch([]), (0, b.Log(), None))
+        whole = b.Receiver(0).receive_batch(list(b.read_records(self.file("sent12"))))
+        self.assertEqual((whole.taken, whole.refusal), (len(list(b.read_records(self.file("sent12")))), None))
+        self.assertEqual([packet.data for packet in whole.log.packets()], list(b.read_records(PACKETS)))
 
     def test_join(self):
         packets = self.file("packets")
