@@ -66,7 +66,8 @@ if command -v pkg-config >/dev/null; then
     gcc -o "$work/static" "$work/example.c" $(pkg-config --cflags barzhilup) "$libdir/libbarzhilup.a"
     same "the example with the shared library" "$said" "$(LD_LIBRARY_PATH=$libdir "$work/shared")"
     same "it is linked by its soname" libbarzhilup.so.0 "$(readelf -d "$work/shared" | sed -n 's/.*\[\(libbarzhilup.*\)\]/\1/p')"
-    same "without the library it does not run" 127 "$(status_of "$work/shared")"
+    same "it runs with the one that is installed" "$libdir/$(readlink "$libdir/libbarzhilup.so")" \
+        "$(LD_LIBRARY_PATH=$libdir ldd "$work/shared" | sed -n 's/.*libbarzhilup[^ ]* => \([^ ]*\).*/\1/p')"
     same "the example with the archive" "$said" "$("$work/static")"
     same "it needs no shared one" "" "$(readelf -d "$work/static" | sed -n 's/.*\[\(libbarzhilup.*\)\]/\1/p')"
 else
