@@ -15,9 +15,8 @@
  *    Buffers of one call must not overlap where one of them is written.
  *  - A refused call returns one of the numbers below, and leaves every byte lent to
  *    it as it was. If several causes apply, the lowest number is returned, except
- *    that 19 comes directly after 3, 18 directly after 2, 20 directly after 12,
- * and 27
- *    directly after 13. A batch of PDUs that stops at a refused one has received
+ *    that 19 comes directly after 3, 18 directly after 2, 20 directly after 12, and
+ *    27 directly after 13. A batch of PDUs that stops at a refused one has received
  *    those before it (barzhilup_receive_batch). Joining two logs checks 23 and 24,
  *    and then 13 (barzhilup_join).
  *
@@ -45,7 +44,7 @@
  *    from 14   a locator for each piece: the place of its CRC byte
  *    then      the expansion, up to 16 bytes, if there is one (barzhilup_expansion)
  *    to La     PSD, if there is any
- *    from La   the pieces, each with its CRC byte behind it
+ *    after La  the pieces, each with its CRC byte behind it
  *    the rest  reserved: written as zero, ignored on reading
  *
  * A piece is a packet, or a part of one that goes on in the next PDU.
@@ -462,10 +461,9 @@ barzhilup_add_parity_share(barzhilup_parity_answer parity, size_t place,
                            uint8_t byte);
 
 /*
- * Corrects the header of a PDU in place: the first 96
- * bytes become the one code word that differs from them in at most four bytes.
- * Later bytes stay as they are. `pdu` is the whole PDU, `length` its length in
- * bytes.
+ * Corrects the header of a PDU in place: the first 96 bytes become the one code
+ * word that differs from them in at most four bytes. Later bytes stay as they
+ * are. `pdu` is the whole PDU, `length` its length in bytes.
  *
  * `refusal` is BARZHILUP_ACCEPTED, and `corrected` says in how many bytes the
  * header differed from the code word; or it is BARZHILUP_REFUSED_PDU_LENGTH, or
@@ -477,12 +475,12 @@ barzhilup_correct_header(uint8_t *pdu, size_t length);
 
 /*
  * Corrects the header of a PDU of which some places are marked, because whoever
- * demodulated it guessed their bytes: the first 96 bytes
- * become the one code word for which twice the differing unmarked bytes plus
- * `count` is at most eight. Marked bytes may hold anything. Each mark costs one,
- * also where its byte turns out to be right: with four marks two other bytes can
- * be wrong, with seven or eight none; a header with eight marks is never
- * uncorrectable. Later bytes stay as they are.
+ * demodulated it guessed their bytes: the first 96 bytes become the one code
+ * word for which twice the differing unmarked bytes plus `count` is at most
+ * eight. Marked bytes may hold anything. Each mark costs one, also where its
+ * byte turns out to be right: with four marks two other bytes can be wrong,
+ * with seven or eight none; a header with eight marks is never uncorrectable.
+ * Later bytes stay as they are.
  *
  * `marks` is a list of `count` places, each 0 to 95, at most eight and none twice,
  * in any order; it is only read. With `count` 0 this is
@@ -679,9 +677,9 @@ barzhilup_writer_opened barzhilup_open_writer(uint8_t mode, uint8_t stream);
 
 /*
  * Opens a writer for a mode and stream, and with the value that the register of
- * its CRCs starts with. Any byte will do: the opening is
- * refused for its mode and stream only. With 0 this is barzhilup_open_writer;
- * recordings off the air check with BARZHILUP_CRC_START_OFF_AIR, 255.
+ * its CRCs starts with. Any byte will do: the opening is refused for its mode
+ * and stream only. With 0 this is barzhilup_open_writer; recordings off the air
+ * check with BARZHILUP_CRC_START_OFF_AIR, 255.
  *
  * Open the receiver of these PDUs with the same value. Nothing is promised for
  * unequal ones; what a user sees then is BARZHILUP_NOTE_CRC for every piece that
@@ -696,14 +694,13 @@ barzhilup_writer_opened barzhilup_open_writer_with(uint8_t mode, uint8_t stream,
  * `lengths` has the lengths, 1 to 4,096, of the `count` packets that are
  * offered, `bytes` their bytes, joined. The first is the unfinished packet,
  * whole, if there is one; if there is none, `count` may be 0, and the PDU has
- * no pieces. As many are placed as fit, and then a part of the
- * next: offer again from the first that did not end. `pdu` must not overlap
- * what is read.
+ * no pieces. As many are placed as fit, and then a part of the next: offer
+ * again from the first that did not end. `pdu` must not overlap what is read.
  *
  * A PDU gets no more pieces than the largest count up to 63 for which La is at
- * most 255. That is 63 with locators of 12 bits, and with 16
- * bits where PSD and expansion together have up to 116 bytes; from there on it is
- * one fewer for every two bytes more: 62 with 117 and 118, 57 with 127 and 128.
+ * most 255. That is 63 with locators of 12 bits, and with 16 bits where PSD and
+ * expansion together have up to 116 bytes; from there on it is one fewer for
+ * every two bytes more: 62 with 117 and 118, 57 with 127 and 128.
  *
  * If it is refused, no byte of `pdu` has changed.
  */
@@ -1075,15 +1072,15 @@ typedef struct {
 } barzhilup_batch;
 
 /* Opens a receiver for a mode and stream of the table of modes. The register of
- * its CRCs starts at BARZHILUP_CRC_START, 0. It is
- * entitled to programs 0 to 7: no PDU is withheld. */
+ * its CRCs starts at BARZHILUP_CRC_START, 0. It is entitled to programs 0 to 7:
+ * no PDU is withheld. */
 barzhilup_receiver_opened barzhilup_open_receiver(uint8_t mode, uint8_t stream);
 
 /*
  * Opens a receiver for a mode and stream, and with the value that the register of
- * its CRCs starts with: the one that the PDUs were written
- * with. Any byte will do: the opening is refused for its mode and stream only.
- * With 0 this is barzhilup_open_receiver; recordings off the air check with
+ * its CRCs starts with: the one that the PDUs were written with. Any byte will
+ * do: the opening is refused for its mode and stream only. With 0 this is
+ * barzhilup_open_receiver; recordings off the air check with
  * BARZHILUP_CRC_START_OFF_AIR, 255. Nothing is promised for a writer and a
  * receiver with unequal values. It is entitled to programs 0 to 7: no PDU is
  * withheld.
@@ -1093,10 +1090,10 @@ barzhilup_receiver_opened barzhilup_open_receiver_with(uint8_t mode,
                                                        uint8_t crc_start);
 
 /*
- * Opens a receiver that is entitled to some programs only.
- * `programs` is a list of `count` program numbers, each 0 to 7 and none twice, in any
- * order; it is only read. With `count` 0 the receiver is entitled to none, with all
- * eight this is barzhilup_open_receiver_with. It is refused with
+ * Opens a receiver that is entitled to some programs only. `programs` is a list
+ * of `count` program numbers, each 0 to 7 and none twice, in any order; it is
+ * only read. With `count` 0 the receiver is entitled to none, with all eight
+ * this is barzhilup_open_receiver_with. It is refused with
  * BARZHILUP_REFUSED_MODE, and then with BARZHILUP_REFUSED_PROGRAMS.
  *
  * A PDU is withheld if its applied services are 1 and its program is not listed.
@@ -1168,8 +1165,8 @@ barzhilup_received barzhilup_receive_marked(barzhilup_receiver receiver,
 
 /*
  * Receives PDUs that stand joined in one buffer, as barzhilup_receive would one
- * after another, each log following the last. Receiver, carry,
- * buffer and log are left as these calls leave them.
+ * after another, each log following the last. Receiver, carry, buffer and log
+ * are left as these calls leave them.
  *
  * `pdus` is the buffer, and `lengths` has the lengths of the `count` PDUs in it, in
  * their order; it is only read. Any count will do. With `count` 0 and
@@ -1179,9 +1176,9 @@ barzhilup_received barzhilup_receive_marked(barzhilup_receiver receiver,
  *
  * It stops at the first PDU that is refused, and `refusal` is that PDU's number; 13
  * is judged on what is left of the log, 27 on the counts as the PDUs before it left
- * them. The PDUs before it, of which `taken` is the
- * count, are received. It and those after it keep their bytes: to go on, deal with
- * it (barzhilup_mark_lost, where it stays refused) and hand over those after it.
+ * them. The PDUs before it, of which `taken` is the count, are received. It and
+ * those after it keep their bytes: to go on, deal with it (barzhilup_mark_lost,
+ * where it stays refused) and hand over those after it.
  *
  * The whole call is judged before the first PDU, in this order: 1, 2, and 18 where
  * the lengths do not sum to `pdus_length`. If it is refused with one of these, no
@@ -1196,11 +1193,11 @@ barzhilup_batch barzhilup_receive_batch(barzhilup_receiver receiver,
                                         uint32_t *log, size_t log_length);
 
 /*
- * Of two copies of a PDU, says which one to take: the one in
- * whose header fewer bytes have to be corrected, the first if equal; the other
- * where one can't be corrected. A length that is refused with
- * BARZHILUP_REFUSED_PDU_LENGTH counts as one that can't. The lengths may differ.
- * Nothing else is judged: mode, locators and CRCs make no difference.
+ * Of two copies of a PDU, says which one to take: the one in whose header fewer
+ * bytes have to be corrected, the first if equal; the other where one can't be
+ * corrected. A length that is refused with BARZHILUP_REFUSED_PDU_LENGTH counts
+ * as one that can't. The lengths may differ. Nothing else is judged: mode,
+ * locators and CRCs make no difference.
  *
  * Returns 1 for the first and 2 for the second; 0 where neither can be corrected.
  * Nothing is refused. Both PDUs are only read: the one that is chosen is left
@@ -1481,9 +1478,9 @@ typedef struct {
  * CRC wrong. Initialise the list: the bool of an entry is true or false.
  *
  * `crc_start` is the value that the register of the CRCs starts with, any byte:
- * the one that the PDU was written with. It decides verdicts
- * and nothing else. 0 is BARZHILUP_CRC_START; recordings off the
- * air check with BARZHILUP_CRC_START_OFF_AIR, 255.
+ * the one that the PDU was written with. It decides verdicts and nothing else.
+ * 0 is BARZHILUP_CRC_START; recordings off the air check with
+ * BARZHILUP_CRC_START_OFF_AIR, 255.
  *
  * It is refused as barzhilup_read is, and with BARZHILUP_REFUSED_LIST_LENGTH for
  * a list of fewer than NOP entries. If it is refused, no byte and no entry has

@@ -83,6 +83,7 @@ fi
 
 # Manual pages, with a page for each subcommand.
 subs=$("$prefix/bin/barzhilup" --help | sed -n 's/^  \([a-z]\+\) .*/\1/p')
+# shellcheck disable=SC2086
 for name in barzhilup $(printf 'barzhilup-%s ' $subs); do
     same "the manual has $name(1)" yes "$([ -s "$prefix/share/man/man1/$name.1" ] && echo yes)"
 done
@@ -91,9 +92,9 @@ for sub in $subs; do
 done
 same "the manual has libbarzhilup(3)" yes "$([ -s "$prefix/share/man/man3/libbarzhilup.3" ] && echo yes)"
 # Each function that the page names is one of the header.
-for function in $(grep -o 'barzhilup_[a-z0-9_]*' "$prefix/share/man/man3/libbarzhilup.3" | sort -u); do
+while read -r function; do
     same "libbarzhilup(3) has $function from the header" yes "$(grep -q "\b$function(" "$prefix/include/barzhilup.h" && echo yes)"
-done
+done < <(grep -o 'barzhilup_[a-z0-9_]*' "$prefix/share/man/man3/libbarzhilup.3" | sort -u)
 if man --version 2>/dev/null | grep -q '^man '; then
     for page in "$prefix"/share/man/man[13]/*; do
         same "${page##*/} has no fault" "" "$(LC_ALL=C.UTF-8 MANWIDTH=100 man --warnings -l "$page" 2>&1 >/dev/null)"
