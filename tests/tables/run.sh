@@ -47,6 +47,7 @@ spoil $header 's/^#define BARZHILUP_REFUSED_MARKS 19/#define BARZHILUP_REFUSED_M
 spoil $header 's/^#define BARZHILUP_LOG_WORDS 8400/#define BARZHILUP_LOG_WORDS 8300/' 'header and Python: LOG_WORDS'
 spoil $header 's/return "wrong CRC"/return "CRC wrong"/' "header and the program's words: note 2"
 spoil $header 's/^uint32_t barzhilup_write_parity(uint8_t \*pdu/uint32_t barzhilup_write_parity(const uint8_t *pdu/' 'header and the crates: barzhilup_write_parity, argument 1, by pointer'
+spoil $header 's/^\( \*    13        0, core           \)12/\116/' "header's modes and the library: mode 13, stream 0"
 spoil crates/receiver/src/lib.rt 's/^    pub entitled: u8,/    pub entitled: u16,/' 'header and the crates: barzhilup_receive, argument 1'
 spoil crates/settings/src/lib.rt 's/^    pub blend: u8,/    pub gain: u8,/' 'header and the crates: barzhilup_write, argument 2'
 spoil crates/capi/src/lib.rt 's/latency: u8) -> Trial/latency: u32) -> Trial/' 'header and the crates: barzhilup_try_latency, argument 5'

@@ -267,6 +267,47 @@ def offset_of(layout, field):
     return next(offset for path, offset, _, _ in layout.leaves if path == field or path.startswith(field + "."))
 
 
+def table_of_modes():
+    """The table at the head of the header: mode and stream to locator bits, last sequence, and the most bytes of PSD."""
+    rows = {}
+    row = r"^ \*    ([\d, ]+?)  +(\d), \w+ +(\d+) +0 to (\d) +(\d+)(, no PSD)?$"
+    for modes, stream, bits, sequence, most, none in re.findall(row, text_of("include", "barzhilup.h"), flags=re.M):
+        for mode in modes.split(","):
+            rows[int(mode), int(stream)] = (int(bits), int(sequence), 0 if none else int(most))
+    return rows
+
+
+def mode_by_library(barzhilup, mode, stream):
+    """The same as a writer has it; None where there is no such mode and stream."""
+
+    def taken(length, psd):
+        try:
+            barzhilup.Writer(mode, stream).write([b"a"], length, bytes(psd))
+            return True
+        except barzhilup.Refusal:
+            return False
+
+    try:
+        writer = barzhilup.Writer(mode, stream)
+    except barzhilup.Refusal:
+        return None
+    sequences = set()
+    for _ in range(16):
+        sequences.add(writer.sequence)
+        writer.write([b"a"], 96)
+    return (16 if taken(4097, 0) else 12, max(sequences), max(psd for psd in range(200) if taken(512, psd)))
+
+
+def compare_modes():
+    import barzhilup  # pylint: disable=import-outside-toplevel
+
+    rows = table_of_modes()
+    for mode in range(16):
+        for stream in range(4):
+            same("header's modes and the library", "mode {}, stream {}".format(mode, stream), rows.get((mode, stream)),
+                 mode_by_library(barzhilup, mode, stream))
+
+
 # ---- Numbers and words --------------------------------------------------------------------------------------------------------------------------
 
 
@@ -362,6 +403,9 @@ compare_crates()
 compare_rust()
 compare_python()
 compare_words()
+# The library is called only where nothing differs.
+if not faults:
+    compare_modes()
 for what, count in compared.items():
     print("tables: {}: {} comparisons".format(what, count))
 for fault in faults:
