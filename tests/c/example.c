@@ -9,7 +9,7 @@ static uint8_t carry[BARZHILUP_CARRY_BYTES];
 static uint32_t packet_log[BARZHILUP_LOG_WORDS];
 
 /* Ends the program where a call was refused. */
-static void accept(const char *call, uint32_t refusal) {
+static void accepted_or_exit(const char *call, uint32_t refusal) {
     if (refusal == BARZHILUP_ACCEPTED)
         return;
     fprintf(stderr, "%s: refused with %u: %s\n", call, (unsigned)refusal, barzhilup_refusal_text(refusal));
@@ -37,23 +37,23 @@ int main(void) {
     uint8_t pdu[96];
 
     barzhilup_writer_opened writer_opened = barzhilup_open_writer(0, 0); /* mode 0, core */
-    accept("opening a writer", writer_opened.refusal);
+    accepted_or_exit("opening a writer", writer_opened.refusal);
     barzhilup_writer writer = writer_opened.writer;
     barzhilup_receiver_opened receiver_opened = barzhilup_open_receiver(0, 0);
-    accept("opening a receiver", receiver_opened.refusal);
+    accepted_or_exit("opening a receiver", receiver_opened.refusal);
     barzhilup_receiver receiver = receiver_opened.receiver;
 
     memset(&settings, 0, sizeof settings);
     barzhilup_written written = barzhilup_write(writer, settings, (const uint8_t *)"PSD", 3, lengths, 1,
                                                 (const uint8_t *)"audio", 5, pdu, sizeof pdu);
-    accept("writing", written.refusal);
+    accepted_or_exit("writing", written.refusal);
     writer = written.writer; /* for the next call */
 
     pdu[3] ^= 0x40; /* noise in the header, which the receiver corrects */
 
     barzhilup_received received =
         barzhilup_receive(receiver, carry, sizeof carry, pdu, sizeof pdu, packet_log, BARZHILUP_LOG_WORDS);
-    accept("receiving", received.refusal);
+    accepted_or_exit("receiving", received.refusal);
     receiver = received.receiver; /* for the next call */
 
     barzhilup_log_iterator walk = barzhilup_log_begin(packet_log, received.words);

@@ -61,7 +61,13 @@ if [ "$("$build/example")" != $'PSD, 3 bytes\npacket 0, 5 bytes' ]; then
     echo "C: the example does not print what it should" >&2
     exit 1
 fi
-echo "C99, gcc: the example of docs/USING.md prints what it should"
+# The lines of it that the page shows, among what is indented in the chapter on C: all but the commands and what it prints.
+shown=$(awk '/^## /{ c = $0 == "## C" } c && /^    / { sub(/^ +/, ""); print }' "$root/docs/USING.md" | grep -v '^cc \|^PSD, 3 bytes$\|^packet 0, 5 bytes$')
+if [ "$(wc -l <<<"$shown")" -lt 10 ] || grep -vxFf <(sed 's/^ *//' "$root/tests/c/example.c") <<<"$shown"; then
+    echo "C: docs/USING.md shows lines that the example does not have" >&2
+    exit 1
+fi
+echo "C99, gcc: the example of docs/USING.md prints what it should, and has the lines that are shown"
 
 cat > "$build/header.cpp" <<'CPP'
 #include "barzhilup.h"

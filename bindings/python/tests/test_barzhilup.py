@@ -466,9 +466,15 @@ class Module(Case):
         self.assertEqual(b.library_version(), b.__version__)
 
     def test_example(self):
-        out = subprocess.check_output([sys.executable, os.path.join(HERE, "..", "examples", "drive.py")], universal_newlines=True)
-        with open(os.path.join(ROOT, "docs", "USING.md"), encoding="utf-8") as page:
-            self.assertTrue("".join("    {}\n".format(line) for line in out.splitlines()) in page.read(), "docs/USING.md has what the example prints")
+        example = os.path.join(HERE, "..", "examples", "drive.py")
+        out = subprocess.check_output([sys.executable, example], universal_newlines=True)
+        with open(os.path.join(ROOT, "docs", "USING.md"), encoding="utf-8") as file:
+            page = file.read()
+        self.assertTrue("".join("    {}\n".format(line) for line in out.splitlines()) in page, "docs/USING.md has what the example prints")
+        shown = page.split("logs the rest:\n")[1].split("It prints\n")[0]
+        with open(example, encoding="utf-8") as file:
+            lines = [line.split("  # noqa")[0] for line in file.read().splitlines()]
+        self.assertEqual([line for line in shown.splitlines() if line[4:] not in lines], [])
 
     def test_no_library(self):
         done = subprocess.run([sys.executable, "-c", "import barzhilup"], cwd=os.path.join(HERE, ".."), env={"BARZHILUP_LIB": self.folder, "PATH": ""},
