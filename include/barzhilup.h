@@ -1,36 +1,64 @@
 /*
- * Barzhilup: the audio transport layer of HD Radio, as a C library (libcapi.a,
- * and libpanel.a for the panel's functions).
+ * Barzhilup: the audio transport layer of HD Radio (1017s Rev. H), as a C library
+ * (libbarzhilup.a and libbarzhilup.so).
  *
- * "Document 01" below is the paper with the rules, "document 02" the one with
- * what was asked for after it; "001" is 1017s Rev. H, the standard that document
- * 01 is taken from.
+ * A writer packs encoded audio packets and program service data (PSD) into protocol
+ * data units (PDUs). A receiver corrects the headers of PDUs, joins their pieces to
+ * packets, and logs packets, PSD and notes. No audio is decoded.
  *
  * What holds for every function here:
  *  - It ends on every input, allocates nothing, keeps nothing between calls and
  *    can be called from several threads at once on different buffers.
- *  - No pointer may be NULL, not even one that comes with length 0, and each
- *    must point at as many elements as said. Any alignment will do for bytes;
- *    other elements are aligned as C aligns them. Buffers of one call must not
- *    overlap where one of them is written.
- *  - A refused call returns a number of the table in document 01, "What is
- *    turned down", or of document 02, and leaves every byte lent to it as it
- *    was. If several causes apply, the lowest number is returned, except that 19
- *    comes directly after 3, 18 directly after 2, 20 directly after 12, and 27
- *    directly after 13. A batch of PDUs that stops at a refused one has received
+ *  - A buffer is a pointer with a length, and the pointer points at as many elements
+ *    as the length says. With length 0 it may be NULL; no other pointer may. Any
+ *    alignment will do for bytes; other elements are aligned as C aligns them.
+ *    Buffers of one call must not overlap where one of them is written.
+ *  - A refused call returns one of the numbers below, and leaves every byte lent to
+ *    it as it was. If several causes apply, the lowest number is returned, except
+ *    that 19 comes directly after 3, 18 directly after 2, 20 directly after 12, and
+ *    27 directly after 13. A batch of PDUs that stops at a refused one has received
  *    those before it (barzhilup_receive_batch). Joining two logs checks 23 and 24,
  *    and then 13 (barzhilup_join).
  *
- * Where document 01 has a word of its own, these are the usual ones:
- *    correct        for "mend",
- *    uncorrectable  for "beyond mending",
- *    syndromes      for "the eight sums" of a header,
- *    marked place   for a place whose byte is "marked doubtful" (document 02, Ask
- *                   3): an erasure,
- *    pair, copies   for the PDUs of "two antennas" (document 02, Ask 5): two
- *                   receptions of one PDU.
- * "Withheld" is document 02's own word (Ask 10): what a PDU's packets are to a
- * receiver that is not entitled to them.
+ * Functions that stand whole in this file, `static inline`, are plain C; all others
+ * are proved to do what is said of them, on every input.
+ *
+ * The modes. A mode has one or two streams, 0 core and 1 enhanced; mode and stream
+ * decide how wide locators are, which PDU sequences there are, and how many bytes
+ * PSD and expansion together may have in a PDU that is written:
+ *
+ *    mode      stream        locator bits  PDU sequence  PSD plus expansion
+ *    0         0, core           16            0 to 1        128
+ *    1, 2, 3   0, core           12            0 to 7         21
+ *    1, 2, 3   1, enhanced       16            0 to 1         16, no PSD
+ *    10        0, core           12            0 to 1        128
+ *    10        1, enhanced       12            0 to 7         16, no PSD
+ *    13        0, core           12            0 to 7         21
+ *
+ * A PDU, of 96 to 20,480 bytes; those that a writer writes with locators of 12 bits
+ * have 4,096 at most:
+ *
+ *    bytes     what
+ *    0 to 7    parity: makes bytes 0 to 95 a word of the header code
+ *    8 to 13   the control word (barzhilup_control_word)
+ *    from 14   a locator for each piece: the place of its CRC byte
+ *    then      the expansion, up to 16 bytes, if there is one (barzhilup_expansion)
+ *    to La     PSD, if there is any
+ *    after La  the pieces, each with its CRC byte behind it
+ *    the rest  reserved: written as zero, ignored on reading
+ *
+ * A piece is a packet, or a part of one that goes on in the next PDU.
+ *
+ * The field's terms, as they are used here:
+ *    correct        turn a damaged header into the word of the header code next to
+ *                   it; a header is uncorrectable where there is none near enough
+ *    syndromes      eight sums over a header, all zero if it is a code word
+ *    marked place   a place of the header whose byte the demodulator guessed, and
+ *                   says so: an erasure
+ *    held           of a packet's beginning, kept until the packet goes on
+ *    lost           of a PDU that did not come
+ *    pair, copies   two receptions of one PDU, by two antennas
+ *    withheld       of a PDU whose packets the receiver is not entitled to
  */
 #ifndef BARZHILUP_H
 #define BARZHILUP_H
@@ -43,52 +71,65 @@
 extern "C" {
 #endif
 
+/* ---- Version ------------------------------------------------------------ */
+
+/* The version of this header, as three numbers, as text, and as one number: the
+ * first in bits 23-16, the second in 15-8, the third in 7-0. */
+#define BARZHILUP_VERSION_MAJOR 0
+#define BARZHILUP_VERSION_MINOR 1
+#define BARZHILUP_VERSION_PATCH 0
+#define BARZHILUP_VERSION_STRING "0.1.0"
+#define BARZHILUP_VERSION 0x000100
+
+/* The version of the library that a program runs with, in the form of
+ * BARZHILUP_VERSION. A program fits a shared library whose first number is the
+ * same and whose version is not lower: the first rises where programs have to be
+ * compiled again. */
+uint32_t barzhilup_version(void);
+
 /* ---- Sizes -------------------------------------------------------------- */
 
 /* Bytes of a header: the first 96 bytes of a PDU are one word of the header
- * code. (Document 01, "Header code"; 001, 5.2.3.1.) */
+ * code. */
 #define BARZHILUP_HEADER_BYTES 96
 
 /* Parity bytes of a header, its bytes 0 to 7; also how many syndromes there
- * are. (Document 01, "Header code".) */
+ * are. */
 #define BARZHILUP_PARITY_BYTES 8
 
-/* The most bytes of a header that are corrected where no place is marked.
- * (Document 01, "Header code".) */
+/* The most bytes of a header that are corrected where no place is marked. */
 #define BARZHILUP_CORRECTED_MAX 4
 
 /* The most places of a header that can be marked; also the most bytes of it that
  * are corrected with marks. A longer list is refused with
- * BARZHILUP_REFUSED_MARKS. (Document 02, Ask 3.) */
+ * BARZHILUP_REFUSED_MARKS. */
 #define BARZHILUP_MARKS_MAX 8
 
 /* The shortest and the longest PDU, in bytes. Outside them a call is refused
- * with BARZHILUP_REFUSED_PDU_LENGTH. (Document 01, "What is turned down".) */
+ * with BARZHILUP_REFUSED_PDU_LENGTH. */
 #define BARZHILUP_PDU_MIN 96
 #define BARZHILUP_PDU_MAX 20480
 
 /* The longest PDU that a writer writes with locators of 12 bits, in bytes. */
 #define BARZHILUP_PDU_MAX_12_BITS 4096
 
-/* The longest packet, in bytes. (Document 01, "Writer".) */
+/* The longest packet, in bytes. */
 #define BARZHILUP_PACKET_MAX 4096
 
 /* The fewest bytes of a carry buffer, in which a receiver keeps the beginning of
  * a packet between calls. A shorter one is refused with
- * BARZHILUP_REFUSED_CARRY_LENGTH. (Document 01, "Receiver".) */
+ * BARZHILUP_REFUSED_CARRY_LENGTH. */
 #define BARZHILUP_CARRY_BYTES 4096
 
-/* A log of so many words is long enough for every call. (Document 01,
- * "Receiver".) */
+/* A log of so many words is long enough for every call. */
 #define BARZHILUP_LOG_WORDS 8400
 
-/* A buffer of so many words is long enough for every receiver that is saved.
- * (Document 02, Asks 13 and 14.) */
+/* A buffer of so many words is long enough for every receiver that is saved. */
 #define BARZHILUP_SNAPSHOT_WORDS 1376
 
 /* The most pieces of a PDU: as many as NOP's six bits can say. A list of so many
  * entries is long enough for every PDU. barzhilup_write says how many a writer
- * places. (Document 02, Ask 9.) */
+ * places. */
 #define BARZHILUP_PIECES_MAX 63
 
 /* Entries of the arrays in a barzhilup_reading: one for each piece, and one more,
@@ -96,17 +137,16 @@ extern "C" {
 #define BARZHILUP_READING_PIECES 64
 
 /* The most counts that a bench for latency settings takes, the largest count,
- * and the largest latency. (Document 02, Ask 7.) */
+ * and the largest latency. */
 #define BARZHILUP_COUNTS_MAX 4096
 #define BARZHILUP_COUNT_MAX 63
 #define BARZHILUP_LATENCY_MAX 7
 
-/* The largest program number, and the largest value of the applied services.
- * (Document 01, "Expansion, PSD, pieces".) */
+/* The largest program number, and the largest value of the applied services. */
 #define BARZHILUP_PROGRAM_MAX 7
 #define BARZHILUP_SERVICES_MAX 7
 
-/* ---- Refusal numbers (document 01, "What is turned down"; document 02) --- */
+/* ---- Refusal numbers ---------------------------------------------------- */
 
 /* Not refused. */
 #define BARZHILUP_ACCEPTED 0
@@ -121,12 +161,12 @@ extern "C" {
  * it is over 4,096. */
 #define BARZHILUP_REFUSED_PDU_LENGTH 3
 
-/* No code word differs from the header in at most four bytes (document 01:
- * "beyond mending"). With marks: for no code word is twice the differing unmarked
- * bytes plus the count of marks at most eight. */
+/* No code word differs from the header in at most four bytes. With marks: for no
+ * code word is twice the differing unmarked bytes plus the count of marks at most
+ * eight. */
 #define BARZHILUP_REFUSED_UNCORRECTABLE 4
 
-/* Mode and stream are not in the table of document 01, "Modes". */
+/* Mode and stream are not in the table above. */
 #define BARZHILUP_REFUSED_MODE 5
 
 /* The PDU's mode and stream are in the table, but are not those that the
@@ -138,7 +178,7 @@ extern "C" {
 
 /* Pfirst or Plast is set with NOP 0. Any count of pieces is read: one whose
  * locators go past La, or past the PDU's end, is refused with
- * BARZHILUP_REFUSED_LA. (Document 02, Ask 9.) */
+ * BARZHILUP_REFUSED_LA. */
 #define BARZHILUP_REFUSED_PIECES 8
 
 /* La is before the last locator byte, or not below the length. Judged before any
@@ -146,7 +186,8 @@ extern "C" {
 #define BARZHILUP_REFUSED_LA 9
 
 /* The expansion: over 16 bytes, past La, IDs out of order, class 0, a field
- * cut; for a writer also its rules (document 01, "Expansion, PSD, pieces"). */
+ * cut. For a writer: fields that do not go together (barzhilup_settings says which
+ * do), or a displacement in a PDU of over 16,384 bytes. */
 #define BARZHILUP_REFUSED_EXPANSION 10
 
 /* A locator is under its piece's start plus 1, or not below the length. */
@@ -162,7 +203,7 @@ extern "C" {
 
 /* A value that is not sent: blend 3, or nonzero with a nonzero program; core
  * gain 7 to 23; one past its width. Or, the same number, a place outside 8 to 95,
- * whose byte has no share in the parity (document 02, Ask 8). */
+ * whose byte has no share in the parity. */
 #define BARZHILUP_REFUSED_VALUE 14
 #define BARZHILUP_REFUSED_PLACE 14
 
@@ -179,57 +220,170 @@ extern "C" {
 #define BARZHILUP_REFUSED_ROOM 17
 
 /* The lengths of a batch's PDUs do not sum to the buffer. Checked directly after
- * BARZHILUP_REFUSED_CARRY_LENGTH, and before the first PDU. (Document 02, Ask
- * 1.) */
+ * BARZHILUP_REFUSED_CARRY_LENGTH, and before the first PDU. */
 #define BARZHILUP_REFUSED_LENGTHS 18
 
 /* More than eight marks, one over 95, or one repeated. Checked directly after
- * BARZHILUP_REFUSED_PDU_LENGTH, and before BARZHILUP_REFUSED_UNCORRECTABLE.
- * (Document 02, Ask 3.) */
+ * BARZHILUP_REFUSED_PDU_LENGTH, and before BARZHILUP_REFUSED_UNCORRECTABLE. */
 #define BARZHILUP_REFUSED_MARKS 19
 
 /* A pair of PDUs that can both be corrected: their lengths differ, or their
  * corrected bytes 8 to La do, ignored bits too. Damage of one copy in
  * bytes 96 to La, which no parity covers, can give it too. Checked after
- * BARZHILUP_REFUSED_DISPLACEMENT, and before BARZHILUP_REFUSED_LOG_LENGTH.
- * (Document 02, Ask 5.) */
+ * BARZHILUP_REFUSED_DISPLACEMENT, and before BARZHILUP_REFUSED_LOG_LENGTH. */
 #define BARZHILUP_REFUSED_PAIR 20
 
 /* A bench for latency settings: no counts, more than 4,096, or one over 63.
- * Checked after BARZHILUP_REFUSED_MODE. (Document 02, Ask 7.) */
+ * Checked after BARZHILUP_REFUSED_MODE. */
 #define BARZHILUP_REFUSED_COUNTS 21
 
 /* Opening a receiver: a program number over 7, or one repeated. Checked after
- * BARZHILUP_REFUSED_MODE. (Document 02, Ask 10.) */
+ * BARZHILUP_REFUSED_MODE. */
 #define BARZHILUP_REFUSED_PROGRAMS 22
 
 /* Joining two logs: words that are no log. Data words are missing, left over,
  * wrongly counted or not filled by threes up to the last; a bit is set that the
- * layout leaves without meaning; a length is 0, or a packet's over 4,096.
- * (Document 02, Ask 11.) */
+ * layout leaves without meaning; a length is 0, or a packet's over 4,096. */
 #define BARZHILUP_REFUSED_LOG_WORDS 23
 
 /* Joining two logs: packet numbers do not rise strictly within a log, counted from
  * its own first packet, modulo 64. Checked after BARZHILUP_REFUSED_LOG_WORDS and
- * before BARZHILUP_REFUSED_LOG_LENGTH, and not if there is no core packet.
- * (Document 02, Ask 11.) */
+ * before BARZHILUP_REFUSED_LOG_LENGTH, and not if there is no core packet. */
 #define BARZHILUP_REFUSED_NUMBERS 24
 
 /* Loading a receiver: the words are not those of a receiver, or a field in them is
- * outside its range. Checked after BARZHILUP_REFUSED_CARRY_LENGTH. (Document 02, Ask
- * 13.) */
+ * outside its range. Checked after BARZHILUP_REFUSED_CARRY_LENGTH. */
 #define BARZHILUP_REFUSED_WORDS 25
 
 /* Saving a receiver: the buffer has fewer words than the receiver takes. Checked
- * after BARZHILUP_REFUSED_CARRY_LENGTH. (Document 02, Ask 13.) */
+ * after BARZHILUP_REFUSED_CARRY_LENGTH. */
 #define BARZHILUP_REFUSED_WORD_BUFFER 26
 
 /* Receiving: `delivered` or `missing` of the receiver would pass 4,294,967,295.
  * Checked directly after BARZHILUP_REFUSED_LOG_LENGTH. A PDU that delivers no packet
- * is never refused with it, nor is marking lost. (Document 02, Ask 14.) */
+ * is never refused with it, nor is marking lost. */
 #define BARZHILUP_REFUSED_COUNT_LIMIT 27
 
-/* ---- Header code (document 01, "Header code"; 001, 5.2.3.1) -------------- */
+/* ---- Words for refusals ------------------------------------------------- */
+
+/* The cause of a refusal in words, for a message: those that `barzhilup` prints, and
+ * behind "; or" what else the library refuses with the number. "accepted" for 0, and
+ * "unknown" over 27. */
+static inline const char *barzhilup_refusal_text(uint32_t number)
+{
+    switch (number) {
+    case BARZHILUP_ACCEPTED:
+        return "accepted";
+    case BARZHILUP_REFUSED_STATE:
+        return "wrong receiver state; or writer state";
+    case BARZHILUP_REFUSED_CARRY_LENGTH:
+        return "carry buffer too short";
+    case BARZHILUP_REFUSED_PDU_LENGTH:
+        return "length not 96 to 20480; or over 4096 for a writer with "
+               "locators of 12 bits";
+    case BARZHILUP_REFUSED_UNCORRECTABLE:
+        return "header beyond correction";
+    case BARZHILUP_REFUSED_MODE:
+        return "mode and stream not in the table";
+    case BARZHILUP_REFUSED_OTHER_MODE:
+        return "mode and stream not those asked for";
+    case BARZHILUP_REFUSED_SEQUENCE:
+        return "sequence outside its range";
+    case BARZHILUP_REFUSED_PIECES:
+        return "Pfirst or Plast with no piece";
+    case BARZHILUP_REFUSED_LA:
+        return "La out of place";
+    case BARZHILUP_REFUSED_EXPANSION:
+        return "wrong expansion; or expansion fields that do not go together";
+    case BARZHILUP_REFUSED_LOCATOR:
+        return "locator out of place";
+    case BARZHILUP_REFUSED_DISPLACEMENT:
+        return "displacement out of place";
+    case BARZHILUP_REFUSED_LOG_LENGTH:
+        return "log too short; or list of pieces, or result of a join";
+    case BARZHILUP_REFUSED_VALUE:
+        return "a value that may not be sent: blend 3, blend with a "
+               "program, gain 7 to 23, or past its width; or a place "
+               "outside 8 to 95";
+    case BARZHILUP_REFUSED_PACKETS:
+        return "packet length 0 or over 4,096; or lengths that do not sum "
+               "to the bytes, or bytes sent of a packet that is not offered";
+    case BARZHILUP_REFUSED_PSD:
+        return "PSD and expansion past the mode's limit, or PSD where there "
+               "is none";
+    case BARZHILUP_REFUSED_ROOM:
+        return "no room in the PDU for a piece of one byte";
+    case BARZHILUP_REFUSED_LENGTHS:
+        return "lengths of the PDUs do not sum to the buffer";
+    case BARZHILUP_REFUSED_MARKS:
+        return "over eight marks or one over 95 or repeated";
+    case BARZHILUP_REFUSED_PAIR:
+        return "copies differ in length or bytes 8 to La";
+    case BARZHILUP_REFUSED_COUNTS:
+        return "no counts or over 4096 or one over 63";
+    case BARZHILUP_REFUSED_PROGRAMS:
+        return "program number over 7 or repeated";
+    case BARZHILUP_REFUSED_LOG_WORDS:
+        return "words that are no log";
+    case BARZHILUP_REFUSED_NUMBERS:
+        return "packet numbers that do not rise within a log";
+    case BARZHILUP_REFUSED_WORDS:
+        return "words not of a saved receiver or a field outside its range";
+    case BARZHILUP_REFUSED_WORD_BUFFER:
+        return "buffer too short for the words of the receiver";
+    case BARZHILUP_REFUSED_COUNT_LIMIT:
+        return "delivered or missing over 4294967295";
+    default:
+        return "unknown";
+    }
+}
+
+/* ---- Empty buffers ------------------------------------------------------ */
+
+/* A buffer of length 0 may be NULL: "no PSD" is written `NULL, 0`. The library's
+ * functions are proved for pointers that point at something, so each of them that
+ * takes a buffer has a wrapper at the end of this file, which hands on another
+ * pointer for length 0 and is called by the function's own name. These give the
+ * pointer. */
+static inline const uint8_t *barzhilup_bytes_read(const uint8_t *bytes, size_t length)
+{
+    static const uint8_t nothing = 0;
+    return length == 0 ? &nothing : bytes;
+}
+
+static inline uint8_t *barzhilup_bytes_written(uint8_t *bytes, size_t length)
+{
+    static uint8_t nothing = 0;
+    return length == 0 ? &nothing : bytes;
+}
+
+static inline const uint16_t *barzhilup_lengths_read(const uint16_t *lengths,
+                                                     size_t length)
+{
+    static const uint16_t nothing = 0;
+    return length == 0 ? &nothing : lengths;
+}
+
+static inline const size_t *barzhilup_sizes_read(const size_t *sizes, size_t length)
+{
+    static const size_t nothing = 0;
+    return length == 0 ? &nothing : sizes;
+}
+
+static inline const uint32_t *barzhilup_words_read(const uint32_t *words,
+                                                   size_t length)
+{
+    static const uint32_t nothing = 0;
+    return length == 0 ? &nothing : words;
+}
+
+static inline uint32_t *barzhilup_words_written(uint32_t *words, size_t length)
+{
+    static uint32_t nothing = 0;
+    return length == 0 ? &nothing : words;
+}
+
+/* ---- Header code -------------------------------------------------------- */
 
 /*
  * Bytes are elements of GF(256) with a^8 = a^4 + a^3 + a^2 + 1 and a = 2: they
@@ -238,7 +392,7 @@ extern "C" {
  * word when S1 to S8 are zero.
  */
 
-/* The syndromes of a header (document 01: its "eight sums"). */
+/* The syndromes of a header. */
 typedef struct {
     /* values[0] is S1, ..., values[7] is S8. */
     uint8_t values[BARZHILUP_PARITY_BYTES];
@@ -291,12 +445,11 @@ barzhilup_parity(const uint8_t header[BARZHILUP_HEADER_BYTES]);
 uint32_t barzhilup_write_parity(uint8_t *pdu, size_t length);
 
 /*
- * Adds the share of a byte to the parity of a header that is filled piecemeal
- * (document 02, Ask 8). Begin with eight zero bytes. When the shares of bytes 8
- * to 95 are added, in any order, each once, `parity` is what barzhilup_parity
- * gives for that header. The share of a byte 0 is zero: it can be left out.
- * Where a byte changes once its share was added, add the share of the old byte
- * exclusive or the new one.
+ * Adds the share of a byte to the parity of a header that is filled piecemeal.
+ * Begin with eight zero bytes. When the shares of bytes 8 to 95 are added, in any
+ * order, each once, `parity` is what barzhilup_parity gives for that header. The
+ * share of a byte 0 is zero: it can be left out. Where a byte changes once its
+ * share was added, add the share of the old byte exclusive or the new one.
  *
  * `place` is the byte's place in the header, 8 to 95, and `byte` the byte.
  *
@@ -308,10 +461,9 @@ barzhilup_add_parity_share(barzhilup_parity_answer parity, size_t place,
                            uint8_t byte);
 
 /*
- * Corrects the header of a PDU in place (document 01: "mends" it): the first 96
- * bytes become the one code word that differs from them in at most four bytes.
- * Later bytes stay as they are. `pdu` is the whole PDU, `length` its length in
- * bytes.
+ * Corrects the header of a PDU in place: the first 96 bytes become the one code
+ * word that differs from them in at most four bytes. Later bytes stay as they
+ * are. `pdu` is the whole PDU, `length` its length in bytes.
  *
  * `refusal` is BARZHILUP_ACCEPTED, and `corrected` says in how many bytes the
  * header differed from the code word; or it is BARZHILUP_REFUSED_PDU_LENGTH, or
@@ -323,12 +475,12 @@ barzhilup_correct_header(uint8_t *pdu, size_t length);
 
 /*
  * Corrects the header of a PDU of which some places are marked, because whoever
- * demodulated it guessed their bytes (document 02, Ask 3): the first 96 bytes
- * become the one code word for which twice the differing unmarked bytes plus
- * `count` is at most eight. Marked bytes may hold anything. Each mark costs one,
- * also where its byte turns out to be right: with four marks two other bytes can
- * be wrong, with seven or eight none; a header with eight marks is never
- * uncorrectable. Later bytes stay as they are.
+ * demodulated it guessed their bytes: the first 96 bytes become the one code
+ * word for which twice the differing unmarked bytes plus `count` is at most
+ * eight. Marked bytes may hold anything. Each mark costs one, also where its
+ * byte turns out to be right: with four marks two other bytes can be wrong,
+ * with seven or eight none; a header with eight marks is never uncorrectable.
+ * Later bytes stay as they are.
  *
  * `marks` is a list of `count` places, each 0 to 95, at most eight and none twice,
  * in any order; it is only read. With `count` 0 this is
@@ -344,13 +496,12 @@ barzhilup_correction_answer
 barzhilup_correct_header_marked(uint8_t *pdu, size_t length,
                                 const uint8_t *marks, size_t count);
 
-/* ---- CRC-8 (document 01, "Expansion, PSD, pieces"; 001, 5.2.3.2) --------- */
+/* ---- CRC-8 -------------------------------------------------------------- */
 
-/* The value that the CRC's register starts with where none is given: that of
- * document 01. */
+/* The value that the CRC's register starts with where none is given. */
 #define BARZHILUP_CRC_START 0
 
-/* The value with which recordings off the air check. (Document 02, Ask 2.) */
+/* The value with which recordings off the air check. */
 #define BARZHILUP_CRC_START_OFF_AIR 255
 
 /*
@@ -362,19 +513,18 @@ barzhilup_correct_header_marked(uint8_t *pdu, size_t length,
 uint8_t barzhilup_crc8(const uint8_t *bytes, size_t length);
 
 /*
- * The same with a register that starts at `start`, any byte (document 02, Ask
- * 2): it is added, with exclusive or, to the piece's first byte. The CRC of no
- * bytes is `start`. From 0 this is barzhilup_crc8; from 255 the piece 01 has the
- * CRC 9D in place of 31.
+ * The same with a register that starts at `start`, any byte: it is added, with
+ * exclusive or, to the piece's first byte. The CRC of no bytes is `start`. From 0
+ * this is barzhilup_crc8; from 255 the piece 01 has the CRC 9D in place of 31.
  */
 uint8_t barzhilup_crc8_from(uint8_t start, const uint8_t *bytes, size_t length);
 
-/* ---- Reading without a receiver (document 01) --------------------------- */
+/* ---- Reading without a receiver --------------------------- */
 
 /* The control word, bytes 8 to 13 of a PDU. */
 typedef struct {
-    /* Codec mode and stream, of the table in document 01, "Modes"; stream is 0
-     * core, 1 enhanced. */
+    /* Codec mode and stream, of the table of modes; stream is 0 core, 1
+     * enhanced. */
     uint8_t mode;
     uint8_t stream;
     /* PDU sequence: 0 to 1 or 0 to 7, by mode and stream. */
@@ -423,7 +573,7 @@ typedef struct {
      * from barzhilup_list_pieces also 13. */
     uint32_t refusal;
     /* With BARZHILUP_REFUSED_LOCATOR, the number k of the first wrong locator,
-     * from 0; otherwise 0. (Document 02, Ask 6.) */
+     * from 0; otherwise 0. */
     uint32_t wrong_locator;
     /* What bytes 8 to 13 and the expansion bytes say. */
     barzhilup_control_word control;
@@ -445,11 +595,11 @@ typedef struct {
  *
  * Locators past byte 95, those of a PDU with more than 41 pieces (locators of 16
  * bits) or 54 (12 bits), are outside the header code: they are taken as they
- * came. (Document 02, Ask 9.)
+ * came.
  */
 barzhilup_reading barzhilup_read(uint8_t *pdu, size_t length);
 
-/* ---- Writer (document 01, "Writer") -------------------------------------- */
+/* ---- Writer ------------------------------------------------------------- */
 
 /* What a writer was opened with and what it remembers. A caller keeps it between
  * calls and need not look inside. */
@@ -459,7 +609,7 @@ typedef struct {
     /* 0 core, 1 enhanced. */
     uint8_t stream;
     /* The value that the CRC's register starts with, any byte; every call keeps
-     * it. (Document 02, Ask 2.) */
+     * it. */
     uint8_t crc_start;
     /* The next PDU's sequence. */
     uint8_t sequence;
@@ -521,15 +671,15 @@ typedef struct {
     barzhilup_writer writer;
 } barzhilup_written;
 
-/* Opens a writer for a mode and stream of document 01's table. The register of
- * its CRCs starts at BARZHILUP_CRC_START, 0, as in document 01's examples. */
+/* Opens a writer for a mode and stream of the table of modes. The register of its
+ * CRCs starts at BARZHILUP_CRC_START, 0. */
 barzhilup_writer_opened barzhilup_open_writer(uint8_t mode, uint8_t stream);
 
 /*
  * Opens a writer for a mode and stream, and with the value that the register of
- * its CRCs starts with (document 02, Ask 2). Any byte will do: the opening is
- * refused for its mode and stream only. With 0 this is barzhilup_open_writer;
- * recordings off the air check with BARZHILUP_CRC_START_OFF_AIR, 255.
+ * its CRCs starts with. Any byte will do: the opening is refused for its mode
+ * and stream only. With 0 this is barzhilup_open_writer; recordings off the air
+ * check with BARZHILUP_CRC_START_OFF_AIR, 255.
  *
  * Open the receiver of these PDUs with the same value. Nothing is promised for
  * unequal ones; what a user sees then is BARZHILUP_NOTE_CRC for every piece that
@@ -544,14 +694,13 @@ barzhilup_writer_opened barzhilup_open_writer_with(uint8_t mode, uint8_t stream,
  * `lengths` has the lengths, 1 to 4,096, of the `count` packets that are
  * offered, `bytes` their bytes, joined. The first is the unfinished packet,
  * whole, if there is one; if there is none, `count` may be 0, and the PDU has
- * no pieces. As many are placed as fit, and then a part of the
- * next: offer again from the first that did not end. `pdu` must not overlap
- * what is read.
+ * no pieces. As many are placed as fit, and then a part of the next: offer
+ * again from the first that did not end. `pdu` must not overlap what is read.
  *
  * A PDU gets no more pieces than the largest count up to 63 for which La is at
- * most 255 (document 02, Ask 9). That is 63 with locators of 12 bits, and with 16
- * bits where PSD and expansion together have up to 116 bytes; from there on it is
- * one fewer for every two bytes more: 62 with 117 and 118, 57 with 127 and 128.
+ * most 255. That is 63 with locators of 12 bits, and with 16 bits where PSD and
+ * expansion together have up to 116 bytes; from there on it is one fewer for
+ * every two bytes more: 62 with 117 and 118, 57 with 127 and 128.
  *
  * If it is refused, no byte of `pdu` has changed.
  */
@@ -562,7 +711,7 @@ barzhilup_written barzhilup_write(barzhilup_writer writer,
                                   const uint8_t *bytes, size_t bytes_length,
                                   uint8_t *pdu, size_t pdu_length);
 
-/* ---- Packet log (document 01, "Receiver") -------------------------------- */
+/* ---- Packet log --------------------------------------------------------- */
 
 /*
  * A log is a row of words of 32 bits. Bits 31-30 are a word's kind, one of the
@@ -617,24 +766,166 @@ barzhilup_written barzhilup_write(barzhilup_writer writer,
 
 /* The piece of a pair has a right CRC in both copies, and other bytes in one than
  * in the other; they are dropped. It stands where BARZHILUP_NOTE_CRC would, so it
- * comes before BARZHILUP_NOTE_NOTHING_HELD and BARZHILUP_NOTE_TOO_LONG. (Document
- * 02, Ask 5.) */
+ * comes before BARZHILUP_NOTE_NOTHING_HELD and BARZHILUP_NOTE_TOO_LONG. */
 #define BARZHILUP_NOTE_COPIES_DIFFER 7
 
 /* The PDU is withheld: its applied services are 1, or unknown, and the receiver is
  * not entitled to its program. It stands where the PSD would, whether the PDU has
  * PSD or not, and behind it nothing but what comes of a first piece that continues a
- * packet held before. About no piece. barzhilup_open_receiver_entitled says more.
- * (Document 02, Ask 10.) */
+ * packet held before. About no piece. barzhilup_open_receiver_entitled says more. */
 #define BARZHILUP_NOTE_WITHHELD 8
 
-/* ---- Core and enhanced side by side (document 02, Ask 11) ---------------- */
+/* The cause of a note in words, those that `barzhilup log` prints; "unknown" for
+ * other numbers than those of the causes. */
+static inline const char *barzhilup_note_text(uint32_t cause)
+{
+    switch (cause) {
+    case BARZHILUP_NOTE_SEQUENCE:
+        return "sequence";
+    case BARZHILUP_NOTE_CRC:
+        return "wrong CRC";
+    case BARZHILUP_NOTE_NOTHING_HELD:
+        return "nothing held";
+    case BARZHILUP_NOTE_NOT_CONTINUED:
+        return "not continued";
+    case BARZHILUP_NOTE_TOO_LONG:
+        return "too long";
+    case BARZHILUP_NOTE_LOST:
+        return "lost";
+    case BARZHILUP_NOTE_COPIES_DIFFER:
+        return "copies differ";
+    case BARZHILUP_NOTE_WITHHELD:
+        return "withheld";
+    default:
+        return "unknown";
+    }
+}
+
+/* The fields of a log's word: its kind; of a packet's word its number; of a packet's
+ * or a PSD's the length; of a note's the cause and the piece; of a data word how many
+ * bytes it has, and byte k of it, 0 to 2. */
+#define BARZHILUP_LOG_KIND(word) ((word) >> 30)
+#define BARZHILUP_LOG_NUMBER(word) (((word) >> 16) & 0x3Fu)
+#define BARZHILUP_LOG_LENGTH(word) ((word) & 0xFFFFu)
+#define BARZHILUP_LOG_CAUSE(word) (((word) >> 16) & 0x3FFFu)
+#define BARZHILUP_LOG_PIECE(word) ((word) & 0xFFFFu)
+#define BARZHILUP_LOG_COUNT(word) (((word) >> 24) & 0x3u)
+#define BARZHILUP_LOG_BYTE(word, k) (((word) >> (16 - 8 * (k))) & 0xFFu)
 
 /* Set in the first word of an enhanced packet in the result of barzhilup_join, and
  * in no packet's first word of a log. So a result with a pair is no log, and joining
  * it again is refused with BARZHILUP_REFUSED_LOG_WORDS; one without a pair is a
  * log. */
 #define BARZHILUP_JOINED_ENHANCED 0x20000000u
+
+/* An entry of a log. */
+typedef struct {
+    /* BARZHILUP_LOG_PACKET, BARZHILUP_LOG_PSD or BARZHILUP_LOG_NOTE. */
+    uint32_t kind;
+    /* A packet's number, 0 to 63; otherwise 0. */
+    uint32_t number;
+    /* How many bytes a packet or PSD has; 0 for a note. */
+    uint32_t length;
+    /* A note's cause, and the piece that it is about; otherwise 0. */
+    uint32_t cause;
+    uint32_t piece;
+    /* Whether a packet is the enhanced one of a pair, in the result of
+     * barzhilup_join; otherwise false. */
+    bool enhanced;
+    /* The data words of a packet or PSD, three bytes in each but the last:
+     * barzhilup_log_byte and barzhilup_log_copy take the bytes out. */
+    const uint32_t *data;
+} barzhilup_log_entry;
+
+/* Where a walk through a log stands. */
+typedef struct {
+    const uint32_t *words;
+    size_t count;
+    /* The place of the next entry's first word. */
+    size_t place;
+} barzhilup_log_iterator;
+
+/*
+ * A walk through a log's entries, in their order: `words` has `count` words, those of
+ * one call, of several one after another, or of barzhilup_join.
+ *
+ *     barzhilup_log_iterator walk = barzhilup_log_begin(packet_log, received.words);
+ *     barzhilup_log_entry entry;
+ *     while (barzhilup_log_next(&walk, &entry))
+ *         if (entry.kind == BARZHILUP_LOG_PACKET)
+ *             printf("packet %u\n", (unsigned)entry.number);
+ */
+static inline barzhilup_log_iterator barzhilup_log_begin(const uint32_t *words,
+                                                         size_t count)
+{
+    barzhilup_log_iterator walk;
+    walk.words = words;
+    walk.count = count;
+    walk.place = 0;
+    return walk;
+}
+
+/* Whether `count` words from `data` on are the data words of `length` bytes. */
+static inline bool barzhilup_log_holds(const uint32_t *data, size_t count,
+                                       uint32_t length)
+{
+    size_t i;
+    for (i = 0; length > 0; i++) {
+        const uint32_t bytes = length < 3 ? length : 3;
+        if (i == count || BARZHILUP_LOG_KIND(data[i]) != BARZHILUP_LOG_DATA
+            || BARZHILUP_LOG_COUNT(data[i]) != bytes)
+            return false;
+        length -= bytes;
+    }
+    return true;
+}
+
+/* The next entry of a walk: true, and `entry` is filled; or false where there is none
+ * left, or where the words from `place` on are no entry of a log. Then `place` tells:
+ * where all was read it is `count`. Logs of a receiver are always read to the end. */
+static inline bool barzhilup_log_next(barzhilup_log_iterator *walk,
+                                      barzhilup_log_entry *entry)
+{
+    uint32_t word;
+    bool packet, note;
+    if (walk->place >= walk->count)
+        return false;
+    word = walk->words[walk->place];
+    packet = BARZHILUP_LOG_KIND(word) == BARZHILUP_LOG_PACKET;
+    note = BARZHILUP_LOG_KIND(word) == BARZHILUP_LOG_NOTE;
+    entry->kind = BARZHILUP_LOG_KIND(word);
+    entry->number = packet ? BARZHILUP_LOG_NUMBER(word) : 0;
+    entry->length = note ? 0 : BARZHILUP_LOG_LENGTH(word);
+    entry->cause = note ? BARZHILUP_LOG_CAUSE(word) : 0;
+    entry->piece = note ? BARZHILUP_LOG_PIECE(word) : 0;
+    entry->enhanced = packet && (word & BARZHILUP_JOINED_ENHANCED) != 0;
+    entry->data = walk->words + walk->place + 1;
+    if (entry->kind == BARZHILUP_LOG_DATA
+        || !barzhilup_log_holds(entry->data, walk->count - walk->place - 1,
+                                entry->length))
+        return false;
+    walk->place += 1 + entry->length / 3 + (entry->length % 3 != 0);
+    return true;
+}
+
+/* Byte k of an entry, from 0, below its length. */
+static inline uint8_t barzhilup_log_byte(const barzhilup_log_entry *entry, uint32_t k)
+{
+    return BARZHILUP_LOG_BYTE(entry->data[k / 3], k % 3);
+}
+
+/* Copies an entry's bytes into `bytes`, as many as there are and as it has room for;
+ * answers how many. */
+static inline uint32_t barzhilup_log_copy(const barzhilup_log_entry *entry,
+                                          uint8_t *bytes, size_t room)
+{
+    uint32_t k;
+    for (k = 0; k < entry->length && k < room; k++)
+        bytes[k] = barzhilup_log_byte(entry, k);
+    return k;
+}
+
+/* ---- Core and enhanced side by side ------------------------------------- */
 
 /* What came of joining two logs. */
 typedef struct {
@@ -668,7 +959,7 @@ barzhilup_joined barzhilup_join(const uint32_t *core, size_t core_length,
                                 const uint32_t *enhanced, size_t enhanced_length,
                                 uint32_t *result, size_t result_length);
 
-/* ---- Receiver (document 01, "Receiver") ---------------------------------- */
+/* ---- Receiver ----------------------------------------------------------- */
 
 /* What a receiver was opened with and what it remembers. A caller keeps it
  * between calls, together with the carry buffer, and need not look inside. A bool
@@ -679,32 +970,30 @@ typedef struct {
     /* 0 core, 1 enhanced. */
     uint8_t stream;
     /* The value that the CRC's register starts with, any byte; every call keeps
-     * it, marking lost too. (Document 02, Ask 2.) */
+     * it, marking lost too. */
     uint8_t crc_start;
     /* The programs that it is entitled to: bit p for program p. Every call keeps
-     * them, marking lost too. (Document 02, Ask 10.) */
+     * them, marking lost too. */
     uint8_t entitled;
     /* Whether the last PDU's sequence is known. */
     bool known;
     /* The last PDU's sequence; 0 if not known. */
     uint8_t sequence;
-    /* How many bytes of an unfinished packet are held (document 01: "the held
-     * beginning"), 0 to 4,096. They are the first ones of the carry buffer. 0:
-     * nothing is held. */
+    /* How many bytes of an unfinished packet are held, 0 to 4,096. They are the
+     * first ones of the carry buffer. 0: nothing is held. */
     uint16_t held;
     /* That packet's number, 0 to 63; 0 if nothing is held. */
     uint8_t number;
     /* Whether the applied services in force are known. Only the core streams of
-     * modes 1, 2, 3 and 13, which have PDU sequences 0 to 7, keep them from one PDU to
-     * the next; elsewhere this is false, or the receiver is refused with
-     * BARZHILUP_REFUSED_STATE. (Document 02, Ask 10.) */
+     * modes 1, 2, 3 and 13, which have PDU sequences 0 to 7, keep them from one
+     * PDU to the next; elsewhere this is false, or the receiver is refused with
+     * BARZHILUP_REFUSED_STATE. */
     bool serviced;
     /* The applied services in force, 0 to 7; 0 if not known. */
     uint8_t services;
     /* How many packets were delivered since the opening. Every packet that a call
      * logs counts. Opening sets this and the next two fields to 0, and so does
-     * loading words that have no counts; marking lost keeps them. (Document 02, Ask
-     * 14.) */
+     * loading words that have no counts; marking lost keeps them. */
     uint32_t delivered;
     /* How many packets are missing between those delivered, by their numbers, which
      * run from 0 to 63 and from 0 again: from the second packet delivered on, each
@@ -715,9 +1004,9 @@ typedef struct {
      * Where each PDU of a writer is received or marked lost, once and in their order,
      * and fewer than 64 packets are missing between each one delivered and the next,
      * `delivered` plus `missing` is just how many packets the writer sent from the
-     * first delivered to the last. Where 64 or more are missing in one gap, their count
-     * is short by 64, or by a multiple of it. A packet whose number is that of the one
-     * delivered before it adds 63.
+     * first delivered to the last. Where 64 or more are missing in one gap, their
+     * count is short by 64, or by a multiple of it. A packet whose number is that
+     * of the one delivered before it adds 63.
      *
      * With `delivered` 0 this has to be 0. */
     uint32_t missing;
@@ -733,8 +1022,8 @@ typedef struct {
      * BARZHILUP_REFUSED_CARRY_LENGTH or BARZHILUP_REFUSED_WORDS. */
     uint32_t refusal;
     /* No sequence and no applied services known, nothing held, nothing delivered;
-     * loaded, what the words say. If refused, a receiver of mode 255, all else 0, which
-     * every call turns down with BARZHILUP_REFUSED_STATE. */
+     * loaded, what the words say. If refused, a receiver of mode 255, all else 0,
+     * which every call turns down with BARZHILUP_REFUSED_STATE. */
     barzhilup_receiver receiver;
 } barzhilup_receiver_opened;
 
@@ -754,8 +1043,7 @@ typedef struct {
      * marking lost. */
     uint32_t refusal;
     /* With BARZHILUP_REFUSED_LOCATOR, the number k of the first wrong locator,
-     * from 0, for a pair the smallest over both copies; otherwise 0. (Document 02,
-     * Ask 6.) */
+     * from 0, for a pair the smallest over both copies; otherwise 0. */
     uint32_t wrong_locator;
     /* How many words of the log were written, from its first on. 0 if
      * refused. */
@@ -771,7 +1059,7 @@ typedef struct {
      * PDU after the first `taken` was refused. */
     uint32_t refusal;
     /* With BARZHILUP_REFUSED_LOCATOR, the number k of that PDU's first wrong
-     * locator, from 0; otherwise 0. (Document 02, Ask 6.) */
+     * locator, from 0; otherwise 0. */
     uint32_t wrong_locator;
     /* How many PDUs were received, from the first on: those before the refused
      * one. */
@@ -783,16 +1071,16 @@ typedef struct {
     barzhilup_receiver receiver;
 } barzhilup_batch;
 
-/* Opens a receiver for a mode and stream of document 01's table. The register of
- * its CRCs starts at BARZHILUP_CRC_START, 0, as in document 01's examples. It is
- * entitled to programs 0 to 7: no PDU is withheld. */
+/* Opens a receiver for a mode and stream of the table of modes. The register of
+ * its CRCs starts at BARZHILUP_CRC_START, 0. It is entitled to programs 0 to 7:
+ * no PDU is withheld. */
 barzhilup_receiver_opened barzhilup_open_receiver(uint8_t mode, uint8_t stream);
 
 /*
  * Opens a receiver for a mode and stream, and with the value that the register of
- * its CRCs starts with (document 02, Ask 2): the one that the PDUs were written
- * with. Any byte will do: the opening is refused for its mode and stream only.
- * With 0 this is barzhilup_open_receiver; recordings off the air check with
+ * its CRCs starts with: the one that the PDUs were written with. Any byte will
+ * do: the opening is refused for its mode and stream only. With 0 this is
+ * barzhilup_open_receiver; recordings off the air check with
  * BARZHILUP_CRC_START_OFF_AIR, 255. Nothing is promised for a writer and a
  * receiver with unequal values. It is entitled to programs 0 to 7: no PDU is
  * withheld.
@@ -802,10 +1090,10 @@ barzhilup_receiver_opened barzhilup_open_receiver_with(uint8_t mode,
                                                        uint8_t crc_start);
 
 /*
- * Opens a receiver that is entitled to some programs only (document 02, Ask 10).
- * `programs` is a list of `count` program numbers, each 0 to 7 and none twice, in any
- * order; it is only read. With `count` 0 the receiver is entitled to none, with all
- * eight this is barzhilup_open_receiver_with. It is refused with
+ * Opens a receiver that is entitled to some programs only. `programs` is a list
+ * of `count` program numbers, each 0 to 7 and none twice, in any order; it is
+ * only read. With `count` 0 the receiver is entitled to none, with all eight
+ * this is barzhilup_open_receiver_with. It is refused with
  * BARZHILUP_REFUSED_MODE, and then with BARZHILUP_REFUSED_PROGRAMS.
  *
  * A PDU is withheld if its applied services are 1 and its program is not listed.
@@ -843,11 +1131,12 @@ barzhilup_open_receiver_entitled(uint8_t mode, uint8_t stream, uint8_t crc_start
  * buffers must not overlap.
  *
  * In log order: note 1 or note 4, if due; the PSD, if any; and for each piece a
- * packet if one ends with it, a note if it is dropped, or nothing if it is held. For a
- * PDU that is withheld, barzhilup_open_receiver_entitled says what there is. Each
- * packet is counted in the receiver's `delivered`, and those that its number tells to
- * be missing in `missing`. Where one of the two would pass 4,294,967,295 the call is
- * refused with 27: to go on, write both down, and set them and `last` to 0.
+ * packet if one ends with it, a note if it is dropped, or nothing if it is held.
+ * For a PDU that is withheld, barzhilup_open_receiver_entitled says what there
+ * is. Each packet is counted in the receiver's `delivered`, and those that its
+ * number tells to be missing in `missing`. Where one of the two would pass
+ * 4,294,967,295 the call is refused with 27: to go on, write both down, and set
+ * them and `last` to 0.
  *
  * If the PDU is accepted, `pdu` is left corrected, the first `words` words of
  * `log` are written, and the first `held` bytes of `carry` are the bytes held
@@ -859,12 +1148,11 @@ barzhilup_received barzhilup_receive(barzhilup_receiver receiver,
                                      uint32_t *log, size_t log_length);
 
 /*
- * As barzhilup_receive, for a PDU of whose header some places are marked
- * (document 02, Ask 3): the header is corrected as
- * barzhilup_correct_header_marked corrects it. `marks` is a list of `count`
- * places, each 0 to 95, at most eight and none twice; it is only read. Every call
- * has its own list: those of the PDUs before make no difference. With `count` 0
- * this is barzhilup_receive.
+ * As barzhilup_receive, for a PDU of whose header some places are marked: the
+ * header is corrected as barzhilup_correct_header_marked corrects it. `marks` is
+ * a list of `count` places, each 0 to 95, at most eight and none twice; it is
+ * only read. Every call has its own list: those of the PDUs before make no
+ * difference. With `count` 0 this is barzhilup_receive.
  *
  * It is refused as barzhilup_receive is, in this order: 1, 2, 3, 19, 4, 5 to 13,
  * 27. If it is refused, no byte and no word has changed.
@@ -877,8 +1165,8 @@ barzhilup_received barzhilup_receive_marked(barzhilup_receiver receiver,
 
 /*
  * Receives PDUs that stand joined in one buffer, as barzhilup_receive would one
- * after another, each log following the last (document 02, Ask 1). Receiver, carry,
- * buffer and log are left as these calls leave them.
+ * after another, each log following the last. Receiver, carry, buffer and log
+ * are left as these calls leave them.
  *
  * `pdus` is the buffer, and `lengths` has the lengths of the `count` PDUs in it, in
  * their order; it is only read. Any count will do. With `count` 0 and
@@ -888,9 +1176,9 @@ barzhilup_received barzhilup_receive_marked(barzhilup_receiver receiver,
  *
  * It stops at the first PDU that is refused, and `refusal` is that PDU's number; 13
  * is judged on what is left of the log, 27 on the counts as the PDUs before it left
- * them. The PDUs before it, of which `taken` is the
- * count, are received. It and those after it keep their bytes: to go on, deal with
- * it (barzhilup_mark_lost, where it stays refused) and hand over those after it.
+ * them. The PDUs before it, of which `taken` is the count, are received. It and
+ * those after it keep their bytes: to go on, deal with it (barzhilup_mark_lost,
+ * where it stays refused) and hand over those after it.
  *
  * The whole call is judged before the first PDU, in this order: 1, 2, and 18 where
  * the lengths do not sum to `pdus_length`. If it is refused with one of these, no
@@ -905,11 +1193,11 @@ barzhilup_batch barzhilup_receive_batch(barzhilup_receiver receiver,
                                         uint32_t *log, size_t log_length);
 
 /*
- * Of two copies of a PDU, says which one to take (document 02, Ask 5): the one in
- * whose header fewer bytes have to be corrected, the first if equal; the other
- * where one can't be corrected. A length that is refused with
- * BARZHILUP_REFUSED_PDU_LENGTH counts as one that can't. The lengths may differ.
- * Nothing else is judged: mode, locators and CRCs make no difference.
+ * Of two copies of a PDU, says which one to take: the one in whose header fewer
+ * bytes have to be corrected, the first if equal; the other where one can't be
+ * corrected. A length that is refused with BARZHILUP_REFUSED_PDU_LENGTH counts
+ * as one that can't. The lengths may differ. Nothing else is judged: mode,
+ * locators and CRCs make no difference.
  *
  * Returns 1 for the first and 2 for the second; 0 where neither can be corrected.
  * Nothing is refused. Both PDUs are only read: the one that is chosen is left
@@ -933,15 +1221,16 @@ barzhilup_chosen(const uint8_t *first, size_t first_length,
 {
     barzhilup_part part;
     const uint32_t choice =
-        barzhilup_choose(first, first_length, second, second_length);
+        barzhilup_choose(barzhilup_bytes_read(first, first_length), first_length,
+                         barzhilup_bytes_read(second, second_length), second_length);
     part.bytes = choice == 2 ? second : first;
     part.length = choice == 0 ? 0 : choice == 2 ? second_length : first_length;
     return part;
 }
 
 /*
- * Receives a pair of PDUs: two copies of one, from two receivers on one signal
- * (document 02, Ask 5). It counts as one PDU, and is logged as one.
+ * Receives a pair of PDUs: two copies of one, from two receivers on one signal.
+ * It counts as one PDU, and is logged as one.
  *
  * Where only one copy can be corrected, that one is received as
  * barzhilup_receive receives it, and the other keeps its bytes; a length that is
@@ -987,7 +1276,7 @@ barzhilup_received barzhilup_receive_pair(barzhilup_receiver receiver,
 barzhilup_received barzhilup_mark_lost(barzhilup_receiver receiver,
                                        uint32_t *log, size_t log_length);
 
-/* ---- A receiver that goes on after a restart (document 02, Ask 13) -------- */
+/* ---- A receiver that goes on after a restart ---------------------------- */
 
 /*
  * A receiver is saved between two calls, as words of 32 bits, and loaded again by
@@ -1066,7 +1355,7 @@ barzhilup_saved barzhilup_save_receiver(barzhilup_receiver receiver,
  *
  * The words are refused with BARZHILUP_REFUSED_WORDS if there are none; if kind 0
  * is not the first, or a kind does not rise, repeats or is over 6; if a bit without
- * meaning is set; if mode and stream are not in document 01's table, the sequence
+ * meaning is set; if mode and stream are not in the table of modes, the sequence
  * is outside their range, or the applied services are known for others than the
  * core streams of modes 1, 2, 3 and 13; if applied services that are not known are
  * not 0; if kind 2 says 0 bytes or over 4,096; and if the words of kind 5 have more
@@ -1083,7 +1372,7 @@ barzhilup_receiver_opened barzhilup_load_receiver(const uint32_t *words,
                                                   uint8_t *carry,
                                                   size_t carry_length);
 
-/* ---- Bench for latency settings (document 02, Ask 7) --------------------- */
+/* ---- Bench for latency settings ----------------------------------------- */
 
 /*
  * Tries latencies before going on air, on the counts of packets that end in each
@@ -1156,10 +1445,7 @@ barzhilup_waiting_packets(uint8_t mode, uint8_t stream,
                           const uint32_t *counts, size_t count, uint8_t latency,
                           size_t first, uint32_t *waiting, size_t length);
 
-/* ---- Panel (document 01, "After that, for the panel") -------------------- */
-
-/* These three functions are in libpanel.a. It needs nothing of libcapi.a; a
- * program may link both. */
+/* ---- Panel -------------------------------------------------------------- */
 
 /* A piece of a PDU. */
 typedef struct {
@@ -1177,7 +1463,7 @@ typedef struct {
      * receiving, 1 or 13 for marking lost. */
     uint32_t refusal;
     /* With BARZHILUP_REFUSED_LOCATOR, the number k of the first wrong locator,
-     * from 0; otherwise 0. (Document 02, Ask 6.) */
+     * from 0; otherwise 0. */
     uint32_t wrong_locator;
     /* How many words of the log were written, from its first on. 0 if
      * refused. */
@@ -1192,9 +1478,9 @@ typedef struct {
  * CRC wrong. Initialise the list: the bool of an entry is true or false.
  *
  * `crc_start` is the value that the register of the CRCs starts with, any byte:
- * the one that the PDU was written with (document 02, Ask 2). It decides verdicts
- * and nothing else. 0 is document 01's, BARZHILUP_CRC_START; recordings off the
- * air check with BARZHILUP_CRC_START_OFF_AIR, 255.
+ * the one that the PDU was written with. It decides verdicts and nothing else.
+ * 0 is BARZHILUP_CRC_START; recordings off the air check with
+ * BARZHILUP_CRC_START_OFF_AIR, 255.
  *
  * It is refused as barzhilup_read is, and with BARZHILUP_REFUSED_LIST_LENGTH for
  * a list of fewer than NOP entries. If it is refused, no byte and no entry has
@@ -1214,6 +1500,281 @@ barzhilup_stepped barzhilup_receive_in_place(barzhilup_receiver *receiver,
 /* As barzhilup_mark_lost, with the next receiver stored in `receiver`. */
 barzhilup_stepped barzhilup_mark_lost_in_place(barzhilup_receiver *receiver,
                                                uint32_t *log, size_t log_length);
+
+/* ---- Functions by their names, with NULL for an empty buffer ------------- */
+
+static inline barzhilup_piece *barzhilup_pieces_written(barzhilup_piece *list,
+                                                        size_t length)
+{
+    static barzhilup_piece nothing;
+    return length == 0 ? &nothing : list;
+}
+
+static inline uint32_t
+barzhilup_write_parity_or_null(uint8_t *pdu, size_t length)
+{
+    return barzhilup_write_parity(barzhilup_bytes_written(pdu, length), length);
+}
+#define barzhilup_write_parity barzhilup_write_parity_or_null
+
+static inline barzhilup_correction_answer
+barzhilup_correct_header_or_null(uint8_t *pdu, size_t length)
+{
+    return barzhilup_correct_header(barzhilup_bytes_written(pdu, length), length);
+}
+#define barzhilup_correct_header barzhilup_correct_header_or_null
+
+static inline barzhilup_correction_answer
+barzhilup_correct_header_marked_or_null(uint8_t *pdu, size_t length,
+                                        const uint8_t *marks, size_t count)
+{
+    return barzhilup_correct_header_marked(barzhilup_bytes_written(pdu, length),
+                                           length,
+                                           barzhilup_bytes_read(marks, count),
+                                           count);
+}
+#define barzhilup_correct_header_marked barzhilup_correct_header_marked_or_null
+
+static inline uint8_t
+barzhilup_crc8_or_null(const uint8_t *bytes, size_t length)
+{
+    return barzhilup_crc8(barzhilup_bytes_read(bytes, length), length);
+}
+#define barzhilup_crc8 barzhilup_crc8_or_null
+
+static inline uint8_t
+barzhilup_crc8_from_or_null(uint8_t start, const uint8_t *bytes, size_t length)
+{
+    return barzhilup_crc8_from(start, barzhilup_bytes_read(bytes, length), length);
+}
+#define barzhilup_crc8_from barzhilup_crc8_from_or_null
+
+static inline barzhilup_reading
+barzhilup_read_or_null(uint8_t *pdu, size_t length)
+{
+    return barzhilup_read(barzhilup_bytes_written(pdu, length), length);
+}
+#define barzhilup_read barzhilup_read_or_null
+
+static inline barzhilup_written
+barzhilup_write_or_null(barzhilup_writer writer, barzhilup_settings settings,
+                        const uint8_t *psd, size_t psd_length,
+                        const uint16_t *lengths, size_t count,
+                        const uint8_t *bytes, size_t bytes_length, uint8_t *pdu,
+                        size_t pdu_length)
+{
+    return barzhilup_write(writer, settings,
+                           barzhilup_bytes_read(psd, psd_length), psd_length,
+                           barzhilup_lengths_read(lengths, count), count,
+                           barzhilup_bytes_read(bytes, bytes_length),
+                           bytes_length, barzhilup_bytes_written(pdu, pdu_length),
+                           pdu_length);
+}
+#define barzhilup_write barzhilup_write_or_null
+
+static inline barzhilup_joined
+barzhilup_join_or_null(const uint32_t *core, size_t core_length,
+                       const uint32_t *enhanced, size_t enhanced_length,
+                       uint32_t *result, size_t result_length)
+{
+    return barzhilup_join(barzhilup_words_read(core, core_length), core_length,
+                          barzhilup_words_read(enhanced, enhanced_length),
+                          enhanced_length,
+                          barzhilup_words_written(result, result_length),
+                          result_length);
+}
+#define barzhilup_join barzhilup_join_or_null
+
+static inline barzhilup_receiver_opened
+barzhilup_open_receiver_entitled_or_null(uint8_t mode, uint8_t stream,
+                                         uint8_t crc_start,
+                                         const uint8_t *programs, size_t count)
+{
+    return barzhilup_open_receiver_entitled(mode, stream, crc_start,
+                                            barzhilup_bytes_read(programs, count),
+                                            count);
+}
+#define barzhilup_open_receiver_entitled barzhilup_open_receiver_entitled_or_null
+
+static inline barzhilup_received
+barzhilup_receive_or_null(barzhilup_receiver receiver, uint8_t *carry,
+                          size_t carry_length, uint8_t *pdu, size_t pdu_length,
+                          uint32_t *log, size_t log_length)
+{
+    return barzhilup_receive(receiver,
+                             barzhilup_bytes_written(carry, carry_length),
+                             carry_length,
+                             barzhilup_bytes_written(pdu, pdu_length), pdu_length,
+                             barzhilup_words_written(log, log_length), log_length);
+}
+#define barzhilup_receive barzhilup_receive_or_null
+
+static inline barzhilup_received
+barzhilup_receive_marked_or_null(barzhilup_receiver receiver, uint8_t *carry,
+                                 size_t carry_length, uint8_t *pdu,
+                                 size_t pdu_length, const uint8_t *marks,
+                                 size_t count, uint32_t *log, size_t log_length)
+{
+    return barzhilup_receive_marked(receiver,
+                                    barzhilup_bytes_written(carry, carry_length),
+                                    carry_length,
+                                    barzhilup_bytes_written(pdu, pdu_length),
+                                    pdu_length,
+                                    barzhilup_bytes_read(marks, count), count,
+                                    barzhilup_words_written(log, log_length),
+                                    log_length);
+}
+#define barzhilup_receive_marked barzhilup_receive_marked_or_null
+
+static inline barzhilup_batch
+barzhilup_receive_batch_or_null(barzhilup_receiver receiver, uint8_t *carry,
+                                size_t carry_length, uint8_t *pdus,
+                                size_t pdus_length, const size_t *lengths,
+                                size_t count, uint32_t *log, size_t log_length)
+{
+    return barzhilup_receive_batch(receiver,
+                                   barzhilup_bytes_written(carry, carry_length),
+                                   carry_length,
+                                   barzhilup_bytes_written(pdus, pdus_length),
+                                   pdus_length,
+                                   barzhilup_sizes_read(lengths, count), count,
+                                   barzhilup_words_written(log, log_length),
+                                   log_length);
+}
+#define barzhilup_receive_batch barzhilup_receive_batch_or_null
+
+static inline uint32_t
+barzhilup_choose_or_null(const uint8_t *first, size_t first_length,
+                         const uint8_t *second, size_t second_length)
+{
+    return barzhilup_choose(barzhilup_bytes_read(first, first_length),
+                            first_length,
+                            barzhilup_bytes_read(second, second_length),
+                            second_length);
+}
+#define barzhilup_choose barzhilup_choose_or_null
+
+static inline barzhilup_received
+barzhilup_receive_pair_or_null(barzhilup_receiver receiver, uint8_t *carry,
+                               size_t carry_length, uint8_t *first,
+                               size_t first_length, uint8_t *second,
+                               size_t second_length, uint32_t *log,
+                               size_t log_length)
+{
+    return barzhilup_receive_pair(receiver,
+                                  barzhilup_bytes_written(carry, carry_length),
+                                  carry_length,
+                                  barzhilup_bytes_written(first, first_length),
+                                  first_length,
+                                  barzhilup_bytes_written(second, second_length),
+                                  second_length,
+                                  barzhilup_words_written(log, log_length),
+                                  log_length);
+}
+#define barzhilup_receive_pair barzhilup_receive_pair_or_null
+
+static inline barzhilup_received
+barzhilup_mark_lost_or_null(barzhilup_receiver receiver, uint32_t *log,
+                            size_t log_length)
+{
+    return barzhilup_mark_lost(receiver, barzhilup_words_written(log, log_length),
+                               log_length);
+}
+#define barzhilup_mark_lost barzhilup_mark_lost_or_null
+
+static inline barzhilup_saved
+barzhilup_save_receiver_or_null(barzhilup_receiver receiver, const uint8_t *carry,
+                                size_t carry_length, uint32_t *words,
+                                size_t words_length)
+{
+    return barzhilup_save_receiver(receiver,
+                                   barzhilup_bytes_read(carry, carry_length),
+                                   carry_length,
+                                   barzhilup_words_written(words, words_length),
+                                   words_length);
+}
+#define barzhilup_save_receiver barzhilup_save_receiver_or_null
+
+static inline barzhilup_receiver_opened
+barzhilup_load_receiver_or_null(const uint32_t *words, size_t words_length,
+                                uint8_t *carry, size_t carry_length)
+{
+    return barzhilup_load_receiver(barzhilup_words_read(words, words_length),
+                                   words_length,
+                                   barzhilup_bytes_written(carry, carry_length),
+                                   carry_length);
+}
+#define barzhilup_load_receiver barzhilup_load_receiver_or_null
+
+static inline barzhilup_latency_answer
+barzhilup_smallest_latency_or_null(uint8_t mode, uint8_t stream,
+                                   const uint32_t *counts, size_t count)
+{
+    return barzhilup_smallest_latency(mode, stream,
+                                      barzhilup_words_read(counts, count), count);
+}
+#define barzhilup_smallest_latency barzhilup_smallest_latency_or_null
+
+static inline barzhilup_latency_trial
+barzhilup_try_latency_or_null(uint8_t mode, uint8_t stream,
+                              const uint32_t *counts, size_t count,
+                              uint8_t latency)
+{
+    return barzhilup_try_latency(mode, stream,
+                                 barzhilup_words_read(counts, count), count,
+                                 latency);
+}
+#define barzhilup_try_latency barzhilup_try_latency_or_null
+
+static inline barzhilup_waiting_answer
+barzhilup_waiting_packets_or_null(uint8_t mode, uint8_t stream,
+                                  const uint32_t *counts, size_t count,
+                                  uint8_t latency, size_t first,
+                                  uint32_t *waiting, size_t length)
+{
+    return barzhilup_waiting_packets(mode, stream,
+                                     barzhilup_words_read(counts, count), count,
+                                     latency, first,
+                                     barzhilup_words_written(waiting, length),
+                                     length);
+}
+#define barzhilup_waiting_packets barzhilup_waiting_packets_or_null
+
+static inline barzhilup_reading
+barzhilup_list_pieces_or_null(uint8_t *pdu, size_t pdu_length, uint8_t crc_start,
+                              barzhilup_piece *list, size_t count)
+{
+    return barzhilup_list_pieces(barzhilup_bytes_written(pdu, pdu_length),
+                                 pdu_length, crc_start,
+                                 barzhilup_pieces_written(list, count), count);
+}
+#define barzhilup_list_pieces barzhilup_list_pieces_or_null
+
+static inline barzhilup_stepped
+barzhilup_receive_in_place_or_null(barzhilup_receiver *receiver, uint8_t *carry,
+                                   size_t carry_length, uint8_t *pdu,
+                                   size_t pdu_length, uint32_t *log,
+                                   size_t log_length)
+{
+    return barzhilup_receive_in_place(receiver,
+                                      barzhilup_bytes_written(carry, carry_length),
+                                      carry_length,
+                                      barzhilup_bytes_written(pdu, pdu_length),
+                                      pdu_length,
+                                      barzhilup_words_written(log, log_length),
+                                      log_length);
+}
+#define barzhilup_receive_in_place barzhilup_receive_in_place_or_null
+
+static inline barzhilup_stepped
+barzhilup_mark_lost_in_place_or_null(barzhilup_receiver *receiver, uint32_t *log,
+                                     size_t log_length)
+{
+    return barzhilup_mark_lost_in_place(receiver,
+                                        barzhilup_words_written(log, log_length),
+                                        log_length);
+}
+#define barzhilup_mark_lost_in_place barzhilup_mark_lost_in_place_or_null
 
 #ifdef __cplusplus
 }

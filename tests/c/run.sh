@@ -1,51 +1,49 @@
 #!/usr/bin/env bash
-# Builds the C tests against the static libraries and runs them, plainly and with gcc's sanitizers, compares the header code with libfec where
-# that is installed, and tries the header in C++.
-# Needs gcc and g++ and built libcapi.a and libpanel.a: in target/staticlib under the project's root, or in the directory that BARZHILUP_LIB
-# names.
+# Builds the C tests against the static library and runs them, plainly and with gcc's sanitizers, and some of them under valgrind where that is
+# installed, compares the header code with libfec where that is, and tries the header in C from C99 to C23 and in C++ from C++11 to C++20.
+# Needs gcc and g++ and a built libbarzhilup.a (scripts/libraries): in target/staticlib under the project's root, or in the directory that
+# BARZHILUP_LIB names.
 set -euo pipefail
 
 root=$(cd "$(dirname "$0")/../.." && pwd)
 libraries=${BARZHILUP_LIB:-$root/target/staticlib}
-library=$libraries/libcapi.a
-panel=$libraries/libpanel.a
-for built in "$library" "$panel"; do
-    if [ ! -f "$built" ]; then
-        echo "C: no $built; build the libraries first, or name their directory in BARZHILUP_LIB" >&2
-        exit 1
-    fi
-done
+library=$libraries/libbarzhilup.a
+if [ ! -f "$library" ]; then
+    echo "C: no $library; build it first (scripts/libraries), or name its directory in BARZHILUP_LIB" >&2
+    exit 1
+fi
 
 build=$(mktemp -d)
 trap 'rm -rf "$build"' EXIT
 warnings=(-Wall -Wextra -Wpedantic -Werror -I "$root/include")
 
-# A test, and the libraries that it is linked with.
-run() {
+# Builds and runs a test.
+run() { # NAME
     local test=$1
-    shift
     echo "C99, gcc, $test:"
-    gcc -std=c99 "${warnings[@]}" -O2 -o "$build/$test" "$root/tests/c/$test.c" "$@"
+    gcc -std=c99 "${warnings[@]}" -O2 -o "$build/$test" "$root/tests/c/$test.c" "$library"
     "$build/$test"
 
     echo "C99, gcc, $test, address and undefined behaviour sanitizers:"
     gcc -std=c99 "${warnings[@]}" -O2 -g -fsanitize=address,undefined -fno-sanitize-recover=all \
-        -o "$build/sanitized" "$root/tests/c/$test.c" "$@"
+        -o "$build/sanitized" "$root/tests/c/$test.c" "$library"
     "$build/sanitized"
 }
 
-for test in header_test marks_test writer_test receiver_test latency_test; do
-    run "$test" "$library"
+for test in header_test marks_test writer_test receiver_test latency_test shares_test batch_test pair_test entitled_test join_test snapshot_test \
+    panel_test registers_test counts_test inline_test; do
+    run "$test"
 done
-run shares_test "$library"
-run batch_test "$library"
-run pair_test "$library"
-run entitled_test "$library"
-run join_test "$library"
-run snapshot_test "$library"
-run panel_test "$panel" "$library"
-run registers_test "$panel" "$library"
-run counts_test "$panel" "$library"
+
+# The sanitizers do not see inside the library; valgrind does. These are the tests that take it a few seconds each.
+if command -v valgrind >/dev/null; then
+    for test in inline_test writer_test entitled_test latency_test shares_test; do
+        echo "valgrind, $test:"
+        valgrind --quiet --error-exitcode=9 --leak-check=no "$build/$test"
+    done
+else
+    echo "valgrind is not installed: no test is run under it"
+fi
 
 # libfec, where it is installed (Debian: apt-get install libfec-dev).
 if gcc -std=c99 "${warnings[@]}" -O2 -o "$build/fec_test" "$root/tests/c/fec_test.c" "$library" -lfec 2>"$build/fec.log"; then
@@ -63,7 +61,13 @@ if [ "$("$build/example")" != $'PSD, 3 bytes\npacket 0, 5 bytes' ]; then
     echo "C: the example does not print what it should" >&2
     exit 1
 fi
-echo "C99, gcc: the example of docs/USING.md prints what it should"
+# The lines of it that the page shows, among what is indented in the chapter on C: all but the commands and what it prints.
+shown=$(awk '/^## /{ c = $0 == "## C" } c && /^    / { sub(/^ +/, ""); print }' "$root/docs/USING.md" | grep -v '^cc \|^PSD, 3 bytes$\|^packet 0, 5 bytes$')
+if [ "$(wc -l <<<"$shown")" -lt 10 ] || grep -vxFf <(sed 's/^ *//' "$root/tests/c/example.c") <<<"$shown"; then
+    echo "C: docs/USING.md shows lines that the example does not have" >&2
+    exit 1
+fi
+echo "C99, gcc: the example of docs/USING.md prints what it should, and has the lines that are shown"
 
 cat > "$build/header.cpp" <<'CPP'
 #include "barzhilup.h"
@@ -94,9 +98,19 @@ int main()
     const bool opened =
         barzhilup_open_receiver_with(0, 0, BARZHILUP_CRC_START_OFF_AIR).receiver.crc_start == 255
         && barzhilup_crc8_from(255, piece, sizeof piece) == 0x9d;
-    return barzhilup_crc8(piece, sizeof piece) == 0x31 && lost && listed && chosen && opened ? 0 : 1;
+    const bool version = barzhilup_version() == BARZHILUP_VERSION;
+    return barzhilup_crc8(piece, sizeof piece) == 0x31 && lost && listed && chosen && opened && version
+               ? 0
+               : 1;
 }
 CPP
-g++ -std=c++11 "${warnings[@]}" -o "$build/header_cpp" "$build/header.cpp" "$panel" "$library"
-"$build/header_cpp"
-echo "C++11, g++: the header compiles, and calls through it answer right"
+for standard in c++11 c++14 c++17 c++20; do
+    g++ -std="$standard" "${warnings[@]}" -Wconversion -Wold-style-cast -o "$build/header_cpp" "$build/header.cpp" "$library"
+    "$build/header_cpp"
+done
+echo "C++11 to C++20, g++: the header compiles, and calls through it answer right"
+
+for standard in c99 c11 c17 c2x; do
+    gcc -std="$standard" "${warnings[@]}" -Wconversion -fsyntax-only -x c "$root/include/barzhilup.h"
+done
+echo "C99 to C23, gcc: the header compiles by itself"

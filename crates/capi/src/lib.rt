@@ -57,6 +57,14 @@ pub struct CorrectionAnswer {
     pub corrected: u32,
 }
 
+// The library's version, 0.1.0: the first number in bits 23-16, the second in 15-8, the third in 7-0. `barzhilup --version` prints the same.
+#[no_mangle]
+pub extern "C" fn barzhilup_version() -> u32
+    ensures { λ r. ⌜ r ≡ 256 ⌝ }
+{
+    0x000100
+}
+
 // The product of two bytes in GF(256).
 #[no_mangle]
 pub extern "C" fn barzhilup_product(x: u8, y: u8) -> u8

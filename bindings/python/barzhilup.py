@@ -1,0 +1,1319 @@
+"""The audio transport layer of HD Radio (1017s Rev. H), for testers of reception.
+
+A writer packs encoded audio packets and program service data (PSD) into protocol data units (PDUs); a receiver corrects the headers of PDUs, joins their
+pieces to packets, and logs packets, PSD and notes. No audio is decoded.
+
+>>> import barzhilup
+>>> writer = barzhilup.Writer(mode=0, stream=barzhilup.CORE)
+>>> pdu, ended = writer.write([b"audio"], length=96, psd=b"PSD")
+>>> damaged = bytearray(pdu)
+>>> damaged[3] ^= 0x40                      # noise in the header, which the receiver corrects
+>>> receiver = barzhilup.Receiver(mode=0, stream=barzhilup.CORE)
+>>> for entry in receiver.receive(damaged):
+...     print(entry)
+Psd(data=b'PSD')
+Packet(number=0, data=b'audio')
+
+A recording, as a demodulator or ``barzhilup channel`` writes it, is logged in a loop::
+
+    receiver = barzhilup.Receiver(0, barzhilup.CORE, crc_start=barzhilup.CRC_START_OFF_AIR)
+    for logged in receiver.log(barzhilup.read_records("recording")):
+        for packet in logged.log.packets():
+            ...
+    print(receiver.delivered, receiver.missing)
+
+A call that cannot be done raises :class:`Refusal`, with a number and words, and changes nothing.
+
+The module needs the shared library, libbarzhilup.so, and nothing else; Python is 3.8 or later. It is looked for in the directory that the environment
+variable BARZHILUP_LIB names; without it in the project's target/staticlib (``bash scripts/libraries`` makes it), or, where the module was installed by
+``scripts/install``, beside it; and then where the system looks for libraries.
+"""
+
+import csv
+import ctypes
+import os
+import sys
+from array import array
+from contextlib import contextmanager
+from enum import IntEnum
+from typing import (IO, Any, Dict, Iterable, Iterator, List, NamedTuple, Optional, Sequence, Tuple, Union)
+
+__version__ = "0.1.0"
+
+__all__ = [
+    "Batch", "Cause", "ControlWord", "Correction", "Csv", "Entry", "Expansion", "Joined", "JoinedPacket", "LatencyTrial", "Line", "Log", "Logged",
+    "MalformedFile", "MalformedLog", "Note", "Packet", "Piece", "ProgramType", "Psd", "Reading", "Receiver", "Refusal", "RefusalNumber", "Services",
+    "Settings", "Writer", "Written", "CARRY_BYTES", "CORE", "CORRECTED_MAX", "COUNTS_MAX", "COUNT_MAX", "CRC_START", "CRC_START_OFF_AIR", "ENHANCED",
+    "HEADER_BYTES", "JOINED_ENHANCED", "LATENCY_MAX", "LOG_WORDS", "MARKS_MAX", "PACKET_MAX", "PARITY_BYTES", "PDU_MAX", "PDU_MAX_12_BITS", "PDU_MIN",
+    "PIECES_MAX", "PROGRAM_MAX", "READING_PIECES", "SERVICES_MAX", "SNAPSHOT_WORDS", "add_parity_share", "choose", "correct_header", "crc8", "join",
+    "library_version", "list_pieces", "note_text", "parity", "read", "read_csv", "read_records", "read_words", "refusal_text", "smallest_latency",
+    "syndromes", "try_latency", "waiting_packets", "write_parity", "write_records",
+]
+
+#: Bytes that a call reads: bytes, a bytearray, a memoryview, a numpy array of bytes.
+Buffer = Union[bytes, bytearray, memoryview, Any]
+#: A file by its name, or one that is open.
+Source = Union[str, "os.PathLike[str]", IO[Any]]
+
+# ---- Sizes, as the C header has them ------------------------------------------------------------------------------------------------------------
+
+#: The first 96 bytes of a PDU are its header; 8 of these are parity.
+HEADER_BYTES = 96
+PARITY_BYTES = 8
+#: The most header bytes that are corrected without marks, and the most marks.
+CORRECTED_MAX = 4
+MARKS_MAX = 8
+#: The shortest and the longest PDU, and the longest that is written with locators of 12 bits.
+PDU_MIN = 96
+PDU_MAX = 20480
+PDU_MAX_12_BITS = 4096
+#: The longest packet.
+PACKET_MAX = 4096
+#: The bytes of a carry buffer, and the words that suffice for the log of a call and for a saved receiver.
+CARRY_BYTES = 4096
+LOG_WORDS = 8400
+SNAPSHOT_WORDS = 1376
+#: The most pieces of a PDU.
+PIECES_MAX = 63
+READING_PIECES = 64
+#: The most counts of the bench for latencies, the largest count, and the largest latency.
+COUNTS_MAX = 4096
+COUNT_MAX = 63
+LATENCY_MAX = 7
+#: The largest program number, and the largest value of the applied services.
+PROGRAM_MAX = 7
+SERVICES_MAX = 7
+#: The value that the register of CRCs starts with where none is given, and the one with which recordings off the air check.
+CRC_START = 0
+CRC_START_OFF_AIR = 255
+#: The bit that tells an enhanced packet in the result of :func:`join`.
+JOINED_ENHANCED = 0x20000000
+#: The two streams of a mode. Modes 0 and 13 have the core stream alone; 1, 2, 3 and 10 have both.
+CORE = 0
+ENHANCED = 1
+
+# ---- Refusals and notes in words ----------------------------------------------------------------------------------------------------------------
+
+
+class RefusalNumber(IntEnum):
+    """The causes of refusals by their numbers."""
+
+    STATE = 1
+    CARRY_LENGTH = 2
+    PDU_LENGTH = 3
+    UNCORRECTABLE = 4
+    MODE = 5
+    OTHER_MODE = 6
+    SEQUENCE = 7
+    PIECES = 8
+    LA = 9
+    EXPANSION = 10
+    LOCATOR = 11
+    DISPLACEMENT = 12
+    LOG_LENGTH = 13
+    VALUE = 14
+    PACKETS = 15
+    PSD = 16
+    ROOM = 17
+    LENGTHS = 18
+    MARKS = 19
+    PAIR = 20
+    COUNTS = 21
+    PROGRAMS = 22
+    LOG_WORDS = 23
+    NUMBERS = 24
+    WORDS = 25
+    WORD_BUFFER = 26
+    COUNT_LIMIT = 27
+
+
+class Cause(IntEnum):
+    """The causes of notes by their numbers."""
+
+    #: The PDU sequence is not the one after the last. What was held is dropped.
+    SEQUENCE = 1
+    #: The piece's CRC is wrong.
+    CRC = 2
+    #: The piece continues a packet of which nothing is held.
+    NOTHING_HELD = 3
+    #: What was held is not continued by this PDU, and dropped.
+    NOT_CONTINUED = 4
+    #: With the piece, the packet is over 4,096 bytes.
+    TOO_LONG = 5
+    #: The PDU was marked lost. What was held is dropped.
+    LOST = 6
+    #: The piece has a right CRC in both copies of a pair, and other bytes in one than in the other.
+    COPIES_DIFFER = 7
+    #: The PDU is withheld: the receiver is not entitled to its program.
+    WITHHELD = 8
+
+    @property
+    def text(self) -> str:
+        """The cause in the words of ``barzhilup log``."""
+        return _NOTES[self]
+
+
+#: Words for refusals by their numbers, those of the C header.
+_REFUSALS: Dict[int, str] = {
+    1: "wrong receiver state; or writer state",
+    2: "carry buffer too short",
+    3: "length not 96 to 20480; or over 4096 for a writer with locators of 12 bits",
+    4: "header beyond correction",
+    5: "mode and stream not in the table",
+    6: "mode and stream not those asked for",
+    7: "sequence outside its range",
+    8: "Pfirst or Plast with no piece",
+    9: "La out of place",
+    10: "wrong expansion; or expansion fields that do not go together",
+    11: "locator out of place",
+    12: "displacement out of place",
+    13: "log too short; or list of pieces, or result of a join",
+    14: "a value that may not be sent: blend 3, blend with a program, gain 7 to 23, or past its width; or a place outside 8 to 95",
+    15: "packet length 0 or over 4,096; or lengths that do not sum to the bytes, or bytes sent of a packet that is not offered",
+    16: "PSD and expansion past the mode's limit, or PSD where there is none",
+    17: "no room in the PDU for a piece of one byte",
+    18: "lengths of the PDUs do not sum to the buffer",
+    19: "over eight marks or one over 95 or repeated",
+    20: "copies differ in length or bytes 8 to La",
+    21: "no counts or over 4096 or one over 63",
+    22: "program number over 7 or repeated",
+    23: "words that are no log",
+    24: "packet numbers that do not rise within a log",
+    25: "words not of a saved receiver or a field outside its range",
+    26: "buffer too short for the words of the receiver",
+    27: "delivered or missing over 4294967295",
+}
+
+_NOTES: Dict[int, str] = {
+    1: "sequence",
+    2: "wrong CRC",
+    3: "nothing held",
+    4: "not continued",
+    5: "too long",
+    6: "lost",
+    7: "copies differ",
+    8: "withheld",
+}
+
+
+def refusal_text(number: int) -> str:
+    """The cause of a refusal in words: "accepted" for 0, "unknown" for a number that there is none of."""
+    return _REFUSALS.get(number, "accepted" if number == 0 else "unknown")
+
+
+def note_text(cause: int) -> str:
+    """The cause of a note in words; "unknown" for a number that there is none of."""
+    return _NOTES.get(cause, "unknown")
+
+
+class Refusal(Exception):
+    """Why a call was refused. A refused call has changed nothing.
+
+    If several causes applied, this is the one with the lowest number, except that 19 comes directly after 3, 18 directly after 2, 20 directly after 12, and
+    27 directly after 13.
+    """
+
+    #: The number, 1 to 27.
+    number: RefusalNumber
+    #: The cause in words.
+    text: str
+    #: With number 11 the k of the first wrong locator, from 0; otherwise None.
+    locator: Optional[int]
+
+    def __init__(self, number: int, locator: Optional[int] = None) -> None:
+        self.number = RefusalNumber(number)
+        self.text = refusal_text(number)
+        self.locator = locator if number == RefusalNumber.LOCATOR else None
+        k = "" if self.locator is None else " (k {})".format(self.locator)
+        super().__init__("refused with {}: {}{}".format(int(number), self.text, k))
+
+    def __reduce__(self) -> Tuple[Any, ...]:
+        return (Refusal, (int(self.number), self.locator))
+
+
+class MalformedLog(ValueError):
+    """Words that are not a log."""
+
+    #: The place, from 0, of the first word of the entry that does not fit.
+    place: int
+
+    def __init__(self, place: int) -> None:
+        self.place = place
+        super().__init__("not a log: the entry at word {} does not fit".format(place))
+
+
+class MalformedFile(ValueError):
+    """A file that is cut, or of another form than the one asked for."""
+
+
+# ---- The C side ---------------------------------------------------------------------------------------------------------------------------------
+
+_u8, _u16, _u32, _size, _bool = ctypes.c_uint8, ctypes.c_uint16, ctypes.c_uint32, ctypes.c_size_t, ctypes.c_bool
+
+
+class _Values(ctypes.Structure):
+    _fields_ = [("values", _u8 * PARITY_BYTES)]
+
+
+class _Share(ctypes.Structure):
+    _fields_ = [("refusal", _u32), ("parity", _Values)]
+
+
+class _Correction(ctypes.Structure):
+    _fields_ = [("refusal", _u32), ("corrected", _u32)]
+
+
+class _ControlWord(ctypes.Structure):
+    _fields_ = [(name, _u8) for name in ("mode", "stream", "sequence", "blend", "gain", "common_delay", "latency", "pfirst", "plast", "start", "nop",
+                                         "expansion", "la")]
+
+
+class _Expansion(ctypes.Structure):
+    _fields_ = [("class_code", _u8), ("program", _u8), ("displacement", _u16), ("access", _u8), ("type_code", _u8), ("services", _u8),
+                ("marker", _u32)]
+
+
+class _Reading(ctypes.Structure):
+    _fields_ = [("refusal", _u32), ("wrong_locator", _u32), ("control", _ControlWord), ("expansion", _Expansion), ("psd_start", _u32),
+                ("psd_length", _u32), ("starts", _u16 * READING_PIECES), ("lengths", _u16 * READING_PIECES)]
+
+
+class _Writer(ctypes.Structure):
+    _fields_ = [("mode", _u8), ("stream", _u8), ("crc_start", _u8), ("sequence", _u8), ("number", _u8), ("sent", _u16)]
+
+
+class _WriterOpened(ctypes.Structure):
+    _fields_ = [("refusal", _u32), ("writer", _Writer)]
+
+
+class _Settings(ctypes.Structure):
+    _fields_ = [("blend", _u8), ("gain", _u8), ("common_delay", _u8), ("latency", _u8), ("classed", _bool), ("class_code", _u8), ("programmed", _bool),
+                ("program", _u8), ("displaced", _bool), ("typed", _bool), ("access", _u8), ("type_code", _u8), ("serviced", _bool), ("services", _u8),
+                ("marker", _u32)]
+
+
+class _Written(ctypes.Structure):
+    _fields_ = [("refusal", _u32), ("ended", _u32), ("writer", _Writer)]
+
+
+class _Receiver(ctypes.Structure):
+    _fields_ = [("mode", _u8), ("stream", _u8), ("crc_start", _u8), ("entitled", _u8), ("known", _bool), ("sequence", _u8), ("held", _u16),
+                ("number", _u8), ("serviced", _bool), ("services", _u8), ("delivered", _u32), ("missing", _u32), ("last", _u8)]
+
+
+class _ReceiverOpened(ctypes.Structure):
+    _fields_ = [("refusal", _u32), ("receiver", _Receiver)]
+
+
+class _Saved(ctypes.Structure):
+    _fields_ = [("refusal", _u32), ("words", _u32)]
+
+
+class _Received(ctypes.Structure):
+    _fields_ = [("refusal", _u32), ("wrong_locator", _u32), ("words", _u32), ("receiver", _Receiver)]
+
+
+class _Batch(ctypes.Structure):
+    _fields_ = [("refusal", _u32), ("wrong_locator", _u32), ("taken", _size), ("words", _size), ("receiver", _Receiver)]
+
+
+class _Joined(ctypes.Structure):
+    _fields_ = [("refusal", _u32), ("words", _size)]
+
+
+class _LatencyAnswer(ctypes.Structure):
+    _fields_ = [("refusal", _u32), ("latency", _u32), ("found", _bool)]
+
+
+class _LatencyTrial(ctypes.Structure):
+    _fields_ = [("refusal", _u32), ("ticks", _u32), ("dry", _u32), ("first_dry", _u32), ("most_waiting", _u32)]
+
+
+class _Waiting(ctypes.Structure):
+    _fields_ = [("refusal", _u32), ("count", _u32)]
+
+
+class _Piece(ctypes.Structure):
+    _fields_ = [("start", _u16), ("length", _u16), ("right", _bool)]
+
+
+#: The structs by their names in C, for whoever compares them.
+_STRUCTS = {
+    "barzhilup_syndromes_answer": _Values,
+    "barzhilup_parity_answer": _Values,
+    "barzhilup_share_answer": _Share,
+    "barzhilup_correction_answer": _Correction,
+    "barzhilup_control_word": _ControlWord,
+    "barzhilup_expansion": _Expansion,
+    "barzhilup_reading": _Reading,
+    "barzhilup_writer": _Writer,
+    "barzhilup_writer_opened": _WriterOpened,
+    "barzhilup_settings": _Settings,
+    "barzhilup_written": _Written,
+    "barzhilup_receiver": _Receiver,
+    "barzhilup_receiver_opened": _ReceiverOpened,
+    "barzhilup_saved": _Saved,
+    "barzhilup_received": _Received,
+    "barzhilup_batch": _Batch,
+    "barzhilup_joined": _Joined,
+    "barzhilup_latency_answer": _LatencyAnswer,
+    "barzhilup_latency_trial": _LatencyTrial,
+    "barzhilup_waiting_answer": _Waiting,
+    "barzhilup_piece": _Piece,
+}
+
+_bytes, _shorts, _words, _sizes = (ctypes.POINTER(kind) for kind in (_u8, _u16, _u32, _size))
+
+#: The functions: what each returns, and what it takes.
+_FUNCTIONS: Dict[str, Tuple[Any, List[Any]]] = {
+    "barzhilup_version": (_u32, []),
+    "barzhilup_syndromes": (_Values, [_bytes]),
+    "barzhilup_parity": (_Values, [_bytes]),
+    "barzhilup_write_parity": (_u32, [_bytes, _size]),
+    "barzhilup_add_parity_share": (_Share, [_Values, _size, _u8]),
+    "barzhilup_correct_header_marked": (_Correction, [_bytes, _size, _bytes, _size]),
+    "barzhilup_crc8_from": (_u8, [_u8, _bytes, _size]),
+    "barzhilup_read": (_Reading, [_bytes, _size]),
+    "barzhilup_list_pieces": (_Reading, [_bytes, _size, _u8, ctypes.POINTER(_Piece), _size]),
+    "barzhilup_open_writer_with": (_WriterOpened, [_u8, _u8, _u8]),
+    "barzhilup_write": (_Written, [_Writer, _Settings, _bytes, _size, _shorts, _size, _bytes, _size, _bytes, _size]),
+    "barzhilup_open_receiver_with": (_ReceiverOpened, [_u8, _u8, _u8]),
+    "barzhilup_open_receiver_entitled": (_ReceiverOpened, [_u8, _u8, _u8, _bytes, _size]),
+    "barzhilup_receive_marked": (_Received, [_Receiver, _bytes, _size, _bytes, _size, _bytes, _size, _words, _size]),
+    "barzhilup_receive_batch": (_Batch, [_Receiver, _bytes, _size, _bytes, _size, _sizes, _size, _words, _size]),
+    "barzhilup_receive_pair": (_Received, [_Receiver, _bytes, _size, _bytes, _size, _bytes, _size, _words, _size]),
+    "barzhilup_choose": (_u32, [_bytes, _size, _bytes, _size]),
+    "barzhilup_mark_lost": (_Received, [_Receiver, _words, _size]),
+    "barzhilup_save_receiver": (_Saved, [_Receiver, _bytes, _size, _words, _size]),
+    "barzhilup_load_receiver": (_ReceiverOpened, [_words, _size, _bytes, _size]),
+    "barzhilup_join": (_Joined, [_words, _size, _words, _size, _words, _size]),
+    "barzhilup_smallest_latency": (_LatencyAnswer, [_u8, _u8, _words, _size]),
+    "barzhilup_try_latency": (_LatencyTrial, [_u8, _u8, _words, _size, _u8]),
+    "barzhilup_waiting_packets": (_Waiting, [_u8, _u8, _words, _size, _u8, _size, _words, _size]),
+}
+
+
+def _places() -> Iterator[str]:
+    """Where the shared library may stand, in the order of search."""
+    name = "libbarzhilup.so." + __version__.split(".")[0]
+    named = os.environ.get("BARZHILUP_LIB")
+    if named:
+        yield os.path.join(named, name)
+        return
+    here = os.path.dirname(os.path.abspath(__file__))
+    for directory in ("../../target/staticlib", "../../../lib"):
+        place = os.path.normpath(os.path.join(here, directory, name))
+        if os.path.exists(place):
+            yield place
+    yield name
+
+
+def _load() -> ctypes.CDLL:
+    """The shared library, with the types of its functions."""
+    faults = []
+    for place in _places():
+        try:
+            library = ctypes.CDLL(place)
+            break
+        except OSError as fault:
+            faults.append(str(fault))
+    else:
+        raise ImportError("barzhilup: no shared library: {}; make it with `bash scripts/libraries`, or name its directory in BARZHILUP_LIB".format(
+            "; ".join(faults)))
+    for name, (returns, takes) in _FUNCTIONS.items():
+        try:
+            function = getattr(library, name)
+        except AttributeError:
+            raise ImportError("barzhilup: {} has no {}: it is of another version than {}".format(library._name, name, __version__)) from None
+        function.restype, function.argtypes = returns, takes
+    wanted = tuple(int(part) for part in __version__.split("."))
+    number = library.barzhilup_version()
+    found = (number >> 16, number >> 8 & 255, number & 255)
+    if found[0] != wanted[0] or found < wanted:
+        raise ImportError("barzhilup: {} is version {}.{}.{}, and {} or later is needed".format(library._name, *found, __version__))
+    return library
+
+
+_c = _load()
+
+
+def library_version() -> str:
+    """The version of the shared library."""
+    number = _c.barzhilup_version()
+    return "{}.{}.{}".format(number >> 16, number >> 8 & 255, number & 255)
+
+
+def _check(number: int, locator: Optional[int] = None) -> None:
+    """Raises the refusal of an answer, if it has one."""
+    if number:
+        raise Refusal(number, locator)
+
+
+def _number(name: str, value: int, most: int) -> int:
+    """A number that C's type can hold; others would be cut to another one."""
+    value = int(value)
+    if not 0 <= value <= most:
+        raise ValueError("{}: {} is not 0 to {}".format(name, value, most))
+    return value
+
+
+def _byte(name: str, value: int) -> int:
+    return _number(name, value, 255)
+
+
+def _lent(kind: Any, count: int) -> Any:
+    """A C array for so many elements, of one at least, so that it has a place."""
+    return (kind * max(count, 1))()
+
+
+def _copied(data: Buffer) -> Tuple[Any, int]:
+    """A C array with a copy of these bytes, and their count."""
+    plain = bytes(data)
+    return (_u8 * max(len(plain), 1)).from_buffer_copy(plain or b"\0"), len(plain)
+
+
+def _listed(name: str, values: Iterable[int], kind: Any, most: int) -> Tuple[Any, int]:
+    """A C array of these numbers, and their count."""
+    numbers = [_number(name, value, most) for value in values]
+    lent = _lent(kind, len(numbers))
+    lent[:len(numbers)] = numbers
+    return lent, len(numbers)
+
+
+def _give_back(pdu: Buffer, lent: Any, length: int) -> None:
+    """Writes a PDU that a call has corrected back to where it came from, if it can be written there."""
+    if isinstance(pdu, (bytearray, memoryview)) and not (isinstance(pdu, memoryview) and pdu.readonly):
+        memoryview(pdu).cast("B")[:] = memoryview(lent).cast("B")[:length]
+
+
+# ---- The packet log -----------------------------------------------------------------------------------------------------------------------------
+
+
+class Packet(NamedTuple):
+    """A packet that arrived whole."""
+
+    #: Its number, 0 to 63.
+    number: int
+    #: Its bytes, 1 to 4,096.
+    data: bytes
+
+
+class Psd(NamedTuple):
+    """The PSD of a PDU."""
+
+    data: bytes
+
+
+class Note(NamedTuple):
+    """Something that was missing or wrong."""
+
+    cause: Cause
+    #: The piece of the PDU that it is about, from 0; None where it is about none.
+    piece: Optional[int]
+
+
+Entry = Union[Packet, Psd, Note]
+
+_ABOUT_NO_PIECE = (Cause.SEQUENCE, Cause.NOT_CONTINUED, Cause.LOST, Cause.WITHHELD)
+
+
+def _data(words: "array[int]", place: int, length: int) -> Tuple[bytes, int]:
+    """The bytes of the data words from a place on, and the place after them."""
+    end = place + (length + 2) // 3
+    part = words[place:end]
+    left = length
+    for word in part:
+        if word >> 30 != 1 or word >> 24 & 3 != min(left, 3):
+            raise ValueError
+        left -= min(left, 3)
+    if left:
+        raise ValueError
+    if sys.byteorder == "little":
+        part.byteswap()
+    data = bytearray(part.tobytes())
+    del data[0::4]
+    return bytes(data[:length]), end
+
+
+class Log:
+    """The log of a call, or of several: its entries, in their order, when it is iterated.
+
+    >>> list(Log([0x00050004, 0x43112233, 0x41440000, 0xC0020001]))
+    [Packet(number=5, data=b'\\x11"3D'), Note(cause=<Cause.CRC: 2>, piece=1)]
+
+    Words that were kept, in a file of ``barzhilup log --format words`` or ``records``, are a log too; others raise :class:`MalformedLog`, at the first entry
+    that does not fit.
+    """
+
+    __slots__ = ("words",)
+
+    #: The words of 32 bits, as the C header lays them out.
+    words: "array[int]"
+
+    def __init__(self, words: Iterable[int] = ()) -> None:
+        self.words = array("I", words)
+
+    def __iter__(self) -> Iterator[Entry]:
+        place = 0
+        while place < len(self.words):
+            entry, place = self._entry(place)
+            yield entry
+
+    def _entry(self, place: int) -> Tuple[Entry, int]:
+        """The entry at a place, and the place after it."""
+        word = self.words[place]
+        kind = word >> 30
+        try:
+            if kind == 3:
+                cause = Cause(word >> 16 & 0x3FFF)
+                return Note(cause, None if cause in _ABOUT_NO_PIECE else word & 0xFFFF), place + 1
+            if kind == 1:
+                raise ValueError
+            data, end = _data(self.words, place + 1, word & 0xFFFF)
+        except ValueError:
+            raise MalformedLog(place) from None
+        return (Packet(word >> 16 & 0x3F, data) if kind == 0 else Psd(data)), end
+
+    def packets(self) -> List[Packet]:
+        """The packets alone."""
+        return [entry for entry in self if isinstance(entry, Packet)]
+
+    def notes(self) -> List[Note]:
+        """The notes alone."""
+        return [entry for entry in self if isinstance(entry, Note)]
+
+    def psd(self) -> List[bytes]:
+        """The PSD entries' bytes alone."""
+        return [entry.data for entry in self if isinstance(entry, Psd)]
+
+    def __eq__(self, other: object) -> bool:
+        return isinstance(other, Log) and self.words == other.words
+
+    def __repr__(self) -> str:
+        return "Log([{}])".format(", ".join("0x{:08x}".format(word) for word in self.words))
+
+
+# ---- Header code, CRC ---------------------------------------------------------------------------------------------------------------------------
+
+
+def _header(header: Buffer) -> Any:
+    lent, length = _copied(header)
+    if length != HEADER_BYTES:
+        raise ValueError("a header has {} bytes, and not {}".format(HEADER_BYTES, length))
+    return lent
+
+
+def syndromes(header: Buffer) -> bytes:
+    """The eight syndromes of a header of 96 bytes: all zero if it is a code word."""
+    return bytes(_c.barzhilup_syndromes(_header(header)).values)
+
+
+def parity(header: Buffer) -> bytes:
+    """The eight bytes of parity of a header of 96 bytes; what its own first eight bytes are makes no difference."""
+    return bytes(_c.barzhilup_parity(_header(header)).values)
+
+
+def write_parity(pdu: Buffer) -> bytes:
+    """The PDU with the parity of its header in bytes 0 to 7; a bytearray is changed itself too. Refused with 3."""
+    lent, length = _copied(pdu)
+    _check(_c.barzhilup_write_parity(lent, length))
+    _give_back(pdu, lent, length)
+    return bytes(lent)[:length]
+
+
+def add_parity_share(parity: Buffer, place: int, byte: int) -> bytes:
+    """Eight bytes of parity with the share of the byte at a place, 8 to 95, added. Begin with ``bytes(8)``. Refused with 14."""
+    values = bytes(parity)
+    if len(values) != PARITY_BYTES:
+        raise ValueError("a parity has {} bytes, and not {}".format(PARITY_BYTES, len(values)))
+    answer = _c.barzhilup_add_parity_share(_Values.from_buffer_copy(values), _number("place", place, 2**32), _byte("byte", byte))
+    _check(answer.refusal)
+    return bytes(answer.parity.values)
+
+
+class Correction(NamedTuple):
+    """A corrected header."""
+
+    #: The PDU with its header corrected.
+    pdu: bytes
+    #: How many bytes were wrong.
+    corrected: int
+
+
+def correct_header(pdu: Buffer, marks: Iterable[int] = ()) -> Correction:
+    """Corrects the header of a PDU: up to four wrong bytes, anywhere among the first 96.
+
+    ``marks`` has the places of bytes that the demodulator guessed, at most eight: with s of them, these may hold anything and (8 - s) // 2 others may be
+    wrong. A bytearray is corrected itself too. Refused with 3, 19 or 4.
+    """
+    lent, length = _copied(pdu)
+    places, count = _listed("marks", marks, _u8, 255)
+    answer = _c.barzhilup_correct_header_marked(lent, length, places, count)
+    _check(answer.refusal)
+    _give_back(pdu, lent, length)
+    return Correction(bytes(lent)[:length], answer.corrected)
+
+
+def crc8(data: Buffer, start: int = CRC_START) -> int:
+    """The CRC-8 of a piece, with a register that starts at this value.
+
+    >>> hex(crc8(b"\\x01")), hex(crc8(b"\\x01", CRC_START_OFF_AIR))
+    ('0x31', '0x9d')
+    """
+    lent, length = _copied(data)
+    return int(_c.barzhilup_crc8_from(_byte("start", start), lent, length))
+
+
+# ---- Reading without a receiver -----------------------------------------------------------------------------------------------------------------
+
+
+class ControlWord(NamedTuple):
+    """What the control word of a PDU says."""
+
+    mode: int
+    stream: int
+    sequence: int
+    blend: int
+    #: Gain (core) or stream delay (enhanced), 0 to 31.
+    gain: int
+    common_delay: int
+    latency: int
+    #: Whether the first piece continues a packet begun before, and whether the last is continued.
+    pfirst: bool
+    plast: bool
+    #: The number of the first packet that is not continued, 0 to 63.
+    start: int
+    #: The count of pieces.
+    nop: int
+    #: Whether there are expansion bytes.
+    expansion: bool
+    #: The place of the last byte before the first piece.
+    la: int
+
+
+class Expansion(NamedTuple):
+    """The expansion fields; 0 where not sent or not interpreted."""
+
+    class_code: int
+    program: int
+    displacement: int
+    access: int
+    type_code: int
+    services: int
+    marker: int
+
+
+class Piece(NamedTuple):
+    """A piece of a PDU."""
+
+    #: Its place in the PDU.
+    start: int
+    #: Its bytes, without its CRC byte.
+    data: bytes
+    #: Whether its CRC is right; None where the CRCs were not looked at.
+    right: Optional[bool]
+
+
+class Reading(NamedTuple):
+    """What a PDU holds."""
+
+    control: ControlWord
+    expansion: Expansion
+    psd: bytes
+    pieces: List[Piece]
+    #: The PDU with its header corrected.
+    pdu: bytes
+
+
+def _reading(answer: Any, pdu: bytes, verdicts: Sequence[Optional[bool]]) -> Reading:
+    """A reading from the answer of C."""
+    fields = [getattr(answer.control, name) for name, _ in _ControlWord._fields_]
+    control = ControlWord(*fields)._replace(pfirst=bool(answer.control.pfirst), plast=bool(answer.control.plast),
+                                            expansion=bool(answer.control.expansion))
+    expansion = Expansion(*(getattr(answer.expansion, name) for name, _ in _Expansion._fields_))
+    psd = pdu[answer.psd_start:answer.psd_start + answer.psd_length]
+    pieces = []
+    for k in range(control.nop):
+        start, length = answer.starts[k], answer.lengths[k]
+        pieces.append(Piece(start, pdu[start:start + length], verdicts[k]))
+    return Reading(control, expansion, psd, pieces, pdu)
+
+
+def read(pdu: Buffer) -> Reading:
+    """Reads a PDU without a receiver: corrects its header, and says what it holds. No CRC is looked at. A bytearray is corrected itself too.
+
+    Refused with 3 to 5 or 7 to 12.
+    """
+    lent, length = _copied(pdu)
+    answer = _c.barzhilup_read(lent, length)
+    _check(answer.refusal, answer.wrong_locator)
+    _give_back(pdu, lent, length)
+    return _reading(answer, bytes(lent)[:length], [None] * PIECES_MAX)
+
+
+def list_pieces(pdu: Buffer, crc_start: int = CRC_START) -> Reading:
+    """As :func:`read`, with the verdict on each piece's CRC, whose register starts at this value. A wrong CRC is no refusal."""
+    lent, length = _copied(pdu)
+    pieces = (_Piece * PIECES_MAX)()
+    answer = _c.barzhilup_list_pieces(lent, length, _byte("crc_start", crc_start), pieces, PIECES_MAX)
+    _check(answer.refusal, answer.wrong_locator)
+    _give_back(pdu, lent, length)
+    return _reading(answer, bytes(lent)[:length], [bool(piece.right) for piece in pieces])
+
+
+def choose(first: Buffer, second: Buffer) -> Optional[Buffer]:
+    """Of two copies of a PDU, the one in whose header fewer bytes have to be corrected, the first if equal; None where neither can be corrected."""
+    (one, one_length), (two, two_length) = _copied(first), _copied(second)
+    return (None, first, second)[_c.barzhilup_choose(one, one_length, two, two_length)]
+
+
+# ---- Writer -------------------------------------------------------------------------------------------------------------------------------------
+
+
+class ProgramType(NamedTuple):
+    """Access, 0 or 1, and program type, 0 to 255."""
+
+    access: int
+    type_code: int
+
+
+class Services(NamedTuple):
+    """Applied services, 0 or (with class 1) 1, and marker, 0 to 2,097,151."""
+
+    applied: int
+    marker: int
+
+
+class Settings(NamedTuple):
+    """A PDU's settings. Expansion fields are sent where they are not None."""
+
+    #: 0 to 2; with a nonzero program 0.
+    blend: int = 0
+    #: Gain (core: 0 to 6, 24 to 31) or stream delay (enhanced: 0 to 31).
+    gain: int = 0
+    #: 0 to 63.
+    common_delay: int = 0
+    #: 0 to 7.
+    latency: int = 0
+    #: Only 1, and then with a nonzero program and access 1.
+    class_code: Optional[int] = None
+    #: 0 to 7.
+    program: Optional[int] = None
+    #: Whether the place of the PDU's last byte is sent.
+    displacement: bool = False
+    program_type: Optional[ProgramType] = None
+    services: Optional[Services] = None
+
+    def _to_c(self) -> _Settings:
+        access, type_code = self.program_type or (0, 0)
+        applied, marker = self.services or (0, 0)
+        return _Settings(_byte("blend", self.blend), _byte("gain", self.gain), _byte("common_delay", self.common_delay), _byte("latency", self.latency),
+                         self.class_code is not None, _byte("class_code", self.class_code or 0), self.program is not None,
+                         _byte("program", self.program or 0), bool(self.displacement), self.program_type is not None, _byte("access", access),
+                         _byte("type_code", type_code), self.services is not None, _byte("applied", applied), _number("marker", marker, 2**32 - 1))
+
+
+class Written(NamedTuple):
+    """A PDU, and how many of the packets offered ended in it."""
+
+    pdu: bytes
+    ended: int
+
+
+class Writer:
+    """Packs packets and PSD into PDUs of a mode and stream.
+
+    ``crc_start`` is the value that the register of the CRCs starts with, any byte; recordings off the air check with :data:`CRC_START_OFF_AIR`. Refused
+    with 5 for a mode and stream that there are none of.
+    """
+
+    def __init__(self, mode: int, stream: int = CORE, crc_start: int = CRC_START) -> None:
+        answer = _c.barzhilup_open_writer_with(_byte("mode", mode), _byte("stream", stream), _byte("crc_start", crc_start))
+        _check(answer.refusal)
+        self._state = answer.writer
+
+    @property
+    def mode(self) -> int:
+        return int(self._state.mode)
+
+    @property
+    def stream(self) -> int:
+        return int(self._state.stream)
+
+    @property
+    def crc_start(self) -> int:
+        return int(self._state.crc_start)
+
+    @property
+    def sequence(self) -> int:
+        """The next PDU's sequence."""
+        return int(self._state.sequence)
+
+    @property
+    def number(self) -> int:
+        """The number, 0 to 63, of the first unfinished packet."""
+        return int(self._state.number)
+
+    @property
+    def sent(self) -> int:
+        """How many bytes of it are sent."""
+        return int(self._state.sent)
+
+    def write(self, packets: Sequence[Buffer], length: int, psd: Buffer = b"", settings: Settings = Settings()) -> Written:
+        """Writes a PDU of this length: as many of the packets, 1 to 4,096 bytes each, as fit, and then a part of the next.
+
+        The first packet is the unfinished one, whole, if there is one: offer again from the first that did not end.
+
+        Refused with 3, 10 or 14 to 17.
+        """
+        plain = [bytes(packet) for packet in packets]
+        # A length that two bytes cannot hold is refused with 15 like any other over 4,096.
+        lengths, count = _listed("length", (min(len(packet), 65535) for packet in plain), _u16, 65535)
+        data, data_length = _copied(b"".join(plain))
+        lent_psd, psd_length = _copied(psd)
+        length = _number("length", length, 2**32)
+        pdu = _lent(_u8, min(length, PDU_MAX + 1))
+        answer = _c.barzhilup_write(self._state, settings._to_c(), lent_psd, psd_length, lengths, count, data, data_length, pdu,
+                                    min(length, PDU_MAX + 1))
+        _check(answer.refusal)
+        self._state = answer.writer
+        return Written(bytes(pdu)[:length], int(answer.ended))
+
+    def write_all(self, packets: Iterable[Buffer], length: int, psd: Buffer = b"", settings: Settings = Settings()) -> Iterator[bytes]:
+        """Writes all packets in PDUs of this length, each with this PSD and these settings.
+
+        >>> len(list(Writer(0).write_all([bytes(100)] * 10, length=256)))
+        5
+        """
+        waiting: List[bytes] = []
+        source = iter(packets)
+        while True:
+            while len(waiting) <= PIECES_MAX:
+                packet = next(source, None)
+                if packet is None:
+                    break
+                waiting.append(bytes(packet))
+            if not waiting:
+                return
+            pdu, ended = self.write(waiting, length, psd, settings)
+            del waiting[:ended]
+            yield pdu
+
+
+# ---- Receiver -----------------------------------------------------------------------------------------------------------------------------------
+
+
+class Batch(NamedTuple):
+    """What came of receiving several PDUs in one call."""
+
+    #: How many PDUs were received, from the first on: all, or those before the first that was refused.
+    taken: int
+    #: Their logs, one after another.
+    log: Log
+    #: Why the PDU after them was refused, if one was.
+    refusal: Optional[Refusal]
+
+
+#: The most PDUs that :meth:`Receiver.receive_batch` hands over in one call.
+_FRAME = 64
+
+
+class Logged(NamedTuple):
+    """What came of a PDU of a recording."""
+
+    #: Its place in the recording, from 0.
+    place: int
+    #: "received", "lost" or "refused"; a refused one is marked lost.
+    kind: str
+    #: Why it was refused, if it was.
+    refusal: Optional[Refusal]
+    log: Log
+
+
+class Receiver:
+    """Joins the pieces of PDUs to packets, and logs packets, PSD and notes.
+
+    ``crc_start`` is the value that the register of the CRCs starts with: the one that the PDUs were written with, for recordings off the air
+    :data:`CRC_START_OFF_AIR`. ``entitled`` has the numbers of the programs that it is entitled to, each 0 to 7 and none twice; without it these are all
+    eight, and no PDU is withheld. Refused with 5, and then with 22.
+
+    One receiver is for one thread at a time; several can run at once.
+    """
+
+    def __init__(self, mode: int, stream: int = CORE, crc_start: int = CRC_START, entitled: Optional[Iterable[int]] = None) -> None:
+        asked = (_byte("mode", mode), _byte("stream", stream), _byte("crc_start", crc_start))
+        if entitled is None:
+            answer = _c.barzhilup_open_receiver_with(*asked)
+        else:
+            programs, count = _listed("entitled", entitled, _u8, 255)
+            answer = _c.barzhilup_open_receiver_entitled(*asked, programs, count)
+        _check(answer.refusal)
+        self._start(answer.receiver, _lent(_u8, CARRY_BYTES))
+
+    def _start(self, state: Any, carry: Any) -> None:
+        self._state = state
+        self._carry = carry
+        self._log = _lent(_u32, LOG_WORDS)
+
+    @property
+    def mode(self) -> int:
+        return int(self._state.mode)
+
+    @property
+    def stream(self) -> int:
+        return int(self._state.stream)
+
+    @property
+    def crc_start(self) -> int:
+        return int(self._state.crc_start)
+
+    @property
+    def entitled(self) -> List[int]:
+        """The programs that it is entitled to."""
+        return [program for program in range(PROGRAM_MAX + 1) if self._state.entitled >> program & 1]
+
+    @property
+    def sequence(self) -> Optional[int]:
+        """The last PDU's sequence, if it is known."""
+        return int(self._state.sequence) if self._state.known else None
+
+    @property
+    def services(self) -> Optional[int]:
+        """The applied services in force, if they are known: only the core streams of modes 1, 2, 3 and 13 keep them."""
+        return int(self._state.services) if self._state.serviced else None
+
+    @property
+    def held(self) -> bytes:
+        """The bytes that are held: the beginning of an unfinished packet."""
+        return bytes(self._carry[:self._state.held])
+
+    @property
+    def held_number(self) -> Optional[int]:
+        """The number of the packet that is held, if one is."""
+        return int(self._state.number) if self._state.held else None
+
+    @property
+    def delivered(self) -> int:
+        """How many packets were delivered since the opening: all that the logs have."""
+        return int(self._state.delivered)
+
+    @property
+    def missing(self) -> int:
+        """How many packets are missing between those delivered, by their numbers, which run from 0 to 63 and from 0 again.
+
+        It is exact where PDUs come once and in turn, and fewer than 64 packets are missing between two delivered. What is missing before the first packet
+        delivered, or after the last, is not counted.
+        """
+        return int(self._state.missing)
+
+    @property
+    def last_number(self) -> Optional[int]:
+        """The number of the last packet delivered, if one was."""
+        return int(self._state.last) if self._state.delivered else None
+
+    def _step(self, answer: Any) -> Log:
+        """Takes over the state of an accepted answer, and hands out its log."""
+        _check(answer.refusal, answer.wrong_locator)
+        self._state = answer.receiver
+        return Log(self._log[:answer.words])
+
+    def receive(self, pdu: Buffer, marks: Iterable[int] = ()) -> Log:
+        """Receives a PDU: corrects its header, joins its pieces to packets, and hands out the log of this call.
+
+        ``marks`` has the places of header bytes that the demodulator guessed, each 0 to 95, at most eight and none twice. A bytearray is left with its header
+        corrected; other bytes stay as they are.
+
+        Refused with 3 to 12 or 27, and with 19 for marks.
+        """
+        lent, length = _copied(pdu)
+        places, count = _listed("marks", marks, _u8, 255)
+        log = self._step(_c.barzhilup_receive_marked(self._state, self._carry, CARRY_BYTES, lent, length, places, count, self._log, LOG_WORDS))
+        _give_back(pdu, lent, length)
+        return log
+
+    def receive_batch(self, pdus: Sequence[Buffer]) -> Batch:
+        """Receives several PDUs in one call, up to the first that is refused: that one and those after it are left."""
+        plain = [bytes(pdu) for pdu in pdus]
+        taken, words = 0, array("I")
+        room = LOG_WORDS * min(len(plain), _FRAME)
+        log = _lent(_u32, room)
+        # A long list goes in parts, so that its log does not take 33 KB for each PDU.
+        for at in range(0, len(plain), _FRAME):
+            data, length = _copied(b"".join(plain[at:at + _FRAME]))
+            lengths, count = _listed("length", map(len, plain[at:at + _FRAME]), _size, 2**32)
+            answer = _c.barzhilup_receive_batch(self._state, self._carry, CARRY_BYTES, data, length, lengths, count, log, room)
+            self._state = answer.receiver
+            taken += int(answer.taken)
+            words.extend(log[:answer.words])
+            if answer.refusal:
+                return Batch(taken, Log(words), Refusal(answer.refusal, answer.wrong_locator))
+        return Batch(taken, Log(words), None)
+
+    def receive_pair(self, first: Buffer, second: Buffer) -> Log:
+        """Receives two copies of a PDU as one: each piece from a copy in which its CRC is right. A copy that did not come is given as ``b""``.
+
+        Refused with 4 to 12, 20 or 27.
+        """
+        (one, one_length), (two, two_length) = _copied(first), _copied(second)
+        log = self._step(_c.barzhilup_receive_pair(self._state, self._carry, CARRY_BYTES, one, one_length, two, two_length, self._log, LOG_WORDS))
+        _give_back(first, one, one_length)
+        _give_back(second, two, two_length)
+        return log
+
+    def mark_lost(self) -> Log:
+        """Marks a PDU lost, in its place in the row: what is held is dropped, the sequence and the applied services are forgotten. The counts stay."""
+        return self._step(_c.barzhilup_mark_lost(self._state, self._log, LOG_WORDS))
+
+    def log(self, pdus: Iterable[Buffer]) -> Iterator[Logged]:
+        """Receives a recording as ``barzhilup log`` does: an empty record is a lost PDU, and a refused PDU is marked lost."""
+        for place, pdu in enumerate(pdus):
+            if len(pdu) == 0:
+                yield Logged(place, "lost", None, self.mark_lost())
+                continue
+            try:
+                logged = Logged(place, "received", None, self.receive(pdu))
+            except Refusal as refusal:
+                logged = Logged(place, "refused", refusal, self.mark_lost())
+            yield logged
+
+    def save(self) -> List[int]:
+        """The receiver as words of 32 bits, for a program that goes on later: what :meth:`load` makes of them logs as this one would have."""
+        words = _lent(_u32, SNAPSHOT_WORDS)
+        answer = _c.barzhilup_save_receiver(self._state, self._carry, CARRY_BYTES, words, SNAPSHOT_WORDS)
+        _check(answer.refusal)
+        return list(words[:answer.words])
+
+    @classmethod
+    def load(cls, words: Iterable[int]) -> "Receiver":
+        """The receiver that was saved as these words. PDUs that passed meanwhile are marked lost, one by one. Refused with 25."""
+        lent, count = _listed("words", words, _u32, 2**32 - 1)
+        carry = _lent(_u8, CARRY_BYTES)
+        answer = _c.barzhilup_load_receiver(lent, count, carry, CARRY_BYTES)
+        _check(answer.refusal)
+        receiver = cls.__new__(cls)
+        receiver._start(answer.receiver, carry)
+        return receiver
+
+    def copy(self) -> "Receiver":
+        """Another receiver that goes on from here."""
+        return Receiver.load(self.save())
+
+
+# ---- Core and enhanced side by side -------------------------------------------------------------------------------------------------------------
+
+
+class JoinedPacket(NamedTuple):
+    """A core packet, with the enhanced one of its number if there is one."""
+
+    number: int
+    core: bytes
+    enhanced: Optional[bytes]
+
+
+class Joined:
+    """Two logs joined: its packets, in the core's order, when it is iterated."""
+
+    __slots__ = ("words",)
+
+    #: The words, as C has them: :data:`JOINED_ENHANCED` is set in the first of an enhanced packet.
+    words: "array[int]"
+
+    def __init__(self, words: Iterable[int]) -> None:
+        self.words = array("I", words)
+
+    def __iter__(self) -> Iterator[JoinedPacket]:
+        place, packet = 0, None
+        while place < len(self.words):
+            word = self.words[place]
+            data, place = _data(self.words, place + 1, word & 0xFFFF)
+            if word & JOINED_ENHANCED and packet is not None:
+                packet = packet._replace(enhanced=data)
+                continue
+            if packet is not None:
+                yield packet
+            packet = JoinedPacket(word >> 16 & 0x3F, data, None)
+        if packet is not None:
+            yield packet
+
+
+def join(core: Union[Log, Iterable[int]], enhanced: Union[Log, Iterable[int]]) -> Joined:
+    """Joins two logs of one frame, core and enhanced, by packet number. Refused with 23 or 24."""
+    lent_core, core_count = _listed("core", getattr(core, "words", core), _u32, 2**32 - 1)
+    lent_enhanced, enhanced_count = _listed("enhanced", getattr(enhanced, "words", enhanced), _u32, 2**32 - 1)
+    room = core_count + enhanced_count
+    result = _lent(_u32, room)
+    answer = _c.barzhilup_join(lent_core, core_count, lent_enhanced, enhanced_count, result, room)
+    _check(answer.refusal)
+    return Joined(result[:answer.words])
+
+
+# ---- Latencies ----------------------------------------------------------------------------------------------------------------------------------
+
+
+class LatencyTrial(NamedTuple):
+    """What came of trying a latency."""
+
+    ticks: int
+    #: How many of them are dry, and the first, if any is.
+    dry: int
+    first_dry: Optional[int]
+    #: The most packets that wait at a tick.
+    most_waiting: int
+
+
+def smallest_latency(mode: int, stream: int, counts: Iterable[int]) -> Optional[int]:
+    """The smallest latency from 0 to 7 without a dry tick, on the counts of packets that end in each PDU; None if all have one. Refused with 5 or 21.
+
+    >>> smallest_latency(1, CORE, [3, 5])
+    1
+    """
+    lent, count = _listed("counts", counts, _u32, 2**32 - 1)
+    answer = _c.barzhilup_smallest_latency(_byte("mode", mode), _byte("stream", stream), lent, count)
+    _check(answer.refusal)
+    return int(answer.latency) if answer.found else None
+
+
+def try_latency(mode: int, stream: int, counts: Iterable[int], latency: int) -> LatencyTrial:
+    """Tries one latency on the counts of packets that end in each PDU. Refused with 5 or 21."""
+    lent, count = _listed("counts", counts, _u32, 2**32 - 1)
+    answer = _c.barzhilup_try_latency(_byte("mode", mode), _byte("stream", stream), lent, count, _byte("latency", latency))
+    _check(answer.refusal)
+    return LatencyTrial(int(answer.ticks), int(answer.dry), int(answer.first_dry) if answer.dry else None, int(answer.most_waiting))
+
+
+def waiting_packets(mode: int, stream: int, counts: Iterable[int], latency: int) -> List[int]:
+    """The packets that wait at each tick, after any adding and before one is taken. Refused with 5 or 21."""
+    lent, count = _listed("counts", counts, _u32, 2**32 - 1)
+    room = 32 * count
+    waiting = _lent(_u32, room)
+    answer = _c.barzhilup_waiting_packets(_byte("mode", mode), _byte("stream", stream), lent, count, _byte("latency", latency), 0, waiting, room)
+    _check(answer.refusal)
+    return list(waiting[:answer.count])
+
+
+# ---- Files --------------------------------------------------------------------------------------------------------------------------------------
+
+
+@contextmanager
+def _opened(source: Source, mode: str) -> Iterator[IO[Any]]:
+    """A file that is opened here by its name, and closed, or one that came open."""
+    if hasattr(source, "read") or hasattr(source, "write"):
+        yield source  # type: ignore[misc]
+        return
+    with open(source, mode, newline=None if "b" in mode else "") as file:  # type: ignore[arg-type]
+        yield file
+
+
+def read_records(source: Source) -> Iterator[bytes]:
+    """The records of a file of packets or PDUs, as the program reads and writes them: a length in two bytes, low byte first, and then so many bytes.
+
+    An empty record of a file of PDUs is a PDU marked lost. A file that ends inside a record raises :class:`MalformedFile` there.
+    """
+    with _opened(source, "rb") as file:
+        place = 0
+        while True:
+            head = file.read(2)
+            if not head:
+                return
+            length = int.from_bytes(head, "little")
+            record = file.read(length) if len(head) == 2 else b""
+            if len(head) < 2 or len(record) < length:
+                raise MalformedFile("the file ends inside record {}".format(place))
+            yield record
+            place += 1
+
+
+def write_records(target: Source, records: Iterable[Buffer]) -> int:
+    """Writes a file of packets or PDUs; answers how many records. A file of this name that is there is not overwritten: :class:`FileExistsError`."""
+    count = 0
+    with _opened(target, "xb") as file:
+        for record in records:
+            plain = bytes(record)
+            file.write(_number("the length of a record", len(plain), 65535).to_bytes(2, "little") + plain)
+            count += 1
+    return count
+
+
+def read_words(source: Source) -> "array[int]":
+    """The words of a file of ``barzhilup log --format words``, or of a record of ``--format records``: each in four bytes, low byte first."""
+    if isinstance(source, (bytes, bytearray)):
+        data = bytes(source)
+    else:
+        with _opened(source, "rb") as file:
+            data = file.read()
+    if len(data) % 4:
+        raise MalformedFile("the words end inside one")
+    words = array("I")
+    words.frombytes(data)
+    if sys.byteorder == "big":
+        words.byteswap()
+    return words
+
+
+class Line(NamedTuple):
+    """A line of the CSV that ``barzhilup log --format csv`` writes; None for an empty column."""
+
+    #: The PDU, from 0.
+    pdu: int
+    #: "received", "lost", "refused", "packet", "psd" or "note".
+    kind: str
+    #: Header bytes corrected, the refusal's number, the packet's number, or the note's piece.
+    number: Optional[int]
+    #: Bytes of the PDU, the packet or the PSD.
+    length: Optional[int]
+    #: In words.
+    cause: Optional[str]
+    #: The counts of the receiver, on the lines of PDUs.
+    delivered: Optional[int]
+    missing: Optional[int]
+
+
+class Csv(NamedTuple):
+    """The CSV of a packet log. ``pandas.DataFrame(read_csv("log.csv").lines)`` is a table of it."""
+
+    lines: List[Line]
+    #: Whether the last line is there: every PDU of the input was logged.
+    whole: bool
+
+
+_CSV_COLUMNS = ["pdu", "kind", "number", "length", "cause", "delivered", "missing"]
+_CSV_KINDS = ("received", "lost", "refused", "packet", "psd", "note")
+
+
+def _csv_line(row: List[str], line: int) -> Line:
+    """A line from its columns."""
+    pdu, kind, number, length, cause, delivered, missing = row
+    if kind not in _CSV_KINDS:
+        raise MalformedFile("line {}: no kind {!r}".format(line, kind))
+    try:
+        numbers = [int(text) if text else None for text in (number, length, delivered, missing)]
+        return Line(int(pdu), kind, numbers[0], numbers[1], cause or None, numbers[2], numbers[3])
+    except ValueError:
+        raise MalformedFile("line {}: a number is wrong".format(line)) from None
+
+
+def read_csv(source: Source) -> Csv:
+    """Reads the CSV that ``barzhilup log --format csv`` writes.
+
+    A log that was cut, by a kill or a full disk, is read as far as it goes, and is not whole; the line that it ends in, if that is cut, is left out. Any
+    other line that is none of a log raises :class:`MalformedFile`.
+    """
+    with _opened(source, "r") as file:
+        text = file.read()
+    ended = text.endswith("\n") or not text
+    rows = list(csv.reader(text.splitlines()))
+    if not ended:
+        rows.pop()
+    if not rows or rows[0] != _CSV_COLUMNS:
+        raise MalformedFile("the first line is not {}".format(",".join(_CSV_COLUMNS)))
+    lines: List[Line] = []
+    for line, row in enumerate(rows[1:], start=2):
+        if len(row) != len(_CSV_COLUMNS):
+            raise MalformedFile("line {}: {} columns".format(line, len(row)))
+        if row[1] == "end":
+            pdus = sum(entry.kind in ("received", "lost", "refused") for entry in lines)
+            if line != len(rows) or row != ["", "end", str(pdus), "", "whole", "", ""]:
+                raise MalformedFile("line {}: the last line has another count, or is not the last".format(line))
+            return Csv(lines, True)
+        lines.append(_csv_line(row, line))
+    return Csv(lines, False)
