@@ -1136,7 +1136,8 @@ barzhilup_open_receiver_entitled(uint8_t mode, uint8_t stream, uint8_t crc_start
  * is. Each packet is counted in the receiver's `delivered`, and those that its
  * number tells to be missing in `missing`. Where one of the two would pass
  * 4,294,967,295 the call is refused with 27: to go on, write both down, and set
- * them and `last` to 0.
+ * them and `last` to 0. Packets missing between the last one delivered before
+ * that and the first one after it are then in neither.
  *
  * If the PDU is accepted, `pdu` is left corrected, the first `words` words of
  * `log` are written, and the first `held` bytes of `carry` are the bytes held

@@ -107,6 +107,8 @@ pub enum Refusal {
     /// 4,294,967,295. A PDU that delivers no packet is never refused with it.
     /// To go on, write both down and [resume](crate::Receiver::resume) the
     /// state with `delivered`, `missing` and `last` 0.
+    /// Packets missing between the last one delivered before that and the
+    /// first one after it are then in neither.
     CountLimit,
 }
 
