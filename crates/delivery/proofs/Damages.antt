@@ -32,7 +32,7 @@ use Rattle.delivery.specs.Diversity.{WrongCrc, EntitledPairDelivery}
 use Rattle.delivery.specs.Bursts.{Hit, BurstDelivery}
 use Rattle.delivery.specs.Channel.{WrongOrHit, ChannelDelivery}
 use Rattle.delivery.proofs.Parts.{NoneRefused, logsFrom, EntriesFit, dueEntries, dueIndices, fit-entries, answerOf}
-use Rattle.delivery.proofs.SoundSteps.{Damage as CopyDamage, wrong, burst, Copy, causesFor, Came, pdusIn, Step as SoundStep, receives as takes, pairs as takesBoth, batches as takesAll, stops as takesSome, loses as misses, refuses as declines, callOf as soundCall, Takes as SoundTakes, AllCopies, Through as Goes, waysIn as soundWaysIn, ways as soundWays}
+use Rattle.delivery.proofs.SoundSteps.{PieceDamage, wrong, burst, Copy, causesFor, Came, pdusIn, Step as SoundStep, receives as takes, pairs as takesBoth, batches as takesAll, stops as takesSome, loses as misses, refuses as declines, callOf as soundCall, Takes as SoundTakes, AllCopies, Through as Goes, waysIn as soundWaysIn, ways as soundWays}
 use Rattle.delivery.proofs.Made.{bytes-drop, bytes-take}
 use Rattle.delivery.proofs.Counted.{adds-along}
 use Rattle.delivery.proofs.Channel.{Usable, sound-delivers, made-right}
@@ -95,7 +95,7 @@ module _ (register width : ℕ) (marks p q : List ℕ) (w : Usable p) (x : Damag
   hit-damage : (k : ℕ) → k < controlAt p .nop → asSent width p q k ≡ false → ¬ (pieceAt width p p k ≡ pieceAt width p (restored p q) k)
   hit-damage k h e s = true≢false (sym (same-itself (pieceAt width p p k)) ∙ ap (λ (l : List ℕ). sameBytes l (pieceAt width p p k)) s ∙ e)
 
-  damage : (k : ℕ) → k < controlAt p .nop → asSent width p q k ≡ false → WrongOrHit register width p (restored p q) k → CopyDamage register width p (restored p q) k
+  damage : (k : ℕ) → k < controlAt p .nop → asSent width p q k ≡ false → WrongOrHit register width p (restored p q) k → PieceDamage register width p (restored p q) k
   damage k h e (inl d) = wrong d
   damage k h e (inr d) = burst (hit-burst (pieceAt width p p k) (pieceAt width p (restored p q) k) (piece-bytes p (w .0) k) (piece-bytes (restored p q) bytes-right k) d (hit-damage k h e))
 

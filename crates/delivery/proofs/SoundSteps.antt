@@ -25,9 +25,9 @@ use Rattle.delivery.specs.Copies.{restored, frontLength, bytesAt, crcAt,
 
 module _ (register width : ℕ) (p : List ℕ) where
   -- what may have become of a piece that is not as sent: its CRC is wrong, or its altered bits, one at least, lie inside eight consecutive bits
-  pub data Damage (y : List ℕ) (k : ℕ) : Type 0 where
-    wrong : ¬ (crcFrom register (bytesAt width p y k) ≡ crcAt width p y k) → Damage y k
-    burst : Burst (pieceAt width p p k) (pieceAt width p y k) → Damage y k
+  pub data PieceDamage (y : List ℕ) (k : ℕ) : Type 0 where
+    wrong : ¬ (crcFrom register (bytesAt width p y k) ≡ crcAt width p y k) → PieceDamage y k
+    burst : Burst (pieceAt width p p k) (pieceAt width p y k) → PieceDamage y k
 
   -- q is p with its first 96 bytes altered and marked within the bound; bytes 96 to La are as sent, and so is each piece with its CRC byte where
   -- `sound` says so; any other is damaged
@@ -35,7 +35,7 @@ module _ (register width : ℕ) (p : List ℕ) where
     pub header : Correctable marks p q
     pub front : take (frontLength p) (restored p q) ≡ take (frontLength p) p
     pub whole : (k : ℕ) → k < controlAt p .nop → sound k ≡ true → (bytesAt width p (restored p q) k ≡ bytesAt width p p k) × (crcAt width p (restored p q) k ≡ crcAt width p p k)
-    pub found : (k : ℕ) → k < controlAt p .nop → sound k ≡ false → Damage (restored p q) k
+    pub found : (k : ℕ) → k < controlAt p .nop → sound k ≡ false → PieceDamage (restored p q) k
 
 -- the causes of its pieces
 abbrev pub causesFor : (ℕ → Bool) → ℕ → ℕ
