@@ -134,7 +134,7 @@ one-few : length one ≤ 4294967295
 one-few = let n : length one ≡ 1 = refl in omega (arith, n)
 
 abbrev logged : List ℕ
-logged = packetWords (logsFrom defined (freshStation defined 0 0 0 allPrograms carry) (receive [] (pdu 255) words ∷ []))
+logged = packetWords (logsFrom defined (freshStation defined 0 0 0 allPrograms carry) (receive (alone [] (pdu 255)) words ∷ []))
 
 due-fit : EntriesFit (dueEntries 0 0 allPrograms one once 0 (ways (takes [] (pdu 255) words (λ k. false) ∷ [])))
 due-fit = packets-fit _ one one-few
