@@ -143,7 +143,7 @@ abbrev batchLog : List ℕ
 batchLog = loggedBy defined fresh (callOf (batches (begins ∷ []) words))
 
 abbrev endLog : List ℕ
-endLog = loggedBy defined (freshStation defined 0 0 0 allPrograms carried) (receive [] ends words)
+endLog = loggedBy defined (freshStation defined 0 0 0 allPrograms carried) (receive (alone [] ends) words)
 
 batch-none : packetWords (batchLog ++ []) ≡ []
 unfolding wholePackets logWords

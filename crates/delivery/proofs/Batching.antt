@@ -28,11 +28,11 @@ use Rattle.batch.proofs.OneByOne.{followed-none, followed-twice, next-taken, fi
 use Rattle.runs.specs.Transmissions.{Way, gone, here}
 use Rattle.runs.proofs.Calls.{Speech, heard, Matching, Machine, Serves, Bridge, Step as Part, handed, waysHanded, Through as Goes, logsFrom as logsOf, finally, AllGood}
 use Rattle.runs.proofs.General.{Served, serve, countable-less}
-use Rattle.delivery.specs.Delivery.{concatenated, Station, Call, receive, batch, pair, markLost, defined, stationAfter, RefusedAfter, loggedBy}
+use Rattle.delivery.specs.Delivery.{concatenated, Station, Call, receive, batch, markLost, defined, stationAfter, RefusedAfter, loggedBy, alone, paired}
 use Rattle.delivery.proofs.Parts.{logCounts, answerOf, logOf}
 use Rattle.delivery.proofs.SoundSteps.{Copy, causesFor, Came, pdusIn, Step, receives, pairs, batches, stops, loses, refuses, callOf, Takes, waysIn}
 use Rattle.delivery.proofs.Serving.{rightsBy}
-use Rattle.delivery.proofs.Bridge.{stations, copied, paired, losing, refusing, Speaks, StandsFor, bridge}
+use Rattle.delivery.proofs.Bridge.{stations, copied, doubled, losing, refusing, Speaks, StandsFor, bridge}
 
 -- these PDUs come as these
 abbrev pub EachCopy : (register width : ℕ) → List (List ℕ) → List Came → Type 0
@@ -83,32 +83,32 @@ module _ (mode stream register entitled : ℕ) (m : Mode) (l : listing mode stre
 
   -- the log that is left after a PDU
   abbrev leftAfter : Station → List ℕ → List ℕ → List ℕ
-  leftAfter x q log = drop (answerOf x (receive [] q log) .words) (logOf x (receive [] q log))
+  leftAfter x q log = drop (answerOf x (receive (alone [] q) log) .words) (logOf x (receive (alone [] q) log))
 
   unfoldable singles : Station → List ℕ → List Came → List (List ℕ) → List (Part one)
   singles x log [] ps = []
   singles x log (c ∷ cs) [] = []
   singles x log (c ∷ cs) (p ∷ ps) =
-      record { call = receive [] (c .pdu) log; pdus = p ∷ []; ways = here (causesFor (c .sound)) ∷ [] }
-      ∷ singles (stationAfter defined x (receive [] (c .pdu) log)) (leftAfter x (c .pdu) log) cs ps
+      record { call = receive (alone [] (c .pdu)) log; pdus = p ∷ []; ways = here (causesFor (c .sound)) ∷ [] }
+      ∷ singles (stationAfter defined x (receive (alone [] (c .pdu)) log)) (leftAfter x (c .pdu) log) cs ps
 
   unfoldable logLeft : Station → List ℕ → List Came → List ℕ
   logLeft x log [] = log
-  logLeft x log (c ∷ cs) = logLeft (stationAfter defined x (receive [] (c .pdu) log)) (leftAfter x (c .pdu) log) cs
+  logLeft x log (c ∷ cs) = logLeft (stationAfter defined x (receive (alone [] (c .pdu)) log)) (leftAfter x (c .pdu) log) cs
 
   handed-are : (cs : List Came) (ps : List (List ℕ)) (x : Station) (log : List ℕ) → EachCopy register (m .width) ps cs → handed one (singles x log cs ps) ≡ ps
   unfolding singles
   handed-are [] [] x log h = refl
   handed-are [] (p ∷ ps) x log h = absurd h
   handed-are (c ∷ cs) [] x log h = absurd h
-  handed-are (c ∷ cs) (p ∷ ps) x log h = ap (λ (k : List (List ℕ)). p ∷ k) (handed-are cs ps (stationAfter defined x (receive [] (c .pdu) log)) (leftAfter x (c .pdu) log) (h .1))
+  handed-are (c ∷ cs) (p ∷ ps) x log h = ap (λ (k : List (List ℕ)). p ∷ k) (handed-are cs ps (stationAfter defined x (receive (alone [] (c .pdu)) log)) (leftAfter x (c .pdu) log) (h .1))
 
   ways-are : (cs : List Came) (ps : List (List ℕ)) (x : Station) (log : List ℕ) → EachCopy register (m .width) ps cs → waysHanded one (singles x log cs ps) ≡ waysIn cs
   unfolding singles
   ways-are [] [] x log h = refl
   ways-are [] (p ∷ ps) x log h = absurd h
   ways-are (c ∷ cs) [] x log h = absurd h
-  ways-are (c ∷ cs) (p ∷ ps) x log h = ap (λ (k : List Way). here (causesFor (c .sound)) ∷ k) (ways-are cs ps (stationAfter defined x (receive [] (c .pdu) log)) (leftAfter x (c .pdu) log) (h .1))
+  ways-are (c ∷ cs) (p ∷ ps) x log h = ap (λ (k : List Way). here (causesFor (c .sound)) ∷ k) (ways-are cs ps (stationAfter defined x (receive (alone [] (c .pdu)) log)) (leftAfter x (c .pdu) log) (h .1))
 
   -- each has a log that suffices
   goes : (cs : List Came) (ps : List (List ℕ)) (x : Station) (log : List ℕ) → EachCopy register (m .width) ps cs → 8400 * length cs ≤ length log → Goes one x (singles x log cs ps)
@@ -119,19 +119,19 @@ module _ (mode stream register entitled : ℕ) (m : Mode) (l : listing mode stre
   goes (c ∷ cs) (p ∷ ps) x log h big =
       let w = words-most [] (x .carry) (c .pdu) log (x .receiver) (all-bytes (c .pdu) (h .0 .header .bytes)) in
       let n = log-long [] (x .carry) (c .pdu) log (x .receiver) in
-      let d = length-drop (answerOf x (receive [] (c .pdu) log) .words) (logOf x (receive [] (c .pdu) log)) in
-      (copied {log = log} (h .0) (omega (arith, big)), goes cs ps (stationAfter defined x (receive [] (c .pdu) log)) (leftAfter x (c .pdu) log) (h .1) (omega (arith, w, n, d, big)))
+      let d = length-drop (answerOf x (receive (alone [] (c .pdu)) log) .words) (logOf x (receive (alone [] (c .pdu)) log)) in
+      (copied {log = log} (h .0) (omega (arith, big)), goes cs ps (stationAfter defined x (receive (alone [] (c .pdu)) log)) (leftAfter x (c .pdu) log) (h .1) (omega (arith, w, n, d, big)))
 
   -- ---- a call's words are those that it counts
 
-  taken-logged : (x : Station) (q log : List ℕ) → answerOf x (receive [] q log) .refusal ≡ 0
-      → (loggedBy defined x (receive [] q log) ≡ take (answerOf x (receive [] q log) .words) (logOf x (receive [] q log))) × (length (loggedBy defined x (receive [] q log)) ≡ answerOf x (receive [] q log) .words)
+  taken-logged : (x : Station) (q log : List ℕ) → answerOf x (receive (alone [] q) log) .refusal ≡ 0
+      → (loggedBy defined x (receive (alone [] q) log) ≡ take (answerOf x (receive (alone [] q) log) .words) (logOf x (receive (alone [] q) log))) × (length (loggedBy defined x (receive (alone [] q) log)) ≡ answerOf x (receive (alone [] q) log) .words)
   taken-logged x q log h =
-      let t : eqb (answerOf x (receive [] q log) .refusal) 0 ≡ true = eq-eqb (answerOf x (receive [] q log) .refusal) 0 h in
+      let t : eqb (answerOf x (receive (alone [] q) log) .refusal) 0 ≡ true = eq-eqb (answerOf x (receive (alone [] q) log) .refusal) 0 h in
       let w = words-fit [] (x .carry) q log (x .receiver) in
       let n = log-long [] (x .carry) q log (x .receiver) in
-      let e : loggedBy defined x (receive [] q log) ≡ take (answerOf x (receive [] q log) .words) (logOf x (receive [] q log)) = rw t in
-      (e, ap length e ∙ length-take-le (answerOf x (receive [] q log) .words) (logOf x (receive [] q log)) (omega (arith, w, n)))
+      let e : loggedBy defined x (receive (alone [] q) log) ≡ take (answerOf x (receive (alone [] q) log) .words) (logOf x (receive (alone [] q) log)) = rw t in
+      (e, ap length e ∙ length-take-le (answerOf x (receive (alone [] q) log) .words) (logOf x (receive (alone [] q) log)) (omega (arith, w, n)))
 
   -- ---- the PDUs one by one, in the batch and alone
 
@@ -149,11 +149,11 @@ module _ (mode stream register entitled : ℕ) (m : Mode) (l : listing mode stre
   joins (c ∷ cs) [] x log ls bytes h g = absurd h
   joins (c ∷ cs) (p ∷ ps) x log ls bytes h g =
       let q : List ℕ = c .pdu in
-      let y : Station = stationAfter defined x (receive [] q log) in
+      let y : Station = stationAfter defined x (receive (alone [] q) log) in
       let k : List ℕ = leftAfter x q log in
       let r = joins cs ps y k ls bytes (h .1) (g .1) in
-      let n : ℕ = answerOf x (receive [] q log) .words in
-      let v : List ℕ = loggedBy defined x (receive [] q log) in
+      let n : ℕ = answerOf x (receive (alone [] q) log) .words in
+      let v : List ℕ = loggedBy defined x (receive (alone [] q) log) in
       let w : List ℕ = logsOf one y (singles y k cs ps) in
       let f = taken-logged x q log (g .0) in
       let long : n + length w ≡ length (v ++ w) = ap (λ (i : ℕ). i + length w) (sym (f .1)) ∙ sym (length-append v w) in
@@ -162,8 +162,8 @@ module _ (mode stream register entitled : ℕ) (m : Mode) (l : listing mode stre
       record {
         pdus = pduAfter [] (x .carry) q log (x .receiver) ++ r .pdus;
         is = next-taken (length q) (map length (pdusIn cs) ++ ls) (x .receiver) (x .carry) ((q ++ concatenated (pdusIn cs)) ++ bytes) log (concatenated (pdusIn cs) ++ bytes) q refl (append-assoc q (concatenated (pdusIn cs)) bytes) (g .0)
-            ∙ ap (followed 1 n (pduAfter [] (x .carry) q log (x .receiver)) (take n (logOf x (receive [] q log)))) (r .is)
-            ∙ followed-twice 1 (length cs) n (length w) (pduAfter [] (x .carry) q log (x .receiver)) (r .pdus) (take n (logOf x (receive [] q log))) w z
+            ∙ ap (followed 1 n (pduAfter [] (x .carry) q log (x .receiver)) (take n (logOf x (receive (alone [] q) log)))) (r .is)
+            ∙ followed-twice 1 (length cs) n (length w) (pduAfter [] (x .carry) q log (x .receiver)) (r .pdus) (take n (logOf x (receive (alone [] q) log))) w z
             ∙ ap₂ (λ (i : ℕ) (u : List ℕ). followed i (n + length w) (pduAfter [] (x .carry) q log (x .receiver) ++ r .pdus) (u ++ w) z) count (sym (f .0))
             ∙ ap (λ (i : ℕ). followed (suc (length cs)) i (pduAfter [] (x .carry) q log (x .receiver) ++ r .pdus) (v ++ w) z) long;
       }
@@ -299,8 +299,8 @@ module _ (mode stream register entitled : ℕ) (m : Mode) (l : listing mode stre
   -- the calls of a batch's PDUs serve their part of the run
   module _ (x : Station) (y : Holder) (cs : List Came) (ps : List (List ℕ)) (ds : List Speech) (log : List ℕ) (s : Stands x y) (each : EachCopy register (m .width) ps cs) (big : 8400 * length cs ≤ length log) (g : Spoken ps ds)
       (fits : Countable (after rights (m .sequences) y (heard (waysIn cs) ds) .tally)) where
-    alone : Served rights (m .sequences) stations one x y (singles x log cs ps) (heard (waysIn cs) ds)
-    alone =
+    singly : Served rights (m .sequences) stations one x y (singles x log cs ps) (heard (waysIn cs) ds)
+    singly =
         subst (λ (ws : List Way). Served rights (m .sequences) stations one x y (singles x log cs ps) (heard ws ds)) (ways-are cs ps x log each)
         (serve rights (m .sequences) stations one (singles x log cs ps) x y ds s (goes cs ps x log each big) (subst (λ (k : List (List ℕ)). Spoken k ds) (sym (handed-are cs ps x log each)) g)
         (subst (λ (ws : List Way). Countable (after rights (m .sequences) y (heard ws ds) .tally)) (sym (ways-are cs ps x log each)) fits))
@@ -308,24 +308,24 @@ module _ (mode stream register entitled : ℕ) (m : Mode) (l : listing mode stre
     together : (s : Step) (lengths pdus : List ℕ) → callOf s ≡ batch lengths pdus log → Does x lengths pdus log (finally one x (singles x log cs ps)) (logsOf one x (singles x log cs ps))
         → Serves rights (m .sequences) steps Stands x y s (heard (waysIn cs) ds)
     together s lengths pdus e d = record {
-      log = ap (loggedBy defined x) e ∙ d .logs ∙ alone .log;
-      fit = alone .fit;
-      stands = subst (λ (z : Station). Stands z (after rights (m .sequences) y (heard (waysIn cs) ds))) (sym (ap (stationAfter defined x) e ∙ d .station)) (alone .stands);
+      log = ap (loggedBy defined x) e ∙ d .logs ∙ singly .log;
+      fit = singly .fit;
+      stands = subst (λ (z : Station). Stands z (after rights (m .sequences) y (heard (waysIn cs) ds))) (sym (ap (stationAfter defined x) e ∙ d .station)) (singly .stands);
     }
 
   pub serves : (x : Station) (y : Holder) (s : Step) (ps : List (List ℕ)) (ws : List Way) (ds : List Speech) → Stands x y → Handing x s ps ws → Spoken ps ds
       → Countable (after rights (m .sequences) y (heard ws ds) .tally) → Takes s (answerOf x (callOf s)) × Serves rights (m .sequences) steps Stands x y s (heard ws ds)
   serves x y s ps ws ds t (receiving {marks = n} {p = p} {q = q} {log = log} {sound = v} a b) g fits =
-      let r = one .serves x y (receive n q log) (p ∷ []) (here (causesFor v) ∷ []) ds t (copied a b) g fits in
+      let r = one .serves x y (receive (alone n q) log) (p ∷ []) (here (causesFor v) ∷ []) ds t (copied a b) g fits in
       (r .0, record { log = r .1 .log; fit = r .1 .fit; stands = r .1 .stands })
   serves x y s ps ws ds t (pairing {p = p} {q = q} {r = k} {log = log} {sound = u} {other = v} a b h) g fits =
-      let r = one .serves x y (pair q k log) (p ∷ []) (here (causesFor (λ n. u n || v n)) ∷ []) ds t (paired a b h) g fits in
+      let r = one .serves x y (receive (paired q k) log) (p ∷ []) (here (causesFor (λ n. u n || v n)) ∷ []) ds t (doubled a b h) g fits in
       (r .0, record { log = r .1 .log; fit = r .1 .fit; stands = r .1 .stands })
   serves x y s ps ws ds t (batching {cs = cs} {log = log} e b) g fits =
-      let k = alone x y cs ps ds log t e b g fits in
+      let k = singly x y cs ps ds log t e b g fits in
       (batch-taken cs ps x log e (k .good) (t .right) (t .room), together x y cs ps ds log t e b g fits (batches cs log) _ _ refl (batch-does cs ps x log e (k .good) (t .right) (t .room)))
   serves x y s ps ws ds t (stopping {cs = cs} {ls = ls} {bytes = bytes} {log = log} e b r) g fits =
-      let k = alone x y cs ps ds log t e b g fits in
+      let k = singly x y cs ps ds log t e b g fits in
       (tt, together x y cs ps ds log t e b g fits (stops cs ls bytes log) _ _ refl (batch-stops cs ps x log e (k .good) ls bytes r))
   serves x y s ps ws ds t (missing {p = p} {log = log} b) g fits =
       let r = one .serves x y (markLost log) (p ∷ []) (gone ∷ []) ds t (losing b) g fits in

@@ -37,7 +37,7 @@ use Rattle.runs.proofs.General.{countable-less}
 use Rattle.batch.proofs.Single.{kept}
 use Rattle.batch.proofs.OneByOne.{none-taken}
 use Rattle.delivery.proofs.Parts.{answerOf}
-use Rattle.delivery.specs.Delivery.{Station, Call, receive, batch, pair, markLost, stationAfter, takenBy, RefusedAfter, loggedBy, defined, HeaderAltered}
+use Rattle.delivery.specs.Delivery.{Station, Call, receive, batch, markLost, stationAfter, takenBy, RefusedAfter, loggedBy, defined, HeaderAltered, alone, paired}
 use Rattle.delivery.specs.Copies.{frontLength, restored, bytesAt, crcAt}
 use Rattle.delivery.proofs.SoundSteps.{Copy, causesFor}
 use Rattle.diversity.specs.Diversity.{pairSaid, pairCome}
@@ -56,13 +56,13 @@ kept-by false n a r k e z h = refl
 
 station-kept : (x : Station) (c : Call) → RefusedAfter defined 0 x c → stationAfter defined x c ≡ x
 unfolding lostAnswer
-station-kept x (receive n q log) h =
+station-kept x (receive (alone n q) log) h =
     let k = kept n (x .carry) q log (x .receiver) (h .0) in
     ap₂ (λ (r : Receiver) (c : List ℕ). record { receiver = r; carry = c }) (k .receiver) (k .carry′)
 station-kept x (batch lengths pdus log) h =
     let k = none-taken lengths (x .carry) pdus log (x .receiver) (h .0) (h .1) in
     ap₂ (λ (r : Receiver) (c : List ℕ). record { receiver = r; carry = c }) (k .0) (k .1)
-station-kept x (pair q r log) h =
+station-kept x (receive (paired q r) log) h =
     let k = pair-kept (x .carry) q r log (x .receiver) (h .0) in
     ap₂ (λ (r : Receiver) (c : List ℕ). record { receiver = r; carry = c }) (k .0) (k .1)
 station-kept x (markLost log) h =
@@ -85,9 +85,9 @@ noCauses k = 0
 
 -- How a call hands over a PDU of a run, or none. A new kind of call is a new line here, and a case of `serves`.
 pub data Handing (register width : ℕ) (x : Station) : Call → List (List ℕ) → List Way → Type 0 where
-  copied : {marks p q log : List ℕ} {sound : ℕ → Bool} → Copy register width p marks q sound → 8400 ≤ length log → Handing register width x (receive marks q log) (p ∷ []) (here (causesFor sound) ∷ [])
-  paired : {p q r log : List ℕ} {sound other : ℕ → Bool} → Copy register width p [] q sound → Copy register width p [] r other → 8400 ≤ length log
-      → Handing register width x (pair q r log) (p ∷ []) (here (causesFor (λ k. sound k || other k)) ∷ [])
+  copied : {marks p q log : List ℕ} {sound : ℕ → Bool} → Copy register width p marks q sound → 8400 ≤ length log → Handing register width x (receive (alone marks q) log) (p ∷ []) (here (causesFor sound) ∷ [])
+  doubled : {p q r log : List ℕ} {sound other : ℕ → Bool} → Copy register width p [] q sound → Copy register width p [] r other → 8400 ≤ length log
+      → Handing register width x (receive (paired q r) log) (p ∷ []) (here (causesFor (λ k. sound k || other k)) ∷ [])
   losing : {p log : List ℕ} → 8400 ≤ length log → Handing register width x (markLost log) (p ∷ []) (gone ∷ [])
   refusing : {c : Call} → RefusedAfter defined 0 x c → Handing register width x c [] []
 
@@ -97,7 +97,7 @@ Accepted x c (p ∷ ps) = answerOf x c .refusal ≡ 0
 
 pub as-many : (register width : ℕ) (x : Station) (c : Call) (ps : List (List ℕ)) (ws : List Way) → Handing register width x c ps ws → length ws ≡ length ps
 as-many register width x c ps ws (copied a b) = refl
-as-many register width x c ps ws (paired a b h) = refl
+as-many register width x c ps ws (doubled a b h) = refl
 as-many register width x c ps ws (losing b) = refl
 as-many register width x c ps ws (refusing h) = refl
 
@@ -272,14 +272,14 @@ module _ (mode stream register entitled : ℕ) (m : Mode) (l : listing mode stre
       let er = copy-received p d (g .0) n q sound a y in
       let w = subst (λ (z : Holder). Countable (z .tally)) (sym (copy-holder p d (g .0) n q sound a y)) k in (
         receive-accepted mode stream register entitled m l range x y s n q log u hq sn lo na b big w,
-        serves-one rights (m .sequences) stations StandsFor x y (receive n q log) (came (d (causesFor sound)))
+        serves-one rights (m .sequences) stations StandsFor x y (receive (alone n q) log) (came (d (causesFor sound)))
             (receive-logged mode stream register entitled m l range x y s n q log u hq sn lo na b big w ∙ ap (λ (o : Outcome). logWords (o .entries)) er)
             (subst (λ (o : Outcome). FitAll (o .entries)) er (fit-received (m .sequences) (y .memory) (saidTo rights (m .sequences) y u) (s .sane) (sane-shown rights (m .sequences) y u sn) .0))
-            (subst (λ (z : Holder). Shows mode stream register entitled m l range (stationAfter defined x (receive n q log)) z) (copy-holder p d (g .0) n q sound a y) (receive-shows mode stream register entitled m l range x y s n q log u hq sn lo na b big w)),
+            (subst (λ (z : Holder). Shows mode stream register entitled m l range (stationAfter defined x (receive (alone n q) log)) z) (copy-holder p d (g .0) n q sound a y) (receive-shows mode stream register entitled m l range x y s n q log u hq sn lo na b big w)),
       )
-  serves x y c ps ws [] s (paired a b h) g k = absurd g
-  serves x y c ps ws (d ∷ e ∷ ds) s (paired a b h) g k = absurd (g .1)
-  serves x y c ps ws (d ∷ []) s (paired {p = p} {q = q} {r = r} {log = log} {sound = i} {other = j} a b big) g fits =
+  serves x y c ps ws [] s (doubled a b h) g k = absurd g
+  serves x y c ps ws (d ∷ e ∷ ds) s (doubled a b h) g k = absurd (g .1)
+  serves x y c ps ws (d ∷ []) s (doubled {p = p} {q = q} {r = r} {log = log} {sound = i} {other = j} a b big) g fits =
       let u : Come = readPair p d (g .0) q r i j a b in
       let k = all-bytes q (a .header .bytes) in
       let h = copies-pass p d (g .0) q r i j a b x y log s in
@@ -289,10 +289,10 @@ module _ (mode stream register entitled : ℕ) (m : Mode) (l : listing mode stre
       let er = pair-received p d (g .0) q r i j a b y in
       let w = subst (λ (z : Holder). Countable (z .tally)) (sym (pair-holder p d (g .0) q r i j a b y)) fits in (
         pair-accepted mode stream register entitled m l range x y s q r log u h refl sn lo na k big w,
-        serves-one rights (m .sequences) stations StandsFor x y (pair q r log) (came (d (causesFor (λ n. i n || j n))))
+        serves-one rights (m .sequences) stations StandsFor x y (receive (paired q r) log) (came (d (causesFor (λ n. i n || j n))))
             (pair-logged mode stream register entitled m l range x y s q r log u h refl sn lo na k big w ∙ ap (λ (o : Outcome). logWords (o .entries)) er)
             (subst (λ (o : Outcome). FitAll (o .entries)) er (fit-received (m .sequences) (y .memory) (saidTo rights (m .sequences) y u) (s .sane) (sane-shown rights (m .sequences) y u sn) .0))
-            (subst (λ (z : Holder). Shows mode stream register entitled m l range (stationAfter defined x (pair q r log)) z) (pair-holder p d (g .0) q r i j a b y) (pair-shows mode stream register entitled m l range x y s q r log u h refl sn lo na k big w)),
+            (subst (λ (z : Holder). Shows mode stream register entitled m l range (stationAfter defined x (receive (paired q r) log)) z) (pair-holder p d (g .0) q r i j a b y) (pair-shows mode stream register entitled m l range x y s q r log u h refl sn lo na k big w)),
       )
   serves x y c ps ws [] s (losing b) g k = absurd g
   serves x y c ps ws (d ∷ e ∷ ds) s (losing b) g k = absurd (g .1)

@@ -35,7 +35,7 @@ use Rattle.runs.proofs.Promise.{arrivedBy, indices}
 use Rattle.runs.proofs.Calls.{Load, labelsOf, LoadsFit, Machine, spansFrom as spansOfLoads, speechesFrom, Matching, Bridge, Step as Part, handed, waysHanded, Through as Goes, logsFrom as logsOf, finally as lastOf, AllGood}
 use Rattle.runs.proofs.General.{Asked as RunAsked, general}
 use Rattle.runs.proofs.Promised.{arrivals-told, promised}
-use Rattle.delivery.specs.Delivery.{Packets, Writing, pdusFrom, spansFrom, InOrder, Station, receive, pair, markLost, defined, stationAfter, loggedBy, finally, runOf}
+use Rattle.delivery.specs.Delivery.{Packets, Writing, pdusFrom, spansFrom, InOrder, Station, receive, markLost, defined, stationAfter, loggedBy, finally, runOf, alone, paired}
 use Rattle.delivery.proofs.Parts.{freshStation, NoneRefused, logsFrom, made as madeBy, spans as spansOf, EntriesFit, dueEntries, dueIndices}
 use Rattle.delivery.proofs.SoundSteps.{causesFor, Came, Step, receives, pairs, batches, stops, loses, refuses, callOf, AllCopies, Through, Takes, waysIn, ways, Asked, Delivered, SoundDelivery}
 use Rattle.delivery.specs.Entitlement.{labelsFrom, rightsFor}
@@ -139,10 +139,10 @@ module _ (mode stream register entitled : ℕ) (m : Mode) (l : listing mode stre
   parted [] x (p ∷ pdus) t = absurd t
   parted (receives n q log v ∷ ss) x [] t = absurd t
   parted (receives n q log v ∷ ss) x (p ∷ pdus) t =
-      with-call (receives n q log v) ss x (p ∷ []) pdus (here (causesFor v) ∷ []) (receiving (t .0) (t .1)) (parts ss pdus) (parted ss (stationAfter defined x (receive n q log)) pdus (t .2)) (p ∷ pdus) refl refl
+      with-call (receives n q log v) ss x (p ∷ []) pdus (here (causesFor v) ∷ []) (receiving (t .0) (t .1)) (parts ss pdus) (parted ss (stationAfter defined x (receive (alone n q) log)) pdus (t .2)) (p ∷ pdus) refl refl
   parted (pairs q r log u v ∷ ss) x [] t = absurd t
   parted (pairs q r log u v ∷ ss) x (p ∷ pdus) t =
-      with-call (pairs q r log u v) ss x (p ∷ []) pdus (here (causesFor (λ k. u k || v k)) ∷ []) (pairing (t .0) (t .1) (t .2)) (parts ss pdus) (parted ss (stationAfter defined x (pair q r log)) pdus (t .3)) (p ∷ pdus) refl refl
+      with-call (pairs q r log u v) ss x (p ∷ []) pdus (here (causesFor (λ k. u k || v k)) ∷ []) (pairing (t .0) (t .1) (t .2)) (parts ss pdus) (parted ss (stationAfter defined x (receive (paired q r) log)) pdus (t .3)) (p ∷ pdus) refl refl
   parted (batches cs log ∷ ss) x pdus t =
       with-call (batches cs log) ss x (take (length cs) pdus) (drop (length cs) pdus) (waysIn cs) (batching (first-copies register (m .width) cs pdus (t .0)) (batch-room register (m .width) x pdus cs log ss t)) (parts ss (drop (length cs) pdus))
       (parted ss (stationAfter defined x (callOf (batches cs log))) (drop (length cs) pdus) (t .2)) pdus (take-append-drop (length cs) pdus) refl

@@ -38,7 +38,7 @@ use Rattle.writer.specs.RoundTrip.{Bytes}
 use Rattle.delivery.proofs.Made.{bytes-of, bytes-drop, bytes-take}
 use Rattle.delivery.specs.Delivery.{Correctable}
 use Rattle.delivery.specs.Copies.{frontLength, restored, bytesAt, crcAt}
-use Rattle.delivery.proofs.SoundSteps.{Damage, wrong, burst, Copy, causesFor}
+use Rattle.delivery.proofs.SoundSteps.{PieceDamage, wrong, burst, Copy, causesFor}
 
 -- ---- bytes that agree up to a place
 
@@ -204,7 +204,7 @@ module _ (register width : ℕ) (p marks q : List ℕ) (sound : ℕ → Bool) (w
       }
 
   -- a damaged piece has a wrong CRC
-  found-wrong : (k : ℕ) → k < c .nop → Damage register width p y k → ¬ (crcFrom register (bytesAt width p y k) ≡ crcAt width p y k)
+  found-wrong : (k : ℕ) → k < c .nop → PieceDamage register width p y k → ¬ (crcFrom register (bytesAt width p y k) ≡ crcAt width p y k)
   found-wrong k h (wrong n) = n
   found-wrong k h (burst b) = burst-found register (crcAt width p p k) (crcAt width p y k) (bytesAt width p p k) (bytesAt width p y k) (w .right k h) b
 

@@ -25,14 +25,14 @@ use Rattle.runs.specs.Transmissions.{Way, gone, here}
 use Rattle.runs.proofs.Spans.{entries-are}
 use Rattle.diversity.specs.Diversity.{sameBytes}
 use Rattle.diversity.proofs.Bytes.{same-itself, same-true}
-use Rattle.delivery.specs.Delivery.{concatenated, Station, Call, receive, pair, batch, markLost, Behaviour, defined, stationAfter, RefusedAfter, HeaderAltered, Coming, Copies, alone, paired, Comes, AllCome, Step, receives, batches, stops, loses, refuses, callOf, Takes, Through, finally, Run, runOf, made, freshStation, spans, Asked}
+use Rattle.delivery.specs.Delivery.{concatenated, Station, Call, receive, batch, markLost, Behaviour, defined, stationAfter, RefusedAfter, HeaderAltered, Coming, Copies, alone, paired, Comes, AllCome, Step, receives, batches, stops, loses, refuses, callOf, Takes, Through, finally, Run, runOf, made, freshStation, spans, Asked}
 use Rattle.delivery.specs.Copies.{frontLength, restored, bytesAt, crcAt, pieceAt, asSent, soundIn, cameAs, Damage, Damaged, waysIn, waysFrom, widthIn}
 use Rattle.delivery.specs.Entitlement.{EntitledDelivery, forPrograms, fates}
 use Rattle.delivery.specs.Diversity.{WrongCrc, EntitledPairDelivery}
 use Rattle.delivery.specs.Bursts.{Hit, BurstDelivery}
 use Rattle.delivery.specs.Channel.{WrongOrHit, ChannelDelivery}
 use Rattle.delivery.proofs.Parts.{NoneRefused, logsFrom, EntriesFit, dueEntries, dueIndices, fit-entries, answerOf}
-use Rattle.delivery.proofs.SoundSteps.{Damage as CopyDamage, wrong, burst, Copy, causesFor, Came, pdusIn, Step as SoundStep, receives as takes, pairs as takesBoth, batches as takesAll, stops as takesSome, loses as misses, refuses as declines, callOf as soundCall, Takes as SoundTakes, AllCopies, Through as Goes, waysIn as soundWaysIn, ways as soundWays}
+use Rattle.delivery.proofs.SoundSteps.{PieceDamage, wrong, burst, Copy, causesFor, Came, pdusIn, Step as SoundStep, receives as takes, pairs as takesBoth, batches as takesAll, stops as takesSome, loses as misses, refuses as declines, callOf as soundCall, Takes as SoundTakes, AllCopies, Through as Goes, waysIn as soundWaysIn, ways as soundWays}
 use Rattle.delivery.proofs.Made.{bytes-drop, bytes-take}
 use Rattle.delivery.proofs.Counted.{adds-along}
 use Rattle.delivery.proofs.Channel.{Usable, sound-delivers, made-right}
@@ -95,7 +95,7 @@ module _ (register width : ℕ) (marks p q : List ℕ) (w : Usable p) (x : Damag
   hit-damage : (k : ℕ) → k < controlAt p .nop → asSent width p q k ≡ false → ¬ (pieceAt width p p k ≡ pieceAt width p (restored p q) k)
   hit-damage k h e s = true≢false (sym (same-itself (pieceAt width p p k)) ∙ ap (λ (l : List ℕ). sameBytes l (pieceAt width p p k)) s ∙ e)
 
-  damage : (k : ℕ) → k < controlAt p .nop → asSent width p q k ≡ false → WrongOrHit register width p (restored p q) k → CopyDamage register width p (restored p q) k
+  damage : (k : ℕ) → k < controlAt p .nop → asSent width p q k ≡ false → WrongOrHit register width p (restored p q) k → PieceDamage register width p (restored p q) k
   damage k h e (inl d) = wrong d
   damage k h e (inr d) = burst (hit-burst (pieceAt width p p k) (pieceAt width p (restored p q) k) (piece-bytes p (w .0) k) (piece-bytes (restored p q) bytes-right k) d (hit-damage k h e))
 
@@ -243,10 +243,10 @@ module _ (register width : ℕ) where
       (λ a. tt)
   same (receives copies log ∷ ss) x [] u t = absurd t
   same (receives (alone marks q) log ∷ ss) x (p ∷ ps) u t =
-      let r = same ss (stationAfter defined x (receive marks q log)) ps (u .1) (t .2) in
+      let r = same ss (stationAfter defined x (receive (alone marks q) log)) ps (u .1) (t .2) in
       with-call (receives (alone marks q) log) (takes marks q log (asSent width p q)) refl ss (over width ps ss) x ps r (p ∷ ps) (as-copy register width marks p q (u .0) (t .0), receive-room ss x (alone marks q) p log ps t, r .goes) (λ a. a)
   same (receives (paired q k) log ∷ ss) x (p ∷ ps) u t =
-      let r = same ss (stationAfter defined x (pair q k log)) ps (u .1) (t .2) in
+      let r = same ss (stationAfter defined x (receive (paired q k) log)) ps (u .1) (t .2) in
       with-call (receives (paired q k) log) (takesBoth q k log (asSent width p q) (asSent width p k)) refl ss (over width ps ss) x ps r (p ∷ ps)
       (as-copy register width [] p q (u .0) (t .0 .0), as-copy register width [] p k (u .0) (t .0 .1), receive-room ss x (paired q k) p log ps t, r .goes) (λ a. a)
   same (loses log ∷ ss) x [] u t = absurd t

@@ -35,7 +35,7 @@ use Rattle.diversity.specs.Diversity.{correctable, sameBytes, pairSaid, pairCom
 use Rattle.diversity.proofs.Bytes.{same-itself}
 use Rattle.pair.proofs.Enough.{Passes, taken, passes-taken, passes-most}
 use Rattle.delivery.proofs.Parts.{answerOf}
-use Rattle.delivery.specs.Delivery.{Station, pair, ofOne, stationAfter, loggedBy, defined}
+use Rattle.delivery.specs.Delivery.{Station, ofOne, stationAfter, loggedBy, defined, paired, receive}
 use Rattle.delivery.proofs.Copies.{same-slice}
 use Rattle.delivery.proofs.Made.{Heard}
 use Rattle.delivery.proofs.Serving.{rightsBy, Shows, mode-is, taking, outcome-is, tally-is, taking-shows, loggedAlone}
@@ -144,17 +144,17 @@ module _ (mode stream register entitled : ℕ) (m : Mode) (l : listing mode stre
       all-taken : pairReceived carry p q log r ≡ taken carry p q log r
       all-taken = passes-taken carry p q log r h (let n = passes-most carry p q log r h bytes in omega (arith, n, big)) not-over
 
-      pub pair-accepted : answerOf x (pair p q log) .refusal ≡ 0
+      pub pair-accepted : answerOf x (receive (paired p q) log) .refusal ≡ 0
       pair-accepted = ap (λ (z : Result). z .answer .refusal) all-taken
 
-      pub pair-logged : loggedBy defined x (pair p q log) ≡ logWords (received (m .sequences) (y .memory) (saidTo (rightsBy entitled stream m) (m .sequences) y d) .entries)
+      pub pair-logged : loggedBy defined x (receive (paired p q) log) ≡ logWords (received (m .sequences) (y .memory) (saidTo (rightsBy entitled stream m) (m .sequences) y d) .entries)
       pair-logged =
           ap (λ (z : Result). loggedAlone (ofOne (z .answer)) (z .log)) all-taken
           ∙ take-put log (pairWords carry p q log r)
           ∙ ap (λ (o : Outcome). logWords (o .entries)) (outcome-is mode stream register entitled m l range x y v (come carry p q log r) d come-is)
 
-      pub pair-shows : Shows mode stream register entitled m l range (stationAfter defined x (pair p q log)) (holderFor (rightsBy entitled stream m) (m .sequences) y (came d))
+      pub pair-shows : Shows mode stream register entitled m l range (stationAfter defined x (receive (paired p q) log)) (holderFor (rightsBy entitled stream m) (m .sequences) y (came d))
       pair-shows =
-          let e : stationAfter defined x (pair p q log) ≡ taking mode stream register entitled m l range x (come carry p q log r) = ap (λ (u : Result). record { receiver = u .answer .receiver; carry = u .carry }) all-taken in
+          let e : stationAfter defined x (receive (paired p q) log) ≡ taking mode stream register entitled m l range x (come carry p q log r) = ap (λ (u : Result). record { receiver = u .answer .receiver; carry = u .carry }) all-taken in
           subst (λ (t : Station). Shows mode stream register entitled m l range t (holderFor (rightsBy entitled stream m) (m .sequences) y (came d))) (sym e)
           (taking-shows mode stream register entitled m l range x y v (come carry p q log r) d come-is s below narrow)

@@ -17,7 +17,7 @@ use Rattle.receiver.specs.declared.Receiver.{Receiver}
 use Rattle.diversity.specs.Diversity.{Choice, neither, theFirst, theSecond, choiceOf}
 use Rattle.delivery.proofs.Parts.{answerOf, carryOf, logOf}
 use Rattle.batch.specs.declared.Batch.{Batch}
-use Rattle.delivery.specs.Delivery.{Behaviour, Station, Call, receive, batch, pair, markLost, defined}
+use Rattle.delivery.specs.Delivery.{Behaviour, Station, Call, receive, batch, markLost, defined, alone, paired}
 
 -- a receiver by what each of its calls answers and leaves in carry and log
 abbrev behaving : ((mode stream register : ℕ) (programs : List ℕ) → Receiver) → (Station → Call → Batch) → (Station → Call → List ℕ) → (Station → Call → List ℕ) → Behaviour
@@ -32,9 +32,9 @@ withReceiver r a = record { refusal = a .refusal; wrong = a .wrong; taken = a .t
 
 -- the log as it was lent
 abbrev pub lentLog : Call → List ℕ
-lentLog (receive marks pdu log) = log
+lentLog (receive (alone marks pdu) log) = log
 lentLog (batch lengths pdus log) = log
-lentLog (pair first second log) = log
+lentLog (receive (paired first second) log) = log
 lentLog (markLost log) = log
 
 -- an empty log for everything
@@ -51,15 +51,15 @@ module _ (number : ℕ) (bytes : List ℕ) where
   fixedWords = logWords (packet number bytes ∷ [])
 
   abbrev pub fixedAnswer : Station → Call → Batch
-  fixedAnswer x (receive marks pdu log) = withWords (length fixedWords) (answerOf x (receive marks pdu log))
+  fixedAnswer x (receive (alone marks pdu) log) = withWords (length fixedWords) (answerOf x (receive (alone marks pdu) log))
   fixedAnswer x (batch lengths pdus log) = answerOf x (batch lengths pdus log)
-  fixedAnswer x (pair first second log) = answerOf x (pair first second log)
+  fixedAnswer x (receive (paired first second) log) = answerOf x (receive (paired first second) log)
   fixedAnswer x (markLost log) = answerOf x (markLost log)
 
   abbrev pub fixedLog : Station → Call → List ℕ
-  fixedLog x (receive marks pdu log) = putAt log 0 fixedWords
+  fixedLog x (receive (alone marks pdu) log) = putAt log 0 fixedWords
   fixedLog x (batch lengths pdus log) = logOf x (batch lengths pdus log)
-  fixedLog x (pair first second log) = logOf x (pair first second log)
+  fixedLog x (receive (paired first second) log) = logOf x (receive (paired first second) log)
   fixedLog x (markLost log) = logOf x (markLost log)
 
   abbrev pub fixed : Behaviour
@@ -67,15 +67,15 @@ module _ (number : ℕ) (bytes : List ℕ) where
 
   -- it delivers the packet for every PDU marked lost, and says that it took none
   abbrev pub inventingAnswer : Station → Call → Batch
-  inventingAnswer x (receive marks pdu log) = answerOf x (receive marks pdu log)
+  inventingAnswer x (receive (alone marks pdu) log) = answerOf x (receive (alone marks pdu) log)
   inventingAnswer x (batch lengths pdus log) = answerOf x (batch lengths pdus log)
-  inventingAnswer x (pair first second log) = answerOf x (pair first second log)
+  inventingAnswer x (receive (paired first second) log) = answerOf x (receive (paired first second) log)
   inventingAnswer x (markLost log) = record { refusal = answerOf x (markLost log) .refusal; wrong = 0; taken = 0; words = length fixedWords; receiver = answerOf x (markLost log) .receiver }
 
   abbrev pub inventingLog : Station → Call → List ℕ
-  inventingLog x (receive marks pdu log) = logOf x (receive marks pdu log)
+  inventingLog x (receive (alone marks pdu) log) = logOf x (receive (alone marks pdu) log)
   inventingLog x (batch lengths pdus log) = logOf x (batch lengths pdus log)
-  inventingLog x (pair first second log) = logOf x (pair first second log)
+  inventingLog x (receive (paired first second) log) = logOf x (receive (paired first second) log)
   inventingLog x (markLost log) = putAt log 0 fixedWords
 
   abbrev pub inventing : Behaviour
@@ -83,9 +83,9 @@ module _ (number : ℕ) (bytes : List ℕ) where
 
 -- it joins in the first PDU, and then, by single calls, only advances
 abbrev pub advancingAnswer : Station → Call → Batch
-advancingAnswer x (receive marks pdu log) = cond (x .receiver .known) (withWords 0 (answerOf x (receive marks pdu log))) (answerOf x (receive marks pdu log))
+advancingAnswer x (receive (alone marks pdu) log) = cond (x .receiver .known) (withWords 0 (answerOf x (receive (alone marks pdu) log))) (answerOf x (receive (alone marks pdu) log))
 advancingAnswer x (batch lengths pdus log) = answerOf x (batch lengths pdus log)
-advancingAnswer x (pair first second log) = answerOf x (pair first second log)
+advancingAnswer x (receive (paired first second) log) = answerOf x (receive (paired first second) log)
 advancingAnswer x (markLost log) = answerOf x (markLost log)
 
 abbrev pub advancing : Behaviour
@@ -93,9 +93,9 @@ advancing = behaving (defined .opening) advancingAnswer carryOf logOf
 
 -- marking lost leaves it as it was, so that the one-bit sequence may fit again
 abbrev pub joiningAnswer : Station → Call → Batch
-joiningAnswer x (receive marks pdu log) = answerOf x (receive marks pdu log)
+joiningAnswer x (receive (alone marks pdu) log) = answerOf x (receive (alone marks pdu) log)
 joiningAnswer x (batch lengths pdus log) = answerOf x (batch lengths pdus log)
-joiningAnswer x (pair first second log) = answerOf x (pair first second log)
+joiningAnswer x (receive (paired first second) log) = answerOf x (receive (paired first second) log)
 joiningAnswer x (markLost log) = withReceiver (x .receiver) (answerOf x (markLost log))
 
 abbrev pub joining : Behaviour
@@ -107,9 +107,9 @@ zeroed = behaving (λ mode stream register programs. defined .opening mode strea
 
 -- a batch hands back the receiver that it got (document 02, Ask 1)
 abbrev pub forgettingAnswer : Station → Call → Batch
-forgettingAnswer x (receive marks pdu log) = answerOf x (receive marks pdu log)
+forgettingAnswer x (receive (alone marks pdu) log) = answerOf x (receive (alone marks pdu) log)
 forgettingAnswer x (batch lengths pdus log) = withReceiver (x .receiver) (answerOf x (batch lengths pdus log))
-forgettingAnswer x (pair first second log) = answerOf x (pair first second log)
+forgettingAnswer x (receive (paired first second) log) = answerOf x (receive (paired first second) log)
 forgettingAnswer x (markLost log) = answerOf x (markLost log)
 
 abbrev pub handingBack : Behaviour
@@ -122,9 +122,9 @@ chosenCopy theFirst first second = first
 chosenCopy theSecond first second = second
 
 abbrev pub betterAlone : Call → Call
-betterAlone (receive marks pdu log) = receive marks pdu log
+betterAlone (receive (alone marks pdu) log) = receive (alone marks pdu) log
 betterAlone (batch lengths pdus log) = batch lengths pdus log
-betterAlone (pair first second log) = receive [] (chosenCopy (choiceOf first second) first second) log
+betterAlone (receive (paired first second) log) = receive (alone [] (chosenCopy (choiceOf first second) first second)) log
 betterAlone (markLost log) = markLost log
 
 abbrev pub choosing : Behaviour
@@ -161,9 +161,9 @@ abbrev pub servicesKept : Station → Receiver
 servicesKept x = remembering (x .receiver) forgotten (keptOf (x .receiver)) (tallyOf (x .receiver))
 
 abbrev pub keepingAnswer : Station → Call → Batch
-keepingAnswer x (receive marks pdu log) = answerOf x (receive marks pdu log)
+keepingAnswer x (receive (alone marks pdu) log) = answerOf x (receive (alone marks pdu) log)
 keepingAnswer x (batch lengths pdus log) = answerOf x (batch lengths pdus log)
-keepingAnswer x (pair first second log) = answerOf x (pair first second log)
+keepingAnswer x (receive (paired first second) log) = answerOf x (receive (paired first second) log)
 keepingAnswer x (markLost log) = withReceiver (servicesKept x) (answerOf x (markLost log))
 
 abbrev pub keeping : Behaviour
@@ -198,17 +198,17 @@ module _ (x : Station) (marks pdu log : List ℕ) where
   trustedWords = logWords trustedEntries
 
 abbrev pub trustingAnswer : Station → Call → Batch
-trustingAnswer x (receive marks pdu log) =
-    let a = answerOf x (receive marks pdu log) in
+trustingAnswer x (receive (alone marks pdu) log) =
+    let a = answerOf x (receive (alone marks pdu) log) in
     withWords (cond (eqb (a .refusal) 0) (length (trustedWords x marks pdu log)) 0) a
 trustingAnswer x (batch lengths pdus log) = answerOf x (batch lengths pdus log)
-trustingAnswer x (pair first second log) = answerOf x (pair first second log)
+trustingAnswer x (receive (paired first second) log) = answerOf x (receive (paired first second) log)
 trustingAnswer x (markLost log) = answerOf x (markLost log)
 
 abbrev pub trustingLog : Station → Call → List ℕ
-trustingLog x (receive marks pdu log) = cond (eqb (answerOf x (receive marks pdu log) .refusal) 0) (putAt log 0 (trustedWords x marks pdu log)) log
+trustingLog x (receive (alone marks pdu) log) = cond (eqb (answerOf x (receive (alone marks pdu) log) .refusal) 0) (putAt log 0 (trustedWords x marks pdu log)) log
 trustingLog x (batch lengths pdus log) = logOf x (batch lengths pdus log)
-trustingLog x (pair first second log) = logOf x (pair first second log)
+trustingLog x (receive (paired first second) log) = logOf x (receive (paired first second) log)
 trustingLog x (markLost log) = logOf x (markLost log)
 
 abbrev pub trusting : Behaviour
@@ -235,9 +235,9 @@ uncounted r = record {
 }
 
 abbrev pub resettingAnswer : Station → Call → Batch
-resettingAnswer x (receive marks pdu log) = answerOf x (receive marks pdu log)
+resettingAnswer x (receive (alone marks pdu) log) = answerOf x (receive (alone marks pdu) log)
 resettingAnswer x (batch lengths pdus log) = answerOf x (batch lengths pdus log)
-resettingAnswer x (pair first second log) = answerOf x (pair first second log)
+resettingAnswer x (receive (paired first second) log) = answerOf x (receive (paired first second) log)
 resettingAnswer x (markLost log) = withReceiver (uncounted (answerOf x (markLost log) .receiver)) (answerOf x (markLost log))
 
 abbrev pub resetting : Behaviour

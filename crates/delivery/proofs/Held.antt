@@ -24,7 +24,7 @@ use Rattle.batch.specs.Batches.{Result, unchanged, followed, oneByOne, batchNum
 use Rattle.batch.specs.declared.Batch.{Batch}
 use Rattle.diversity.specs.Diversity.{Result as PairResult, correctable, unchanged as unchangedPair, outcome as pairOutcome, memoryAfter as pairMemory, keptServices as pairServices, tallyAfter as pairTally, pairWords, wrongInPair, pairNumber, together, receivedBy, pairReceived}
 use Rattle.delivery.proofs.Parts.{answerOf, logOf}
-use Rattle.delivery.specs.Delivery.{Station, Call, receive, batch, pair, markLost, ofOne, defined, stationAfter}
+use Rattle.delivery.specs.Delivery.{Station, Call, receive, batch, markLost, ofOne, defined, stationAfter, alone, paired}
 
 held-only : (held number : ℕ) (a b : List ℕ) → take held a ≡ take held b → partialOf held number a ≡ partialOf held number b
 held-only zero number a b e = refl
@@ -217,13 +217,13 @@ abbrev with-carry : Receiver → List ℕ → Station
 with-carry r c = record { receiver = r; carry = c }
 
 by-record : (c : Call) (r : Receiver) (a b : List ℕ) → Alike r a b → SameCall (with-carry r a) (with-carry r b) c
-by-record (receive marks pdu log) r a b s =
+by-record (receive (alone marks pdu) log) r a b s =
     let e = receive-answer r a b s marks pdu log in
     record { answer = ap ofOne e; log = receive-log r a b s marks pdu log; after = record { receiver = ap (λ (x : Received). x .receiver) e; carry = receive-alike r a b s marks pdu log } }
 by-record (batch lengths pdus log) r a b s =
     let k = batch-same lengths r a b pdus log s in
     record { answer = k .answer; log = k .log; after = record { receiver = ap (λ (x : Batch). x .receiver) (k .answer); carry = k .after } }
-by-record (pair first second log) r a b s =
+by-record (receive (paired first second) log) r a b s =
     let k = pair-same r a b s first second log in
     record { answer = ap ofOne (k .answer); log = k .log; after = record { receiver = ap (λ (x : Received). x .receiver) (k .answer); carry = k .after } }
 by-record (markLost log) r a b s = record { answer = refl; log = refl; after = record { receiver = refl; carry = lost-alike r a b s log } }

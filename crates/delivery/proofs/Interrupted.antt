@@ -18,7 +18,7 @@ use Rattle.snapshot.specs.Snapshot.{savedWords, saveNumber, saved, bytesIn, loa
 use Rattle.snapshot.proofs.Round.{loaded-saved, saved-words, save-room, few-words}
 use Rattle.delivery.proofs.Parts.{answerOf, logOf}
 use Rattle.batch.specs.declared.Batch.{Batch}
-use Rattle.delivery.specs.Delivery.{Station, Call, receive, batch, pair, markLost, defined, stationAfter, loggedBy, finally, Seen, seenOf, seenFrom}
+use Rattle.delivery.specs.Delivery.{Station, Call, receive, batch, markLost, defined, stationAfter, loggedBy, finally, Seen, seenOf, seenFrom, alone, paired}
 use Rattle.delivery.specs.Interruptions.{definedSnapshot, Interruption, wordsOf, resumed, Turn, called, interrupted, callsIn, seenIn, endIn, AllResume, Running, Suffices, Interruptions}
 use Rattle.delivery.proofs.Made.{bytes-of}
 use Rattle.delivery.proofs.Held.{Alike, put-longer, SameHeld, SameCall, same-call}
@@ -121,14 +121,14 @@ held-runs x y s h =
 -- what is logged goes by the answer and the log
 abbrev loggedFor : Call → Batch → List ℕ → List ℕ
 loggedFor (batch lengths pdus l) a log = cond (eqb (a .refusal) 0 || not (eqb (a .taken) 0)) (take (a .words) log) []
-loggedFor (receive marks pdu l) a log = cond (eqb (a .refusal) 0 || not (eqb (cond (eqb (a .refusal) 0) 1 0) 0)) (take (a .words) log) []
-loggedFor (pair first second l) a log = cond (eqb (a .refusal) 0 || not (eqb (cond (eqb (a .refusal) 0) 1 0) 0)) (take (a .words) log) []
+loggedFor (receive (alone marks pdu) l) a log = cond (eqb (a .refusal) 0 || not (eqb (cond (eqb (a .refusal) 0) 1 0) 0)) (take (a .words) log) []
+loggedFor (receive (paired first second) l) a log = cond (eqb (a .refusal) 0 || not (eqb (cond (eqb (a .refusal) 0) 1 0) 0)) (take (a .words) log) []
 loggedFor (markLost l) a log = cond (eqb (a .refusal) 0 || not (eqb (cond (eqb (a .refusal) 0) 1 0) 0)) (take (a .words) log) []
 
 logged-is : (x : Station) (c : Call) → loggedBy defined x c ≡ loggedFor c (answerOf x c) (logOf x c)
-logged-is x (receive marks pdu log) = refl
+logged-is x (receive (alone marks pdu) log) = refl
 logged-is x (batch lengths pdus log) = refl
-logged-is x (pair first second log) = refl
+logged-is x (receive (paired first second) log) = refl
 logged-is x (markLost log) = refl
 
 same-seen : (x y : Station) (c : Call) → SameCall x y c → seenOf defined x c ≡ seenOf defined y c

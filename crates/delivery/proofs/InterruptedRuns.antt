@@ -39,7 +39,7 @@ use Rattle.receiver.proofs.Counting.{lost-keeps}
 use Rattle.writer.specs.RoundTrip.{Bytes}
 use Rattle.snapshot.specs.Snapshot.{loaded, carryLoaded}
 use Rattle.delivery.proofs.Parts.{answerOf}
-use Rattle.delivery.specs.Delivery.{Station, receive, markLost, defined, stationAfter, loggedBy, Seen, logsIn}
+use Rattle.delivery.specs.Delivery.{Station, receive, markLost, defined, stationAfter, loggedBy, Seen, logsIn, alone}
 use Rattle.delivery.specs.Interruptions.{Snapshot, definedSnapshot, Interruption, wordsOf, resumed, Turn, called, interrupted, seenIn, Running, Suffices, InterruptionsFor}
 use Rattle.delivery.proofs.FaultySnapshots.{unregistered, unsequenced, forgetsRegister, forgetsSequence, forgetsHeld, forgetsCounts}
 use Rattle.delivery.proofs.Made.{Heard}
@@ -205,16 +205,16 @@ module _ (register : ℕ) (x : Station) (z : Memory) (s : Stands register x z) w
   abbrev logs : Come → List ℕ
   logs d = logWords (received 2 z (saidTo (rightsBy 255 0 line) 2 (record { memory = z; kept = none; tally = noTally }) d) .entries)
 
-  first-logs : Heard 0 0 register 16 [] begins beginning-says → loggedBy defined x (receive [] begins words) ≡ logs beginning-says
+  first-logs : Heard 0 0 register 16 [] begins beginning-says → loggedBy defined x (receive (alone [] begins) words) ≡ logs beginning-says
   first-logs h = receive-logged 0 0 register 255 line listed range x _ s [] begins words beginning-says h (said-sane beginning-says 0 7 refl refl (omega arith) (omega arith)) (omega arith) (omega arith) (all-bytes begins (bytes 0 4 7 184 begins-bytes)) log-room (few z beginning-says (omega arith))
 
-  first-takes : Heard 0 0 register 16 [] begins beginning-says → stationAfter defined x (receive [] begins words) ≡ taking 0 0 register 255 line listed range x beginning-says
+  first-takes : Heard 0 0 register 16 [] begins beginning-says → stationAfter defined x (receive (alone [] begins) words) ≡ taking 0 0 register 255 line listed range x beginning-says
   first-takes h = receive-takes 0 0 register 255 line listed range x _ s [] begins words beginning-says h (said-sane beginning-says 0 7 refl refl (omega arith) (omega arith)) (omega arith) (omega arith) (all-bytes begins (bytes 0 4 7 184 begins-bytes)) log-room (few z beginning-says (omega arith))
 
-  last-logs : (cause : ℕ) → cause < 16384 → Heard 0 0 register 16 [] ends (end-says cause) → loggedBy defined x (receive [] ends words) ≡ logs (end-says cause)
+  last-logs : (cause : ℕ) → cause < 16384 → Heard 0 0 register 16 [] ends (end-says cause) → loggedBy defined x (receive (alone [] ends) words) ≡ logs (end-says cause)
   last-logs cause k h = receive-logged 0 0 register 255 line listed range x _ s [] ends words (end-says cause) h (said-sane (end-says cause) cause 9 refl refl k (omega arith)) (omega arith) (omega arith) (all-bytes ends (bytes 64 10 9 202 ends-bytes)) log-room (few z (end-says cause) (omega arith))
 
-  last-takes : (cause : ℕ) → cause < 16384 → Heard 0 0 register 16 [] ends (end-says cause) → stationAfter defined x (receive [] ends words) ≡ taking 0 0 register 255 line listed range x (end-says cause)
+  last-takes : (cause : ℕ) → cause < 16384 → Heard 0 0 register 16 [] ends (end-says cause) → stationAfter defined x (receive (alone [] ends) words) ≡ taking 0 0 register 255 line listed range x (end-says cause)
   last-takes cause k h = receive-takes 0 0 register 255 line listed range x _ s [] ends words (end-says cause) h (said-sane (end-says cause) cause 9 refl refl k (omega arith)) (omega arith) (omega arith) (all-bytes ends (bytes 64 10 9 202 ends-bytes)) log-room (few z (end-says cause) (omega arith))
 
 -- ---- a run
@@ -233,16 +233,16 @@ opened-stands = record { sameMode = refl; sameStream = refl; sameRegister = refl
 opened-runs : Running opened
 opened-runs = record { right = opened-stands .right; register = omega arith; entitled = omega arith; counts = (omega arith, omega arith); room = carry-room; held = tt }
 
-first-held : stationAfter defined opened (receive [] begins words) ≡ held
+first-held : stationAfter defined opened (receive (alone [] begins) words) ≡ held
 unfolding listing memoryOf remembering remembered received sequenceStep beginningStep psdEntries contentsStep piecesStep pieceStep joined finished entitles tallied
 first-held = first-takes 255 opened forgotten opened-stands begins-heard
 
-first-none : loggedBy defined opened (receive [] begins words) ≡ []
+first-none : loggedBy defined opened (receive (alone [] begins) words) ≡ []
 unfolding received sequenceStep beginningStep psdEntries contentsStep piecesStep pieceStep joined finished entitles logWords
 first-none = first-logs 255 opened forgotten opened-stands begins-heard
 
 held-runs : Running held
-held-runs = subst Running first-held (still-runs opened (receive [] begins words) opened-runs (bytes 0 4 7 184 begins-bytes))
+held-runs = subst Running first-held (still-runs opened (receive (alone [] begins) words) opened-runs (bytes 0 4 7 184 begins-bytes))
 
 held-stands : Stands 255 held (holding true 7)
 held-stands = stands-holding 255 true 7 (putAt carry 0 (7 ∷ 7 ∷ [])) (omega arith) (held-runs .room) (take-put carry (7 ∷ 7 ∷ []))
@@ -256,22 +256,22 @@ halt-long = let e : length (halt .words) ≡ 1376 = length-replicate {A = ℕ} 1
 halt-words : ¬ (definedSnapshot .saved held (halt .words) .refusal ≡ 26)
 halt-words = enough-words held (halt .words) held-runs halt-long
 
-first-words : ¬ (definedSnapshot .saved (stationAfter defined opened (receive [] begins words)) (halt .words) .refusal ≡ 26)
+first-words : ¬ (definedSnapshot .saved (stationAfter defined opened (receive (alone [] begins) words)) (halt .words) .refusal ≡ 26)
 first-words = subst (λ (x : Station). ¬ (definedSnapshot .saved x (halt .words) .refusal ≡ 26)) (sym first-held) halt-words
 
 -- the first PDU, an interruption, and another PDU
 abbrev turns : List ℕ → List Turn
-turns p = called (receive [] begins words) ∷ interrupted halt ∷ called (receive [] p words) ∷ []
+turns p = called (receive (alone [] begins) words) ∷ interrupted halt ∷ called (receive (alone [] p) words) ∷ []
 
-suffices : (s : Snapshot) (p : List ℕ) → ¬ (s .saved (stationAfter defined opened (receive [] begins words)) (halt .words) .refusal ≡ 26) → Bytes p → Suffices defined s opened (turns p)
+suffices : (s : Snapshot) (p : List ℕ) → ¬ (s .saved (stationAfter defined opened (receive (alone [] begins) words)) (halt .words) .refusal ≡ 26) → Bytes p → Suffices defined s opened (turns p)
 suffices s p k b = (bytes 0 4 7 184 begins-bytes, (k, carry-room, (b, tt)))
 
 -- without the interruption: the second PDU ends the packet, and the first once more is out of sequence
-end-logged : loggedBy defined held (receive [] ends words) ≡ logWords (packet 0 (7 ∷ 7 ∷ 9 ∷ 9 ∷ []) ∷ [])
+end-logged : loggedBy defined held (receive (alone [] ends) words) ≡ logWords (packet 0 (7 ∷ 7 ∷ 9 ∷ 9 ∷ []) ∷ [])
 unfolding received sequenceStep beginningStep psdEntries contentsStep piecesStep pieceStep joined finished entitles
 end-logged = last-logs 255 held (holding true 7) held-stands 0 (omega arith) ends-heard
 
-again-logged : loggedBy defined held (receive [] begins words) ≡ logWords (note 1 0 ∷ [])
+again-logged : loggedBy defined held (receive (alone [] begins) words) ≡ logWords (note 1 0 ∷ [])
 unfolding received sequenceStep beginningStep psdEntries contentsStep piecesStep pieceStep joined finished entitles
 again-logged = first-logs 255 held (holding true 7) held-stands begins-heard
 
@@ -279,19 +279,19 @@ again-logged = first-logs 255 held (holding true 7) held-stands begins-heard
 pub interrupted-run : logsIn (seenIn defined definedSnapshot opened (turns ends)) ≡ logWords (packet 0 (7 ∷ 7 ∷ 9 ∷ 9 ∷ []) ∷ [])
 interrupted-run =
     ap logsIn (unnoticed opened (turns ends) opened-runs (suffices definedSnapshot ends first-words (bytes 64 10 9 202 ends-bytes)) .same)
-    ∙ ap₂ (λ (l : List ℕ) (x : Station). l ++ (loggedBy defined x (receive [] ends words) ++ [])) first-none first-held
+    ∙ ap₂ (λ (l : List ℕ) (x : Station). l ++ (loggedBy defined x (receive (alone [] ends) words) ++ [])) first-none first-held
     ∙ ap (λ (l : List ℕ). l ++ []) end-logged
     ∙ append-nil (logWords (packet 0 (7 ∷ 7 ∷ 9 ∷ 9 ∷ []) ∷ []))
 
 -- ---- what forgets
 
 -- the claim says of the second call that it logs the same
-differs : (s : Snapshot) (p l m : List ℕ) → ¬ (s .saved (stationAfter defined opened (receive [] begins words)) (halt .words) .refusal ≡ 26) → Bytes p → loggedBy defined held (receive [] p words) ≡ l → loggedBy defined (resumed s held halt) (receive [] p words) ≡ m → InterruptionsFor defined s → m ≡ l
+differs : (s : Snapshot) (p l m : List ℕ) → ¬ (s .saved (stationAfter defined opened (receive (alone [] begins) words)) (halt .words) .refusal ≡ 26) → Bytes p → loggedBy defined held (receive (alone [] p) words) ≡ l → loggedBy defined (resumed s held halt) (receive (alone [] p) words) ≡ m → InterruptionsFor defined s → m ≡ l
 differs s p l m k b e f claim =
-    let a : loggedBy defined opened (receive [] begins words) ++ (loggedBy defined (resumed s (stationAfter defined opened (receive [] begins words)) halt) (receive [] p words) ++ []) ≡ m ++ [] =
-    ap₂ (λ (u : List ℕ) (x : Station). u ++ (loggedBy defined (resumed s x halt) (receive [] p words) ++ [])) first-none first-held ∙ ap (λ (u : List ℕ). u ++ []) f in
-    let c : loggedBy defined opened (receive [] begins words) ++ (loggedBy defined (stationAfter defined opened (receive [] begins words)) (receive [] p words) ++ []) ≡ l ++ [] =
-    ap₂ (λ (u : List ℕ) (x : Station). u ++ (loggedBy defined x (receive [] p words) ++ [])) first-none first-held ∙ ap (λ (u : List ℕ). u ++ []) e in
+    let a : loggedBy defined opened (receive (alone [] begins) words) ++ (loggedBy defined (resumed s (stationAfter defined opened (receive (alone [] begins) words)) halt) (receive (alone [] p) words) ++ []) ≡ m ++ [] =
+    ap₂ (λ (u : List ℕ) (x : Station). u ++ (loggedBy defined (resumed s x halt) (receive (alone [] p) words) ++ [])) first-none first-held ∙ ap (λ (u : List ℕ). u ++ []) f in
+    let c : loggedBy defined opened (receive (alone [] begins) words) ++ (loggedBy defined (stationAfter defined opened (receive (alone [] begins) words)) (receive (alone [] p) words) ++ []) ≡ l ++ [] =
+    ap₂ (λ (u : List ℕ) (x : Station). u ++ (loggedBy defined x (receive (alone [] p) words) ++ [])) first-none first-held ∙ ap (λ (u : List ℕ). u ++ []) e in
     sym (append-nil m) ∙ sym a ∙ ap logsIn (claim opened (turns p) opened-runs (suffices s p k b) .same) ∙ c ∙ append-nil l
 
 -- what loading leaves in the carry
@@ -307,10 +307,10 @@ back-stands register known =
     (loaded-is held halt held-runs halt-words carry-room .1 ∙ take-put carry (7 ∷ 7 ∷ []))
 
 -- the register: the second PDU's piece has a wrong CRC, note 2
-unregistered-logged : loggedBy defined (resumed forgetsRegister held halt) (receive [] ends words) ≡ logWords (note 2 0 ∷ [])
+unregistered-logged : loggedBy defined (resumed forgetsRegister held halt) (receive (alone [] ends) words) ≡ logWords (note 2 0 ∷ [])
 unfolding received sequenceStep beginningStep psdEntries contentsStep piecesStep pieceStep joined finished entitles
 unregistered-logged =
-    ap (λ (o : Opened). loggedBy defined (at (unregistered (o .receiver)) back) (receive [] ends words)) answered
+    ap (λ (o : Opened). loggedBy defined (at (unregistered (o .receiver)) back) (receive (alone [] ends) words)) answered
     ∙ last-logs 0 (at (state 0 true 2) back) (holding true 7) (back-stands 0 true) 2 (omega arith) ends-wrong
 
 pub register-wrong : ¬ InterruptionsFor defined forgetsRegister
@@ -320,10 +320,10 @@ register-wrong claim =
     absurd (omega (arith, h))
 
 -- the sequence: the first PDU once more is not out of sequence, but does not continue what is held, note 4
-unsequenced-logged : loggedBy defined (resumed forgetsSequence held halt) (receive [] begins words) ≡ logWords (note 4 0 ∷ [])
+unsequenced-logged : loggedBy defined (resumed forgetsSequence held halt) (receive (alone [] begins) words) ≡ logWords (note 4 0 ∷ [])
 unfolding received sequenceStep beginningStep psdEntries contentsStep piecesStep pieceStep joined finished entitles
 unsequenced-logged =
-    ap (λ (o : Opened). loggedBy defined (at (unsequenced (o .receiver)) back) (receive [] begins words)) answered
+    ap (λ (o : Opened). loggedBy defined (at (unsequenced (o .receiver)) back) (receive (alone [] begins) words)) answered
     ∙ first-logs 255 (at (state 255 false 2) back) (holding false 7) (back-stands 255 false) begins-heard
 
 pub sequence-wrong : ¬ InterruptionsFor defined forgetsSequence
@@ -333,10 +333,10 @@ sequence-wrong claim =
     absurd (omega (arith, h))
 
 -- the held bytes: the packet is logged with others
-bytes-logged : loggedBy defined (resumed forgetsHeld held halt) (receive [] ends words) ≡ logWords (packet 0 (0 ∷ 0 ∷ 9 ∷ 9 ∷ []) ∷ [])
+bytes-logged : loggedBy defined (resumed forgetsHeld held halt) (receive (alone [] ends) words) ≡ logWords (packet 0 (0 ∷ 0 ∷ 9 ∷ 9 ∷ []) ∷ [])
 unfolding received sequenceStep beginningStep psdEntries contentsStep piecesStep pieceStep joined finished entitles
 bytes-logged =
-    ap (λ (o : Opened). loggedBy defined (at (o .receiver) carry) (receive [] ends words)) answered
+    ap (λ (o : Opened). loggedBy defined (at (o .receiver) carry) (receive (alone [] ends) words)) answered
     ∙ last-logs 255 (at (state 255 true 2) carry) (holding true 0) (stands-holding 255 true 0 carry (omega arith) carry-room refl) 0 (omega arith) ends-heard
 
 pub held-wrong : ¬ InterruptionsFor defined forgetsHeld
@@ -349,12 +349,12 @@ held-wrong claim =
 abbrev counting : ℕ → Station
 counting n = at (record { mode = 0; stream = 0; register = 255; entitled = 255; known = true; sequence = 1; held = 0; number = 0; serviced = false; services = 0; delivered = n; missing = 0; last = 0 }) (held .carry)
 
-second-counted : stationAfter defined held (receive [] ends words) ≡ counting 1
+second-counted : stationAfter defined held (receive (alone [] ends) words) ≡ counting 1
 unfolding listing memoryOf remembering remembered received sequenceStep beginningStep psdEntries contentsStep piecesStep pieceStep joined finished entitles tallied counted putAt
 second-counted = last-takes 255 held (holding true 7) held-stands 0 (omega arith) ends-heard ∙ ap (at (counting 1 .receiver)) (put-nil (held .carry) 0)
 
-both-counted : stationAfter defined (stationAfter defined opened (receive [] begins words)) (receive [] ends words) ≡ counting 1
-both-counted = ap (λ (x : Station). stationAfter defined x (receive [] ends words)) first-held ∙ second-counted
+both-counted : stationAfter defined (stationAfter defined opened (receive (alone [] begins) words)) (receive (alone [] ends) words) ≡ counting 1
+both-counted = ap (λ (x : Station). stationAfter defined x (receive (alone [] ends) words)) first-held ∙ second-counted
 
 uncounted-runs : Running (counting 0)
 unfolding listing
@@ -375,9 +375,9 @@ uncounted-none = lost-same (resumed forgetsCounts (counting 1) halt) ∙ ap (λ 
 
 pub counts-wrong : ¬ InterruptionsFor defined forgetsCounts
 counts-wrong claim =
-    let x : Station = stationAfter defined (stationAfter defined opened (receive [] begins words)) (receive [] ends words) in
+    let x : Station = stationAfter defined (stationAfter defined opened (receive (alone [] begins) words)) (receive (alone [] ends) words) in
     let enough : ¬ (forgetsCounts .saved x (halt .words) .refusal ≡ 26) = subst (λ (y : Station). ¬ (forgetsCounts .saved y (halt .words) .refusal ≡ 26)) (sym both-counted) uncounted-words in
-    let same = claim opened (called (receive [] begins words) ∷ called (receive [] ends words) ∷ interrupted halt ∷ called (markLost words) ∷ []) opened-runs
+    let same = claim opened (called (receive (alone [] begins) words) ∷ called (receive (alone [] ends) words) ∷ interrupted halt ∷ called (markLost words) ∷ []) opened-runs
     (bytes 0 4 7 184 begins-bytes, (bytes 64 10 9 202 ends-bytes, (enough, carry-room, (tt, tt)))) .same in
     let e : deliveredAt (resumed forgetsCounts x halt) ≡ deliveredAt x = ap (λ (vs : List Seen). getD (map (λ (v : Seen). v .answer .receiver .delivered) vs) 2 0) same in
     let h : _≡_ {A = ℕ} 0 1 = sym (ap (λ (y : Station). deliveredAt (resumed forgetsCounts y halt)) both-counted ∙ uncounted-none) ∙ e ∙ ap deliveredAt both-counted ∙ lost-same (counting 1) in

@@ -33,7 +33,7 @@ use Rattle.runs.specs.Spans.{Span, lies, dueAt}
 use Rattle.runs.proofs.Model.{wholePackets}
 use Rattle.runs.proofs.Calls.{plainFate}
 use Rattle.diversity.specs.Diversity.{Choice, neither, theFirst, theSecond, choiceOf, sameBytes, pairReceived}
-use Rattle.delivery.specs.Delivery.{Packets, Writing, bufferAfter, pdusFrom, spansFrom, InOrder, Behaviour, Station, receive, pair, defined, RefusedAfter, loggedBy, runOf, HeaderAltered, Correctable, Step, receives, loses, refuses, callOf, alone, paired, Through, Holds}
+use Rattle.delivery.specs.Delivery.{Packets, Writing, bufferAfter, pdusFrom, spansFrom, InOrder, Behaviour, Station, receive, defined, RefusedAfter, loggedBy, runOf, HeaderAltered, Correctable, Step, receives, loses, refuses, callOf, alone, paired, Through, Holds}
 use Rattle.delivery.proofs.Parts.{freshStation, logsFrom, made, spans, runWith, answerOf, logOf}
 use Rattle.delivery.specs.Copies.{bytesAt, crcAt, pieceAt, asSent, waysFrom, restored, Damaged}
 use Rattle.delivery.proofs.SoundSteps.{causesFor}
@@ -246,7 +246,7 @@ either-taken = two-are 0 0 eitherCause
     (ap₂ (λ (s t : Bool). cond (s || t) 0 2) (as-sent 9 2 first-bytes 1 ∙ first-sound .1) (as-sent 1 9 second-bytes 1 ∙ second-sound .1))
 
 -- a pair of PDUs of no bytes is refused, with 1, 2 or 4
-nothing-refused : (x : Station) → RefusedAfter defined 0 x (pair [] [] [])
+nothing-refused : (x : Station) → RefusedAfter defined 0 x (receive (paired [] []) [])
 unfolding pairReceived correctionOf lengthRefusal
 nothing-refused x = go (anyOf (wrongState (x .receiver))) (ltb (length (x .carry)) 4096)
   where
@@ -256,7 +256,7 @@ nothing-refused x = go (anyOf (wrongState (x .receiver))) (ltb (length (x .carry
     go false false = ((λ e. absurd (omega (arith, e))), refl)
 
 abbrev pub pairCalls : List Step
-pairCalls = receives (paired first second) words ∷ refuses (pair [] [] []) ∷ loses words ∷ []
+pairCalls = receives (paired first second) words ∷ refuses (receive (paired [] []) []) ∷ loses words ∷ []
 
 -- the packets of the first PDU are delivered, and that of the second is not
 pub pair-run : packetWords (logsFrom defined (freshStation defined 0 0 0 allPrograms carry) (map callOf pairCalls)) ≡ logWords (packet 0 (replicate 100 1) ∷ packet 1 (replicate 40 2) ∷ [])
@@ -272,7 +272,7 @@ abbrev fresh : Station
 fresh = freshStation defined 0 0 0 allPrograms carry
 
 -- a copy alone gives one packet
-first-alone : packetWords (loggedBy defined fresh (receive [] first words) ++ []) ≡ logWords (packet 1 (replicate 40 2) ∷ [])
+first-alone : packetWords (loggedBy defined fresh (receive (alone [] first) words) ++ []) ≡ logWords (packet 1 (replicate 40 2) ∷ [])
 unfolding wholePackets
 first-alone =
     logged defined pairs-deliver 1 (receives (alone [] first) words ∷ []) (first-comes, log-room, tt)
@@ -280,7 +280,7 @@ first-alone =
     (two-are 2 0 (causesFor (asSent 16 sent first)) (ap (λ (s : Bool). cond s 0 2) (as-sent 9 2 first-bytes 0 ∙ first-sound .0)) (ap (λ (s : Bool). cond s 0 2) (as-sent 9 2 first-bytes 1 ∙ first-sound .1)))
     ∙ refl
 
-second-alone : packetWords (loggedBy defined fresh (receive [] second words) ++ []) ≡ logWords (packet 0 (replicate 100 1) ∷ [])
+second-alone : packetWords (loggedBy defined fresh (receive (alone [] second) words) ++ []) ≡ logWords (packet 0 (replicate 100 1) ∷ [])
 unfolding wholePackets
 second-alone =
     logged defined pairs-deliver 1 (receives (alone [] second) words ∷ []) (second-comes, log-room, tt)
@@ -296,16 +296,16 @@ choosing-wrong claim = go (choiceOf first second) refl
     through : Through choosing (Damaged WrongCrc 0 16) fresh (runOf 0 1 (sent ∷ other ∷ [])) (receives (paired first second) words ∷ [])
     through = ((first-comes, second-comes), log-room, tt)
 
-    asked : packetWords (loggedBy choosing fresh (pair first second words) ++ []) ≡ logWords (packet 0 (replicate 100 1) ∷ packet 1 (replicate 40 2) ∷ [])
+    asked : packetWords (loggedBy choosing fresh (receive (paired first second) words) ++ []) ≡ logWords (packet 0 (replicate 100 1) ∷ packet 1 (replicate 40 2) ∷ [])
     asked = logged choosing claim 1 (receives (paired first second) words ∷ []) through ∙ ap (λ (f : ℕ → ℕ). askedFor (here f ∷ [])) either-taken ∙ refl
 
-    by : (c : Choice) → choiceOf first second ≡ c → loggedBy choosing fresh (pair first second words) ≡ loggedBy defined fresh (receive [] (chosenCopy c first second) words)
-    by c e = ap (λ (t : Choice). loggedAlone (answerOf fresh (receive [] (chosenCopy t first second) words)) (logOf fresh (receive [] (chosenCopy t first second) words))) e
+    by : (c : Choice) → choiceOf first second ≡ c → loggedBy choosing fresh (receive (paired first second) words) ≡ loggedBy defined fresh (receive (alone [] (chosenCopy c first second)) words)
+    by c e = ap (λ (t : Choice). loggedAlone (answerOf fresh (receive (alone [] (chosenCopy t first second)) words)) (logOf fresh (receive (alone [] (chosenCopy t first second)) words))) e
 
     go : (c : Choice) → choiceOf first second ≡ c → ⊥
     go neither e =
         empty-number fresh words
         (sym (refusal-is [] carry [] words (fresh .receiver))
-        ∙ subst (λ (t : Choice). answerOf fresh (receive [] (chosenCopy t first second) words) .refusal ≡ 0) e (claimed choosing claim 1 (receives (paired first second) words ∷ []) through .accepted .0))
+        ∙ subst (λ (t : Choice). answerOf fresh (receive (alone [] (chosenCopy t first second)) words) .refusal ≡ 0) e (claimed choosing claim 1 (receives (paired first second) words ∷ []) through .accepted .0))
     go theFirst e = let h : _≡_ {A = ℕ} 15 50 = ap length (sym first-alone ∙ ap (λ (l : List ℕ). packetWords (l ++ [])) (sym (by theFirst e)) ∙ asked) in absurd (omega (arith, h))
     go theSecond e = let h : _≡_ {A = ℕ} 35 50 = ap length (sym second-alone ∙ ap (λ (l : List ℕ). packetWords (l ++ [])) (sym (by theSecond e)) ∙ asked) in absurd (omega (arith, h))

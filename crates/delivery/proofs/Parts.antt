@@ -70,9 +70,6 @@ module _ (mode stream : ℕ) (packets : List (List ℕ)) (writings : List Writin
   abbrev pub arrivedEntries : (first count : ℕ) (received : List Bool) → List Entry
   arrivedEntries first count received = wholePackets (every (inReceived (runOf first count spans) received)) 0 0 packets
 
-  abbrev pub arrivedIndices : (first count : ℕ) (received : List Bool) → List ℕ
-  arrivedIndices first count received = wholeIndices (every (inReceived (runOf first count spans) received)) 0 0 packets
-
 -- the PDUs of the run come in these ways
 module _ (mode stream : ℕ) (programs : List ℕ) (packets : List (List ℕ)) (writings : List Writing) where
   abbrev pub dueEntries : (first : ℕ) (ways : List Way) → List Entry

@@ -78,7 +78,7 @@ module _ (marks : List ℕ) (alter : List ℕ → List ℕ) where
     unfolding stepsFor
     goes-through last [] bs x t h = t x
     goes-through last (p ∷ ps) [] x t h = ((let r = log-room in omega (arith, r)), goes-through last ps [] (stationAfter b x (markLost words)) t (h .1))
-    goes-through last (p ∷ ps) (true ∷ bs) x t h = (right p (h .0), (let r = log-room in omega (arith, r)), goes-through last ps bs (stationAfter b x (receive marks (alter p) words)) t (h .1))
+    goes-through last (p ∷ ps) (true ∷ bs) x t h = (right p (h .0), (let r = log-room in omega (arith, r)), goes-through last ps bs (stationAfter b x (receive (alone marks (alter p)) words)) t (h .1))
     goes-through last (p ∷ ps) (false ∷ bs) x t h = ((let r = log-room in omega (arith, r)), goes-through last ps bs (stationAfter b x (markLost words)) t (h .1))
 
 -- ---- all in one batch (document 02, Ask 1)

@@ -29,7 +29,7 @@ use Rattle.runs.specs.Spans.{Span, lies, Mark, every, dueAt}
 use Rattle.runs.proofs.Model.{wholePackets}
 use Rattle.delivery.specs.Delivery.{Packets, Writing, pdusFrom, spansFrom, InOrder, receive, defined, receives, alone, inReceived, runOf, Demand3For}
 use Rattle.delivery.proofs.Parts.{EntriesFit, dueEntries, freshStation, logsFrom, made, spans, Asked}
-use Rattle.delivery.proofs.SoundSteps.{wrong, Damage, Copy, receives as takes, ways, Through}
+use Rattle.delivery.proofs.SoundSteps.{wrong, PieceDamage, Copy, receives as takes, ways, Through}
 use Rattle.delivery.specs.Copies.{restored}
 use Rattle.delivery.proofs.FaultyReceivers.{zeroed}
 use Rattle.delivery.proofs.Counted.{packets-fit}
@@ -111,7 +111,7 @@ differ : ¬ (crcBy 0 ≡ crcBy 255)
 unfolding crcFrom crcByte crcBits crcBit
 differ e = absurd (omega (arith, e))
 
-damaged : (k : ℕ) → k < controlAt (pdu 0) .nop → Damage 0 16 (pdu 0) (restored (pdu 0) (pdu 255)) k
+damaged : (k : ℕ) → k < controlAt (pdu 0) .nop → PieceDamage 0 16 (pdu 0) (restored (pdu 0) (pdu 255)) k
 unfolding controlOf locator16
 damaged zero h = wrong (λ e. differ e)
 damaged (suc k) h = absurd (omega (arith, h))
@@ -134,7 +134,7 @@ one-few : length one ≤ 4294967295
 one-few = let n : length one ≡ 1 = refl in omega (arith, n)
 
 abbrev logged : List ℕ
-logged = packetWords (logsFrom defined (freshStation defined 0 0 0 allPrograms carry) (receive [] (pdu 255) words ∷ []))
+logged = packetWords (logsFrom defined (freshStation defined 0 0 0 allPrograms carry) (receive (alone [] (pdu 255)) words ∷ []))
 
 due-fit : EntriesFit (dueEntries 0 0 allPrograms one once 0 (ways (takes [] (pdu 255) words (λ k. false) ∷ [])))
 due-fit = packets-fit _ one one-few

@@ -46,7 +46,7 @@ use Rattle.batch.specs.Batches.{Result, unchanged, followed, oneByOne, batchNum
 use Rattle.diversity.specs.Diversity.{Result as PairResult, correctable, pairSaid, lower, copyNumber, differ, come as pairOf, pairWords, tallyAfter as pairTally, unchanged as unchangedPair, wrongInPair, pairTests, pairNumber, together, receivedBy, pairReceived}
 use Rattle.pair.proofs.Calling.{corrected-is}
 use Rattle.pair.proofs.Enough.{taken as takenPair}
-use Rattle.delivery.specs.Delivery.{Station, Call, receive, batch, pair, markLost, defined, stationAfter}
+use Rattle.delivery.specs.Delivery.{Station, Call, receive, batch, markLost, defined, stationAfter, alone, paired}
 use Rattle.delivery.specs.Interruptions.{Running, BytesIn}
 use Rattle.delivery.proofs.Made.{said-in, label-in, bytes-of, bytes-drop, bytes-take}
 use Rattle.delivery.proofs.Diversity.{pair-said-in, pair-label-in}
@@ -192,7 +192,7 @@ module _ (x : Station) (h : Running x) where
           (subst (λ (n : ℕ). n < 8) (sym (ap (λ s. s .services) (label-in (r .register) (m .width) (controlAt y) y))) (narrow-label (m .width) (controlAt y) y))
           few
 
-    pub receive-runs : Running (stationAfter defined x (receive marks pdu log))
+    pub receive-runs : Running (stationAfter defined x (receive (alone marks pdu) log))
     unfolding receiveAnswer carryAfter
     receive-runs = go (eqb number 0) refl
       where
@@ -298,7 +298,7 @@ module _ (x : Station) (h : Running x) where
         go true e = pair-taken (eqb-true both 0 e)
         go false e = h
 
-  pub pair-runs : (p q log : List ℕ) → Bytes p → Bytes q → Running (stationAfter defined x (pair p q log))
+  pub pair-runs : (p q log : List ℕ) → Bytes p → Bytes q → Running (stationAfter defined x (receive (paired p q) log))
   unfolding pairReceived
   pair-runs p q log bp bq = go (correctable (correctionOf p)) (correctable (correctionOf q)) refl refl
     where
@@ -326,7 +326,7 @@ each-runs (n ∷ ns) x pdus log h b =
     running-cond (eqb (a .refusal) 0)
     (followed 1 (a .words) (pduAfter [] (x .carry) (take n pdus) log (x .receiver)) (take (a .words) logged) (oneByOne ns (a .receiver) (carryAfter [] (x .carry) (take n pdus) log (x .receiver)) (drop n pdus) (drop (a .words) logged)))
     (unchanged (a .refusal) (a .wrong) (x .receiver) (x .carry) pdus log)
-    (each-runs ns (stationAfter defined x (receive [] (take n pdus) log)) (drop n pdus) (drop (a .words) logged) (receive-runs x h [] (take n pdus) log (bytes-take n pdus b)) (bytes-drop n pdus b)) h
+    (each-runs ns (stationAfter defined x (receive (alone [] (take n pdus)) log)) (drop n pdus) (drop (a .words) logged) (receive-runs x h [] (take n pdus) log (bytes-take n pdus b)) (bytes-drop n pdus b)) h
 
 batch-runs : (x : Station) (lengths pdus log : List ℕ) → Running x → Bytes pdus → Running (stationAfter defined x (batch lengths pdus log))
 unfolding received
@@ -337,7 +337,7 @@ batch-runs x lengths pdus log h b =
 -- ---- every call
 
 pub still-runs : (x : Station) (c : Call) → Running x → BytesIn c → Running (stationAfter defined x c)
-still-runs x (receive marks pdu log) h b = receive-runs x h marks pdu log b
+still-runs x (receive (alone marks pdu) log) h b = receive-runs x h marks pdu log b
 still-runs x (batch lengths pdus log) h b = batch-runs x lengths pdus log h b
-still-runs x (pair first second log) h b = pair-runs x h first second log (b .0) (b .1)
+still-runs x (receive (paired first second) log) h b = pair-runs x h first second log (b .0) (b .1)
 still-runs x (markLost log) h b = lost-runs x h log

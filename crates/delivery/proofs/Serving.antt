@@ -34,7 +34,7 @@ use Rattle.refusal.proofs.Rows.{past, row-off, rest-off}
 use Rattle.receiver.proofs.Enough.{firstTwelve, most}
 use Rattle.delivery.proofs.Parts.{answerOf}
 use Rattle.batch.specs.declared.Batch.{Batch}
-use Rattle.delivery.specs.Delivery.{Station, receive, markLost, ofOne, stationAfter, loggedBy, defined}
+use Rattle.delivery.specs.Delivery.{Station, receive, markLost, ofOne, stationAfter, loggedBy, defined, alone}
 use Rattle.delivery.proofs.Made.{Heard}
 
 -- what is logged by a call that receives a PDU or marks it lost, by its answer and the log after it
@@ -259,7 +259,7 @@ module _ (mode stream register entitled : ℕ) (m : Mode) (l : listing mode stre
     unfolding receiveAnswer
     answer-is = let t : eqb (receiveNumber marks carry q log r) 0 ≡ true = eq-eqb (receiveNumber marks carry q log r) 0 accepts in rw t
 
-    pub receive-accepted : answerOf x (receive marks q log) .refusal ≡ 0
+    pub receive-accepted : answerOf x (receive (alone marks q) log) .refusal ≡ 0
     receive-accepted = ap (λ (a : Received). a .refusal) answer-is
 
     log-is : logAfter marks carry q log r ≡ putAt log 0 (receivedWords marks carry q log r)
@@ -274,20 +274,20 @@ module _ (mode stream register entitled : ℕ) (m : Mode) (l : listing mode stre
         let t : eqb (receiveNumber marks carry q log r) 0 ≡ true = eq-eqb (receiveNumber marks carry q log r) 0 accepts in
         ap (λ (b : Bool). cond b (putAt carry 0 (bytesOf (outcome marks carry q log r .partial))) carry) t
 
-    pub receive-logged : loggedBy defined x (receive marks q log) ≡ logWords (received (m .sequences) (y .memory) (saidTo (rightsBy entitled stream m) (m .sequences) y d) .entries)
+    pub receive-logged : loggedBy defined x (receive (alone marks q) log) ≡ logWords (received (m .sequences) (y .memory) (saidTo (rightsBy entitled stream m) (m .sequences) y d) .entries)
     receive-logged =
         ap₂ (λ (a : Received) (w : List ℕ). loggedAlone (ofOne a) w) answer-is log-is
         ∙ take-put log (receivedWords marks carry q log r)
         ∙ words-are
 
-    receive-station : stationAfter defined x (receive marks q log) ≡ taking x (come marks carry q log r)
+    receive-station : stationAfter defined x (receive (alone marks q) log) ≡ taking x (come marks carry q log r)
     receive-station = ap₂ (λ (a : Received) (c : List ℕ). record { receiver = a .receiver; carry = c }) answer-is carry-is
 
-    pub receive-shows : Shows (stationAfter defined x (receive marks q log)) (holderFor (rightsBy entitled stream m) (m .sequences) y (came d))
+    pub receive-shows : Shows (stationAfter defined x (receive (alone marks q) log)) (holderFor (rightsBy entitled stream m) (m .sequences) y (came d))
     receive-shows = subst (λ (t : Station). Shows t (holderFor (rightsBy entitled stream m) (m .sequences) y (came d))) (sym receive-station) (taking-shows x y v (come marks carry q log r) d come-is s below narrow)
 
     -- the station after it, of a PDU that comes as d
-    pub receive-takes : stationAfter defined x (receive marks q log) ≡ taking x d
+    pub receive-takes : stationAfter defined x (receive (alone marks q) log) ≡ taking x d
     receive-takes = receive-station ∙ ap (taking x) come-is
 
   -- ---- marking lost

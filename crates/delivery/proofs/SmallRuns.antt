@@ -30,7 +30,7 @@ use Rattle.receiver.specs.Receiving.{receiveNumber, receiveAnswer, lostNumber, 
 use Rattle.receiver.specs.declared.Receiver.{Receiver}
 use Rattle.receiver.specs.declared.Received.{Received}
 use Rattle.runs.specs.Spans.{Span, every, wholeIndices}
-use Rattle.delivery.specs.Delivery.{Packets, concatenated, Writing, spansFrom, InOrder, Station, Call, receive, markLost, defined, Step, refuses, callOf, receptions, RefusedAfter, inReceived, runOf, Behaviour, batches, loses, arrived as arrivedIn, Demand3For}
+use Rattle.delivery.specs.Delivery.{Packets, concatenated, Writing, spansFrom, InOrder, Station, Call, receive, markLost, defined, Step, refuses, callOf, receptions, RefusedAfter, inReceived, runOf, Behaviour, batches, loses, arrived as arrivedIn, Demand3For, alone}
 use Rattle.delivery.proofs.Parts.{runWith, freshStation, logsFrom, made, spans, arrivedEntries, Asked, answerOf}
 use Rattle.runs.proofs.Model.{wholePackets}
 use Rattle.delivery.proofs.Channel.{made-right}
@@ -244,7 +244,7 @@ headers-altered p h = four-altered p (altered p) (h .1) (record {
 
 -- a PDU of no bytes, and a log of no words
 abbrev pub emptyPdu : Call
-emptyPdu = receive [] [] []
+emptyPdu = receive (alone [] []) []
 
 abbrev pub noLog : Call
 noLog = markLost []

@@ -17,7 +17,7 @@ use Rattle.receiver.specs.Entitling.{allowedPrograms}
 use Rattle.receiver.specs.Receiving.{tallyOf}
 use Rattle.runs.specs.Transmissions.{Way, gone, here, Close, AddsUp}
 use Rattle.batch.specs.declared.Batch.{Batch}
-use Rattle.delivery.specs.Delivery.{Packets, concatenated, Writing, InOrder, Station, Call, receive, batch, pair, markLost, defined, stationAfter, RefusedAfter, finally, runOf, Correctable}
+use Rattle.delivery.specs.Delivery.{Packets, concatenated, Writing, InOrder, Station, Call, receive, batch, markLost, defined, stationAfter, RefusedAfter, finally, runOf, Correctable, alone, paired}
 use Rattle.delivery.proofs.Parts.{freshStation, NoneRefused, logsFrom, made, EntriesFit, dueEntries, dueIndices}
 use Rattle.delivery.specs.Copies.{restored, frontLength, bytesAt, crcAt, pieceAt}
 
@@ -25,9 +25,9 @@ use Rattle.delivery.specs.Copies.{restored, frontLength, bytesAt, crcAt,
 
 module _ (register width : ℕ) (p : List ℕ) where
   -- what may have become of a piece that is not as sent: its CRC is wrong, or its altered bits, one at least, lie inside eight consecutive bits
-  pub data Damage (y : List ℕ) (k : ℕ) : Type 0 where
-    wrong : ¬ (crcFrom register (bytesAt width p y k) ≡ crcAt width p y k) → Damage y k
-    burst : Burst (pieceAt width p p k) (pieceAt width p y k) → Damage y k
+  pub data PieceDamage (y : List ℕ) (k : ℕ) : Type 0 where
+    wrong : ¬ (crcFrom register (bytesAt width p y k) ≡ crcAt width p y k) → PieceDamage y k
+    burst : Burst (pieceAt width p p k) (pieceAt width p y k) → PieceDamage y k
 
   -- q is p with its first 96 bytes altered and marked within the bound; bytes 96 to La are as sent, and so is each piece with its CRC byte where
   -- `sound` says so; any other is damaged
@@ -35,7 +35,7 @@ module _ (register width : ℕ) (p : List ℕ) where
     pub header : Correctable marks p q
     pub front : take (frontLength p) (restored p q) ≡ take (frontLength p) p
     pub whole : (k : ℕ) → k < controlAt p .nop → sound k ≡ true → (bytesAt width p (restored p q) k ≡ bytesAt width p p k) × (crcAt width p (restored p q) k ≡ crcAt width p p k)
-    pub found : (k : ℕ) → k < controlAt p .nop → sound k ≡ false → Damage (restored p q) k
+    pub found : (k : ℕ) → k < controlAt p .nop → sound k ≡ false → PieceDamage (restored p q) k
 
 -- the causes of its pieces
 abbrev pub causesFor : (ℕ → Bool) → ℕ → ℕ
@@ -63,8 +63,8 @@ pub data Step : Type 0 where
   refuses : Call → Step
 
 abbrev pub callOf : Step → Call
-callOf (receives marks pdu log sound) = receive marks pdu log
-callOf (pairs first second log sound other) = pair first second log
+callOf (receives marks pdu log sound) = receive (alone marks pdu) log
+callOf (pairs first second log sound other) = receive (paired first second) log
 callOf (batches came log) = batch (map length (pdusIn came)) (concatenated (pdusIn came)) log
 callOf (stops came lengths bytes log) = batch (map length (pdusIn came) ++ lengths) (concatenated (pdusIn came) ++ bytes) log
 callOf (loses log) = markLost log
@@ -97,9 +97,9 @@ module _ (register width : ℕ) where
   Through x [] [] = Unit {0}
   Through x (p ∷ ps) [] = ⊥
   Through x [] (receives marks q log s ∷ ss) = ⊥
-  Through x (p ∷ ps) (receives marks q log s ∷ ss) = Copy register width p marks q s × (8400 ≤ length log) × Through (stationAfter defined x (receive marks q log)) ps ss
+  Through x (p ∷ ps) (receives marks q log s ∷ ss) = Copy register width p marks q s × (8400 ≤ length log) × Through (stationAfter defined x (receive (alone marks q) log)) ps ss
   Through x [] (pairs q r log s t ∷ ss) = ⊥
-  Through x (p ∷ ps) (pairs q r log s t ∷ ss) = Copy register width p [] q s × Copy register width p [] r t × (8400 ≤ length log) × Through (stationAfter defined x (pair q r log)) ps ss
+  Through x (p ∷ ps) (pairs q r log s t ∷ ss) = Copy register width p [] q s × Copy register width p [] r t × (8400 ≤ length log) × Through (stationAfter defined x (receive (paired q r) log)) ps ss
   Through x [] (loses log ∷ ss) = ⊥
   Through x (p ∷ ps) (loses log ∷ ss) = (8400 ≤ length log) × Through (stationAfter defined x (markLost log)) ps ss
 

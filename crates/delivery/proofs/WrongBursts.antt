@@ -91,13 +91,13 @@ all-logged a w t =
 pub trusting-wrong : ¬ Holds (forPrograms (Damaged Hit)) trusting
 unfolding logWords entryWords dataWords packetsOf
 trusting-wrong claim =
-    let a : Batch = answerOf fresh (receive [] second words) in
-    let asked : packetWords (loggedBy trusting fresh (receive [] second words) ++ []) ≡ logWords (packet 0 (replicate 100 1) ∷ []) =
+    let a : Batch = answerOf fresh (receive (alone [] second) words) in
+    let asked : packetWords (loggedBy trusting fresh (receive (alone [] second) words) ++ []) ≡ logWords (packet 0 (replicate 100 1) ∷ []) =
     claimed trusting claim .log
     ∙ ap (λ (ps : List (List ℕ)). logWords (dueEntries 0 0 allPrograms packets two 0 (waysFrom 16 (runOf 0 1 ps) call))) made-is
     ∙ ap (λ (f : ℕ → ℕ). logWords (dueEntries 0 0 allPrograms packets two 0 (here f ∷ []))) second-struck
     ∙ ap logWords one-due in
-    let found : loggedBy trusting fresh (receive [] second words) ++ [] ≡ logWords (packet 0 (replicate 100 1) ∷ packet 1 struck ∷ []) =
+    let found : loggedBy trusting fresh (receive (alone [] second) words) ++ [] ≡ logWords (packet 0 (replicate 100 1) ∷ packet 1 struck ∷ []) =
     all-logged a (trustedWords fresh [] second words) (eq-eqb (a .refusal) 0 (claimed trusting claim .accepted .0)) ∙ ap logWords both-logged in
     let h : _≡_ {A = ℕ} 50 35 = ap length (sym (packet-words false (packet 0 (replicate 100 1) ∷ packet 1 struck ∷ []) both-fit) ∙ sym (ap packetWords found) ∙ asked) in
     absurd (omega (arith, h))

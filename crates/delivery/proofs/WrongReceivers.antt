@@ -25,7 +25,7 @@ use Rattle.receiver.specs.Receiving.{openingNumber, openedFor, tallyOf, remembe
 use Rattle.runs.specs.Spans.{Span, every}
 use Rattle.reassembly.specs.Tally.{Tally, noTally, counted, tallied}
 use Rattle.batch.specs.declared.Batch.{Batch}
-use Rattle.delivery.specs.Delivery.{Packets, Writing, bufferAfter, pdusFrom, spansFrom, InOrder, Behaviour, Station, Call, receive, markLost, defined, callOf, Takes, receptions, stationAfter, loggedBy, finally, inReceived, runOf, Demand3For}
+use Rattle.delivery.specs.Delivery.{Packets, Writing, bufferAfter, pdusFrom, spansFrom, InOrder, Behaviour, Station, Call, receive, markLost, defined, callOf, Takes, receptions, stationAfter, loggedBy, finally, inReceived, runOf, Demand3For, alone}
 use Rattle.delivery.proofs.Parts.{freshStation, NoneRefused, logCounts, logsFrom, made, spans, arrivedEntries, Asked, answerOf, logOf}
 use Rattle.runs.proofs.Model.{wholePackets}
 use Rattle.delivery.proofs.FaultyReceivers.{withWords, lentLog, silent, untouched, fixedWords, fixed, inventing, advancing, joining, resetting}
@@ -103,7 +103,7 @@ zeros-logged [] bs x = tt
 zeros-logged (p ∷ ps) [] x =
     zeros-append (loggedBy untouched x (markLost words)) _ (zeros-if (logCounts untouched x (markLost words)) _ (zeros-take (answerOf x (markLost words) .words) 8400)) (zeros-logged ps [] (stationAfter untouched x (markLost words)))
 zeros-logged (p ∷ ps) (true ∷ bs) x =
-    zeros-append (loggedBy untouched x (receive [] p words)) _ (zeros-if (logCounts untouched x (receive [] p words)) _ (zeros-take (answerOf x (receive [] p words) .words) 8400)) (zeros-logged ps bs (stationAfter untouched x (receive [] p words)))
+    zeros-append (loggedBy untouched x (receive (alone [] p) words)) _ (zeros-if (logCounts untouched x (receive (alone [] p) words)) _ (zeros-take (answerOf x (receive (alone [] p) words) .words) 8400)) (zeros-logged ps bs (stationAfter untouched x (receive (alone [] p) words)))
 zeros-logged (p ∷ ps) (false ∷ bs) x =
     zeros-append (loggedBy untouched x (markLost words)) _ (zeros-if (logCounts untouched x (markLost words)) _ (zeros-take (answerOf x (markLost words) .words) 8400)) (zeros-logged ps bs (stationAfter untouched x (markLost words)))
 
@@ -146,7 +146,7 @@ module _ (number : ℕ) (bytes : List ℕ) (fits : Fit (packet number bytes)) wh
           → ¬ (packetWords (logsFrom (fixed number bytes) (freshStation defined 0 0 0 allPrograms carry) (map callOf (stepsFor [] verbatim [] pdus (true ∷ [])))) ≡ [])
       go [] n a e = absurd (omega (arith, n))
       go (p ∷ q ∷ ps) n a e = absurd (omega (arith, n))
-      go (p ∷ []) n a e = one-logged (answerOf (freshStation defined 0 0 0 allPrograms carry) (receive [] p words)) (a .0) e
+      go (p ∷ []) n a e = one-logged (answerOf (freshStation defined 0 0 0 allPrograms carry) (receive (alone [] p) words)) (a .0) e
 
   -- whatever it says of PDUs taken
   pub inventing-wrong : ¬ Demand3For (inventing number bytes)
@@ -162,19 +162,19 @@ module _ (number : ℕ) (bytes : List ℕ) (fits : Fit (packet number bytes)) wh
 
 -- ---- joins in the first PDU, and then only advances
 
-known-after : (x : Station) (marks p log : List ℕ) → answerOf x (receive marks p log) .refusal ≡ 0 → answerOf x (receive marks p log) .receiver .known ≡ true
+known-after : (x : Station) (marks p log : List ℕ) → answerOf x (receive (alone marks p) log) .refusal ≡ 0 → answerOf x (receive (alone marks p) log) .receiver .known ≡ true
 unfolding receiveAnswer remembering remembered
 known-after x marks p log = go (eqb (receiveNumber marks (x .carry) p log (x .receiver)) 0) refl
   where
-    go : (b : Bool) → eqb (receiveNumber marks (x .carry) p log (x .receiver)) 0 ≡ b → answerOf x (receive marks p log) .refusal ≡ 0 → answerOf x (receive marks p log) .receiver .known ≡ true
+    go : (b : Bool) → eqb (receiveNumber marks (x .carry) p log (x .receiver)) 0 ≡ b → answerOf x (receive (alone marks p) log) .refusal ≡ 0 → answerOf x (receive (alone marks p) log) .receiver .known ≡ true
     go true e h = rw e refl
     go false e h = absurd (eqb-false (receiveNumber marks (x .carry) p log (x .receiver)) 0 e (rw e at h))
 
-known-kept : (x : Station) (marks p log : List ℕ) → x .receiver .known ≡ true → answerOf x (receive marks p log) .receiver .known ≡ true
+known-kept : (x : Station) (marks p log : List ℕ) → x .receiver .known ≡ true → answerOf x (receive (alone marks p) log) .receiver .known ≡ true
 unfolding receiveAnswer remembering remembered
 known-kept x marks p log h = go (eqb (receiveNumber marks (x .carry) p log (x .receiver)) 0) refl
   where
-    go : (b : Bool) → eqb (receiveNumber marks (x .carry) p log (x .receiver)) 0 ≡ b → answerOf x (receive marks p log) .receiver .known ≡ true
+    go : (b : Bool) → eqb (receiveNumber marks (x .carry) p log (x .receiver)) 0 ≡ b → answerOf x (receive (alone marks p) log) .receiver .known ≡ true
     go true e = rw e refl
     go false e = rw e h
 
@@ -184,9 +184,9 @@ only-advances n [] x l h = refl
 only-advances zero (p ∷ ps) x l h = absurd (not-suc-le-zero l)
 only-advances (suc n) (p ∷ ps) x l h =
     ap₂ (λ (l m : List ℕ). l ++ m)
-    (ap (λ (b : Bool). loggedAlone (cond b (withWords 0 (answerOf x (receive [] p words))) (answerOf x (receive [] p words))) (logOf x (receive [] p words))) h
-    ∙ nothing-counted (logCounts defined x (receive [] p words)) (logOf x (receive [] p words)))
-    (only-advances n ps (stationAfter advancing x (receive [] p words)) (le-of-suc-le-suc l) (ap (λ (b : Bool). cond b (withWords 0 (answerOf x (receive [] p words))) (answerOf x (receive [] p words)) .receiver .known) h ∙ known-kept x [] p words h))
+    (ap (λ (b : Bool). loggedAlone (cond b (withWords 0 (answerOf x (receive (alone [] p) words))) (answerOf x (receive (alone [] p) words))) (logOf x (receive (alone [] p) words))) h
+    ∙ nothing-counted (logCounts defined x (receive (alone [] p) words)) (logOf x (receive (alone [] p) words)))
+    (only-advances n ps (stationAfter advancing x (receive (alone [] p) words)) (le-of-suc-le-suc l) (ap (λ (b : Bool). cond b (withWords 0 (answerOf x (receive (alone [] p) words))) (answerOf x (receive (alone [] p) words)) .receiver .known) h ∙ known-kept x [] p words h))
 
 first-asked : askedFor 0 1 (true ∷ []) ≡ logWords (packet 0 (replicate 20 1) ∷ [])
 unfolding wholePackets
@@ -209,7 +209,7 @@ advancing-wrong claim =
         → ¬ (packetWords (logsFrom advancing fresh (map callOf (stepsFor [] verbatim [] (runOf 0 5 ps) all))) ≡ askedFor 0 5 all)
     go [] n a l e = absurd (omega (arith, n))
     go (p ∷ ps) n a l e =
-        let c : Call = receive [] p words in
+        let c : Call = receive (alone [] p) words in
         let first : loggedBy advancing fresh c ≡ loggedBy defined fresh c =
         ap (λ (b : Bool). loggedAlone (cond b (withWords 0 (answerOf fresh c)) (answerOf fresh c)) (logOf fresh c)) fresh-unknown in
         let known : stationAfter advancing fresh c .receiver .known ≡ true =
@@ -322,14 +322,14 @@ lost-words x log = go (eqb (lostNumber log (x .receiver)) 0) refl
 
 -- after the first PDU
 abbrev begun : Station
-begun = stationAfter defined fresh (receive [] (writtenAt long 0 0) words)
+begun = stationAfter defined fresh (receive (alone [] (writtenAt long 0 0)) words)
 
 -- what is logged of the first PDU, and of the last one after it
 abbrev firstLog : List ℕ
-firstLog = loggedBy defined fresh (receive [] (writtenAt long 0 0) words)
+firstLog = loggedBy defined fresh (receive (alone [] (writtenAt long 0 0)) words)
 
 abbrev lastLog : List ℕ
-lastLog = loggedBy defined begun (receive [] (writtenAt long 1 237) words)
+lastLog = loggedBy defined begun (receive (alone [] (writtenAt long 1 237)) words)
 
 first-none : packetWords firstLog ≡ []
 unfolding stepsFor wholePackets logWords

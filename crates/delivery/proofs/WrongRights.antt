@@ -31,7 +31,7 @@ use Rattle.runs.specs.Transmissions.{Way, here}
 use Rattle.runs.proofs.Promise.{arrivedBy}
 use Rattle.runs.proofs.Calls.{Speech, heard}
 use Rattle.runs.proofs.Theorem.{Unfinished}
-use Rattle.delivery.specs.Delivery.{Packets, concatenated, Writing, pdusFrom, spansFrom, InOrder, Behaviour, Station, receive, markLost, defined, Step, callOf, stationAfter, loggedBy, receptions, runOf, HeaderAltered, Holds}
+use Rattle.delivery.specs.Delivery.{Packets, concatenated, Writing, pdusFrom, spansFrom, InOrder, Behaviour, Station, receive, markLost, defined, Step, callOf, stationAfter, loggedBy, receptions, runOf, HeaderAltered, Holds, alone}
 use Rattle.delivery.proofs.Parts.{freshStation, logsFrom, made, spans, Asked, dueEntries, waysBy, runWith}
 use Rattle.delivery.proofs.SoundSteps.{causesFor}
 use Rattle.delivery.specs.Entitlement.{labelsFrom, rightsFor, forPrograms}
@@ -138,9 +138,9 @@ module _ (v : ℕ) (small : v < 8) (bytes : List ℕ) (next : take 1 (drop v thr
     abbrev entries : List Entry
     entries = logged (rightsBy mask 0 m) 8 y (heard came (speech v ∷ []))
 
-    all : (loggedBy defined x (receive [] (pduAt v) words) ≡ logWords entries) × FitAll entries × Shows 1 0 0 mask m listed range (stationAfter defined x (receive [] (pduAt v) words)) (after (rightsBy mask 0 m) 8 y (heard came (speech v ∷ [])))
+    all : (loggedBy defined x (receive (alone [] (pduAt v)) words) ≡ logWords entries) × FitAll entries × Shows 1 0 0 mask m listed range (stationAfter defined x (receive (alone [] (pduAt v)) words)) (after (rightsBy mask 0 m) 8 y (heard came (speech v ∷ [])))
     all =
-        let r = serves 1 0 0 mask m listed range x y (receive [] (pduAt v) words) (pduAt v ∷ []) came (speech v ∷ []) s
+        let r = serves 1 0 0 mask m listed range x y (receive (alone [] (pduAt v)) words) (pduAt v ∷ []) came (speech v ∷ []) s
         (copied (altered-copy 0 12 [] (pduAt v) (pduAt v) (as-sent (pduAt v) (says .bytes, says .least, says .most, says .code))) log-room) (speaks, tt) fits in
         (r .1 .log, r .1 .fit, r .1 .stands)
 
@@ -156,8 +156,8 @@ ends v = (refl, refl)
 
 abbrev Logs : ℕ → Station → Holder → Type 0
 Logs v x y =
-    (loggedBy defined x (receive [] (pduAt v) words) ≡ logWords (logged (rightsBy mask 0 m) 8 y (heard came (speech v ∷ [])))) × FitAll (logged (rightsBy mask 0 m) 8 y (heard came (speech v ∷ [])))
-    × Shows 1 0 0 mask m listed range (stationAfter defined x (receive [] (pduAt v) words)) (after (rightsBy mask 0 m) 8 y (heard came (speech v ∷ [])))
+    (loggedBy defined x (receive (alone [] (pduAt v)) words) ≡ logWords (logged (rightsBy mask 0 m) 8 y (heard came (speech v ∷ [])))) × FitAll (logged (rightsBy mask 0 m) 8 y (heard came (speech v ∷ [])))
+    × Shows 1 0 0 mask m listed range (stationAfter defined x (receive (alone [] (pduAt v)) words)) (after (rightsBy mask 0 m) 8 y (heard came (speech v ∷ [])))
 
 -- one packet delivered, of number 0
 abbrev one : Tally
@@ -218,9 +218,9 @@ assumed-shows = record { sameMode = refl; sameStream = refl; sameRegister = refl
 pub supposing-wrong : ¬ EntitledFor supposing
 unfolding stepsFor logWords entryWords dataWords packetWordsAfter
 supposing-wrong claim =
-    let asked : packetWords (loggedBy defined (assumed fresh) (receive [] (pduAt 2) words) ++ []) ≡ [] =
-    ap (λ (x : Station). packetWords (loggedBy defined (assumed x) (receive [] (pduAt 2) words) ++ [])) (sym fresh-is) ∙ claimed supposing claim 2 1 (true ∷ []) ∙ ap logWords last-due in
-    let found : loggedBy defined (assumed fresh) (receive [] (pduAt 2) words) ≡ logWords (packet 2 (triple 2) ∷ []) = third-logs (assumed fresh) noTally assumed-shows (few-counted .0) .0 ∙ ap logWords (third-given noTally .0) in
+    let asked : packetWords (loggedBy defined (assumed fresh) (receive (alone [] (pduAt 2)) words) ++ []) ≡ [] =
+    ap (λ (x : Station). packetWords (loggedBy defined (assumed x) (receive (alone [] (pduAt 2)) words) ++ [])) (sym fresh-is) ∙ claimed supposing claim 2 1 (true ∷ []) ∙ ap logWords last-due in
+    let found : loggedBy defined (assumed fresh) (receive (alone [] (pduAt 2)) words) ≡ logWords (packet 2 (triple 2) ∷ []) = third-logs (assumed fresh) noTally assumed-shows (few-counted .0) .0 ∙ ap logWords (third-given noTally .0) in
     let h : _≡_ {A = ℕ} 2 0 = ap length (ap (λ (l : List ℕ). packetWords (l ++ [])) (sym found) ∙ asked) in
     absurd (omega (arith, h))
 
@@ -228,7 +228,7 @@ supposing-wrong claim =
 
 -- after the first PDU, and after the lost one
 abbrev begun : Station → Station
-begun x = stationAfter defined x (receive [] (pduAt 0) words)
+begun x = stationAfter defined x (receive (alone [] (pduAt 0)) words)
 
 abbrev kept : Station → Station
 kept x = record { receiver = servicesKept (begun x); carry = begun x .carry }
@@ -248,12 +248,12 @@ kept-shows =
 pub keeping-wrong : ¬ EntitledFor keeping
 unfolding stepsFor logWords entryWords dataWords packetWordsAfter
 keeping-wrong claim =
-    let asked : packetWords (loggedBy defined fresh (receive [] (pduAt 0) words) ++ (loggedBy defined (begun fresh) (markLost words) ++ (loggedBy defined (kept fresh) (receive [] (pduAt 2) words) ++ []))) ≡ logWords (packet 0 (triple 0) ∷ []) =
-    ap (λ (x : Station). packetWords (loggedBy defined x (receive [] (pduAt 0) words) ++ (loggedBy defined (begun x) (markLost words) ++ (loggedBy defined (kept x) (receive [] (pduAt 2) words) ++ [])))) (sym fresh-is)
+    let asked : packetWords (loggedBy defined fresh (receive (alone [] (pduAt 0)) words) ++ (loggedBy defined (begun fresh) (markLost words) ++ (loggedBy defined (kept fresh) (receive (alone [] (pduAt 2)) words) ++ []))) ≡ logWords (packet 0 (triple 0) ∷ []) =
+    ap (λ (x : Station). packetWords (loggedBy defined x (receive (alone [] (pduAt 0)) words) ++ (loggedBy defined (begun x) (markLost words) ++ (loggedBy defined (kept x) (receive (alone [] (pduAt 2)) words) ++ [])))) (sym fresh-is)
     ∙ claimed keeping claim 0 3 (true ∷ false ∷ true ∷ [])
     ∙ ap logWords first-due in
-    let a : loggedBy defined fresh (receive [] (pduAt 0) words) ≡ logWords (packet 0 (triple 0) ∷ []) = first-logs fresh (shows-fresh 1 0 0 mask m listed range carry carry-room) .0 ∙ ap logWords (first-given .0) in
+    let a : loggedBy defined fresh (receive (alone [] (pduAt 0)) words) ≡ logWords (packet 0 (triple 0) ∷ []) = first-logs fresh (shows-fresh 1 0 0 mask m listed range carry carry-room) .0 ∙ ap logWords (first-given .0) in
     let b : loggedBy defined (begun fresh) (markLost words) ≡ logWords lostEntries = lost-logged 1 0 0 mask m listed range (begun fresh) _ begun-shows words log-room in
-    let c : loggedBy defined (kept fresh) (receive [] (pduAt 2) words) ≡ logWords (packet 2 (triple 2) ∷ []) = third-logs (kept fresh) one kept-shows (few-counted .1) .0 ∙ ap logWords (third-given one .0) in
+    let c : loggedBy defined (kept fresh) (receive (alone [] (pduAt 2)) words) ≡ logWords (packet 2 (triple 2) ∷ []) = third-logs (kept fresh) one kept-shows (few-counted .1) .0 ∙ ap logWords (third-given one .0) in
     let h : _≡_ {A = ℕ} 4 2 = ap length (sym (λ i. packetWords (a i ++ (b i ++ (c i ++ [])))) ∙ asked) in
     absurd (omega (arith, h))

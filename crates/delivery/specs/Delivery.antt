@@ -101,19 +101,22 @@ module _ (mode stream : ℕ) (packets : List (List ℕ)) where
   InOrder g [] = Unit {0}
   InOrder g (a ∷ al) = cond (refusedAt g a) (InOrder g al) (Offers (drop (packetAt packets g) packets) a × InOrder (g + placedAt g a) al)
 
--- ---- receive calls, batches, pairs, and calls marking a PDU lost
+-- ---- receive calls, batches, and calls marking a PDU lost
 
 -- a receiver and its carry
 pub record Station : Type 0 where
   pub receiver : Receiver
   pub carry : List ℕ
 
--- a call's arguments besides, as they were before the call: the marked places and the lent PDU, or the lengths of a batch's PDUs and these, joined, or the two
--- PDUs of a pair; and the log
+-- a PDU as it is handed over: alone, with marked places; or as two copies (document 02, Ask 5)
+pub data Copies : Type 0 where
+  alone : (marks pdu : List ℕ) → Copies
+  paired : (first second : List ℕ) → Copies
+
+-- a call's arguments besides, as they were before the call: a PDU, or the lengths of a batch's PDUs and these, joined; and the log
 pub data Call : Type 0 where
-  receive : (marks pdu log : List ℕ) → Call
+  receive : (copies : Copies) (log : List ℕ) → Call
   batch : (lengths pdus log : List ℕ) → Call
-  pair : (first second log : List ℕ) → Call
   markLost : (log : List ℕ) → Call
 
 -- A call answers as a batch does: the refusal number, k for 11, how many PDUs it took, the count of log words, and the receiver. How many it took is a batch's to say;
@@ -134,10 +137,10 @@ pub record Behaviour : Type 0 where
 
 -- the receiver of document 01, with the marks, the batches and the pairs of document 02
 abbrev pub effectOf : Station → Call → Effect
-effectOf x (receive marks pdu log) =
+effectOf x (receive (alone marks pdu) log) =
     record { answer = ofOne (receiveAnswer marks (x .carry) pdu log (x .receiver)); carry = carryAfter marks (x .carry) pdu log (x .receiver); log = logAfter marks (x .carry) pdu log (x .receiver) }
+effectOf x (receive (paired first second) log) = let u = pairReceived (x .carry) first second log (x .receiver) in record { answer = ofOne (u .answer); carry = u .carry; log = u .log }
 effectOf x (batch lengths pdus log) = let u = received lengths (x .carry) pdus log (x .receiver) in record { answer = u .answer; carry = u .carry; log = u .log }
-effectOf x (pair first second log) = let u = pairReceived (x .carry) first second log (x .receiver) in record { answer = ofOne (u .answer); carry = u .carry; log = u .log }
 effectOf x (markLost log) = record { answer = ofOne (lostAnswer log (x .receiver)); carry = x .carry; log = logAfterLost log (x .receiver) }
 
 abbrev pub defined : Behaviour
@@ -162,11 +165,7 @@ pub record HeaderAltered (marks p q : List ℕ) : Type 0 where
 abbrev pub Coming : Type 1
 Coming = (marks p q : List ℕ) → Type 0
 
--- a PDU as it is handed over: alone, with marked places; or as two copies (document 02, Ask 5)
-pub data Copies : Type 0 where
-  alone : (marks pdu : List ℕ) → Copies
-  paired : (first second : List ℕ) → Copies
-
+-- and so each copy of a pair, with no marks
 abbrev pub Comes : Coming → List ℕ → Copies → Type 0
 Comes comes p (alone marks q) = comes marks p q
 Comes comes p (paired q r) = comes [] p q × comes [] p r
@@ -189,8 +188,7 @@ pub data Step : Type 0 where
   refuses : Call → Step
 
 abbrev pub callOf : Step → Call
-callOf (receives (alone marks pdu) log) = receive marks pdu log
-callOf (receives (paired first second) log) = pair first second log
+callOf (receives copies log) = receive copies log
 callOf (batches pdus log) = batch (map length pdus) (concatenated pdus) log
 callOf (stops pdus lengths bytes log) = batch (map length pdus ++ lengths) (concatenated pdus ++ bytes) log
 callOf (loses log) = markLost log
@@ -226,9 +224,8 @@ module _ (b : Behaviour) where
 
   -- how many PDUs a call took: receiving a PDU, alone or as a pair, or marking it lost takes it, if it is not refused; a batch counts those that it took
   abbrev pub takenBy : Station → Call → ℕ
-  takenBy x (receive marks pdu log) = cond (eqb (b .effect x (receive marks pdu log) .answer .refusal) 0) 1 0
+  takenBy x (receive copies log) = cond (eqb (b .effect x (receive copies log) .answer .refusal) 0) 1 0
   takenBy x (batch lengths pdus log) = b .effect x (batch lengths pdus log) .answer .taken
-  takenBy x (pair first second log) = cond (eqb (b .effect x (pair first second log) .answer .refusal) 0) 1 0
   takenBy x (markLost log) = cond (eqb (b .effect x (markLost log) .answer .refusal) 0) 1 0
 
   -- a call is refused after it took so many PDUs
@@ -246,7 +243,7 @@ module _ (b : Behaviour) where
   Through comes x [] [] = Unit {0}
   Through comes x (p ∷ ps) [] = ⊥
   Through comes x [] (receives copies log ∷ ss) = ⊥
-  Through comes x (p ∷ ps) (receives copies log ∷ ss) = Comes comes p copies × (8400 ≤ length log) × Through comes (stationAfter x (callOf (receives copies log))) ps ss
+  Through comes x (p ∷ ps) (receives copies log ∷ ss) = Comes comes p copies × (8400 ≤ length log) × Through comes (stationAfter x (receive copies log)) ps ss
   Through comes x [] (loses log ∷ ss) = ⊥
   Through comes x (p ∷ ps) (loses log ∷ ss) = (8400 ≤ length log) × Through comes (stationAfter x (markLost log)) ps ss
 

@@ -14,7 +14,7 @@ use Rattle.receiver.specs.Receiving.{wrongState, tallyOf}
 use Rattle.receiver.specs.declared.Opened.{Opened}
 use Rattle.snapshot.specs.Snapshot.{saved, wordsAfter, loaded, carryLoaded}
 use Rattle.snapshot.specs.declared.Saved.{Saved}
-use Rattle.delivery.specs.Delivery.{Station, Call, receive, batch, pair, markLost, HeaderAltered, callOf, Behaviour, defined, stationAfter, Seen, seenOf, seenFrom, finally, Run, freshStation, Delivered, Claim, CountsFit, demand3}
+use Rattle.delivery.specs.Delivery.{Station, Call, receive, batch, markLost, HeaderAltered, callOf, Behaviour, defined, stationAfter, Seen, seenOf, seenFrom, finally, Run, freshStation, Delivered, Claim, CountsFit, demand3, alone, paired}
 use Rattle.delivery.specs.Copies.{Damaged}
 use Rattle.delivery.specs.Entitlement.{forPrograms}
 use Rattle.delivery.specs.Diversity.{WrongCrc, pairs}
@@ -62,9 +62,9 @@ pub record Running (x : Station) : Type 0 where
 
 -- the PDUs of a call are of bytes
 abbrev pub BytesIn : Call → Type 0
-BytesIn (receive marks pdu log) = Bytes pdu
+BytesIn (receive (alone marks pdu) log) = Bytes pdu
+BytesIn (receive (paired first second) log) = Bytes first × Bytes second
 BytesIn (batch lengths pdus log) = Bytes pdus
-BytesIn (pair first second log) = Bytes first × Bytes second
 BytesIn (markLost log) = Unit {0}
 
 -- ---- a run with interruptions

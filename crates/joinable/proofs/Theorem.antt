@@ -9,7 +9,7 @@ use Rattle.algebra.specs.Places.{All}
 use Rattle.writer.specs.RoundTrip.{Bytes}
 use Rattle.join.specs.Join.{isLog}
 use Rattle.join.proofs.Logs.{log-after, never-23}
-use Rattle.delivery.specs.Delivery.{Station, Call, receive, batch, pair, markLost, effectOf, defined, stationAfter, takenBy, loggedBy, seenFrom, logsIn}
+use Rattle.delivery.specs.Delivery.{Station, Call, receive, batch, markLost, effectOf, defined, stationAfter, takenBy, loggedBy, seenFrom, logsIn, alone, paired}
 use Rattle.delivery.specs.Interruptions.{BytesIn}
 use Rattle.joinable.specs.Joinable.{NeverRefused}
 use Rattle.joinable.proofs.Calls.{no-words, received-log, carry-bytes, lost-log}
@@ -20,9 +20,9 @@ use Rattle.joinable.proofs.Examples.{lost-counted}
 -- ---- a call: its log as far as its answer counts, and the carry after it
 
 call-log : (x : Station) (c : Call) → Bytes (x .carry) → BytesIn c → (isLog (take (effectOf x c .answer .words) (effectOf x c .log)) ≡ true) × Bytes (effectOf x c .carry)
-call-log x (receive marks pdu log) b h = (received-log marks (x .carry) pdu log (x .receiver) b h, carry-bytes marks (x .carry) pdu log (x .receiver) b h)
+call-log x (receive (alone marks pdu) log) b h = (received-log marks (x .carry) pdu log (x .receiver) b h, carry-bytes marks (x .carry) pdu log (x .receiver) b h)
 call-log x (batch lengths pdus log) b h = batch-log lengths (x .carry) pdus log (x .receiver) b h
-call-log x (pair first second log) b h = pair-log (x .carry) first second log (x .receiver) b (h .0) (h .1)
+call-log x (receive (paired first second) log) b h = pair-log (x .carry) first second log (x .receiver) b (h .0) (h .1)
 call-log x (markLost log) b h = (lost-log log (x .receiver), b)
 
 -- where its log does not count, nothing is logged
