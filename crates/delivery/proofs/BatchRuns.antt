@@ -154,9 +154,9 @@ unfolding wholePackets logWords
 end-none = claimed defined delivers 1 1 carried (receives (alone [] ends) words ∷ []) carried-room (as-sent ends (both-usable .1 .0), log-room, tt)
 
 -- the packet is asked for, and nothing is logged
-pub forgetting-wrong : ¬ Demand3For handingBack
+pub handing-back-wrong : ¬ Demand3For handingBack
 unfolding wholePackets logWords entryWords dataWords
-forgetting-wrong claim =
+handing-back-wrong claim =
     let asked : packetWords (batchLog ++ (endLog ++ [])) ≡ logWords (packet 0 (replicate 142 2) ∷ []) =
     claimed handingBack claim 0 2 carry (batches (begins ∷ []) words ∷ receives (alone [] ends) words ∷ []) carry-room
     ((as-sent begins (both-usable .0), tt), (let r = log-room in omega (arith, r)), (as-sent ends (both-usable .1 .0), log-room, tt)) in

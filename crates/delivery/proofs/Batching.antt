@@ -1,5 +1,5 @@
 -- Document 02, Ask 1: what its PDUs' calls do, one after another, a batch does; and the calls of a run, batches among them, as a machine that hands over
--- PDUs (runs/specs/Calls.antt).
+-- PDUs (runs/proofs/Calls.antt).
 use mathlib.Core.Path.{_≡_, refl, sym, ap, ap₂, subst, _∙_}
 use mathlib.Core.Bool.{Bool, true, false, not, _||_, cond}
 use mathlib.Core.List.{List, [], _∷_, _++_, map, append-assoc, append-nil}

@@ -1,4 +1,4 @@
--- The receiver's calls as a machine that hands over PDUs of a run (runs/specs/Calls.antt): what each kind of call has to prove.
+-- The receiver's calls as a machine that hands over PDUs of a run (runs/proofs/Calls.antt): what each kind of call has to prove.
 use mathlib.Core.Path.{_≡_, refl, sym, ap, ap₂, subst, _∙_}
 use mathlib.Core.Bool.{Bool, true, false, _||_, cond}
 use mathlib.Core.List.{List, [], _∷_, _++_}

@@ -1,5 +1,5 @@
 -- The receivers that document 01 wants thrown out by demand 3, one that delivers a packet for a PDU marked lost, one that joins across a lost PDU, one that
--- does not take the register it is given, one whose batches forget, one that takes the whole of the better copy, one that looks at no CRC, and one whose counts
+-- does not take the register it is given, one whose batches hand back the receiver that they got, one that takes the whole of the better copy, one that looks at no CRC, and one whose counts
 -- marking lost sets back. Each is the receiver of document 01 but for what its line says; demand 3 is shown false of `zeroed` in proofs/Registers.antt, of `handingBack` in proofs/BatchRuns.antt, and of the others in
 -- proofs/WrongReceivers.antt, but the promise over runs of pairs of `choosing`, in proofs/PairRuns.antt, the promise for entitled programs of `supposing` and
 -- `keeping`, in proofs/WrongRights.antt, and the promise over bursts of `trusting`, in proofs/WrongBursts.antt.
@@ -106,14 +106,14 @@ abbrev pub zeroed : Behaviour
 zeroed = behaving (λ mode stream register programs. defined .opening mode stream 0 programs) answerOf carryOf logOf
 
 -- a batch hands back the receiver that it got (document 02, Ask 1)
-abbrev pub forgettingAnswer : Station → Call → Batch
-forgettingAnswer x (receive (alone marks pdu) log) = answerOf x (receive (alone marks pdu) log)
-forgettingAnswer x (batch lengths pdus log) = withReceiver (x .receiver) (answerOf x (batch lengths pdus log))
-forgettingAnswer x (receive (paired first second) log) = answerOf x (receive (paired first second) log)
-forgettingAnswer x (markLost log) = answerOf x (markLost log)
+abbrev pub handingBackAnswer : Station → Call → Batch
+handingBackAnswer x (receive (alone marks pdu) log) = answerOf x (receive (alone marks pdu) log)
+handingBackAnswer x (batch lengths pdus log) = withReceiver (x .receiver) (answerOf x (batch lengths pdus log))
+handingBackAnswer x (receive (paired first second) log) = answerOf x (receive (paired first second) log)
+handingBackAnswer x (markLost log) = answerOf x (markLost log)
 
 abbrev pub handingBack : Behaviour
-handingBack = behaving (defined .opening) forgettingAnswer carryOf logOf
+handingBack = behaving (defined .opening) handingBackAnswer carryOf logOf
 
 -- it chooses the better copy of a pair and receives that one alone (document 02, Ask 5)
 abbrev pub chosenCopy : Choice → List ℕ → List ℕ → List ℕ

@@ -28,7 +28,7 @@ forgetsSequence = changing unsequenced
 abbrev pub forgetsHeld : Snapshot
 forgetsHeld = record { saved = definedSnapshot .saved; words = definedSnapshot .words; loaded = definedSnapshot .loaded; carry = λ ws c. c }
 
--- the counts: no word of kind 6 is definedSnapshot (document 02, Ask 14). Its words are those of the receiver with nothing delivered
+-- the counts: no word of kind 6 is written (document 02, Ask 14). Its words are those of the receiver with nothing delivered
 abbrev pub uncounted : Station → Station
 uncounted x =
     let r = x .receiver in

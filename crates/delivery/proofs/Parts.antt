@@ -13,7 +13,7 @@ use Rattle.writer.specs.Writing.{opened as writerOpened}
 use Rattle.runs.specs.Spans.{Span, every, wholeIndices, entriesAt}
 use Rattle.runs.specs.Transmissions.{Way, gone, here}
 use Rattle.runs.proofs.Model.{wholePackets}
-use Rattle.runs.proofs.Promise.{arrivedBy as arrivedBy, indices}
+use Rattle.runs.proofs.Promise.{arrivedBy, indices}
 use Rattle.runs.proofs.Spans.{entries-are}
 use Rattle.batch.specs.declared.Batch.{Batch}
 use Rattle.delivery.specs.Delivery.{Writing, pdusFrom, spansFrom, Station, Call, Behaviour, effectOf, HeaderAltered, Step, takenBy, Through as ThroughBy, seenFrom, logsIn, Each, Run, runOf, Asked as AskedBy, inReceived}
