@@ -19,7 +19,7 @@ use Rattle.snapshot.proofs.Round.{loaded-saved, saved-words, save-room, few-wor
 use Rattle.delivery.proofs.Parts.{answerOf, logOf}
 use Rattle.batch.specs.declared.Batch.{Batch}
 use Rattle.delivery.specs.Delivery.{Station, Call, receive, batch, markLost, defined, stationAfter, loggedBy, finally, Seen, seenOf, seenFrom, alone, paired}
-use Rattle.delivery.specs.Interruptions.{definedSnapshot, Interruption, wordsOf, resumed, Turn, called, interrupted, callsIn, seenIn, endIn, AllResume, Running, Suffices, Interruptions}
+use Rattle.delivery.specs.Interruptions.{definedSnapshot, Interruption, wordsOf, resumed, Turn, called, interrupted, callsIn, seenIn, endIn, AllResume, Running, Suffices, Interruptions, EnoughWords}
 use Rattle.delivery.proofs.Made.{bytes-of}
 use Rattle.delivery.proofs.Held.{Alike, put-longer, SameHeld, SameCall, same-call}
 use Rattle.delivery.proofs.Running.{still-runs}
@@ -57,9 +57,6 @@ save-number x words = go (eqb n 0) refl
     go false f = refl
 
 -- a buffer of 1,376 words is never too short
-abbrev EnoughWords : Type 0
-EnoughWords = (x : Station) (words : List ℕ) → Running x → 1376 ≤ length words → ¬ (definedSnapshot .saved x words .refusal ≡ 26)
-
 pub enough-words : EnoughWords
 enough-words x words h long e =
     let n = few-words (x .receiver) (x .carry) (ltb-false 4096 (x .receiver .held) (none-at (wrongState (x .receiver)) 3 (h .right))) in

@@ -17,7 +17,7 @@ use Rattle.receiver.specs.Receiving.{openingTests, openingNumber, openedFor}
 use Rattle.receiver.specs.declared.Receiver.{Receiver}
 use Rattle.writer.specs.Writing.{opened as writerOpened}
 use Rattle.delivery.specs.Delivery.{Station, Call, defined, callOf, seenFrom, finally, Run, freshStation as freshIn, Delivered, HeaderAltered, Claim, Holds, demand3}
-use Rattle.delivery.specs.Interruptions.{definedSnapshot, seenIn, endIn, Running, OverInterruptions, InterruptedDemand3, InterruptedEntitled, InterruptedBursts, InterruptedPairs, InterruptedEntitledPairs, InterruptedChannel}
+use Rattle.delivery.specs.Interruptions.{definedSnapshot, seenIn, endIn, Running, OpenedRuns, OverInterruptions, InterruptedDemand3, InterruptedEntitled, InterruptedBursts, InterruptedPairs, InterruptedEntitledPairs, InterruptedChannel}
 use Rattle.delivery.specs.Copies.{Damaged}
 use Rattle.delivery.specs.Entitlement.{forPrograms}
 use Rattle.delivery.specs.Diversity.{WrongCrc, pairs}
@@ -47,10 +47,6 @@ fresh-runs mode stream register programs carry m l a g big =
     (record { right = shows-fresh mode stream register (maskOf programs) m l range carry big .right; register = g; entitled = unfold maskOf in mask-byte (isListed programs); counts = (omega arith, omega arith); room = big; held = tt })
 
 -- a freshly opened receiver may be interrupted
-abbrev OpenedRuns : Type 0
-OpenedRuns = (mode stream register : ℕ) (programs carry : List ℕ) → openedFor mode stream register programs .refusal ≡ 0 → register < 256 → 4096 ≤ length carry
-    → Running (freshStation defined mode stream register programs carry)
-
 pub opened-runs : OpenedRuns
 unfolding openedFor openingNumber
 opened-runs mode stream register programs carry e g big =

@@ -10,7 +10,7 @@ use lib.ListN.{length, take}
 use Rattle.refusal.specs.Refusal.{anyOf}
 use Rattle.reassembly.specs.Tally.{Countable}
 use Rattle.writer.specs.RoundTrip.{Bytes}
-use Rattle.receiver.specs.Receiving.{wrongState, tallyOf}
+use Rattle.receiver.specs.Receiving.{openedFor, wrongState, tallyOf}
 use Rattle.receiver.specs.declared.Opened.{Opened}
 use Rattle.snapshot.specs.Snapshot.{saved, wordsAfter, loaded, carryLoaded}
 use Rattle.snapshot.specs.declared.Saved.{Saved}
@@ -123,6 +123,16 @@ module _ (b : Behaviour) (s : Snapshot) where
 
 abbrev pub Interruptions : Type 0
 Interruptions = InterruptionsFor defined definedSnapshot
+
+-- a receiver opened with a register that is a byte, and a carry of 4,096 bytes at least, may be interrupted
+abbrev pub OpenedRuns : Type 0
+OpenedRuns =
+    (mode stream register : ℕ) (programs carry : List ℕ) → openedFor mode stream register programs .refusal ≡ 0 → register < 256 → 4096 ≤ length carry
+    → Running (record { receiver = openedFor mode stream register programs .receiver; carry = carry })
+
+-- and a buffer of 1,376 words is never too short
+abbrev pub EnoughWords : Type 0
+EnoughWords = (x : Station) (words : List ℕ) → Running x → 1376 ≤ length words → ¬ (definedSnapshot .saved x words .refusal ≡ 26)
 
 -- the promises over whole runs: demand 3
 abbrev pub InterruptedDemand3 : Type 0
