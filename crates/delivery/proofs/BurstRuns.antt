@@ -109,6 +109,6 @@ burst-run =
       room = carry-room;
       through = subst (λ (ps : List (List ℕ)). Through defined (Damaged Hit 0 16) fresh (runOf 0 2 ps) burstCalls) (sym made-is) through;
     }) .log
-    ∙ ap (λ (ps : List (List ℕ)). logWords (dueEntries 0 0 allPrograms packets two 0 (waysFrom 16 (runOf 0 2 ps) burstCalls))) made-is
+    ∙ ap (λ (ps : List (List ℕ)). logWords (dueEntries 0 0 allPrograms packets two 0 (waysFrom (asSent 16) (runOf 0 2 ps) burstCalls))) made-is
     ∙ ap₂ (λ (f g : ℕ → ℕ). logWords (dueEntries 0 0 allPrograms packets two 0 (here f ∷ here g ∷ []))) second-struck (none-hit 16 [] other other other-as-sent)
     ∙ ap logWords due-are

@@ -134,7 +134,7 @@ over width [] (loses log ∷ ss) = []
 over width (p ∷ ps) (receives copies log ∷ ss) = handing width p log copies ∷ over width ps ss
 over width (p ∷ ps) (loses log ∷ ss) = misses log ∷ over width ps ss
 
-ways-came : (width : ℕ) (qs ps : List (List ℕ)) → soundWaysIn (came width ps qs) ≡ waysIn width ps qs
+ways-came : (width : ℕ) (qs ps : List (List ℕ)) → soundWaysIn (came width ps qs) ≡ waysIn (asSent width) ps qs
 ways-came width [] ps = refl
 ways-came width (q ∷ qs) [] = refl
 ways-came width (q ∷ qs) (p ∷ ps) = ap (λ (l : List Way). here (causesFor (asSent width p q)) ∷ l) (ways-came width qs ps)
@@ -147,11 +147,11 @@ ways-first (takesSome cs ls bytes log) ss = ap (λ (l : List Way). l ++ soundWay
 ways-first (misses log) ss = refl
 ways-first (declines c) ss = refl
 
-handed-ways : (width : ℕ) (p log : List ℕ) (copies : Copies) → soundWays (handing width p log copies ∷ []) ≡ cameAs (soundIn width p copies) ∷ []
+handed-ways : (width : ℕ) (p log : List ℕ) (copies : Copies) → soundWays (handing width p log copies ∷ []) ≡ cameAs (soundIn (asSent width) p copies) ∷ []
 handed-ways width p log (alone marks q) = refl
 handed-ways width p log (paired q r) = refl
 
-same-ways : (width : ℕ) (ss : List Step) (ps : List (List ℕ)) → soundWays (over width ps ss) ≡ waysFrom width ps ss
+same-ways : (width : ℕ) (ss : List Step) (ps : List (List ℕ)) → soundWays (over width ps ss) ≡ waysFrom (asSent width) ps ss
 same-ways width [] ps = refl
 same-ways width (refuses c ∷ ss) ps = same-ways width ss ps
 same-ways width (batches qs log ∷ ss) ps = ap₂ (λ (k l : List Way). k ++ l) (ways-came width qs ps) (same-ways width ss (drop (length qs) ps))
@@ -258,12 +258,16 @@ module _ (register width : ℕ) where
 allowed-of : (comes : (register width : ℕ) → Coming) (r : Run) (b : Behaviour) → forPrograms comes .asked r b → allowedPrograms (r .programs) ≡ true
 allowed-of comes r b d = d .0
 
+-- the PDUs of a run can be received
+pub usable-run : (r : Run) (b : Behaviour) (comes : Coming) → Asked r comes b → All Usable (runOf (r .first) (r .count) (made r))
+usable-run r b comes d = run-usable (r .mode) (r .stream) (r .register) (r .packets) (r .writings) (d .opens) (d .sized) (d .offered) (r .first) (r .count)
+
 -- no call for a PDU of the run is refused, and the packet log holds exactly the packets that arrived whole in sound pieces and begin in a PDU not withheld
 pub channel-delivers : ChannelDelivery
 channel-delivers r (a, d) k =
     let ps : List (List ℕ) = runOf (r .first) (r .count) (made r) in
     let x : Station = freshStation r defined in
-    let s = same (r .register) (widthIn r) (r .steps) x ps (run-usable (r .mode) (r .stream) (r .register) (r .packets) (r .writings) (d .opens) (d .sized) (d .offered) (r .first) (r .count)) (d .through) in
+    let s = same (r .register) (widthIn r) (r .steps) x ps (usable-run r defined (Damaged WrongOrHit (r .register) (widthIn r)) d) (d .through) in
     let e = same-ways (widthIn r) (r .steps) ps in
     let f : ℕ → ℕ → Bool = dueAt (lies (r .packets) (spans r) (fates r)) in
     let last = ap (λ (cs : List Call). tallyOf (finally defined x cs .receiver)) (s .calls) in
@@ -286,29 +290,29 @@ channel-delivers r (a, d) k =
 
 -- ---- PDUs that come in one way come in another
 
-module _ (b : Behaviour) (one other : Coming) (f : (marks p q : List ℕ) → one marks p q → other marks p q) where
-  comes-too : (p : List ℕ) (copies : Copies) → Comes one p copies → Comes other p copies
-  comes-too p (alone marks q) h = f marks p q h
-  comes-too p (paired q r) h = (f [] p q (h .0), f [] p r (h .1))
+module _ (b : Behaviour) (one other : Coming) (f : (marks p q : List ℕ) → Usable p → one marks p q → other marks p q) where
+  comes-too : (p : List ℕ) (copies : Copies) → Usable p → Comes one p copies → Comes other p copies
+  comes-too p (alone marks q) u h = f marks p q u h
+  comes-too p (paired q r) u h = (f [] p q u (h .0), f [] p r u (h .1))
 
-  all-too : (qs ps : List (List ℕ)) → AllCome one ps qs → AllCome other ps qs
-  all-too [] ps h = tt
-  all-too (q ∷ qs) [] h = absurd h
-  all-too (q ∷ qs) (p ∷ ps) h = (f [] p q (h .0), all-too qs ps (h .1))
+  all-too : (qs ps : List (List ℕ)) → All Usable ps → AllCome one ps qs → AllCome other ps qs
+  all-too [] ps u h = tt
+  all-too (q ∷ qs) [] u h = absurd h
+  all-too (q ∷ qs) (p ∷ ps) u h = (f [] p q (u .0) (h .0), all-too qs ps (u .1) (h .1))
 
-  through-too : (ss : List Step) (x : Station) (ps : List (List ℕ)) → Through b one x ps ss → Through b other x ps ss
-  through-too [] x [] t = tt
-  through-too [] x (p ∷ ps) t = absurd t
-  through-too (receives copies log ∷ ss) x [] t = absurd t
-  through-too (receives copies log ∷ ss) x (p ∷ ps) t = (comes-too p copies (t .0), t .1, through-too ss (stationAfter b x (callOf (receives copies log))) ps (t .2))
-  through-too (batches qs log ∷ ss) x ps t = (all-too qs ps (t .0), t .1, through-too ss (stationAfter b x (callOf (batches qs log))) (drop (length qs) ps) (t .2))
-  through-too (stops qs ls bytes log ∷ ss) x ps t = (all-too qs ps (t .0), t .1, t .2, through-too ss (stationAfter b x (callOf (stops qs ls bytes log))) (drop (length qs) ps) (t .3))
-  through-too (loses log ∷ ss) x [] t = absurd t
-  through-too (loses log ∷ ss) x (p ∷ ps) t = (t .0, through-too ss (stationAfter b x (markLost log)) ps (t .1))
-  through-too (refuses c ∷ ss) x ps t = (t .0, through-too ss (stationAfter b x c) ps (t .1))
+  through-too : (ss : List Step) (x : Station) (ps : List (List ℕ)) → All Usable ps → Through b one x ps ss → Through b other x ps ss
+  through-too [] x [] u t = tt
+  through-too [] x (p ∷ ps) u t = absurd t
+  through-too (receives copies log ∷ ss) x [] u t = absurd t
+  through-too (receives copies log ∷ ss) x (p ∷ ps) u t = (comes-too p copies (u .0) (t .0), t .1, through-too ss (stationAfter b x (callOf (receives copies log))) ps (u .1) (t .2))
+  through-too (batches qs log ∷ ss) x ps u t = (all-too qs ps u (t .0), t .1, through-too ss (stationAfter b x (callOf (batches qs log))) (drop (length qs) ps) (usable-drop (length qs) ps u) (t .2))
+  through-too (stops qs ls bytes log ∷ ss) x ps u t = (all-too qs ps u (t .0), t .1, t .2, through-too ss (stationAfter b x (callOf (stops qs ls bytes log))) (drop (length qs) ps) (usable-drop (length qs) ps u) (t .3))
+  through-too (loses log ∷ ss) x [] u t = absurd t
+  through-too (loses log ∷ ss) x (p ∷ ps) u t = (t .0, through-too ss (stationAfter b x (markLost log)) ps (u .1) (t .1))
+  through-too (refuses c ∷ ss) x ps u t = (t .0, through-too ss (stationAfter b x c) ps u (t .1))
 
-  asked-too : (r : Run) → Asked r one b → Asked r other b
-  asked-too r d = record { opens = d .opens; sized = d .sized; offered = d .offered; room = d .room; through = through-too (r .steps) (freshStation r b) (runOf (r .first) (r .count) (made r)) (d .through) }
+  pub asked-too : (r : Run) → Asked r one b → Asked r other b
+  asked-too r d = record { opens = d .opens; sized = d .sized; offered = d .offered; room = d .room; through = through-too (r .steps) (freshStation r b) (runOf (r .first) (r .count) (made r)) (usable-run r b one d) (d .through) }
 
 -- wrong CRCs, bursts, and no damage
 module _ (register width : ℕ) (marks p q : List ℕ) where
@@ -335,12 +339,12 @@ module _ (register width : ℕ) (marks p q : List ℕ) where
 
 -- document 02, Ask 5 with Ask 10: the packets each of whose pieces is, once corrected, as sent in one copy at least, that begin in a pair not withheld
 pub entitled-pairs-deliver : EntitledPairDelivery
-entitled-pairs-deliver r (a, d) k = channel-delivers r (a, asked-too defined (Damaged WrongCrc (r .register) (widthIn r)) (Damaged WrongOrHit (r .register) (widthIn r)) (wrong-damage (r .register) (widthIn r)) r d) k
+entitled-pairs-deliver r (a, d) k = channel-delivers r (a, asked-too defined (Damaged WrongCrc (r .register) (widthIn r)) (Damaged WrongOrHit (r .register) (widthIn r)) (λ marks p q u h. wrong-damage (r .register) (widthIn r) marks p q h) r d) k
 
 -- Ask 12: the packets that arrived whole, begin in a PDU not withheld, and have no piece that was hit
 pub bursts-deliver : BurstDelivery
-bursts-deliver r (a, d) k = channel-delivers r (a, asked-too defined (Damaged Hit (r .register) (widthIn r)) (Damaged WrongOrHit (r .register) (widthIn r)) (hit-damaged (r .register) (widthIn r)) r d) k
+bursts-deliver r (a, d) k = channel-delivers r (a, asked-too defined (Damaged Hit (r .register) (widthIn r)) (Damaged WrongOrHit (r .register) (widthIn r)) (λ marks p q u h. hit-damaged (r .register) (widthIn r) marks p q h) r d) k
 
 -- Ask 10: the packets that arrived whole and begin in a PDU not withheld
 pub entitled-delivers : EntitledDelivery
-entitled-delivers r (a, d) k = channel-delivers r (a, asked-too defined HeaderAltered (Damaged WrongOrHit (r .register) (widthIn r)) (λ marks p q h. no-damage (r .register) (widthIn r) marks p q h WrongOrHit) r d) k
+entitled-delivers r (a, d) k = channel-delivers r (a, asked-too defined HeaderAltered (Damaged WrongOrHit (r .register) (widthIn r)) (λ marks p q u h. no-damage (r .register) (widthIn r) marks p q h WrongOrHit) r d) k

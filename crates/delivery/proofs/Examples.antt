@@ -15,7 +15,7 @@ use Rattle.buffer.specs.Buffer.{putAt}
 use Rattle.modes.specs.Modes.{listing}
 use Rattle.reassembly.specs.Reassembly.{lostEntries}
 use Rattle.receiver.specs.Receiving.{fresh, lostNumber, lostAnswer, logAfterLost}
-use Rattle.delivery.specs.Copies.{waysFrom}
+use Rattle.delivery.specs.Copies.{asSent, waysFrom}
 
 -- packets of 5, 2 and 3 bytes in four PDUs: 3 bytes; 2 and 1; 1 and 2; 1
 abbrev three : List (List ℕ)
@@ -34,7 +34,7 @@ unfolding wholePackets
 second-lost = refl
 
 -- over a channel, the second PDU lost
-pub second-missing : wholePackets (dueAt (lies three fourSpans (map plainFate (waysFrom 16 ([] ∷ [] ∷ [] ∷ [] ∷ []) (receives (alone [] []) [] ∷ loses [] ∷ receives (alone [] []) [] ∷ receives (alone [] []) [] ∷ []))))) 0 0 three ≡ packet 2 (8 ∷ 9 ∷ 10 ∷ []) ∷ []
+pub second-missing : wholePackets (dueAt (lies three fourSpans (map plainFate (waysFrom (asSent 16) ([] ∷ [] ∷ [] ∷ [] ∷ []) (receives (alone [] []) [] ∷ loses [] ∷ receives (alone [] []) [] ∷ receives (alone [] []) [] ∷ []))))) 0 0 three ≡ packet 2 (8 ∷ 9 ∷ 10 ∷ []) ∷ []
 unfolding wholePackets sameBytes controlOf locator16
 second-missing = refl
 

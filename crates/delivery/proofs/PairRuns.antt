@@ -218,10 +218,10 @@ askedFor ws = logWords (wholePackets (dueAt (lies packets twoSpans (map plainFat
 
 -- the claim for so many of these PDUs
 module _ (b : Behaviour) (claim : Holds pairs b) (count : ℕ) (steps : List Step) (t : Through b (Damaged WrongCrc 0 16) (freshStation b 0 0 0 allPrograms carry) (runOf 0 count (sent ∷ other ∷ [])) steps) where
-  claimed : Logged b (freshStation b 0 0 0 allPrograms carry) steps (wholePackets (dueAt (lies packets (spans 0 0 packets two) (map plainFate (waysFrom 16 (runOf 0 count (made 0 0 0 two)) steps)))) 0 0 packets)
+  claimed : Logged b (freshStation b 0 0 0 allPrograms carry) steps (wholePackets (dueAt (lies packets (spans 0 0 packets two) (map plainFate (waysFrom (asSent 16) (runOf 0 count (made 0 0 0 two)) steps)))) 0 0 packets)
   unfolding listing
   claimed =
-      logged-by pairs b claim (runWith 0 0 0 allPrograms packets two 0 count carry steps) (dueAt (lies packets (spans 0 0 packets two) (map plainFate (waysFrom 16 (runOf 0 count (made 0 0 0 two)) steps)))) refl (
+      logged-by pairs b claim (runWith 0 0 0 allPrograms packets two 0 count carry steps) (dueAt (lies packets (spans 0 0 packets two) (map plainFate (waysFrom (asSent 16) (runOf 0 count (made 0 0 0 two)) steps)))) refl (
         refl,
         record {
           opens = opens;
@@ -233,8 +233,8 @@ module _ (b : Behaviour) (claim : Holds pairs b) (count : ℕ) (steps : List Ste
       )
       (let n : length packets ≡ 3 = refl in omega (arith, n))
 
-  logged : packetWords (logsFrom b (freshStation b 0 0 0 allPrograms carry) (map callOf steps)) ≡ askedFor (waysFrom 16 (runOf 0 count (sent ∷ other ∷ [])) steps)
-  logged = claimed .log ∙ ap₂ (λ (ss : List Span) (ps : List (List ℕ)). logWords (wholePackets (dueAt (lies packets ss (map plainFate (waysFrom 16 (runOf 0 count ps) steps)))) 0 0 packets)) spans-are made-is
+  logged : packetWords (logsFrom b (freshStation b 0 0 0 allPrograms carry) (map callOf steps)) ≡ askedFor (waysFrom (asSent 16) (runOf 0 count (sent ∷ other ∷ [])) steps)
+  logged = claimed .log ∙ ap₂ (λ (ss : List Span) (ps : List (List ℕ)). logWords (wholePackets (dueAt (lies packets ss (map plainFate (waysFrom (asSent 16) (runOf 0 count ps) steps)))) 0 0 packets)) spans-are made-is
 
 -- of both copies each piece is taken
 abbrev eitherCause : ℕ → ℕ

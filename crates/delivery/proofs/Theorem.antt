@@ -34,16 +34,16 @@ ways-append (b ∷ bs) cs = ap (λ (l : List Way). wayBy b ∷ l) (ways-append b
 pub none-hit : (width : ℕ) (marks p q : List ℕ) → HeaderAltered marks p q → causesFor (asSent width p q) ≡ (λ k. 0)
 none-hit width marks p q h = fun-ext (λ k. ap (λ (b : Bool). cond b 0 2) (all-sound 0 width marks p q h k))
 
-sound-copies : (width : ℕ) (p : List ℕ) (copies : Copies) → Comes HeaderAltered p copies → causesFor (soundIn width p copies) ≡ (λ k. 0)
+sound-copies : (width : ℕ) (p : List ℕ) (copies : Copies) → Comes HeaderAltered p copies → causesFor (soundIn (asSent width) p copies) ≡ (λ k. 0)
 sound-copies width p (alone marks q) h = none-hit width marks p q h
 sound-copies width p (paired q r) h = fun-ext (λ k. ap (λ (b : Bool). cond (b || asSent width p r k) 0 2) (all-sound 0 width [] p q (h .0) k))
 
-ways-sound : (width : ℕ) (qs ps : List (List ℕ)) → AllCome HeaderAltered ps qs → waysIn width ps qs ≡ waysBy (replicate (length qs) true)
+ways-sound : (width : ℕ) (qs ps : List (List ℕ)) → AllCome HeaderAltered ps qs → waysIn (asSent width) ps qs ≡ waysBy (replicate (length qs) true)
 ways-sound width [] ps h = refl
 ways-sound width (q ∷ qs) [] h = absurd h
 ways-sound width (q ∷ qs) (p ∷ ps) h = ap₂ (λ (f : ℕ → ℕ) (l : List Way). here f ∷ l) (none-hit width [] p q (h .0)) (ways-sound width qs ps (h .1))
 
-pub same-ways : (b : Behaviour) (width : ℕ) (ss : List Step) (x : Station) (pdus : List (List ℕ)) → Through b HeaderAltered x pdus ss → waysFrom width pdus ss ≡ waysBy (receptions ss)
+pub same-ways : (b : Behaviour) (width : ℕ) (ss : List Step) (x : Station) (pdus : List (List ℕ)) → Through b HeaderAltered x pdus ss → waysFrom (asSent width) pdus ss ≡ waysBy (receptions ss)
 same-ways b width [] x pdus t = refl
 same-ways b width (receives copies log ∷ ss) x [] t = absurd t
 same-ways b width (receives copies log ∷ ss) x (p ∷ pdus) t = ap₂ (λ (f : ℕ → ℕ) (l : List Way). here f ∷ l) (sound-copies width p copies (t .0)) (same-ways b width ss (stationAfter b x (callOf (receives copies log))) pdus (t .2))

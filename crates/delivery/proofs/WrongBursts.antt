@@ -28,7 +28,7 @@ use Rattle.delivery.specs.Delivery.{Behaviour, receive, Step, receives, 
 use Rattle.delivery.proofs.Parts.{freshStation, made, dueEntries, runWith, answerOf}
 use Rattle.delivery.specs.Entitlement.{rightsFor, forPrograms}
 use Rattle.delivery.specs.Bursts.{Hit}
-use Rattle.delivery.specs.Copies.{waysFrom, Damaged}
+use Rattle.delivery.specs.Copies.{asSent, waysFrom, Damaged}
 use Rattle.delivery.proofs.FaultyReceivers.{withWords, allTaken, trustedEntries, trustedWords, trusting}
 use Rattle.delivery.proofs.Copies.{corrected-back}
 use Rattle.delivery.proofs.Serving.{loggedAlone}
@@ -44,7 +44,7 @@ call = receives (alone [] second) words ∷ []
 
 -- the claim for this PDU
 module _ (b : Behaviour) (claim : Holds (forPrograms (Damaged Hit)) b) where
-  claimed : Logged b (freshStation b 0 0 0 allPrograms carry) call (dueEntries 0 0 allPrograms packets two 0 (waysFrom 16 (runOf 0 1 (made 0 0 0 two)) call))
+  claimed : Logged b (freshStation b 0 0 0 allPrograms carry) call (dueEntries 0 0 allPrograms packets two 0 (waysFrom (asSent 16) (runOf 0 1 (made 0 0 0 two)) call))
   unfolding listing
   claimed =
       entitled-says (Damaged Hit) b claim (runWith 0 0 0 allPrograms packets two 0 1 carry call) (let n : length packets ≡ 3 = refl in omega (arith, n)) all-allowed
@@ -94,7 +94,7 @@ trusting-wrong claim =
     let a : Batch = answerOf fresh (receive (alone [] second) words) in
     let asked : packetWords (loggedBy trusting fresh (receive (alone [] second) words) ++ []) ≡ logWords (packet 0 (replicate 100 1) ∷ []) =
     claimed trusting claim .log
-    ∙ ap (λ (ps : List (List ℕ)). logWords (dueEntries 0 0 allPrograms packets two 0 (waysFrom 16 (runOf 0 1 ps) call))) made-is
+    ∙ ap (λ (ps : List (List ℕ)). logWords (dueEntries 0 0 allPrograms packets two 0 (waysFrom (asSent 16) (runOf 0 1 ps) call))) made-is
     ∙ ap (λ (f : ℕ → ℕ). logWords (dueEntries 0 0 allPrograms packets two 0 (here f ∷ []))) second-struck
     ∙ ap logWords one-due in
     let found : loggedBy trusting fresh (receive (alone [] second) words) ++ [] ≡ logWords (packet 0 (replicate 100 1) ∷ packet 1 struck ∷ []) =

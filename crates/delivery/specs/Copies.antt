@@ -39,11 +39,6 @@ module _ (width : ℕ) (p : List ℕ) where
   abbrev pub asSent : List ℕ → ℕ → Bool
   asSent q k = sameBytes (pieceAt (restored p q) k) (pieceAt p k)
 
-  -- in one copy at least
-  abbrev pub soundIn : Copies → ℕ → Bool
-  soundIn (alone marks q) k = asSent q k
-  soundIn (paired q r) k = asSent q k || asSent r k
-
 -- what may have become of piece k of p, read as y, by the register that CRCs start with and the locators' width
 abbrev pub Damage : Type 1
 Damage = (register width : ℕ) (p y : List ℕ) (k : ℕ) → Type 0
@@ -61,23 +56,31 @@ pub record Damaged (damage : Damage) (register width : ℕ) (marks p q : List �
 abbrev pub cameAs : (ℕ → Bool) → Way
 cameAs sound = here (λ k. cond (sound k) 0 2)
 
-abbrev pub waysIn : ℕ → List (List ℕ) → List (List ℕ) → List Way
-waysIn width ps [] = []
-waysIn width [] (q ∷ qs) = []
-waysIn width (p ∷ ps) (q ∷ qs) = cameAs (asSent width p q) ∷ waysIn width ps qs
+-- told by which pieces of a copy q of p are sound
+module _ (sound : (p q : List ℕ) → ℕ → Bool) where
+  -- in one copy at least
+  abbrev pub soundIn : List ℕ → Copies → ℕ → Bool
+  soundIn p (alone marks q) k = sound p q k
+  soundIn p (paired q r) k = sound p q k || sound p r k
 
-abbrev pub waysFrom : ℕ → List (List ℕ) → List Step → List Way
-waysFrom width ps [] = []
-waysFrom width ps (refuses c ∷ ss) = waysFrom width ps ss
-waysFrom width ps (batches qs log ∷ ss) = waysIn width ps qs ++ waysFrom width (drop (length qs) ps) ss
-waysFrom width ps (stops qs lengths bytes log ∷ ss) = waysIn width ps qs ++ waysFrom width (drop (length qs) ps) ss
-waysFrom width [] (receives copies log ∷ ss) = []
-waysFrom width [] (loses log ∷ ss) = []
-waysFrom width (p ∷ ps) (receives copies log ∷ ss) = cameAs (soundIn width p copies) ∷ waysFrom width ps ss
-waysFrom width (p ∷ ps) (loses log ∷ ss) = gone ∷ waysFrom width ps ss
+  abbrev pub waysIn : List (List ℕ) → List (List ℕ) → List Way
+  waysIn ps [] = []
+  waysIn [] (q ∷ qs) = []
+  waysIn (p ∷ ps) (q ∷ qs) = cameAs (sound p q) ∷ waysIn ps qs
+
+  abbrev pub waysFrom : List (List ℕ) → List Step → List Way
+  waysFrom ps [] = []
+  waysFrom ps (refuses c ∷ ss) = waysFrom ps ss
+  waysFrom ps (batches qs log ∷ ss) = waysIn ps qs ++ waysFrom (drop (length qs) ps) ss
+  waysFrom ps (stops qs lengths bytes log ∷ ss) = waysIn ps qs ++ waysFrom (drop (length qs) ps) ss
+  waysFrom [] (receives copies log ∷ ss) = []
+  waysFrom [] (loses log ∷ ss) = []
+  waysFrom (p ∷ ps) (receives copies log ∷ ss) = cameAs (soundIn p copies) ∷ waysFrom ps ss
+  waysFrom (p ∷ ps) (loses log ∷ ss) = gone ∷ waysFrom ps ss
 
 abbrev pub widthIn : Run → ℕ
 widthIn r = modeIn (listing (r .mode) (r .stream)) .width
 
+-- the sound pieces are those as sent
 abbrev pub waysOf : Run → List Way
-waysOf r = waysFrom (widthIn r) (runOf (r .first) (r .count) (made r)) (r .steps)
+waysOf r = waysFrom (asSent (widthIn r)) (runOf (r .first) (r .count) (made r)) (r .steps)
