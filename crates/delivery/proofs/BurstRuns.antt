@@ -1,12 +1,11 @@
 -- Document 02, Ask 12: a run with a burst, computed. Of the first PDU bytes 0, 13, 50 and 95 are altered, the last of them a byte of its first piece, and three bits
--- of its second piece, whose last byte comes as 9 in place of 2. The second PDU comes as sent.
+-- of its second piece, whose last byte comes as 9 in place of 2. The second PDU comes as sent. And the same run, the first PDU as a pair whose other copy is as sent.
 use mathlib.Core.Path.{_≡_, refl, sym, ap, ap₂, subst, _∙_}
-use mathlib.Core.Bool.{Bool, true, false, cond}
+use mathlib.Core.Bool.{Bool, true, false, _||_, cond}
 use mathlib.Core.List.{List, [], _∷_, _++_, map}
 use Prim.Native.Nat.{ℕ, zero, suc, _<_}
 use native.Mathlib.Omega.{arith}
-use lib.ListN.{length, take, drop, replicate}
-use Rattle.algebra.specs.Places.{All}
+use lib.ListN.{take, drop, replicate}
 use Rattle.burst.specs.Burst.{InEight}
 use Rattle.burst.proofs.Strings.{unaltered, one-byte}
 use Rattle.modes.specs.Modes.{listing}
@@ -18,27 +17,26 @@ use Rattle.expansion.specs.Expansion.{chained}
 use Rattle.expansion.specs.Writing.{expansionBytes}
 use Rattle.packing.specs.Packing.{largestUpTo, mostPieces, fit, wholesFrom, partAfter, partFrom}
 use Rattle.pieces.specs.Pieces.{total}
-use Rattle.log.specs.Log.{packet, logWords, packetWords}
+use Rattle.log.specs.Log.{Entry, packet, logWords, packetWords}
 use Rattle.reassembly.specs.Rights.{Label}
 use Rattle.writer.specs.Writing.{writeAnswer}
 use Rattle.receiver.specs.Entitling.{allPrograms}
 use Rattle.runs.proofs.Model.{wholePackets}
 use Rattle.runs.proofs.Promise.{arrivedBy}
-use Rattle.runs.specs.Transmissions.{here}
+use Rattle.runs.specs.Transmissions.{Way, here}
 use Rattle.diversity.specs.Diversity.{sameBytes}
-use Rattle.delivery.specs.Delivery.{Station, defined, Step, receives, alone, callOf, runOf, HeaderAltered, Through}
+use Rattle.delivery.specs.Delivery.{Station, defined, Step, receives, alone, paired, callOf, runOf, HeaderAltered, Through}
 use Rattle.delivery.proofs.Parts.{freshStation, logsFrom, dueEntries, runWith}
 use Rattle.delivery.specs.Entitlement.{labelsFrom, rightsFor}
 use Rattle.delivery.specs.Copies.{pieceAt, asSent, waysFrom, Damaged}
 use Rattle.delivery.proofs.SoundSteps.{causesFor}
 use Rattle.delivery.specs.Bursts.{Hit}
-use Rattle.delivery.proofs.Channel.{Usable, made-right}
 use Rattle.delivery.proofs.Entitling.{all-allowed}
 use Rattle.delivery.proofs.Possible.{words, log-room, as-sent}
 use Rattle.delivery.proofs.Claimed.{entitled-says}
 use Rattle.delivery.proofs.SmallRuns.{opens, carry, carry-room, altered, alterAt}
-use Rattle.delivery.proofs.PairRuns.{packets, two, right, in-order, spans-are, pdu, sent, other, made-is, usable, restored-is, within, second, second-bytes, firstTwo, two-are}
-use Rattle.delivery.proofs.Damages.{drop-taken, no-damage, bursts-deliver}
+use Rattle.delivery.proofs.PairRuns.{packets, few, two, twoSpans, right, in-order, spans-are, other-usable, pdu, sent, other, made-is, usable, restored-is, within, second, second-bytes, firstTwo, two-are}
+use Rattle.delivery.proofs.Damages.{drop-taken, all-sound, no-damage, bursts-deliver}
 use Rattle.delivery.proofs.Theorem.{none-hit}
 
 -- ---- the first PDU
@@ -76,16 +74,10 @@ pub second-struck : causes ≡ firstTwo 0 2 causes
 second-struck = two-are 0 2 causes (ap (λ (s : Bool). cond s 0 2) (one-hit .0)) (ap (λ (s : Bool). cond s 0 2) (one-hit .1))
 
 other-as-sent : HeaderAltered [] other other
-other-as-sent = as-sent other (subst (All Usable) made-is (made-right 0 0 0 packets two opens right in-order .usable) .1 .0)
-
-abbrev pub burstCalls : List Step
-burstCalls = receives (alone [] second) words ∷ receives (alone [] other) words ∷ []
+other-as-sent = as-sent other other-usable
 
 abbrev pub fresh : Station
 fresh = freshStation defined 0 0 0 allPrograms carry
-
-through : Through defined (Damaged Hit 0 16) fresh (sent ∷ other ∷ []) burstCalls
-through = (comes, log-room, (no-damage 0 16 [] other other other-as-sent Hit, log-room, tt))
 
 abbrev plain : Label
 plain = record { program = 0; services = 0 }
@@ -94,21 +86,58 @@ pub labels-are : labelsFrom 0 0 packets 0 two ≡ plain ∷ plain ∷ []
 unfolding labelsFrom writeAnswer listing fieldsFor expansionBytes chained total largestUpTo mostPieces fit wholesFrom partAfter partFrom
 labels-are = refl
 
--- of the three packets, the second has the piece that was hit
-due-are : dueEntries 0 0 allPrograms packets two 0 (here (firstTwo 0 2 causes) ∷ here (λ k. 0) ∷ []) ≡ packet 0 (replicate 100 1) ∷ packet 2 (replicate 50 3) ∷ []
-unfolding listing wholePackets
-due-are = (λ i. arrivedBy (rightsFor 0 0 allPrograms) 2 0 packets (spans-are i) (labels-are i) (here (firstTwo 0 2 causes) ∷ here (λ k. 0) ∷ [])) ∙ refl
+-- the packets that are due where the two PDUs come so
+abbrev dueFor : List Way → List Entry
+dueFor ws = arrivedBy (rightsFor 0 0 allPrograms) 2 0 packets twoSpans (plain ∷ plain ∷ []) ws
 
-pub burst-run : packetWords (logsFrom defined fresh (map callOf burstCalls)) ≡ logWords (packet 0 (replicate 100 1) ∷ packet 2 (replicate 50 3) ∷ [])
+-- what is logged of calls that go through them
+logged : (steps : List Step) → Through defined (Damaged Hit 0 16) fresh (sent ∷ other ∷ []) steps → packetWords (logsFrom defined fresh (map callOf steps)) ≡ logWords (dueFor (waysFrom (asSent 16) (sent ∷ other ∷ []) steps))
 unfolding listing
-burst-run =
-    entitled-says (Damaged Hit) defined bursts-deliver (runWith 0 0 0 allPrograms packets two 0 2 carry burstCalls) (let n : length packets ≡ 3 = refl in omega (arith, n)) all-allowed (record {
+logged steps t =
+    entitled-says (Damaged Hit) defined bursts-deliver (runWith 0 0 0 allPrograms packets two 0 2 carry steps) few all-allowed (record {
       opens = opens;
       sized = right;
       offered = in-order;
       room = carry-room;
-      through = subst (λ (ps : List (List ℕ)). Through defined (Damaged Hit 0 16) fresh (runOf 0 2 ps) burstCalls) (sym made-is) through;
+      through = subst (λ (ps : List (List ℕ)). Through defined (Damaged Hit 0 16) fresh (runOf 0 2 ps) steps) (sym made-is) t;
     }) .log
-    ∙ ap (λ (ps : List (List ℕ)). logWords (dueEntries 0 0 allPrograms packets two 0 (waysFrom (asSent 16) (runOf 0 2 ps) burstCalls))) made-is
-    ∙ ap₂ (λ (f g : ℕ → ℕ). logWords (dueEntries 0 0 allPrograms packets two 0 (here f ∷ here g ∷ []))) second-struck (none-hit 16 [] other other other-as-sent)
-    ∙ ap logWords due-are
+    ∙ ap (λ (ps : List (List ℕ)). logWords (dueEntries 0 0 allPrograms packets two 0 (waysFrom (asSent 16) (runOf 0 2 ps) steps))) made-is
+    ∙ (λ i. logWords (arrivedBy (rightsFor 0 0 allPrograms) 2 0 packets (spans-are i) (labels-are i) (waysFrom (asSent 16) (sent ∷ other ∷ []) steps)))
+
+none-hit-in-other : causesFor (asSent 16 other other) ≡ (λ k. 0)
+none-hit-in-other = none-hit 16 [] other other other-as-sent
+
+abbrev pub burstCalls : List Step
+burstCalls = receives (alone [] second) words ∷ receives (alone [] other) words ∷ []
+
+-- of the three packets, the second has the piece that was hit
+pub burst-run : packetWords (logsFrom defined fresh (map callOf burstCalls)) ≡ logWords (packet 0 (replicate 100 1) ∷ packet 2 (replicate 50 3) ∷ [])
+unfolding wholePackets
+burst-run =
+    logged burstCalls (comes, log-room, (no-damage 0 16 [] other other other-as-sent Hit, log-room, tt))
+    ∙ ap₂ (λ (f g : ℕ → ℕ). logWords (dueFor (here f ∷ here g ∷ []))) second-struck none-hit-in-other
+    ∙ refl
+
+-- ---- the first PDU as a pair, hit in one copy
+
+abbrev pub pairedCalls : List Step
+pairedCalls = receives (paired second sent) words ∷ receives (alone [] other) words ∷ []
+
+abbrev eitherCause : ℕ → ℕ
+eitherCause = causesFor (λ k. asSent 16 sent second k || asSent 16 sent sent k)
+
+sent-as-sent : HeaderAltered [] sent sent
+sent-as-sent = as-sent sent usable
+
+either-taken : eitherCause ≡ firstTwo 0 0 eitherCause
+either-taken = two-are 0 0 eitherCause
+    (ap (λ (s : Bool). cond (s || asSent 16 sent sent 0) 0 2) (one-hit .0))
+    (ap₂ (λ (s t : Bool). cond (s || t) 0 2) (one-hit .1) (all-sound 0 16 [] sent sent sent-as-sent 1))
+
+-- every packet is delivered
+pub paired-run : packetWords (logsFrom defined fresh (map callOf pairedCalls)) ≡ logWords (packet 0 (replicate 100 1) ∷ packet 1 (replicate 40 2) ∷ packet 2 (replicate 50 3) ∷ [])
+unfolding wholePackets
+paired-run =
+    logged pairedCalls ((comes, no-damage 0 16 [] sent sent sent-as-sent Hit), log-room, (no-damage 0 16 [] other other other-as-sent Hit, log-room, tt))
+    ∙ ap₂ (λ (f g : ℕ → ℕ). logWords (dueFor (here f ∷ here g ∷ []))) either-taken none-hit-in-other
+    ∙ refl

@@ -3,7 +3,7 @@
 use mathlib.Core.Path.{_≡_, refl, sym, ap, ap₂, subst, _∙_, fun-ext}
 use mathlib.Core.Bool.{Bool, true, false, _||_, cond, true≢false}
 use mathlib.Core.List.{List, [], _∷_, _++_, map}
-use Prim.Native.Nat.{ℕ, zero, suc, _+_, _<_}
+use Prim.Native.Nat.{ℕ, zero, suc, _+_, _<_, _≤_}
 use native.Mathlib.Omega.{arith}
 use lib.Dec.{eqb, ltb}
 use lib.ListN.{length, take, drop, replicate}
@@ -29,11 +29,11 @@ use Rattle.receiver.specs.Entitling.{allPrograms}
 use Rattle.receiver.specs.Receiving.{wrongState}
 use Rattle.batch.proofs.Single.{refusal-is}
 use Rattle.runs.specs.Transmissions.{Way, gone, here}
-use Rattle.runs.specs.Spans.{Span, lies, dueAt}
+use Rattle.runs.specs.Spans.{Span, lies, every, dueAt}
 use Rattle.runs.proofs.Model.{wholePackets}
 use Rattle.runs.proofs.Calls.{plainFate}
 use Rattle.diversity.specs.Diversity.{Choice, neither, theFirst, theSecond, choiceOf, sameBytes, pairReceived}
-use Rattle.delivery.specs.Delivery.{Packets, Writing, bufferAfter, pdusFrom, spansFrom, InOrder, Behaviour, Station, receive, defined, RefusedAfter, loggedBy, runOf, HeaderAltered, Correctable, Step, receives, loses, refuses, callOf, alone, paired, Through, Holds}
+use Rattle.delivery.specs.Delivery.{Packets, Writing, bufferAfter, pdusFrom, spansFrom, InOrder, Behaviour, Station, receive, defined, RefusedAfter, loggedBy, runOf, HeaderAltered, Correctable, Step, receives, loses, refuses, callOf, alone, paired, Through, inReceived, Holds}
 use Rattle.delivery.proofs.Parts.{freshStation, logsFrom, made, spans, runWith, answerOf, logOf}
 use Rattle.delivery.specs.Copies.{bytesAt, crcAt, pieceAt, asSent, waysFrom, restored, Damaged}
 use Rattle.delivery.proofs.SoundSteps.{causesFor}
@@ -41,16 +41,19 @@ use Rattle.delivery.specs.Diversity.{WrongCrc, pairs}
 use Rattle.delivery.proofs.FaultyReceivers.{chosenCopy, choosing}
 use Rattle.delivery.proofs.Channel.{Usable, made-right}
 use Rattle.delivery.proofs.Serving.{loggedAlone}
-use Rattle.delivery.proofs.Possible.{words, log-room}
-use Rattle.delivery.proofs.Claimed.{Logged, logged-by}
-use Rattle.delivery.proofs.SmallRuns.{offering, bytes-same, opens, carry, carry-room, altered, headers-altered, empty-number}
+use Rattle.delivery.proofs.Possible.{words, log-room, as-sent as as-written}
+use Rattle.delivery.proofs.Claimed.{Logged, logged-by, demand3-says}
+use Rattle.delivery.proofs.SmallRuns.{offering, bytes-same, opens, carry, carry-room, altered, headers-altered, firstSix, sevenAltered, headers-marked, empty-number}
 use Rattle.delivery.proofs.Registers.{gets, gets-all}
 use Rattle.delivery.proofs.Damages.{drop-taken}
-use Rattle.delivery.proofs.Theorem.{pairs-deliver}
+use Rattle.delivery.proofs.Theorem.{delivers, pairs-deliver}
 
 -- packets of 100, 40 and 50 bytes; two go with the first PDU
 abbrev pub packets : List (List ℕ)
 packets = replicate 100 1 ∷ replicate 40 2 ∷ replicate 50 3 ∷ []
+
+pub few : length packets ≤ 4294967295
+few = let n : length packets ≡ 3 = refl in omega (arith, n)
 
 abbrev pub two : List Writing
 two = offering 200 (take 2 packets) ∷ offering 200 (drop 2 packets) ∷ []
@@ -113,8 +116,14 @@ made-is =
     written-is
     ∙ ap (λ (p : List ℕ). p ∷ other ∷ []) (parity-written base (unfold lengthRefusal in refl) ∙ ap (λ (l : List ℕ). l ++ (front ++ (1 ∷ (between ++ (2 ∷ end))))) (gets-all 8 (parityOf base) (parity-length base)))
 
+both-usable : All Usable (sent ∷ other ∷ [])
+both-usable = subst (All Usable) made-is (made-right 0 0 0 packets two opens right in-order .usable)
+
 pub usable : Usable sent
-usable = subst (All Usable) made-is (made-right 0 0 0 packets two opens right in-order .usable) .0
+usable = both-usable .0
+
+pub other-usable : Usable other
+other-usable = both-usable .1 .0
 
 -- ---- copies of it with four bytes of the header altered
 
@@ -231,7 +240,7 @@ module _ (b : Behaviour) (claim : Holds pairs b) (count : ℕ) (steps : List Ste
           through = subst (λ (ps : List (List ℕ)). Through b (Damaged WrongCrc 0 16) (freshStation b 0 0 0 allPrograms carry) (runOf 0 count ps) steps) (sym made-is) t;
         },
       )
-      (let n : length packets ≡ 3 = refl in omega (arith, n))
+      few
 
   logged : packetWords (logsFrom b (freshStation b 0 0 0 allPrograms carry) (map callOf steps)) ≡ askedFor (waysFrom (asSent 16) (runOf 0 count (sent ∷ other ∷ [])) steps)
   logged = claimed .log ∙ ap₂ (λ (ss : List Span) (ps : List (List ℕ)). logWords (wholePackets (dueAt (lies packets ss (map plainFate (waysFrom (asSent 16) (runOf 0 count ps) steps)))) 0 0 packets)) spans-are made-is
@@ -266,10 +275,29 @@ pair-run =
     ∙ ap (λ (f : ℕ → ℕ). askedFor (here f ∷ gone ∷ [])) either-taken
     ∙ refl
 
--- ---- the whole of the better copy
-
 abbrev fresh : Station
 fresh = freshStation defined 0 0 0 allPrograms carry
+
+-- ---- a list of demand 3: the first PDU as a pair, four bytes of one header altered, and the second alone, with marks
+
+abbrev pub mixedCalls : List Step
+mixedCalls = receives (paired (altered sent) sent) words ∷ receives (alone firstSix (sevenAltered other)) words ∷ []
+
+-- every packet is delivered
+pub mixed-run : packetWords (logsFrom defined fresh (map callOf mixedCalls)) ≡ logWords (packet 0 (replicate 100 1) ∷ packet 1 (replicate 40 2) ∷ packet 2 (replicate 50 3) ∷ [])
+unfolding wholePackets
+mixed-run =
+    demand3-says defined delivers 0 0 0 packets two 0 2 carry mixedCalls few (record {
+      opens = opens;
+      sized = right;
+      offered = in-order;
+      room = carry-room;
+      through = subst (λ (ps : List (List ℕ)). Through defined HeaderAltered fresh (runOf 0 2 ps) mixedCalls) (sym made-is) ((headers-altered sent usable, as-written sent usable), log-room, (headers-marked other other-usable, log-room, tt));
+    }) .log
+    ∙ ap (λ (ss : List Span). logWords (wholePackets (every (inReceived (runOf 0 2 ss) (true ∷ true ∷ []))) 0 0 packets)) spans-are
+    ∙ refl
+
+-- ---- the whole of the better copy
 
 -- a copy alone gives one packet
 first-alone : packetWords (loggedBy defined fresh (receive (alone [] first) words) ++ []) ≡ logWords (packet 1 (replicate 40 2) ∷ [])

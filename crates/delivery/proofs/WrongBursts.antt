@@ -36,7 +36,7 @@ use Rattle.delivery.proofs.Claimed.{Logged, entitled-says}
 use Rattle.delivery.proofs.Entitling.{all-allowed}
 use Rattle.delivery.proofs.Possible.{words, log-room}
 use Rattle.delivery.proofs.SmallRuns.{bytes-same, opens, carry, carry-room}
-use Rattle.delivery.proofs.PairRuns.{packets, two, right, in-order, spans-are, pdu, sent, made-is, usable, second, second-bytes, restored-is, firstTwo}
+use Rattle.delivery.proofs.PairRuns.{packets, few, two, right, in-order, spans-are, pdu, sent, made-is, usable, second, second-bytes, restored-is, firstTwo}
 use Rattle.delivery.proofs.BurstRuns.{comes, causes, second-struck, fresh, labels-are}
 
 abbrev call : List Step
@@ -47,7 +47,7 @@ module _ (b : Behaviour) (claim : Holds (forPrograms (Damaged Hit)) b) where
   claimed : Logged b (freshStation b 0 0 0 allPrograms carry) call (dueEntries 0 0 allPrograms packets two 0 (waysFrom (asSent 16) (runOf 0 1 (made 0 0 0 two)) call))
   unfolding listing
   claimed =
-      entitled-says (Damaged Hit) b claim (runWith 0 0 0 allPrograms packets two 0 1 carry call) (let n : length packets ≡ 3 = refl in omega (arith, n)) all-allowed
+      entitled-says (Damaged Hit) b claim (runWith 0 0 0 allPrograms packets two 0 1 carry call) few all-allowed
       (record {
         opens = opens;
         sized = right;
