@@ -1,6 +1,6 @@
 -- Document 02, Ask 5, in its own words: a copy q of a PDU p of the run, in which at most four of the first 96 bytes are altered, bytes 96 to La arrive as sent, and
--- every piece still damaged after mending has a wrong CRC. Such a copy comes as Diversity.antt says; and so the log of a run of such copies holds exactly the packets
--- each of whose pieces is, once mended, as sent in at least one copy.
+-- every piece still damaged after mending has a wrong CRC. A copy comes so exactly if it comes as Diversity.antt says, with no marks; and the log of a run of such
+-- copies holds exactly the packets each of whose pieces is, once mended, as sent in at least one copy.
 use mathlib.Core.Path.{_≡_, refl, sym, ap, ap₂, subst, fun-ext, _∙_}
 use mathlib.Core.Bool.{Bool, false, _||_}
 use mathlib.Core.List.{List, [], _∷_, _++_, map}
@@ -13,7 +13,7 @@ use Rattle.crc.specs.Crc.{crcFrom}
 use Rattle.header.specs.Header.{distance}
 use Rattle.layout.specs.Control.{controlAt}
 use Rattle.correction.specs.Correction.{correctedPdu}
-use Rattle.correction.specs.Marks.{marksRefusal}
+use Rattle.correction.specs.Marks.{marksRefusal, unmarkedDistance}
 use Rattle.correction.proofs.Answers.{no-marks-pdu}
 use Rattle.correction.proofs.Marking.{unmarked-adopted}
 use Rattle.writer.specs.RoundTrip.{Bytes}
@@ -59,37 +59,51 @@ correctedPairs = record { asked = λ r b. (r .programs ≡ allPrograms) × Asked
 
 -- ---- a copy
 
-module _ (register width : ℕ) (p q : List ℕ) (w : Usable p) (x : ComesAs register width p q) where
-  header : Correctable [] p q
-  unfolding marksRefusal
-  header =
+module _ (p q : List ℕ) (w : Usable p) where
+  all-unmarked : length q ≡ length p → unmarkedDistance [] (take 96 q) (take 96 p) ≡ distance (take 96 q) (take 96 p)
+  all-unmarked e =
       let lp : length (take 96 p) ≡ 96 = length-take-le 96 p (w .1) in
-      let lq : length (take 96 q) ≡ 96 = length-take-le 96 q (let e = x .long in let h = w .1 in omega (arith, e, h)) in
-      record { allowed = refl; bytes = x .bytes; long = x .long; few = omega (arith, x .few, unmarked-adopted [] (take 96 q) (take 96 p) (lp ∙ sym lq)) }
+      let lq : length (take 96 q) ≡ 96 = length-take-le 96 q (let h = w .1 in omega (arith, e, h)) in
+      unmarked-adopted [] (take 96 q) (take 96 p) (lp ∙ sym lq)
 
   -- mending restores the header
-  back : correctedPdu q ≡ restored p q
-  back = sym (no-marks-pdu q) ∙ corrected-back p [] q (w .3) (w .1) (w .2) (w .0) header
+  back : Correctable [] p q → correctedPdu q ≡ restored p q
+  back h = sym (no-marks-pdu q) ∙ corrected-back p [] q (w .3) (w .1) (w .2) (w .0) h
 
-  -- a piece is as sent once the copy is mended
-  pub as-sent : (k : ℕ) → sentOnceCorrected width p q k ≡ asSent width p q k
-  as-sent k = ap (λ (y : List ℕ). sameBytes (pieceAt width p y k) (pieceAt width p p k)) back
+  module _ (register width : ℕ) where
+    header : ComesAs register width p q → Correctable [] p q
+    unfolding marksRefusal
+    header x = record { allowed = refl; bytes = x .bytes; long = x .long; few = omega (arith, x .few, all-unmarked (x .long)) }
 
-  pub four-bytes : Damaged WrongCrc register width [] p q
-  four-bytes = record {
-    header = header;
-    front = x .front;
-    pieces = λ k h e. subst (λ (y : List ℕ). ¬ (crcFrom register (bytesAt width p y k) ≡ crcAt width p y k)) back (x .damaged k h (as-sent k ∙ e));
-  }
+    -- a piece is as sent once the copy is mended
+    as-sent : Correctable [] p q → (k : ℕ) → sentOnceCorrected width p q k ≡ asSent width p q k
+    as-sent h k = ap (λ (y : List ℕ). sameBytes (pieceAt width p y k) (pieceAt width p p k)) (back h)
+
+    -- a copy comes so exactly if it comes as Diversity.antt says, with no marks
+    pub four-bytes : ComesAs register width p q → Damaged WrongCrc register width [] p q
+    four-bytes x = record {
+      header = header x;
+      front = x .front;
+      pieces = λ k h e. subst (λ (y : List ℕ). ¬ (crcFrom register (bytesAt width p y k) ≡ crcAt width p y k)) (back (header x)) (x .damaged k h (as-sent (header x) k ∙ e));
+    }
+
+    pub only-four : Damaged WrongCrc register width [] p q → ComesAs register width p q
+    only-four x = record {
+      bytes = x .header .bytes;
+      long = x .header .long;
+      few = omega (arith, x .header .few, all-unmarked (x .header .long));
+      front = x .front;
+      damaged = λ k h e. subst (λ (y : List ℕ). ¬ (crcFrom register (bytesAt width p y k) ≡ crcAt width p y k)) (sym (back (x .header))) (x .pieces k h (sym (as-sent (x .header) k) ∙ e));
+    }
 
 -- ---- a run
 
 module _ (register width : ℕ) where
   unmarked : (marks p q : List ℕ) → Usable p → Unmarked register width marks p q → Damaged WrongCrc register width marks p q
-  unmarked marks p q u (e, x) = subst (λ (l : List ℕ). Damaged WrongCrc register width l p q) (sym e) (four-bytes register width p q u x)
+  unmarked marks p q u (e, x) = subst (λ (l : List ℕ). Damaged WrongCrc register width l p q) (sym e) (four-bytes p q u register width x)
 
   same-pieces : (marks p q : List ℕ) → Usable p → Unmarked register width marks p q → sentOnceCorrected width p q ≡ asSent width p q
-  same-pieces marks p q u (e, x) = fun-ext (as-sent register width p q u x)
+  same-pieces marks p q u (e, x) = fun-ext (as-sent p q u register width (header p q u register width x))
 
   same-sound : (p : List ℕ) (copies : Copies) → Usable p → Comes (Unmarked register width) p copies → soundIn (sentOnceCorrected width) p copies ≡ soundIn (asSent width) p copies
   same-sound p (alone marks q) u h = same-pieces marks p q u h
