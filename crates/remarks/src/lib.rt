@@ -182,9 +182,11 @@ records of words. FILE is replaced by a new file, FILE.new, so it is whole at
 every moment. Needs --out FILE; not with --second.
 
 Resume: mode, stream, start of CRCs and programs are those of FILE; without
---skip the input begins with the next PDU. PDUs are counted on. The log goes on
-after the count of bytes that is said: those bytes of the log before, and then
-this one, are the log of the whole drive. Other words are refused with 25.
+--skip the input begins with the next PDU, and PDUs that passed meanwhile stand
+there as records of length 0: else a packet may be joined from parts that do not
+belong together. PDUs are counted on. The log goes on after the count of bytes
+that is said: those bytes of the log before, and then this one, are the log of
+the whole drive. Other words are refused with 25.
 
 Formats:
   words           the log's words, each in four bytes, low byte first
