@@ -21,7 +21,8 @@
  *    and then 13 (barzhilup_join).
  *
  * Functions that stand whole in this file, `static inline`, are plain C; all others
- * are proved to do what is said of them, on every input.
+ * are proved to do what is said of them, on every input. The file is for C99 or later,
+ * and for C++11 or later.
  *
  * The modes. A mode has one or two streams, 0 core and 1 enhanced; mode and stream
  * decide how wide locators are, which PDU sequences there are, and how many bytes
