@@ -88,6 +88,12 @@ extern "C" {
  * compiled again. */
 uint32_t barzhilup_version(void);
 
+/* ---- Streams ------------------------------------------------------------ */
+
+/* The streams, as each `stream` here has them. */
+#define BARZHILUP_CORE 0
+#define BARZHILUP_ENHANCED 1
+
 /* ---- Sizes -------------------------------------------------------------- */
 
 /* Bytes of a header: the first 96 bytes of a PDU are one word of the header
