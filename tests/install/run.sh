@@ -33,10 +33,17 @@ grep -v '^install: ' "$work/said" | grep -v '^libraries: \|^build: \|^rt: ' && s
 places=$(sed -n 's/^install: \([^ ]*\).*/\1/p' "$work/said" | sort)
 same "each file that is said is there, and no other" "$(find "$prefix" -not -type d | sort)" "$places"
 
-# Once more: files of its own are replaced, others stay.
+# What was built last, with the times.
+built() {
+    find "$project/target/bin" "$project/target/staticlib" -printf '%p %T@\n' | sort
+}
+
+# Once more: files of its own are replaced, others stay, and nothing is built that is current.
 echo kept >"$prefix/lib/other"
+before=$(built)
 same "an installation over another succeeds" 0 "$(status_of bash "$project/scripts/install" "$prefix")"
 same "a file that is not its own stays" kept "$(cat "$prefix/lib/other")"
+same "what is current is not built again" "$before" "$(built)"
 rm "$prefix/lib/other"
 
 # What cannot be done, or was asked wrongly, has a status of its own, and nothing is put anywhere.
