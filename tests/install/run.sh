@@ -54,9 +54,19 @@ same "an option" 2 "$(status_of bash "$project/scripts/install" --help)"
 same "a prefix that is a file fails" yes "$([ "$(status_of bash "$project/scripts/install" "$work/file")" != 0 ] && echo yes)"
 same "and the file stays empty" "" "$(cat "$work/file")"
 
+# Characters that pkg-config or the manual take for their own.
+for character in '"' "'" '`' '$' '#' \\ $'\n'; do
+    same "a prefix with $(printf %q "$character")" 2 "$(status_of bash "$project/scripts/install" "$work/no${character}prefix")"
+    same "and nothing is put there" "" "$(find "$work" -maxdepth 1 -name 'no*')"
+done
+
 # Below DESTDIR the files name the prefix itself.
 same "an installation below DESTDIR succeeds" 0 "$(DESTDIR=$work/packed status_of bash "$project/scripts/install" /opt/barzhilup)"
 same "its pkg-config file names the prefix" prefix=/opt/barzhilup "$(head -n 1 "$work/packed/opt/barzhilup/lib/pkgconfig/barzhilup.pc")"
+
+# A prefix with a space; what is below it is looked at with the rest.
+spaced="$work/a prefix"
+same "an installation under a prefix with a space succeeds" 0 "$(status_of bash "$project/scripts/install" "$spaced")"
 
 # The program.
 same "the program's version" "barzhilup $(sed -n 's/^Version: //p' "$prefix/lib/pkgconfig/barzhilup.pc")" "$("$prefix/bin/barzhilup" --version)"
@@ -77,6 +87,10 @@ if command -v pkg-config >/dev/null; then
         "$(LD_LIBRARY_PATH=$libdir ldd "$work/shared" | sed -n 's/.*libbarzhilup[^ ]* => \([^ ]*\).*/\1/p')"
     same "the example with the archive" "$said" "$("$work/static")"
     same "it needs no shared one" "" "$(readelf -d "$work/static" | sed -n 's/.*\[\(libbarzhilup.*\)\]/\1/p')"
+    # A space in the answer of pkg-config has a backslash before it, for a shell that reads it once more.
+    (cd "$work" && export PKG_CONFIG_PATH=$spaced/lib/pkgconfig && eval gcc -o spaced example.c "$(pkg-config --cflags --libs barzhilup)")
+    same "the example with the shared library there" "$said" "$(LD_LIBRARY_PATH=$spaced/lib "$work/spaced")"
+    same "pkg-config's directory there" "$spaced/lib" "$(PKG_CONFIG_PATH=$spaced/lib/pkgconfig pkg-config --variable=libdir barzhilup)"
 else
     echo "pkg-config is not installed: the example is not built through it"
 fi
@@ -112,6 +126,9 @@ if man --version 2>/dev/null | grep -q '^man '; then
     shown=$(LC_ALL=C.UTF-8 MANWIDTH=100 man -l "$prefix/share/man/man1/barzhilup-log.1" | col -bx)
     same "barzhilup-log(1) has what --help says" "" \
         "$("$prefix/bin/barzhilup" log --help | sed 1,2d | while IFS= read -r line; do grep -qF -- "$line" <<<"$shown" || echo "$line"; done)"
+    shown=$(LC_ALL=C.UTF-8 MANWIDTH=1000 man -l "$spaced/share/man/man3/libbarzhilup.3" | col -bx)
+    same "libbarzhilup(3) names the files under a prefix with a space" yes \
+        "$(grep -qF "$spaced/lib/libbarzhilup.a and $spaced/lib/libbarzhilup.so, built" <<<"$shown" && echo yes)"
 else
     echo "man is not installed: the pages are not shown"
 fi
