@@ -21,7 +21,8 @@
  *    and then 13 (barzhilup_join).
  *
  * Functions that stand whole in this file, `static inline`, are plain C; all others
- * are proved to do what is said of them, on every input.
+ * are proved to do what is said of them, on every input. The file is for C99 or later,
+ * and for C++11 or later.
  *
  * The modes. A mode has one or two streams, 0 core and 1 enhanced; mode and stream
  * decide how wide locators are, which PDU sequences there are, and how many bytes
@@ -86,6 +87,12 @@ extern "C" {
  * same and whose version is not lower: the first rises where programs have to be
  * compiled again. */
 uint32_t barzhilup_version(void);
+
+/* ---- Streams ------------------------------------------------------------ */
+
+/* The streams, as each `stream` here has them. */
+#define BARZHILUP_CORE 0
+#define BARZHILUP_ENHANCED 1
 
 /* ---- Sizes -------------------------------------------------------------- */
 
@@ -880,9 +887,19 @@ static inline bool barzhilup_log_holds(const uint32_t *data, size_t count,
     return true;
 }
 
-/* The next entry of a walk: true, and `entry` is filled; or false where there is none
- * left, or where the words from `place` on are no entry of a log. Then `place` tells:
- * where all was read it is `count`. Logs of a receiver are always read to the end. */
+/*
+ * The next entry of a walk: true, and `entry` is filled; or false, and `entry` means
+ * nothing, where there is none left, or where the words from `place` on cannot be
+ * walked. Then `place` tells: where all was read it is `count`.
+ *
+ * A walk is for words that a receiver or barzhilup_join wrote, which are always read
+ * to the end. What it checks of others is what it needs to stay within them: an entry
+ * does not begin with a data word, and behind a packet's or a PSD's word stand the
+ * data words of its length, with three bytes in each, and in the last the rest. It
+ * passes over a length of 0, a packet's over 4,096, and set bits without meaning, so
+ * it is no test of whether words are a log: BARZHILUP_REFUSED_LOG_WORDS has the whole
+ * rule, and barzhilup_join checks it. Both take a note of any cause and piece.
+ */
 static inline bool barzhilup_log_next(barzhilup_log_iterator *walk,
                                       barzhilup_log_entry *entry)
 {

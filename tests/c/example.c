@@ -36,10 +36,10 @@ int main(void) {
     barzhilup_settings settings;
     uint8_t pdu[96];
 
-    barzhilup_writer_opened writer_opened = barzhilup_open_writer(0, 0); /* mode 0, core */
+    barzhilup_writer_opened writer_opened = barzhilup_open_writer(0, BARZHILUP_CORE); /* mode 0 */
     accepted_or_exit("opening a writer", writer_opened.refusal);
     barzhilup_writer writer = writer_opened.writer;
-    barzhilup_receiver_opened receiver_opened = barzhilup_open_receiver(0, 0);
+    barzhilup_receiver_opened receiver_opened = barzhilup_open_receiver(0, BARZHILUP_CORE);
     accepted_or_exit("opening a receiver", receiver_opened.refusal);
     barzhilup_receiver receiver = receiver_opened.receiver;
 

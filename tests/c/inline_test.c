@@ -80,7 +80,7 @@ static void entries(void)
     CHECK(!barzhilup_log_next(&walk, &entry) && walk.place == 8);
 }
 
-/* Words that are no log end a walk at the entry that they are in; nothing past the last word is read. */
+/* Words that cannot be walked end a walk at the entry that they are in; nothing past the last word is read. */
 static void malformed(void)
 {
     size_t place;
@@ -105,6 +105,46 @@ static void malformed(void)
         const uint32_t words[] = {0x0005FFFF};
         CHECK(walked(words, 1, &place) == 0 && place == 0);
     }
+}
+
+/* Words that a walk reads to the end, and what joining says of them: 23 where they are no log. */
+static void passed_over(void)
+{
+    static uint32_t longest[1 + (BARZHILUP_PACKET_MAX + 3) / 3];
+    static const struct {
+        uint32_t words[2];
+        size_t count;
+        uint32_t joined;
+    } rows[] = {
+        {{0x00050001, 0x41110000}, 2, BARZHILUP_ACCEPTED},
+        {{0x80000001, 0x41110000}, 2, BARZHILUP_ACCEPTED},
+        {{0xC0090000, 0}, 1, BARZHILUP_ACCEPTED},          /* a cause that there is not */
+        {{0xC0060007, 0}, 1, BARZHILUP_ACCEPTED},          /* lost, with a piece */
+        {{0x00050000, 0}, 1, BARZHILUP_REFUSED_LOG_WORDS}, /* a packet's length of 0 */
+        {{0x80000000, 0}, 1, BARZHILUP_REFUSED_LOG_WORDS}, /* PSD's */
+        {{0x00450001, 0x41110000}, 2, BARZHILUP_REFUSED_LOG_WORDS}, /* bits without meaning: a packet's 22 */
+        {{0x20050001, 0x41110000}, 2, BARZHILUP_REFUSED_LOG_WORDS}, /* its 29 */
+        {{0x80010001, 0x41110000}, 2, BARZHILUP_REFUSED_LOG_WORDS}, /* PSD's 16 */
+        {{0x00050001, 0x45110000}, 2, BARZHILUP_REFUSED_LOG_WORDS}, /* data's 26 */
+        {{0x00050001, 0x41110001}, 2, BARZHILUP_REFUSED_LOG_WORDS}, /* an unused byte */
+    };
+    const size_t most = sizeof longest / sizeof longest[0];
+    size_t place;
+    for (size_t i = 0; i < sizeof rows / sizeof rows[0]; i++) {
+        check(walked(rows[i].words, rows[i].count, &place) == 1 && place == rows[i].count, "words that a walk passes over");
+        check(barzhilup_join(rows[i].words, rows[i].count, NULL, 0, packet_log, BARZHILUP_LOG_WORDS).refusal == rows[i].joined,
+              "what joining says of them");
+    }
+    for (size_t i = 1; i < most; i++)
+        longest[i] = 0x43000000;
+    longest[0] = BARZHILUP_PACKET_MAX + 1;
+    longest[most - 1] = 0x42000000;
+    CHECK(walked(longest, most, &place) == 1 && place == most);
+    CHECK(barzhilup_join(longest, most, NULL, 0, packet_log, BARZHILUP_LOG_WORDS).refusal == BARZHILUP_REFUSED_LOG_WORDS);
+    longest[0] = BARZHILUP_PACKET_MAX;
+    longest[most - 1] = 0x41000000;
+    CHECK(walked(longest, most, &place) == 1 && place == most);
+    CHECK(barzhilup_join(longest, most, NULL, 0, packet_log, BARZHILUP_LOG_WORDS).refusal == BARZHILUP_ACCEPTED);
 }
 
 /* The log of every packet length, as a receiver writes it. */
@@ -184,6 +224,7 @@ int main(void)
     texts();
     entries();
     malformed();
+    passed_over();
     lengths();
     nulls();
     printf("%u checks, %u wrong\n", checks, wrong);

@@ -33,10 +33,17 @@ grep -v '^install: ' "$work/said" | grep -v '^libraries: \|^build: \|^rt: ' && s
 places=$(sed -n 's/^install: \([^ ]*\).*/\1/p' "$work/said" | sort)
 same "each file that is said is there, and no other" "$(find "$prefix" -not -type d | sort)" "$places"
 
-# Once more: files of its own are replaced, others stay.
+# What was built last, with the times.
+built() {
+    find "$project/target/bin" "$project/target/staticlib" -printf '%p %T@\n' | sort
+}
+
+# Once more: files of its own are replaced, others stay, and nothing is built that is current.
 echo kept >"$prefix/lib/other"
+before=$(built)
 same "an installation over another succeeds" 0 "$(status_of bash "$project/scripts/install" "$prefix")"
 same "a file that is not its own stays" kept "$(cat "$prefix/lib/other")"
+same "what is current is not built again" "$before" "$(built)"
 rm "$prefix/lib/other"
 
 # What cannot be done, or was asked wrongly, has a status of its own, and nothing is put anywhere.
@@ -47,9 +54,19 @@ same "an option" 2 "$(status_of bash "$project/scripts/install" --help)"
 same "a prefix that is a file fails" yes "$([ "$(status_of bash "$project/scripts/install" "$work/file")" != 0 ] && echo yes)"
 same "and the file stays empty" "" "$(cat "$work/file")"
 
+# Characters that pkg-config or the manual take for their own.
+for character in '"' "'" '`' '$' '#' \\ $'\n'; do
+    same "a prefix with $(printf %q "$character")" 2 "$(status_of bash "$project/scripts/install" "$work/no${character}prefix")"
+    same "and nothing is put there" "" "$(find "$work" -maxdepth 1 -name 'no*')"
+done
+
 # Below DESTDIR the files name the prefix itself.
 same "an installation below DESTDIR succeeds" 0 "$(DESTDIR=$work/packed status_of bash "$project/scripts/install" /opt/barzhilup)"
 same "its pkg-config file names the prefix" prefix=/opt/barzhilup "$(head -n 1 "$work/packed/opt/barzhilup/lib/pkgconfig/barzhilup.pc")"
+
+# A prefix with a space; what is below it is looked at with the rest.
+spaced="$work/a prefix"
+same "an installation under a prefix with a space succeeds" 0 "$(status_of bash "$project/scripts/install" "$spaced")"
 
 # The program.
 same "the program's version" "barzhilup $(sed -n 's/^Version: //p' "$prefix/lib/pkgconfig/barzhilup.pc")" "$("$prefix/bin/barzhilup" --version)"
@@ -70,6 +87,10 @@ if command -v pkg-config >/dev/null; then
         "$(LD_LIBRARY_PATH=$libdir ldd "$work/shared" | sed -n 's/.*libbarzhilup[^ ]* => \([^ ]*\).*/\1/p')"
     same "the example with the archive" "$said" "$("$work/static")"
     same "it needs no shared one" "" "$(readelf -d "$work/static" | sed -n 's/.*\[\(libbarzhilup.*\)\]/\1/p')"
+    # A space in the answer of pkg-config has a backslash before it, for a shell that reads it once more.
+    (cd "$work" && export PKG_CONFIG_PATH=$spaced/lib/pkgconfig && eval gcc -o spaced example.c "$(pkg-config --cflags --libs barzhilup)")
+    same "the example with the shared library there" "$said" "$(LD_LIBRARY_PATH=$spaced/lib "$work/spaced")"
+    same "pkg-config's directory there" "$spaced/lib" "$(PKG_CONFIG_PATH=$spaced/lib/pkgconfig pkg-config --variable=libdir barzhilup)"
 else
     echo "pkg-config is not installed: the example is not built through it"
 fi
@@ -91,10 +112,13 @@ for sub in $subs; do
     same "barzhilup(1) names barzhilup-$sub(1)" yes "$(grep -qF "barzhilup\\-$sub" "$prefix/share/man/man1/barzhilup.1" && echo yes)"
 done
 same "the manual has libbarzhilup(3)" yes "$([ -s "$prefix/share/man/man3/libbarzhilup.3" ] && echo yes)"
-# Each function that the page names is one of the header.
-while read -r function; do
-    same "libbarzhilup(3) has $function from the header" yes "$(grep -q "\b$function(" "$prefix/include/barzhilup.h" && echo yes)"
-done < <(grep -o 'barzhilup_[a-z0-9_]*' "$prefix/share/man/man3/libbarzhilup.3" | sort -u)
+# The functions that the page names are those of the header, but for the ones that the header's own functions use: those that stand for NULL, and a part of
+# the walk through a log.
+functions=$(sed 's|/\*.*||; s|^ \*.*||' "$prefix/include/barzhilup.h" | grep -o 'barzhilup_[a-z0-9_]*(' | tr -d '(' | sort -u |
+    grep -vx 'barzhilup_.*_or_null\|barzhilup_\(bytes\|lengths\|sizes\|words\|pieces\)_\(read\|written\)\|barzhilup_log_holds')
+same "over 30 functions are found in the header" yes "$([ "$(wc -l <<<"$functions")" -gt 30 ] && echo yes)"
+same "libbarzhilup(3) has each function of the header, and no other" "$functions" \
+    "$(grep -o 'barzhilup_[a-z0-9_]*' "$prefix/share/man/man3/libbarzhilup.3" | sort -u)"
 if man --version 2>/dev/null | grep -q '^man '; then
     for page in "$prefix"/share/man/man[13]/*; do
         same "${page##*/} has no fault" "" "$(LC_ALL=C.UTF-8 MANWIDTH=100 man --warnings -l "$page" 2>&1 >/dev/null)"
@@ -102,6 +126,9 @@ if man --version 2>/dev/null | grep -q '^man '; then
     shown=$(LC_ALL=C.UTF-8 MANWIDTH=100 man -l "$prefix/share/man/man1/barzhilup-log.1" | col -bx)
     same "barzhilup-log(1) has what --help says" "" \
         "$("$prefix/bin/barzhilup" log --help | sed 1,2d | while IFS= read -r line; do grep -qF -- "$line" <<<"$shown" || echo "$line"; done)"
+    shown=$(LC_ALL=C.UTF-8 MANWIDTH=1000 man -l "$spaced/share/man/man3/libbarzhilup.3" | col -bx)
+    same "libbarzhilup(3) names the files under a prefix with a space" yes \
+        "$(grep -qF "$spaced/lib/libbarzhilup.a and $spaced/lib/libbarzhilup.so, built" <<<"$shown" && echo yes)"
 else
     echo "man is not installed: the pages are not shown"
 fi

@@ -45,6 +45,7 @@ spoil $header 's/^    uint16_t held;/    uint32_t held;/' 'header and the crates
 spoil $header 's/^    uint8_t pfirst;/    uint8_t plast_;/' 'header and the crates: barzhilup_read, answer'
 spoil $header 's/^#define BARZHILUP_REFUSED_MARKS 19/#define BARZHILUP_REFUSED_MARKS 29/' 'header and Rust: refusals'
 spoil $header 's/^#define BARZHILUP_LOG_WORDS 8400/#define BARZHILUP_LOG_WORDS 8300/' 'header and Python: LOG_WORDS'
+spoil $header 's/^#define BARZHILUP_ENHANCED 1/#define BARZHILUP_ENHANCED 2/' 'header and Python: ENHANCED'
 spoil $header 's/return "wrong CRC"/return "CRC wrong"/' "header and the program's words: note 2"
 spoil $header 's/^uint32_t barzhilup_write_parity(uint8_t \*pdu/uint32_t barzhilup_write_parity(const uint8_t *pdu/' 'header and the crates: barzhilup_write_parity, argument 1, by pointer'
 spoil $header 's/^\( \*    13        0, core           \)12/\116/' "header's modes and the library: mode 13, stream 0"
