@@ -29,13 +29,16 @@ variable BARZHILUP_LIB names; without it in the project's target/staticlib (``ba
 ``scripts/install``, beside it; and then where the system looks for libraries.
 """
 
+import copy
 import csv
 import ctypes
+import operator
 import os
 import sys
 from array import array
 from contextlib import contextmanager
 from enum import IntEnum
+from itertools import islice
 from typing import (IO, Any, Dict, Iterable, Iterator, List, NamedTuple, Optional, Sequence, Tuple, Union)
 
 __version__ = "0.1.0"
@@ -50,7 +53,7 @@ __all__ = [
     "syndromes", "try_latency", "waiting_packets", "write_parity", "write_records",
 ]
 
-#: Bytes that a call reads: bytes, a bytearray, a memoryview, a numpy array of bytes.
+#: Bytes that a call reads: bytes, a bytearray, a memoryview, a numpy array of bytes. A number, a text or a list of numbers is a :class:`TypeError`.
 Buffer = Union[bytes, bytearray, memoryview, Any]
 #: A file by its name, or one that is open.
 Source = Union[str, "os.PathLike[str]", IO[Any]]
@@ -198,12 +201,13 @@ _NOTES: Dict[int, str] = {
 
 def refusal_text(number: int) -> str:
     """The cause of a refusal in words: "accepted" for 0, "unknown" for a number that there is none of."""
+    number = _whole("number", number)
     return _REFUSALS.get(number, "accepted" if number == 0 else "unknown")
 
 
 def note_text(cause: int) -> str:
     """The cause of a note in words; "unknown" for a number that there is none of."""
-    return _NOTES.get(cause, "unknown")
+    return _NOTES.get(_whole("cause", cause), "unknown")
 
 
 class Refusal(Exception):
@@ -449,9 +453,17 @@ def _check(number: int, locator: Optional[int] = None) -> None:
         raise Refusal(number, locator)
 
 
+def _whole(name: str, value: int) -> int:
+    """A whole number. Neither a fraction, which would be cut, nor a text is one."""
+    try:
+        return operator.index(value)
+    except TypeError:
+        raise TypeError("{}: a whole number is needed, and not {}".format(name, type(value).__name__)) from None
+
+
 def _number(name: str, value: int, most: int) -> int:
     """A number that C's type can hold; others would be cut to another one."""
-    value = int(value)
+    value = _whole(name, value)
     if not 0 <= value <= most:
         raise ValueError("{}: {} is not 0 to {}".format(name, value, most))
     return value
@@ -466,9 +478,34 @@ def _lent(kind: Any, count: int) -> Any:
     return (kind * max(count, 1))()
 
 
-def _copied(data: Buffer) -> Tuple[Any, int]:
+def _view(data: Any) -> Optional[memoryview]:
+    """The bytes of a buffer where they are, or None where this is no buffer of bytes."""
+    try:
+        view = memoryview(data)
+    except TypeError:
+        return None
+    return view if view.ndim and view.format.lstrip("@=<>!") in ("B", "b", "c") else None
+
+
+def _plain(name: str, data: Buffer) -> bytes:
+    """A copy of these bytes. Of a number Python would make so many zeros."""
+    view = _view(data)
+    if view is None:
+        raise TypeError("{}: bytes are needed, and not {}".format(name, type(data).__name__))
+    return view.tobytes()
+
+
+def _several(name: str, items: Iterable[Any]) -> Iterator[Any]:
+    """What comes of a list of packets or PDUs. One of them alone is no list: Python would make numbers of it."""
+    view = _view(items)
+    if isinstance(items, str) or (view is not None and view.ndim == 1):
+        raise TypeError("{}: a list is needed, and not {}; one alone is a list of one".format(name, type(items).__name__))
+    return iter(items)
+
+
+def _copied(name: str, data: Buffer) -> Tuple[Any, int]:
     """A C array with a copy of these bytes, and their count."""
-    plain = bytes(data)
+    plain = _plain(name, data)
     return (_u8 * max(len(plain), 1)).from_buffer_copy(plain or b"\0"), len(plain)
 
 
@@ -478,6 +515,23 @@ def _listed(name: str, values: Iterable[int], kind: Any, most: int) -> Tuple[Any
     lent = _lent(kind, len(numbers))
     lent[:len(numbers)] = numbers
     return lent, len(numbers)
+
+
+def _words_of(name: str, words: Iterable[int]) -> "array[int]":
+    """Words of 32 bits. Bytes are none: :func:`read_words` makes words of them."""
+    if isinstance(words, array) and words.typecode == "I":
+        return words[:]
+    if isinstance(words, str) or _view(words) is not None:
+        raise TypeError("{}: words are needed, and not {}; read_words makes words of bytes".format(name, type(words).__name__))
+    return array("I", [_number(name, word, 2**32 - 1) for word in words])
+
+
+def _lent_words(name: str, words: Iterable[int]) -> Tuple[Any, int]:
+    """A C array of these words, and their count."""
+    plain = _words_of(name, words)
+    lent = _lent(_u32, len(plain))
+    lent[:len(plain)] = plain
+    return lent, len(plain)
 
 
 def _give_back(pdu: Buffer, lent: Any, length: int) -> None:
@@ -551,7 +605,7 @@ class Log:
     words: "array[int]"
 
     def __init__(self, words: Iterable[int] = ()) -> None:
-        self.words = array("I", words)
+        self.words = _words_of("words", words)
 
     def __iter__(self) -> Iterator[Entry]:
         place = 0
@@ -597,7 +651,7 @@ class Log:
 
 
 def _header(header: Buffer) -> Any:
-    lent, length = _copied(header)
+    lent, length = _copied("header", header)
     if length != HEADER_BYTES:
         raise ValueError("a header has {} bytes, and not {}".format(HEADER_BYTES, length))
     return lent
@@ -615,7 +669,7 @@ def parity(header: Buffer) -> bytes:
 
 def write_parity(pdu: Buffer) -> bytes:
     """The PDU with the parity of its header in bytes 0 to 7; a bytearray is changed itself too. Refused with 3."""
-    lent, length = _copied(pdu)
+    lent, length = _copied("pdu", pdu)
     _check(_c.barzhilup_write_parity(lent, length))
     _give_back(pdu, lent, length)
     return bytes(lent)[:length]
@@ -623,7 +677,7 @@ def write_parity(pdu: Buffer) -> bytes:
 
 def add_parity_share(parity: Buffer, place: int, byte: int) -> bytes:
     """Eight bytes of parity with the share of the byte at a place, 8 to 95, added. Begin with ``bytes(8)``. Refused with 14."""
-    values = bytes(parity)
+    values = _plain("parity", parity)
     if len(values) != PARITY_BYTES:
         raise ValueError("a parity has {} bytes, and not {}".format(PARITY_BYTES, len(values)))
     answer = _c.barzhilup_add_parity_share(_Values.from_buffer_copy(values), _number("place", place, 2**32), _byte("byte", byte))
@@ -646,7 +700,7 @@ def correct_header(pdu: Buffer, marks: Iterable[int] = ()) -> Correction:
     ``marks`` has the places of bytes that the demodulator guessed, at most eight: with s of them, these may hold anything and (8 - s) // 2 others may be
     wrong. A bytearray is corrected itself too. Refused with 3, 19 or 4.
     """
-    lent, length = _copied(pdu)
+    lent, length = _copied("pdu", pdu)
     places, count = _listed("marks", marks, _u8, 255)
     answer = _c.barzhilup_correct_header_marked(lent, length, places, count)
     _check(answer.refusal)
@@ -660,7 +714,7 @@ def crc8(data: Buffer, start: int = CRC_START) -> int:
     >>> hex(crc8(b"\\x01")), hex(crc8(b"\\x01", CRC_START_OFF_AIR))
     ('0x31', '0x9d')
     """
-    lent, length = _copied(data)
+    lent, length = _copied("data", data)
     return int(_c.barzhilup_crc8_from(_byte("start", start), lent, length))
 
 
@@ -744,7 +798,7 @@ def read(pdu: Buffer) -> Reading:
 
     Refused with 3 to 5 or 7 to 12.
     """
-    lent, length = _copied(pdu)
+    lent, length = _copied("pdu", pdu)
     answer = _c.barzhilup_read(lent, length)
     _check(answer.refusal, answer.wrong_locator)
     _give_back(pdu, lent, length)
@@ -753,7 +807,7 @@ def read(pdu: Buffer) -> Reading:
 
 def list_pieces(pdu: Buffer, crc_start: int = CRC_START) -> Reading:
     """As :func:`read`, with the verdict on each piece's CRC, whose register starts at this value. A wrong CRC is no refusal."""
-    lent, length = _copied(pdu)
+    lent, length = _copied("pdu", pdu)
     pieces = (_Piece * PIECES_MAX)()
     answer = _c.barzhilup_list_pieces(lent, length, _byte("crc_start", crc_start), pieces, PIECES_MAX)
     _check(answer.refusal, answer.wrong_locator)
@@ -763,7 +817,7 @@ def list_pieces(pdu: Buffer, crc_start: int = CRC_START) -> Reading:
 
 def choose(first: Buffer, second: Buffer) -> Optional[Buffer]:
     """Of two copies of a PDU, the one in whose header fewer bytes have to be corrected, the first if equal; None where neither can be corrected."""
-    (one, one_length), (two, two_length) = _copied(first), _copied(second)
+    (one, one_length), (two, two_length) = _copied("first", first), _copied("second", second)
     return (None, first, second)[_c.barzhilup_choose(one, one_length, two, two_length)]
 
 
@@ -805,12 +859,20 @@ class Settings(NamedTuple):
     services: Optional[Services] = None
 
     def _to_c(self) -> _Settings:
-        access, type_code = self.program_type or (0, 0)
-        applied, marker = self.services or (0, 0)
+        access, type_code = (0, 0) if self.program_type is None else self.program_type
+        applied, marker = (0, 0) if self.services is None else self.services
+        class_code, program = (0 if value is None else value for value in (self.class_code, self.program))
         return _Settings(_byte("blend", self.blend), _byte("gain", self.gain), _byte("common_delay", self.common_delay), _byte("latency", self.latency),
-                         self.class_code is not None, _byte("class_code", self.class_code or 0), self.program is not None,
-                         _byte("program", self.program or 0), bool(self.displacement), self.program_type is not None, _byte("access", access),
+                         self.class_code is not None, _byte("class_code", class_code), self.program is not None, _byte("program", program),
+                         bool(_number("displacement", self.displacement, 1)), self.program_type is not None, _byte("access", access),
                          _byte("type_code", type_code), self.services is not None, _byte("applied", applied), _number("marker", marker, 2**32 - 1))
+
+
+def _settings(settings: Settings) -> _Settings:
+    """These settings as C has them."""
+    if not isinstance(settings, Settings):
+        raise TypeError("settings: Settings are needed, and not {}".format(type(settings).__name__))
+    return settings._to_c()
 
 
 class Written(NamedTuple):
@@ -866,14 +928,14 @@ class Writer:
 
         Refused with 3, 10 or 14 to 17.
         """
-        plain = [bytes(packet) for packet in packets]
+        plain = [_plain("packet", packet) for packet in _several("packets", packets)]
         # A length that two bytes cannot hold is refused with 15 like any other over 4,096.
         lengths, count = _listed("length", (min(len(packet), 65535) for packet in plain), _u16, 65535)
-        data, data_length = _copied(b"".join(plain))
-        lent_psd, psd_length = _copied(psd)
+        data, data_length = _copied("packets", b"".join(plain))
+        lent_psd, psd_length = _copied("psd", psd)
         length = _number("length", length, 2**32)
         pdu = _lent(_u8, min(length, PDU_MAX + 1))
-        answer = _c.barzhilup_write(self._state, settings._to_c(), lent_psd, psd_length, lengths, count, data, data_length, pdu,
+        answer = _c.barzhilup_write(self._state, _settings(settings), lent_psd, psd_length, lengths, count, data, data_length, pdu,
                                     min(length, PDU_MAX + 1))
         _check(answer.refusal)
         self._state = answer.writer
@@ -885,14 +947,14 @@ class Writer:
         >>> len(list(Writer(0).write_all([bytes(100)] * 10, length=256)))
         5
         """
+        _settings(settings)
+        return self._all(_several("packets", packets), _number("length", length, 2**32), _plain("psd", psd), settings)
+
+    def _all(self, packets: Iterator[Buffer], length: int, psd: bytes, settings: Settings) -> Iterator[bytes]:
+        """The PDUs of :meth:`write_all`. A packet is looked at before the PDU is written that it could stand in."""
         waiting: List[bytes] = []
-        source = iter(packets)
         while True:
-            while len(waiting) <= PIECES_MAX:
-                packet = next(source, None)
-                if packet is None:
-                    break
-                waiting.append(bytes(packet))
+            waiting.extend(_plain("packet", packet) for packet in islice(packets, PIECES_MAX + 1 - len(waiting)))
             if not waiting:
                 return
             pdu, ended = self.write(waiting, length, psd, settings)
@@ -1015,7 +1077,7 @@ class Receiver:
         """Takes over the state of an accepted answer, and hands out its log."""
         _check(answer.refusal, answer.wrong_locator)
         self._state = answer.receiver
-        return Log(self._log[:answer.words])
+        return Log(array("I", self._log[:answer.words]))
 
     def receive(self, pdu: Buffer, marks: Iterable[int] = ()) -> Log:
         """Receives a PDU: corrects its header, joins its pieces to packets, and hands out the log of this call.
@@ -1025,7 +1087,7 @@ class Receiver:
 
         Refused with 3 to 12 or 27, and with 19 for marks.
         """
-        lent, length = _copied(pdu)
+        lent, length = _copied("pdu", pdu)
         places, count = _listed("marks", marks, _u8, 255)
         log = self._step(_c.barzhilup_receive_marked(self._state, self._carry, CARRY_BYTES, lent, length, places, count, self._log, LOG_WORDS))
         _give_back(pdu, lent, length)
@@ -1033,13 +1095,13 @@ class Receiver:
 
     def receive_batch(self, pdus: Sequence[Buffer]) -> Batch:
         """Receives several PDUs in one call, up to the first that is refused: that one and those after it are left."""
-        plain = [bytes(pdu) for pdu in pdus]
+        plain = [_plain("pdu", pdu) for pdu in _several("pdus", pdus)]
         taken, words = 0, array("I")
         room = LOG_WORDS * min(len(plain), _FRAME)
         log = _lent(_u32, room)
         # A long list goes in parts, so that its log does not take 33 KB for each PDU.
         for at in range(0, len(plain), _FRAME):
-            data, length = _copied(b"".join(plain[at:at + _FRAME]))
+            data, length = _copied("pdus", b"".join(plain[at:at + _FRAME]))
             lengths, count = _listed("length", map(len, plain[at:at + _FRAME]), _size, 2**32)
             answer = _c.barzhilup_receive_batch(self._state, self._carry, CARRY_BYTES, data, length, lengths, count, log, room)
             self._state = answer.receiver
@@ -1054,7 +1116,7 @@ class Receiver:
 
         Refused with 4 to 12, 20 or 27.
         """
-        (one, one_length), (two, two_length) = _copied(first), _copied(second)
+        (one, one_length), (two, two_length) = _copied("first", first), _copied("second", second)
         log = self._step(_c.barzhilup_receive_pair(self._state, self._carry, CARRY_BYTES, one, one_length, two, two_length, self._log, LOG_WORDS))
         _give_back(first, one, one_length)
         _give_back(second, two, two_length)
@@ -1066,8 +1128,12 @@ class Receiver:
 
     def log(self, pdus: Iterable[Buffer]) -> Iterator[Logged]:
         """Receives a recording as ``barzhilup log`` does: an empty record is a lost PDU, and a refused PDU is marked lost."""
+        return self._logged(_several("pdus", pdus))
+
+    def _logged(self, pdus: Iterator[Buffer]) -> Iterator[Logged]:
+        """What :meth:`log` hands out."""
         for place, pdu in enumerate(pdus):
-            if len(pdu) == 0:
+            if not _plain("pdu", pdu):
                 yield Logged(place, "lost", None, self.mark_lost())
                 continue
             try:
@@ -1086,7 +1152,7 @@ class Receiver:
     @classmethod
     def load(cls, words: Iterable[int]) -> "Receiver":
         """The receiver that was saved as these words. PDUs that passed meanwhile are marked lost, one by one. Refused with 25."""
-        lent, count = _listed("words", words, _u32, 2**32 - 1)
+        lent, count = _lent_words("words", words)
         carry = _lent(_u8, CARRY_BYTES)
         answer = _c.barzhilup_load_receiver(lent, count, carry, CARRY_BYTES)
         _check(answer.refusal)
@@ -1095,8 +1161,12 @@ class Receiver:
         return receiver
 
     def copy(self) -> "Receiver":
-        """Another receiver that goes on from here."""
-        return Receiver.load(self.save())
+        """Another receiver that goes on from here; ``copy.copy`` and ``copy.deepcopy`` make one too, and so does ``pickle``."""
+        return copy.copy(self)
+
+    def __reduce__(self) -> Tuple[Any, ...]:
+        rest = {name: value for name, value in self.__dict__.items() if name not in ("_state", "_carry", "_log")}
+        return (type(self).load, (self.save(),), rest or None)
 
 
 # ---- Core and enhanced side by side -------------------------------------------------------------------------------------------------------------
@@ -1119,7 +1189,7 @@ class Joined:
     words: "array[int]"
 
     def __init__(self, words: Iterable[int]) -> None:
-        self.words = array("I", words)
+        self.words = _words_of("words", words)
 
     def __iter__(self) -> Iterator[JoinedPacket]:
         place, packet = 0, None
@@ -1138,13 +1208,13 @@ class Joined:
 
 def join(core: Union[Log, Iterable[int]], enhanced: Union[Log, Iterable[int]]) -> Joined:
     """Joins two logs of one frame, core and enhanced, by packet number. Refused with 23 or 24."""
-    lent_core, core_count = _listed("core", getattr(core, "words", core), _u32, 2**32 - 1)
-    lent_enhanced, enhanced_count = _listed("enhanced", getattr(enhanced, "words", enhanced), _u32, 2**32 - 1)
+    lent_core, core_count = _lent_words("core", getattr(core, "words", core))
+    lent_enhanced, enhanced_count = _lent_words("enhanced", getattr(enhanced, "words", enhanced))
     room = core_count + enhanced_count
     result = _lent(_u32, room)
     answer = _c.barzhilup_join(lent_core, core_count, lent_enhanced, enhanced_count, result, room)
     _check(answer.refusal)
-    return Joined(result[:answer.words])
+    return Joined(array("I", result[:answer.words]))
 
 
 # ---- Latencies ----------------------------------------------------------------------------------------------------------------------------------
@@ -1226,9 +1296,10 @@ def read_records(source: Source) -> Iterator[bytes]:
 def write_records(target: Source, records: Iterable[Buffer]) -> int:
     """Writes a file of packets or PDUs; answers how many records. A file of this name that is there is not overwritten: :class:`FileExistsError`."""
     count = 0
+    coming = _several("records", records)
     with _opened(target, "xb") as file:
-        for record in records:
-            plain = bytes(record)
+        for record in coming:
+            plain = _plain("record", record)
             file.write(_number("the length of a record", len(plain), 65535).to_bytes(2, "little") + plain)
             count += 1
     return count

@@ -3,6 +3,8 @@
 Needs the built program: in target/bin under the project's root, or in the directory that BARZHILUP_BIN names; and the shared library, as the module does.
 """
 
+import array
+import copy
 import doctest
 import io
 import os
@@ -217,6 +219,102 @@ class Refusals(Case):
                      lambda: b.Receiver(0).receive(bytes(96), [256]), lambda: b.parity(bytes(95)), lambda: b.crc8(b"", 256),
                      lambda: b.add_parity_share(bytes(7), 8, 1), lambda: b.try_latency(1, 0, [1], 256), lambda: b.join([2**32], [])):
             self.assertRaises(ValueError, call)
+
+
+class Types(Case):
+    """What is of another type than is meant is a TypeError, before anything is done."""
+
+    def test_packets(self):
+        writer, file = b.Writer(0), io.BytesIO()
+        for packets in (b"audio", bytearray(b"audio"), memoryview(b"audio"), array.array("B", b"audio"), b"", "audio", [5], [None], ["audio"], [[1, 2]], 5,
+                        [1.5], [array.array("I", [1])]):
+            self.assertRaises(TypeError, writer.write, packets, 1024)
+            self.assertRaises(TypeError, lambda: list(writer.write_all(packets, 1024)))
+            self.assertRaises(TypeError, b.write_records, file, packets)
+            self.assertRaises(TypeError, b.Receiver(0).receive_batch, packets)
+            self.assertRaises(TypeError, lambda: list(b.Receiver(0).log(packets)))
+        self.assertRaises(TypeError, writer.write_all, b"audio", 1024)
+        self.assertRaises(TypeError, writer.write_all, [b"audio"], 1024, "PSD")
+        self.assertRaises(TypeError, b.Receiver(0).log, b"audio")
+        self.assertRaises(TypeError, lambda: list(writer.write_all([b"one", None, b"two"], 1024)))
+        self.assertRaises(TypeError, writer.write, [b"audio"], 1024, 4)
+        self.assertRaises(TypeError, writer.write, [b"audio"], 1024, "PSD")
+        self.assertEqual((writer.sequence, writer.number, file.getvalue()), (0, 0, b""))
+        for packet in (bytearray(b"audio"), memoryview(b"audio"), array.array("B", b"audio")):
+            self.assertEqual(writer.write((one for one in [packet]), 96).ended, 1)
+
+    def test_bytes(self):
+        pdu = b.Writer(0).write([b"audio"], 96).pdu
+        for wrong in (96, "x" * 96, [0] * 96, None, 1.5, array.array("I", bytes(96))):
+            receiver = b.Receiver(0)
+            for call in (b.crc8, b.syndromes, b.parity, b.write_parity, b.correct_header, b.read, b.list_pieces, receiver.receive):
+                self.assertRaises(TypeError, call, wrong)
+            for call in (b.choose, receiver.receive_pair):
+                self.assertRaises(TypeError, call, wrong, pdu)
+                self.assertRaises(TypeError, call, pdu, wrong)
+            self.assertRaises(TypeError, b.add_parity_share, wrong, 8, 1)
+            self.assertEqual(receiver.save(), b.Receiver(0).save())
+        self.assertRaises(TypeError, b.add_parity_share, 8, 8, 1)
+
+    def test_numbers(self):
+        pdu = b.Writer(0).write([b"audio"], 96).pdu
+        for wrong in (0.9, 1.0, "1", b"1", None, [1]):
+            for call in (lambda: b.Receiver(wrong), lambda: b.Receiver(1, wrong), lambda: b.Receiver(0, 0, wrong), lambda: b.Receiver(0, entitled=[wrong]),
+                         lambda: b.Writer(wrong), lambda: b.Writer(1, wrong), lambda: b.Writer(0, 0, wrong), lambda: b.Writer(0).write([b"a"], wrong),
+                         lambda: b.Writer(0).write_all([b"a"], wrong), lambda: b.crc8(b"", wrong), lambda: b.add_parity_share(bytes(8), wrong, 1),
+                         lambda: b.add_parity_share(bytes(8), 8, wrong), lambda: b.Receiver(0).receive(pdu, [wrong]), lambda: b.correct_header(pdu, [wrong]), lambda: b.list_pieces(pdu, wrong),
+                         lambda: b.smallest_latency(1, 0, [wrong]), lambda: b.try_latency(1, 0, [3], wrong), lambda: b.waiting_packets(wrong, 0, [3], 0),
+                         lambda: b.join([wrong], []), lambda: b.join([], [wrong]), lambda: b.Receiver.load([wrong]), lambda: b.Log([wrong]),
+                         lambda: b.Joined([wrong]), lambda: b.refusal_text(wrong), lambda: b.note_text(wrong)):
+                self.assertRaises(TypeError, call)
+        for words in (b"\0\0\0\0", bytearray(4), memoryview(bytes(4)), "0000", 5):
+            for call in (b.Log, b.Joined, b.Receiver.load, lambda words: b.join(words, []), lambda words: b.join([], words)):
+                self.assertRaises(TypeError, call, words)
+        self.assertRaises(TypeError, b.Receiver(0).receive, pdu, "89")
+        self.assertEqual(b.Receiver(0).receive(pdu, b"\x08\x09").packets(), [b.Packet(0, b"audio")])
+
+    def test_settings(self):
+        for settings in (b.Settings(gain=1.5), b.Settings(class_code=0.0), b.Settings(program="0"), b.Settings(program=""), b.Settings(displacement="no"),
+                         b.Settings(program_type=(0, "1")), b.Settings(services=(0, 1.5)), b.Settings(program_type=7), None, (0, 0)):
+            writer = b.Writer(0)
+            self.assertRaises(TypeError, writer.write, [b"audio"], 96, b"", settings)
+            self.assertRaises(TypeError, writer.write_all, [b"audio"], 96, b"", settings)
+            self.assertEqual(writer.number, 0)
+        self.assertRaises(ValueError, b.Writer(0).write, [b"audio"], 96, b"", b.Settings(program_type=()))
+
+
+class Copies(Case):
+    def test_independent(self):
+        pdus = list(b.Writer(0).write_all([bytes([k]) * 300 for k in range(20)], 200))
+        others = list(b.Writer(0).write_all([bytes([99]) * 300 for k in range(20)], 200))
+        for copied in (copy.copy, copy.deepcopy, b.Receiver.copy, lambda receiver: pickle.loads(pickle.dumps(receiver))):
+            receiver, alone = b.Receiver(0), b.Receiver(0)
+            for one in (receiver, alone):
+                one.receive_batch(pdus[:5])
+            other = copied(receiver)
+            self.assertEqual(other.save(), receiver.save())
+            self.assertTrue(receiver.held)
+            for mine, theirs in zip(pdus[5:], others[5:]):
+                other.receive(theirs)
+                self.assertEqual(receiver.receive(mine), alone.receive(mine))
+
+    def test_of_a_subclass(self):
+        class Named(b.Receiver):
+            """A receiver with a name."""
+
+        receiver = Named(1, entitled=[3])
+        receiver.name = "roof"
+        for other in (copy.copy(receiver), receiver.copy(), copy.deepcopy(receiver)):
+            self.assertEqual((type(other), other.name, other.entitled, other.save()), (Named, "roof", [3], receiver.save()))
+
+    def test_writer(self):
+        writer = b.Writer(0)
+        writer.write([bytes(300)], 200)
+        for other in (copy.copy(writer), copy.deepcopy(writer), pickle.loads(pickle.dumps(writer))):
+            before = writer.sequence, writer.number, writer.sent
+            self.assertEqual((other.sequence, other.number, other.sent), before)
+            other.write([bytes(300)], 200)
+            self.assertEqual((writer.sequence, writer.number, writer.sent), before)
 
 
 class Logs(Case):
