@@ -22,7 +22,8 @@ A recording, as a demodulator or ``barzhilup channel`` writes it, is logged in a
             ...
     print(receiver.delivered, receiver.missing)
 
-A call that cannot be done raises :class:`Refusal`, with a number and words, and changes nothing.
+A call that cannot be done raises :class:`Refusal`, with a number and words, and changes nothing. So does :class:`TypeError` for what is of another type than
+is meant, and :class:`ValueError` for a number that C's type cannot hold: arguments are looked at before the call.
 
 The module needs the shared library, libbarzhilup.so, and nothing else; Python is 3.8 or later. It is looked for in the directory that the environment
 variable BARZHILUP_LIB names; without it in the project's target/staticlib (``bash scripts/libraries`` makes it), or, where the module was installed by
@@ -38,6 +39,7 @@ import sys
 from array import array
 from contextlib import contextmanager
 from enum import IntEnum
+from io import BytesIO
 from itertools import islice
 from typing import (IO, Any, Dict, Iterable, Iterator, List, NamedTuple, Optional, Sequence, Tuple, Union)
 
@@ -534,10 +536,19 @@ def _lent_words(name: str, words: Iterable[int]) -> Tuple[Any, int]:
     return lent, len(plain)
 
 
-def _give_back(pdu: Buffer, lent: Any, length: int) -> None:
-    """Writes a PDU that a call has corrected back to where it came from, if it can be written there."""
-    if isinstance(pdu, (bytearray, memoryview)) and not (isinstance(pdu, memoryview) and pdu.readonly):
-        memoryview(pdu).cast("B")[:] = memoryview(lent).cast("B")[:length]
+def _place(data: Buffer) -> Union[bytearray, memoryview, None]:
+    """Where a PDU is written back that a call corrects: a bytearray, or a memoryview that can be written. None for others, which stay as they are."""
+    if isinstance(data, bytearray):
+        return data
+    if not isinstance(data, memoryview) or data.readonly:
+        return None
+    return data if (data.format, data.ndim) == ("B", 1) else data.cast("B")
+
+
+def _give_back(place: Union[bytearray, memoryview, None], corrected: bytes) -> None:
+    """Writes a corrected PDU to its place, if it has one."""
+    if place is not None:
+        place[:] = corrected
 
 
 # ---- The packet log -----------------------------------------------------------------------------------------------------------------------------
@@ -670,9 +681,11 @@ def parity(header: Buffer) -> bytes:
 def write_parity(pdu: Buffer) -> bytes:
     """The PDU with the parity of its header in bytes 0 to 7; a bytearray is changed itself too. Refused with 3."""
     lent, length = _copied("pdu", pdu)
+    place = _place(pdu)
     _check(_c.barzhilup_write_parity(lent, length))
-    _give_back(pdu, lent, length)
-    return bytes(lent)[:length]
+    written = bytes(lent)[:length]
+    _give_back(place, written)
+    return written
 
 
 def add_parity_share(parity: Buffer, place: int, byte: int) -> bytes:
@@ -701,11 +714,13 @@ def correct_header(pdu: Buffer, marks: Iterable[int] = ()) -> Correction:
     wrong. A bytearray is corrected itself too. Refused with 3, 19 or 4.
     """
     lent, length = _copied("pdu", pdu)
+    place = _place(pdu)
     places, count = _listed("marks", marks, _u8, 255)
     answer = _c.barzhilup_correct_header_marked(lent, length, places, count)
     _check(answer.refusal)
-    _give_back(pdu, lent, length)
-    return Correction(bytes(lent)[:length], answer.corrected)
+    corrected = bytes(lent)[:length]
+    _give_back(place, corrected)
+    return Correction(corrected, answer.corrected)
 
 
 def crc8(data: Buffer, start: int = CRC_START) -> int:
@@ -799,20 +814,24 @@ def read(pdu: Buffer) -> Reading:
     Refused with 3 to 5 or 7 to 12.
     """
     lent, length = _copied("pdu", pdu)
+    place = _place(pdu)
     answer = _c.barzhilup_read(lent, length)
     _check(answer.refusal, answer.wrong_locator)
-    _give_back(pdu, lent, length)
-    return _reading(answer, bytes(lent)[:length], [None] * PIECES_MAX)
+    corrected = bytes(lent)[:length]
+    _give_back(place, corrected)
+    return _reading(answer, corrected, [None] * PIECES_MAX)
 
 
 def list_pieces(pdu: Buffer, crc_start: int = CRC_START) -> Reading:
     """As :func:`read`, with the verdict on each piece's CRC, whose register starts at this value. A wrong CRC is no refusal."""
     lent, length = _copied("pdu", pdu)
+    place = _place(pdu)
     pieces = (_Piece * PIECES_MAX)()
     answer = _c.barzhilup_list_pieces(lent, length, _byte("crc_start", crc_start), pieces, PIECES_MAX)
     _check(answer.refusal, answer.wrong_locator)
-    _give_back(pdu, lent, length)
-    return _reading(answer, bytes(lent)[:length], [bool(piece.right) for piece in pieces])
+    corrected = bytes(lent)[:length]
+    _give_back(place, corrected)
+    return _reading(answer, corrected, [bool(piece.right) for piece in pieces])
 
 
 def choose(first: Buffer, second: Buffer) -> Optional[Buffer]:
@@ -1082,20 +1101,25 @@ class Receiver:
     def receive(self, pdu: Buffer, marks: Iterable[int] = ()) -> Log:
         """Receives a PDU: corrects its header, joins its pieces to packets, and hands out the log of this call.
 
-        ``marks`` has the places of header bytes that the demodulator guessed, each 0 to 95, at most eight and none twice. A bytearray is left with its header
-        corrected; other bytes stay as they are.
+        ``marks`` has the places of header bytes that the demodulator guessed, each 0 to 95, at most eight and none twice. A bytearray, or a memoryview that can
+        be written, is left with its header corrected; other bytes stay as they are.
 
         Refused with 3 to 12 or 27, and with 19 for marks.
         """
         lent, length = _copied("pdu", pdu)
+        place = _place(pdu)
         places, count = _listed("marks", marks, _u8, 255)
         log = self._step(_c.barzhilup_receive_marked(self._state, self._carry, CARRY_BYTES, lent, length, places, count, self._log, LOG_WORDS))
-        _give_back(pdu, lent, length)
+        _give_back(place, bytes(lent)[:length])
         return log
 
     def receive_batch(self, pdus: Sequence[Buffer]) -> Batch:
-        """Receives several PDUs in one call, up to the first that is refused: that one and those after it are left."""
-        plain = [_plain("pdu", pdu) for pdu in _several("pdus", pdus)]
+        """Receives several PDUs in one call, up to the first that is refused: that one and those after it are left.
+
+        Bytearrays that are received are left with their headers corrected, as by :meth:`receive`.
+        """
+        given = list(_several("pdus", pdus))
+        plain, places = [_plain("pdu", pdu) for pdu in given], [_place(pdu) for pdu in given]
         taken, words = 0, array("I")
         room = LOG_WORDS * min(len(plain), _FRAME)
         log = _lent(_u32, room)
@@ -1107,6 +1131,9 @@ class Receiver:
             self._state = answer.receiver
             taken += int(answer.taken)
             words.extend(log[:answer.words])
+            corrected = BytesIO(bytes(data)[:length])
+            for place, pdu in zip(places[at:taken], plain[at:taken]):
+                _give_back(place, corrected.read(len(pdu)))
             if answer.refusal:
                 return Batch(taken, Log(words), Refusal(answer.refusal, answer.wrong_locator))
         return Batch(taken, Log(words), None)
@@ -1117,9 +1144,10 @@ class Receiver:
         Refused with 4 to 12, 20 or 27.
         """
         (one, one_length), (two, two_length) = _copied("first", first), _copied("second", second)
+        places = _place(first), _place(second)
         log = self._step(_c.barzhilup_receive_pair(self._state, self._carry, CARRY_BYTES, one, one_length, two, two_length, self._log, LOG_WORDS))
-        _give_back(first, one, one_length)
-        _give_back(second, two, two_length)
+        _give_back(places[0], bytes(one)[:one_length])
+        _give_back(places[1], bytes(two)[:two_length])
         return log
 
     def mark_lost(self) -> Log:

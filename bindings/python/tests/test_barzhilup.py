@@ -93,6 +93,25 @@ class RoundTrips(Case):
         b.Receiver(0).receive(view)
         self.assertEqual(bytes(view), pdu)
 
+    def test_every_call_corrects(self):
+        pdus = list(b.Writer(0).write_all(self.packets(150), 96))
+        self.assertGreater(len(pdus), 128)
+        damaged = [bytearray(pdu) for pdu in pdus]
+        for pdu in damaged:
+            pdu[50] ^= 1
+        damaged[129] = bytearray(range(96))
+        left = [bytes(pdu) for pdu in damaged[129:]]
+        batch = b.Receiver(0).receive_batch(damaged)
+        self.assertEqual((batch.taken, batch.refusal.number), (129, 4))
+        self.assertEqual([bytes(pdu) for pdu in damaged], pdus[:129] + left)
+        for call in (b.Receiver(0).receive, b.read, b.list_pieces, b.correct_header, b.write_parity, lambda pdu: b.Receiver(0).receive_batch([pdu]),
+                     lambda pdu: b.Receiver(0).receive_pair(pdu, b""), lambda pdu: b.Receiver(0).receive_pair(pdus[0], pdu)):
+            pdu = bytearray(pdus[0])
+            pdu[0] ^= 1
+            call(pdu)
+            self.assertEqual(bytes(pdu), pdus[0])
+            call(memoryview(pdu).toreadonly())
+
     def test_settings(self):
         settings = b.Settings(0, 24, 63, 7, 1, 3, True, b.ProgramType(1, 255), b.Services(1, 2097151))
         pdu, _ = b.Writer(0).write([b"audio"], 96, b"PSD", settings)
@@ -198,7 +217,26 @@ class Refusals(Case):
         self.refused(4, receiver.receive, noise)
         self.refused(17, writer.write, [bytes(100)], 96, bytes(80))
         self.assertEqual(noise, bytearray(range(96)))
+        try:
+            receiver.receive(noise)
+        except b.Refusal:
+            noise.pop()
         self.assertEqual((receiver.save(), writer.sequence, writer.number, writer.sent), before)
+
+    def test_places_that_cannot_be_written(self):
+        pdu = b.Writer(0).write([b"audio"], 96).pdu
+        damaged = bytes([pdu[0] ^ 1]) + pdu[1:]
+        strided = memoryview(bytearray(192))[::2]
+        strided[:] = damaged
+        receiver = b.Receiver(0)
+        self.assertEqual(receiver.receive(strided).packets(), [b.Packet(0, b"audio")])
+        self.assertEqual(bytes(strided), pdu)
+        columns = memoryview(bytearray(192)).cast("B", (2, 96))[::-1]
+        before = receiver.save()
+        for call in (receiver.receive, b.read, b.list_pieces, b.correct_header, b.write_parity, lambda view: receiver.receive_pair(view, pdu),
+                     lambda view: receiver.receive_pair(pdu, view), lambda view: receiver.receive_batch([pdu, view])):
+            self.assertRaises(TypeError, call, columns)
+            self.assertEqual(receiver.save(), before)
 
     def test_words(self):
         self.assertEqual(b.refusal_text(0), "accepted")
