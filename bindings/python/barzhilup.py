@@ -31,7 +31,6 @@ variable BARZHILUP_LIB names; without it in the project's target/staticlib (``ba
 """
 
 import copy
-import csv
 import ctypes
 import operator
 import os
@@ -1298,8 +1297,28 @@ def _opened(source: Source, mode: str) -> Iterator[IO[Any]]:
     if hasattr(source, "read") or hasattr(source, "write"):
         yield source  # type: ignore[misc]
         return
-    with open(source, mode, newline=None if "b" in mode else "") as file:  # type: ignore[arg-type]
+    with open(source, mode) as file:  # type: ignore[arg-type]
         yield file
+
+
+def _read(file: IO[Any], count: int) -> bytes:
+    """So many bytes of a file, or all that are left. A read of a pipe may hand out fewer than are asked for, and more by the next."""
+    data = b""
+    while len(data) < count:
+        part = file.read(count - len(data))
+        if part is None:
+            raise BlockingIOError("a file that does not wait for its bytes cannot be read")
+        if not part:
+            break
+        data += _plain("what the file reads", part)
+    return data
+
+
+def _write(file: IO[Any], data: bytes) -> None:
+    """Writes these bytes. A write to a pipe may take fewer than all."""
+    while data:
+        taken = file.write(data)
+        data = b"" if taken is None else data[taken:]
 
 
 def read_records(source: Source) -> Iterator[bytes]:
@@ -1310,32 +1329,44 @@ def read_records(source: Source) -> Iterator[bytes]:
     with _opened(source, "rb") as file:
         place = 0
         while True:
-            head = file.read(2)
+            head = _read(file, 2)
             if not head:
                 return
             length = int.from_bytes(head, "little")
-            record = file.read(length) if len(head) == 2 else b""
+            record = _read(file, length) if len(head) == 2 else b""
             if len(head) < 2 or len(record) < length:
                 raise MalformedFile("the file ends inside record {}".format(place))
             yield record
             place += 1
 
 
+def _record(record: Buffer) -> bytes:
+    """A record as it stands in a file."""
+    plain = _plain("record", record)
+    return _number("the length of a record", len(plain), 65535).to_bytes(2, "little") + plain
+
+
 def write_records(target: Source, records: Iterable[Buffer]) -> int:
-    """Writes a file of packets or PDUs; answers how many records. A file of this name that is there is not overwritten: :class:`FileExistsError`."""
-    count = 0
+    """Writes a file of packets or PDUs; answers how many records. A file of this name that is there is not overwritten: :class:`FileExistsError`.
+
+    A record has at most 65,535 bytes, others are a :class:`ValueError`. The records of a list or a tuple are looked at before the file is made; of records
+    that are made as they are written, those before one that cannot be written stay in the file.
+    """
     coming = _several("records", records)
+    if isinstance(records, (list, tuple)):
+        for record in records:
+            _record(record)
+    count = 0
     with _opened(target, "xb") as file:
         for record in coming:
-            plain = _plain("record", record)
-            file.write(_number("the length of a record", len(plain), 65535).to_bytes(2, "little") + plain)
+            _write(file, _record(record))
             count += 1
     return count
 
 
 def read_words(source: Source) -> "array[int]":
     """The words of a file of ``barzhilup log --format words``, or of a record of ``--format records``: each in four bytes, low byte first."""
-    if isinstance(source, (bytes, bytearray)):
+    if isinstance(source, (bytes, bytearray, memoryview)):
         data = bytes(source)
     else:
         with _opened(source, "rb") as file:
@@ -1375,44 +1406,128 @@ class Csv(NamedTuple):
     whole: bool
 
 
-_CSV_COLUMNS = ["pdu", "kind", "number", "length", "cause", "delivered", "missing"]
-_CSV_KINDS = ("received", "lost", "refused", "packet", "psd", "note")
+_CSV_COLUMNS = "pdu,kind,number,length,cause,delivered,missing"
+#: The first line of logs without the loss column, as older ones are.
+_CSV_UNCOUNTED = "pdu,kind,number,length,cause"
+_CSV_PDUS = ("received", "lost", "refused")
+_CSV_KINDS = _CSV_PDUS + ("packet", "psd", "note")
+#: The longest line, in bytes, without its end.
+_CSV_LINE_MAX = 200
 
 
-def _csv_line(row: List[str], line: int) -> Line:
-    """A line from its columns."""
-    pdu, kind, number, length, cause, delivered, missing = row
+def _csv_number(text: str) -> int:
+    """A decimal number of 32 bits: digits and nothing else."""
+    if not (text.isascii() and text.isdigit()) or int(text) > 2**32 - 1:
+        raise MalformedFile("{!r} is no number of 32 bits".format(text))
+    return int(text)
+
+
+def _csv_line(text: str, counted: bool) -> Line:
+    """A line of a PDU, or of an entry of its log, from its columns. Where there is no loss column, the cause is the rest of the line."""
+    row = text.split(",") if counted else text.split(",", 4)
+    if len(row) != (7 if counted else 5):
+        raise MalformedFile("{} columns".format(len(row)))
+    kind, cause = row[1], row[4]
     if kind not in _CSV_KINDS:
-        raise MalformedFile("line {}: no kind {!r}".format(line, kind))
-    try:
-        numbers = [int(text) if text else None for text in (number, length, delivered, missing)]
-        return Line(int(pdu), kind, numbers[0], numbers[1], cause or None, numbers[2], numbers[3])
-    except ValueError:
-        raise MalformedFile("line {}: a number is wrong".format(line)) from None
+        raise MalformedFile("no kind {!r}".format(kind))
+    number = _csv_number(row[2]) if row[2] or kind in ("received", "packet") else None
+    length = _csv_number(row[3]) if row[3] else None
+    if kind == "packet" and number is not None and number > 63:
+        raise MalformedFile("a packet's number is over 63")
+    if kind in _CSV_PDUS:
+        delivered, missing = [_csv_number(count) for count in row[5:]] or [None, None]
+    elif any(row[5:]):
+        raise MalformedFile("counts that are not on the line of a PDU")
+    else:
+        delivered, missing = None, None
+    return Line(_csv_number(row[0]), kind, number, length, cause or None, delivered, missing)
+
+
+class _Drive:
+    """The CSV of a log, line by line."""
+
+    def __init__(self, first: str) -> None:
+        if first not in (_CSV_COLUMNS, _CSV_UNCOUNTED):
+            raise MalformedFile("the first line is not {}".format(_CSV_COLUMNS))
+        self.counted = first == _CSV_COLUMNS
+        self.lines: List[Line] = []
+        self.whole = False
+        self.pdus, self.delivered, self.missing = 0, 0, 0
+
+    def take(self, text: str, ended: bool) -> None:
+        """Takes a line. One that lacks its end, with which the file is cut, is left out if it may say less than it did."""
+        try:
+            pdus = self._last(text)
+            line = _csv_line(text, self.counted) if pdus is None else None
+        except MalformedFile:
+            if ended or self.whole:
+                raise
+            return
+        if not ended and not self.whole and self.counted and line is not None and line.kind in _CSV_PDUS:
+            return
+        if self.whole:
+            raise MalformedFile("there is more after the last line")
+        if line is not None:
+            self._take(line)
+        elif pdus != self.pdus:
+            raise MalformedFile("the last line has another count of PDUs")
+        else:
+            self.whole = True
+
+    def _last(self, text: str) -> Optional[int]:
+        """How many PDUs the last line tells; None of other lines."""
+        if not text.startswith(",end,"):
+            return None
+        number, _, rest = text[5:].partition(",")
+        if rest != (",whole,," if self.counted else ",whole"):
+            raise MalformedFile("not as the last line is")
+        return _csv_number(number)
+
+    def _take(self, line: Line) -> None:
+        """Takes the line of the next PDU, or one of an entry of the last PDU's log."""
+        if line.kind not in _CSV_PDUS:
+            if line.pdu != self.pdus - 1:
+                raise MalformedFile("not of the PDU before it")
+        elif line.pdu != self.pdus:
+            raise MalformedFile("PDU {} is not the next".format(line.pdu))
+        else:
+            self.pdus += 1
+        if line.delivered is not None and line.missing is not None:
+            if line.delivered < self.delivered or line.missing < self.missing:
+                raise MalformedFile("a count falls")
+            self.delivered, self.missing = line.delivered, line.missing
+        self.lines.append(line)
 
 
 def read_csv(source: Source) -> Csv:
     """Reads the CSV that ``barzhilup log --format csv`` writes.
 
-    A log that was cut, by a kill or a full disk, is read as far as it goes, and is not whole; the line that it ends in, if that is cut, is left out. Any
-    other line that is none of a log raises :class:`MalformedFile`.
+    A log that was cut, by a kill or a full disk, is read as far as it goes, and is not whole; the line that it ends in, if that is cut, is left out. Anything
+    else that ``barzhilup coverage`` does not take raises :class:`MalformedFile`: another first line; a line of over 200 bytes, of a kind that there is none
+    of, or with columns missing or left over; a number that is not decimal or does not fit 32 bits, or is missing on a line of a received PDU or a packet; a
+    packet's number over 63; PDUs that do not count from 0, or entries of another than the last; counts that are missing on the line of a PDU, stand on
+    others, or fall; a last line with another count of PDUs, and anything after it. Lengths and causes are not held to anything else.
+
+    Older logs, without the columns ``delivered`` and ``missing``, have None there.
     """
-    with _opened(source, "r") as file:
-        text = file.read()
-    ended = text.endswith("\n") or not text
-    rows = list(csv.reader(text.splitlines()))
-    if not ended:
-        rows.pop()
-    if not rows or rows[0] != _CSV_COLUMNS:
-        raise MalformedFile("the first line is not {}".format(",".join(_CSV_COLUMNS)))
-    lines: List[Line] = []
-    for line, row in enumerate(rows[1:], start=2):
-        if len(row) != len(_CSV_COLUMNS):
-            raise MalformedFile("line {}: {} columns".format(line, len(row)))
-        if row[1] == "end":
-            pdus = sum(entry.kind in ("received", "lost", "refused") for entry in lines)
-            if line != len(rows) or row != ["", "end", str(pdus), "", "whole", "", ""]:
-                raise MalformedFile("line {}: the last line has another count, or is not the last".format(line))
-            return Csv(lines, True)
-        lines.append(_csv_line(row, line))
-    return Csv(lines, False)
+    with _opened(source, "rb") as file:
+        data = file.read()
+    rows = (data.encode("utf-8", "surrogateescape") if isinstance(data, str) else bytes(data)).split(b"\n")
+    drive = None
+    for number, row in enumerate(rows, start=1):
+        ended = number < len(rows)
+        if not ended and not row:
+            break
+        try:
+            if len(row) > _CSV_LINE_MAX:
+                raise MalformedFile("over {} bytes".format(_CSV_LINE_MAX))
+            text = (row[:-1] if row.endswith(b"\r") else row).decode("utf-8", "surrogateescape")
+            if drive is None:
+                drive = _Drive(text)
+            else:
+                drive.take(text, ended)
+        except MalformedFile as fault:
+            raise MalformedFile("line {}: {}".format(number, fault)) from None
+    if drive is None:
+        raise MalformedFile("the file is empty")
+    return Csv(drive.lines, drive.whole)

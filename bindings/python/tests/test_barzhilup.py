@@ -255,7 +255,8 @@ class Refusals(Case):
         for call in (lambda: b.Writer(256), lambda: b.Receiver(-1), lambda: b.Receiver(0, crc_start=256), lambda: b.Receiver(0, entitled=[256]),
                      lambda: b.Writer(0).write([b"a"], 96, b"", b.Settings(gain=256)), lambda: b.Writer(0).write([b"a"], -1),
                      lambda: b.Receiver(0).receive(bytes(96), [256]), lambda: b.parity(bytes(95)), lambda: b.crc8(b"", 256),
-                     lambda: b.add_parity_share(bytes(7), 8, 1), lambda: b.try_latency(1, 0, [1], 256), lambda: b.join([2**32], [])):
+                     lambda: b.add_parity_share(bytes(7), 8, 1), lambda: b.try_latency(1, 0, [1], 256), lambda: b.join([2**32], []),
+                     lambda: b.Log([-1]), lambda: b.Log([2**32]), lambda: b.Joined([2**32]), lambda: b.Receiver.load([2**32])):
             self.assertRaises(ValueError, call)
 
 
@@ -586,8 +587,88 @@ class Files(Case):
         self.assertEqual(b.read_csv(io.StringIO(head + rows)), b.Csv(table.lines, False))
         self.assertEqual(b.read_csv(io.StringIO(head + rows + "3,rece")), b.Csv(table.lines, False))
         for wrong in ("", "pdu,kind\n", head + "0,other,,,,,\n", head + "0,lost\n", head + "x,lost,,,,1,0\n", head + rows + ",end,2,,whole,,\n",
-                      head + ",end,0,,whole,,\n0,lost,,,,0,0\n"):
-            self.assertRaises(b.MalformedFile, b.read_csv, io.StringIO(wrong))
+                      head + ",end,0,,whole,,\n0,lost,,,,0,0\n", head + "0,lost,,,,2,0\n1,lost,,,,1,0\n", head + "5,lost,,,,0,0\n3,lost,,,,0,0\n",
+                      head + "0,received,0,96,,1,0\n0,packet,99,99999,,,\n", head + "0,received,-5,96,,1,0\n", head + "0,received,1_000,96,,1,0\n",
+                      head + "0,received,0,{},,1,0\n".format("9" * 200000), head + "0,lost,,,,1,0\0\n", head + '0,lost,,,"' + "x" * 200000 + "\n",
+                      head + "0,received,\u0663,96,,1,0\n", head + "0,lost,,,,,\n", head + "0,lost,,,,0,0\n0,note,0,,lost,1,0\n", head + "\n"):
+            with self.assertRaises(b.MalformedFile) as caught:
+                b.read_csv(io.StringIO(wrong))
+            self.assertTrue(str(caught.exception))
+        older = "pdu,kind,number,length,cause\n0,refused,11,96,one, two\n0,note,0,,lost\n,end,1,,whole\n"
+        lines = [b.Line(0, "refused", 11, 96, "one, two", None, None), b.Line(0, "note", 0, None, "lost", None, None)]
+        self.assertEqual(b.read_csv(io.StringIO(older)), b.Csv(lines, True))
+        self.assertEqual(b.read_csv(io.BytesIO(older.replace("\n", "\r\n").encode())), b.Csv(lines, True))
+
+    def test_csv_as_coverage_takes_it(self):
+        head = "pdu,kind,number,length,cause,delivered,missing\n"
+        rows = "0,received,1,96,,1,0\n0,packet,5,4,,,\n0,psd,,3,,,\n1,refused,11,96,locator out of place (k 1),1,0\n1,note,0,,lost,,\n2,lost,,,,1,7\n"
+        older = "pdu,kind,number,length,cause\n0,received,1,96,\n0,packet,5,4,\n1,lost,,,\n,end,2,,whole\n"
+        texts = [head + rows + ",end,3,,whole,,\n", head + rows, older]
+        name, taken, wholes = self.file("log.csv"), 0, 0
+        for _ in range(800):
+            text = bytearray(self.dice.choice(texts).encode())
+            for _ in range(self.dice.randint(0, 2)):
+                at = self.dice.randrange(len(text))
+                at = self.dice.choice([at, max(text.rfind(b"\n", 0, at), 0)])
+                other = self.dice.choice([b"", b"0", b"2", b"64", b",", b"\n", b"\r", b"\0", b"-", b"_", b" ", b'"', b"\xff", b"x" * 150])
+                text[at:at + self.dice.randint(0, 2)] = other
+            if not self.dice.randint(0, 3):
+                del text[self.dice.randrange(len(text)):]
+            with open(name, "wb") as file:
+                file.write(text)
+            done = subprocess.run([PROGRAM, "coverage", "--in", name], stdout=subprocess.DEVNULL, stderr=subprocess.PIPE, check=False)
+            try:
+                table = b.read_csv(name)
+            except b.MalformedFile as fault:
+                self.assertEqual(done.returncode, 1, (text, fault, done.stderr))
+                place = str(fault).split(":")[0]
+                self.assertTrue(place == "the file is empty" or place.encode() + b":" in done.stderr, (text, fault, done.stderr))
+                continue
+            self.assertEqual(done.returncode, 0, (text, done.stderr))
+            self.assertEqual(table.whole, b"has no last line" not in done.stderr, text)
+            self.assertIn("PDUs {}:".format(sum(line.kind in ("received", "lost", "refused") for line in table.lines)).encode(), done.stderr)
+            taken, wholes = taken + 1, wholes + table.whole
+        self.assertGreater(min(taken - wholes, wholes, 800 - taken), 50)
+
+    def test_short_reads_and_writes(self):
+        records = [b"one", b"", bytes(range(256)) * 255]
+
+        class Slow(io.RawIOBase):
+            """A file that hands out and takes a few bytes at a time."""
+
+            def __init__(self, data=b""):
+                super().__init__()
+                self.bytes = io.BytesIO(data)
+
+            def readable(self):
+                return True
+
+            def writable(self):
+                return True
+
+            def readinto(self, room):
+                part = self.bytes.read(min(len(room), 1000 if self.bytes.tell() > 20 else 1))
+                room[:len(part)] = part
+                return len(part)
+
+            def write(self, data):
+                return self.bytes.write(bytes(data)[:1000])
+
+        slow = Slow()
+        self.assertEqual(b.write_records(slow, records), 3)
+        whole = slow.bytes.getvalue()
+        self.assertEqual(list(b.read_records(io.BytesIO(whole))), records)
+        self.assertEqual(list(b.read_records(Slow(whole))), records)
+        self.assertRaises(b.MalformedFile, list, b.read_records(Slow(whole[:-1])))
+        self.assertEqual(list(b.read_words(Slow(bytes(4000)))), [0] * 1000)
+
+    def test_a_record_that_cannot_be_written(self):
+        name = self.file("records")
+        for wrong in ([b"one", bytes(65536)], [b"one", 5], (b"one", None)):
+            self.assertRaises((ValueError, TypeError), b.write_records, name, wrong)
+            self.assertFalse(os.path.exists(name))
+        self.assertRaises(ValueError, b.write_records, name, iter([b"one", bytes(65536)]))
+        self.assertEqual(list(b.read_records(name)), [b"one"])
 
 
 class Module(Case):
