@@ -237,14 +237,17 @@ class Refusal(Exception):
 
 
 class MalformedLog(ValueError):
-    """Words that are not a log."""
+    """Words that are not a log, or not two logs joined."""
 
     #: The place, from 0, of the first word of the entry that does not fit.
     place: int
 
-    def __init__(self, place: int) -> None:
-        self.place = place
-        super().__init__("not a log: the entry at word {} does not fit".format(place))
+    def __init__(self, place: int, what: str = "a log") -> None:
+        self.place, self._what = place, what
+        super().__init__("not {}: the entry at word {} does not fit".format(what, place))
+
+    def __reduce__(self) -> Tuple[Any, ...]:
+        return (MalformedLog, (self.place, self._what))
 
 
 class MalformedFile(ValueError):
@@ -581,22 +584,55 @@ Entry = Union[Packet, Psd, Note]
 _ABOUT_NO_PIECE = (Cause.SEQUENCE, Cause.NOT_CONTINUED, Cause.LOST, Cause.WITHHELD)
 
 
-def _data(words: "array[int]", place: int, length: int) -> Tuple[bytes, int]:
-    """The bytes of the data words from a place on, and the place after them."""
+def _data(words: "array[int]", place: int, length: int) -> Optional[Tuple[bytes, int]]:
+    """The bytes of the data words from a place on, and the place after them; None where they are not as a log has them, by threes and with unused ones 0."""
     end = place + (length + 2) // 3
     part = words[place:end]
     left = length
     for word in part:
-        if word >> 30 != 1 or word >> 24 & 3 != min(left, 3):
-            raise ValueError
-        left -= min(left, 3)
+        count = min(left, 3)
+        if word >> 24 != 0x40 + count or word & (1 << 24 - 8 * count) - 1:
+            return None
+        left -= count
     if left:
-        raise ValueError
+        return None
     if sys.byteorder == "little":
         part.byteswap()
     data = bytearray(part.tobytes())
     del data[0::4]
     return bytes(data[:length]), end
+
+
+def _packet(words: "array[int]", place: int, head: int) -> Optional[Tuple[Packet, int]]:
+    """The packet at a place, by its first word, and the place after it; None where it does not fit."""
+    if head >> 22 or not 1 <= head & 0xFFFF <= PACKET_MAX:
+        return None
+    found = _data(words, place + 1, head & 0xFFFF)
+    return None if found is None else (Packet(head >> 16, found[0]), found[1])
+
+
+def _psd(words: "array[int]", place: int, head: int) -> Optional[Tuple[Psd, int]]:
+    """The PSD at a place, likewise."""
+    if head >> 16 != 0x8000 or not head & 0xFFFF:
+        return None
+    found = _data(words, place + 1, head & 0xFFFF)
+    return None if found is None else (Psd(found[0]), found[1])
+
+
+def _note(words: "array[int]", place: int, head: int) -> Optional[Tuple[Note, int]]:
+    """The note at a place, likewise."""
+    number, piece = head >> 16 & 0x3FFF, head & 0xFFFF
+    if number not in _NOTES or (piece and number in _ABOUT_NO_PIECE):
+        return None
+    return Note(Cause(number), None if number in _ABOUT_NO_PIECE else piece), place + 1
+
+
+def _no_entry(words: "array[int]", place: int, head: int) -> None:
+    """A data word begins no entry."""
+
+
+#: The readers of entries, by the kind of the first word.
+_ENTRIES = (_packet, _no_entry, _psd, _note)
 
 
 class Log:
@@ -605,8 +641,12 @@ class Log:
     >>> list(Log([0x00050004, 0x43112233, 0x41440000, 0xC0020001]))
     [Packet(number=5, data=b'\\x11"3D'), Note(cause=<Cause.CRC: 2>, piece=1)]
 
-    Words that were kept, in a file of ``barzhilup log --format words`` or ``records``, are a log too; others raise :class:`MalformedLog`, at the first entry
-    that does not fit.
+    Words that were kept, in a file of ``barzhilup log --format words`` or ``records``, are a log too. The words are looked at when they are read: others raise
+    :class:`MalformedLog` at the first entry that does not fit, after those before it. These are the words that :func:`join` refuses with 23, that is data
+    words that are missing, left over, wrongly counted or not filled by threes up to the last, a bit that has no meaning, a length of 0 or a packet's over
+    4,096; and notes that no receiver logs, with another cause than 1 to 8, or with a piece where they are about none.
+
+    ``len`` counts the entries, an empty log is false, and ``+`` puts the entries of another log after these.
     """
 
     __slots__ = ("words",)
@@ -626,17 +666,10 @@ class Log:
     def _entry(self, place: int) -> Tuple[Entry, int]:
         """The entry at a place, and the place after it."""
         word = self.words[place]
-        kind = word >> 30
-        try:
-            if kind == 3:
-                cause = Cause(word >> 16 & 0x3FFF)
-                return Note(cause, None if cause in _ABOUT_NO_PIECE else word & 0xFFFF), place + 1
-            if kind == 1:
-                raise ValueError
-            data, end = _data(self.words, place + 1, word & 0xFFFF)
-        except ValueError:
-            raise MalformedLog(place) from None
-        return (Packet(word >> 16 & 0x3F, data) if kind == 0 else Psd(data)), end
+        found = _ENTRIES[word >> 30](self.words, place, word)
+        if found is None:
+            raise MalformedLog(place)
+        return found
 
     def packets(self) -> List[Packet]:
         """The packets alone."""
@@ -649,6 +682,15 @@ class Log:
     def psd(self) -> List[bytes]:
         """The PSD entries' bytes alone."""
         return [entry.data for entry in self if isinstance(entry, Psd)]
+
+    def __len__(self) -> int:
+        return sum(1 for _ in self)
+
+    def __bool__(self) -> bool:
+        return bool(self.words)
+
+    def __add__(self, other: "Log") -> "Log":
+        return Log(self.words + other.words) if isinstance(other, Log) else NotImplemented
 
     def __eq__(self, other: object) -> bool:
         return isinstance(other, Log) and self.words == other.words
@@ -1208,7 +1250,12 @@ class JoinedPacket(NamedTuple):
 
 
 class Joined:
-    """Two logs joined: its packets, in the core's order, when it is iterated."""
+    """Two logs joined: its packets, in the core's order, when it is iterated.
+
+    Words that were kept, in a file of ``barzhilup join --format words``, are such too. The words are looked at when they are read: others raise
+    :class:`MalformedLog` at the first packet that does not fit. Each packet has to be as one of a log, and an enhanced one to follow a core packet of its
+    number. That numbers rise is not looked at.
+    """
 
     __slots__ = ("words",)
 
@@ -1219,18 +1266,24 @@ class Joined:
         self.words = _words_of("words", words)
 
     def __iter__(self) -> Iterator[JoinedPacket]:
-        place, packet = 0, None
+        place = 0
+        core: Optional[Packet] = None
         while place < len(self.words):
             word = self.words[place]
-            data, place = _data(self.words, place + 1, word & 0xFFFF)
-            if word & JOINED_ENHANCED and packet is not None:
-                packet = packet._replace(enhanced=data)
+            found = _packet(self.words, place, word & ~JOINED_ENHANCED)
+            enhanced = bool(word & JOINED_ENHANCED)
+            if found is None or (enhanced and (core is None or core.number != found[0].number)):
+                raise MalformedLog(place, "two logs joined")
+            packet, place = found
+            if enhanced and core is not None:
+                yield JoinedPacket(core.number, core.data, packet.data)
+                core = None
                 continue
-            if packet is not None:
-                yield packet
-            packet = JoinedPacket(word >> 16 & 0x3F, data, None)
-        if packet is not None:
-            yield packet
+            if core is not None:
+                yield JoinedPacket(core.number, core.data, None)
+            core = packet
+        if core is not None:
+            yield JoinedPacket(core.number, core.data, None)
 
 
 def join(core: Union[Log, Iterable[int]], enhanced: Union[Log, Iterable[int]]) -> Joined:

@@ -364,6 +364,58 @@ class Logs(Case):
                 list(b.Log(words))
             self.assertEqual(caught.exception.place, place)
 
+    def test_what_join_refuses(self):
+        packet, psd, notes = [0x00050004, 0x43112233, 0x41440000], [0x80000005, 0x43505344, 0x42404100], [0xC0020007, 0xC0060000]
+        refused = others = 0
+        for words in ([0x00050000], [0x20050001, 0x41110000], [0x80000000], [0x90000001, 0x41110000], [0x00050001, 0x41110001], [0x00050002, 0x42111101],
+                      [0x00050001, 0x45110000], [0x00401001, *[0x43000000] * 1365, 0x42000000], [0x00001001, *[0x43000000] * 1365, 0x42000000]):
+            self.refused(23, b.join, words, [])
+            self.assertRaises(b.MalformedLog, list, b.Log(words))
+        for _ in range(3000):
+            words = sum((self.dice.choice([packet, psd, notes, [0x00060001, 0x41010000]]) for _ in range(3)), [])
+            place = self.dice.randrange(len(words))
+            words[place] ^= self.dice.choice([1 << self.dice.randrange(32), self.dice.randrange(2**32)])
+            try:
+                b.join(words, [])
+                number = 0
+            except b.Refusal as refusal:
+                number = refusal.number
+            try:
+                self.assertEqual(len(b.Log(words)), len(list(b.Log(words))))
+                self.assertNotEqual(number, 23, words)
+            except b.MalformedLog as fault:
+                refused += 1
+                if number != 23:
+                    note = words[fault.place]
+                    cause, piece = note >> 16 & 0x3FFF, note & 0xFFFF
+                    self.assertEqual(note >> 30, 3, words)
+                    self.assertTrue(not 1 <= cause <= 8 or (cause in (1, 4, 6, 8) and piece), words)
+                    others += 1
+        self.assertTrue(1000 < refused < 2900 and 10 < others)
+
+    def test_lengths_and_sums(self):
+        words = [0x80000003, 0x43505344, 0x00050004, 0x43112233, 0x41440000, 0xC0020007]
+        log = b.Log(words)
+        self.assertEqual((len(log), bool(log), len(b.Log()), bool(b.Log())), (3, True, 0, False))
+        self.assertEqual(log + b.Log([0xC0060000]), b.Log(words + [0xC0060000]))
+        self.assertEqual(sum([log, log], b.Log()), b.Log(words + words))
+        self.assertEqual(log, b.Log(words))
+        self.assertRaises(TypeError, lambda: log + words)
+        self.assertRaises(b.MalformedLog, len, b.Log([0x41110000]))
+
+    def test_joined_words(self):
+        core, enhanced = [0x00060001, 0x41220000], [0x20060001, 0x41330000]
+        self.assertEqual(list(b.Joined(core + enhanced + core)), [b.JoinedPacket(6, b"\x22", b"\x33"), b.JoinedPacket(6, b"\x22", None)])
+        for words, place in (([0xC0060000], 0), (core + [0x80000001, 0x41000000], 2), (core[:1], 0), (core + enhanced[:1], 2), (enhanced, 0),
+                             (core + enhanced + enhanced, 4), (core + [0x20070001, 0x41330000], 2), ([0x00060000], 0), ([0x41220000], 0),
+                             ([0x00460001, 0x41220000], 0)):
+            with self.assertRaises(b.MalformedLog) as caught:
+                list(b.Joined(words))
+            self.assertEqual(caught.exception.place, place)
+            self.assertEqual(str(caught.exception), "not two logs joined: the entry at word {} does not fit".format(place))
+            again = pickle.loads(pickle.dumps(caught.exception))
+            self.assertEqual((str(again), again.place), (str(caught.exception), place))
+
     def test_entries(self):
         words = [0x80000003, 0x43505344, 0x00050004, 0x43112233, 0x41440000, 0xC0020007, 0xC0060000]
         log = b.Log(words)
