@@ -100,7 +100,7 @@ ENHANCED = 1
 
 
 class RefusalNumber(IntEnum):
-    """The causes of refusals by their numbers."""
+    """The causes of refusals by their numbers. LIST_LENGTH is LOG_LENGTH where a list of pieces is too short, and PLACE is VALUE for the place of a parity share."""
 
     STATE = 1
     CARRY_LENGTH = 2
@@ -115,7 +115,9 @@ class RefusalNumber(IntEnum):
     LOCATOR = 11
     DISPLACEMENT = 12
     LOG_LENGTH = 13
+    LIST_LENGTH = 13
     VALUE = 14
+    PLACE = 14
     PACKETS = 15
     PSD = 16
     ROOM = 17

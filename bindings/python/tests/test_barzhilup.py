@@ -249,6 +249,7 @@ class Refusals(Case):
             again = pickle.loads(pickle.dumps(refusal))
             self.assertEqual((again.number, again.locator), (refusal.number, refusal.locator))
         self.assertEqual(str(b.Refusal(11, 3)), "refused with 11: locator out of place (k 3)")
+        self.assertEqual((len(b.RefusalNumber), b.RefusalNumber.LIST_LENGTH, b.RefusalNumber.PLACE), (27, 13, 14))
         self.assertEqual([cause.text for cause in b.Cause], [b.note_text(number) for number in range(1, 9)])
 
     def test_numbers_that_do_not_fit(self):
