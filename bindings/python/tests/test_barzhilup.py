@@ -10,6 +10,7 @@ import io
 import os
 import pickle
 import random
+import re
 import subprocess
 import sys
 import tempfile
@@ -745,6 +746,31 @@ class Module(Case):
         with open(example, encoding="utf-8") as file:
             lines = [line.split("  # noqa")[0] for line in file.read().splitlines()]
         self.assertEqual([line for line in shown.splitlines() if line[4:] not in lines], [])
+
+    def test_sentences(self):
+        """Each chapter of docs/USING.md with C's, Rust's and Python's calls has sentences for Python, and what stands there can be called."""
+        with open(os.path.join(ROOT, "docs", "USING.md"), encoding="utf-8") as file:
+            chapters = [part.split("\n", 1) for part in file.read().split("\n## ")]
+        self.assertEqual([name for name, _ in chapters if name.endswith("in C and Rust")], [])
+        told = {name.split(",")[0]: re.findall("`((?:barzhilup|receiver)[.].*?)`", text.split("\nIn Python ")[1])
+                for name, text in chapters if name.endswith(", in C, Rust and Python")}
+        self.assertEqual(len(told), 10)
+        one, other = list(b.Writer(0).write_all([b"audio", b"more"] * 9, 100))[:2]
+        older = [word for word in b.Receiver(0).save() if word >> 28 != 4]
+        core = [0x00050001, 0x41110000]
+        for name, expressions in told.items():
+            self.assertTrue(expressions, name)
+            for expression in expressions:
+                names = {"barzhilup": b, "receiver": b.Receiver(0), "pdu": one, "other": other, "first": one, "second": one, "piece": b"audio", "words": older,
+                         "parity": bytes(8), "header": one, "core": core, "enhanced": core}
+                eval(expression, names)
+        self.assertEqual(b.Receiver.load(older).entitled, [])
+        self.assertEqual(eval(told["A receiver that goes on after a restart"][2], names).save(), b.Receiver(0).save())
+        names["receiver"] = full = b.Receiver.load([0, 0x30000000, 0x400000FF, 0x6000FFFF, 0x6000FFFF, 0x60000000, 0x60000000, 0x60000000])
+        self.refused(27, full.receive, one)
+        on = eval(told["Packets delivered and missing"][3], names)
+        on.receive(one)
+        self.assertGreater(on.delivered, 0)
 
     def test_no_library(self):
         done = subprocess.run([sys.executable, "-c", "import barzhilup"], cwd=os.path.join(HERE, ".."), env={"BARZHILUP_LIB": self.folder, "PATH": ""},
