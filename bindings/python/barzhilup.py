@@ -593,7 +593,8 @@ def _data(words: "array[int]", place: int, length: int) -> Optional[Tuple[bytes,
     left = length
     for word in part:
         count = min(left, 3)
-        if word >> 24 != 0x40 + count or word & (1 << 24 - 8 * count) - 1:
+        unused = (1 << (24 - 8 * count)) - 1
+        if word >> 24 != 0x40 + count or word & unused:
             return None
         left -= count
     if left:
@@ -1222,7 +1223,11 @@ class Receiver:
 
     @classmethod
     def load(cls, words: Iterable[int]) -> "Receiver":
-        """The receiver that was saved as these words. PDUs that passed meanwhile are marked lost, one by one. Refused with 25."""
+        """The receiver that was saved as these words. PDUs that passed meanwhile are marked lost, one by one. Refused with 25.
+
+        Words without kind 6 load a receiver whose counts begin at 0: so one goes on after 27. Older words without kind 4 load one that is entitled to nothing;
+        the word 0x400000FF in its place entitles it to all programs.
+        """
         lent, count = _lent_words("words", words)
         carry = _lent(_u8, CARRY_BYTES)
         answer = _c.barzhilup_load_receiver(lent, count, carry, CARRY_BYTES)
