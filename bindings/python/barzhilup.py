@@ -22,20 +22,24 @@ A recording, as a demodulator or ``barzhilup channel`` writes it, is logged in a
             ...
     print(receiver.delivered, receiver.missing)
 
-A call that cannot be done raises :class:`Refusal`, with a number and words, and changes nothing.
+A call that cannot be done raises :class:`Refusal`, with a number and words, and changes nothing. So does :class:`TypeError` for what is of another type than
+is meant, and :class:`ValueError` for a number that C's type cannot hold: arguments are looked at before the call.
 
 The module needs the shared library, libbarzhilup.so, and nothing else; Python is 3.8 or later. It is looked for in the directory that the environment
 variable BARZHILUP_LIB names; without it in the project's target/staticlib (``bash scripts/libraries`` makes it), or, where the module was installed by
 ``scripts/install``, beside it; and then where the system looks for libraries.
 """
 
-import csv
+import copy
 import ctypes
+import operator
 import os
 import sys
 from array import array
 from contextlib import contextmanager
 from enum import IntEnum
+from io import BytesIO
+from itertools import islice
 from typing import (IO, Any, Dict, Iterable, Iterator, List, NamedTuple, Optional, Sequence, Tuple, Union)
 
 __version__ = "0.1.0"
@@ -50,7 +54,7 @@ __all__ = [
     "syndromes", "try_latency", "waiting_packets", "write_parity", "write_records",
 ]
 
-#: Bytes that a call reads: bytes, a bytearray, a memoryview, a numpy array of bytes.
+#: Bytes that a call reads: bytes, a bytearray, a memoryview, a numpy array of bytes. A number, a text or a list of numbers is a :class:`TypeError`.
 Buffer = Union[bytes, bytearray, memoryview, Any]
 #: A file by its name, or one that is open.
 Source = Union[str, "os.PathLike[str]", IO[Any]]
@@ -96,7 +100,7 @@ ENHANCED = 1
 
 
 class RefusalNumber(IntEnum):
-    """The causes of refusals by their numbers."""
+    """The causes of refusals by their numbers. LIST_LENGTH is LOG_LENGTH where a list of pieces is too short, and PLACE is VALUE for the place of a parity share."""
 
     STATE = 1
     CARRY_LENGTH = 2
@@ -111,7 +115,9 @@ class RefusalNumber(IntEnum):
     LOCATOR = 11
     DISPLACEMENT = 12
     LOG_LENGTH = 13
+    LIST_LENGTH = 13
     VALUE = 14
+    PLACE = 14
     PACKETS = 15
     PSD = 16
     ROOM = 17
@@ -198,12 +204,13 @@ _NOTES: Dict[int, str] = {
 
 def refusal_text(number: int) -> str:
     """The cause of a refusal in words: "accepted" for 0, "unknown" for a number that there is none of."""
+    number = _whole("number", number)
     return _REFUSALS.get(number, "accepted" if number == 0 else "unknown")
 
 
 def note_text(cause: int) -> str:
     """The cause of a note in words; "unknown" for a number that there is none of."""
-    return _NOTES.get(cause, "unknown")
+    return _NOTES.get(_whole("cause", cause), "unknown")
 
 
 class Refusal(Exception):
@@ -232,14 +239,17 @@ class Refusal(Exception):
 
 
 class MalformedLog(ValueError):
-    """Words that are not a log."""
+    """Words that are not a log, or not two logs joined."""
 
     #: The place, from 0, of the first word of the entry that does not fit.
     place: int
 
-    def __init__(self, place: int) -> None:
-        self.place = place
-        super().__init__("not a log: the entry at word {} does not fit".format(place))
+    def __init__(self, place: int, what: str = "a log") -> None:
+        self.place, self._what = place, what
+        super().__init__("not {}: the entry at word {} does not fit".format(what, place))
+
+    def __reduce__(self) -> Tuple[Any, ...]:
+        return (MalformedLog, (self.place, self._what))
 
 
 class MalformedFile(ValueError):
@@ -449,9 +459,17 @@ def _check(number: int, locator: Optional[int] = None) -> None:
         raise Refusal(number, locator)
 
 
+def _whole(name: str, value: int) -> int:
+    """A whole number. Neither a fraction, which would be cut, nor a text is one."""
+    try:
+        return operator.index(value)
+    except TypeError:
+        raise TypeError("{}: a whole number is needed, and not {}".format(name, type(value).__name__)) from None
+
+
 def _number(name: str, value: int, most: int) -> int:
     """A number that C's type can hold; others would be cut to another one."""
-    value = int(value)
+    value = _whole(name, value)
     if not 0 <= value <= most:
         raise ValueError("{}: {} is not 0 to {}".format(name, value, most))
     return value
@@ -466,9 +484,34 @@ def _lent(kind: Any, count: int) -> Any:
     return (kind * max(count, 1))()
 
 
-def _copied(data: Buffer) -> Tuple[Any, int]:
+def _view(data: Any) -> Optional[memoryview]:
+    """The bytes of a buffer where they are, or None where this is no buffer of bytes."""
+    try:
+        view = memoryview(data)
+    except TypeError:
+        return None
+    return view if view.ndim and view.format.lstrip("@=<>!") in ("B", "b", "c") else None
+
+
+def _plain(name: str, data: Buffer) -> bytes:
+    """A copy of these bytes. Of a number Python would make so many zeros."""
+    view = _view(data)
+    if view is None:
+        raise TypeError("{}: bytes are needed, and not {}".format(name, type(data).__name__))
+    return view.tobytes()
+
+
+def _several(name: str, items: Iterable[Any]) -> Iterator[Any]:
+    """What comes of a list of packets or PDUs. One of them alone is no list: Python would make numbers of it."""
+    view = _view(items)
+    if isinstance(items, str) or (view is not None and view.ndim == 1):
+        raise TypeError("{}: a list is needed, and not {}; one alone is a list of one".format(name, type(items).__name__))
+    return iter(items)
+
+
+def _copied(name: str, data: Buffer) -> Tuple[Any, int]:
     """A C array with a copy of these bytes, and their count."""
-    plain = bytes(data)
+    plain = _plain(name, data)
     return (_u8 * max(len(plain), 1)).from_buffer_copy(plain or b"\0"), len(plain)
 
 
@@ -480,10 +523,36 @@ def _listed(name: str, values: Iterable[int], kind: Any, most: int) -> Tuple[Any
     return lent, len(numbers)
 
 
-def _give_back(pdu: Buffer, lent: Any, length: int) -> None:
-    """Writes a PDU that a call has corrected back to where it came from, if it can be written there."""
-    if isinstance(pdu, (bytearray, memoryview)) and not (isinstance(pdu, memoryview) and pdu.readonly):
-        memoryview(pdu).cast("B")[:] = memoryview(lent).cast("B")[:length]
+def _words_of(name: str, words: Iterable[int]) -> "array[int]":
+    """Words of 32 bits. Bytes are none: :func:`read_words` makes words of them."""
+    if isinstance(words, array) and words.typecode == "I":
+        return words[:]
+    if isinstance(words, str) or _view(words) is not None:
+        raise TypeError("{}: words are needed, and not {}; read_words makes words of bytes".format(name, type(words).__name__))
+    return array("I", [_number(name, word, 2**32 - 1) for word in words])
+
+
+def _lent_words(name: str, words: Iterable[int]) -> Tuple[Any, int]:
+    """A C array of these words, and their count."""
+    plain = _words_of(name, words)
+    lent = _lent(_u32, len(plain))
+    lent[:len(plain)] = plain
+    return lent, len(plain)
+
+
+def _place(data: Buffer) -> Union[bytearray, memoryview, None]:
+    """Where a PDU is written back that a call corrects: a bytearray, or a memoryview that can be written. None for others, which stay as they are."""
+    if isinstance(data, bytearray):
+        return data
+    if not isinstance(data, memoryview) or data.readonly:
+        return None
+    return data if (data.format, data.ndim) == ("B", 1) else data.cast("B")
+
+
+def _give_back(place: Union[bytearray, memoryview, None], corrected: bytes) -> None:
+    """Writes a corrected PDU to its place, if it has one."""
+    if place is not None:
+        place[:] = corrected
 
 
 # ---- The packet log -----------------------------------------------------------------------------------------------------------------------------
@@ -517,22 +586,56 @@ Entry = Union[Packet, Psd, Note]
 _ABOUT_NO_PIECE = (Cause.SEQUENCE, Cause.NOT_CONTINUED, Cause.LOST, Cause.WITHHELD)
 
 
-def _data(words: "array[int]", place: int, length: int) -> Tuple[bytes, int]:
-    """The bytes of the data words from a place on, and the place after them."""
+def _data(words: "array[int]", place: int, length: int) -> Optional[Tuple[bytes, int]]:
+    """The bytes of the data words from a place on, and the place after them; None where they are not as a log has them, by threes and with unused ones 0."""
     end = place + (length + 2) // 3
     part = words[place:end]
     left = length
     for word in part:
-        if word >> 30 != 1 or word >> 24 & 3 != min(left, 3):
-            raise ValueError
-        left -= min(left, 3)
+        count = min(left, 3)
+        unused = (1 << (24 - 8 * count)) - 1
+        if word >> 24 != 0x40 + count or word & unused:
+            return None
+        left -= count
     if left:
-        raise ValueError
+        return None
     if sys.byteorder == "little":
         part.byteswap()
     data = bytearray(part.tobytes())
     del data[0::4]
     return bytes(data[:length]), end
+
+
+def _packet(words: "array[int]", place: int, head: int) -> Optional[Tuple[Packet, int]]:
+    """The packet at a place, by its first word, and the place after it; None where it does not fit."""
+    if head >> 22 or not 1 <= head & 0xFFFF <= PACKET_MAX:
+        return None
+    found = _data(words, place + 1, head & 0xFFFF)
+    return None if found is None else (Packet(head >> 16, found[0]), found[1])
+
+
+def _psd(words: "array[int]", place: int, head: int) -> Optional[Tuple[Psd, int]]:
+    """The PSD at a place, likewise."""
+    if head >> 16 != 0x8000 or not head & 0xFFFF:
+        return None
+    found = _data(words, place + 1, head & 0xFFFF)
+    return None if found is None else (Psd(found[0]), found[1])
+
+
+def _note(words: "array[int]", place: int, head: int) -> Optional[Tuple[Note, int]]:
+    """The note at a place, likewise."""
+    number, piece = head >> 16 & 0x3FFF, head & 0xFFFF
+    if number not in _NOTES or (piece and number in _ABOUT_NO_PIECE):
+        return None
+    return Note(Cause(number), None if number in _ABOUT_NO_PIECE else piece), place + 1
+
+
+def _no_entry(words: "array[int]", place: int, head: int) -> None:
+    """A data word begins no entry."""
+
+
+#: The readers of entries, by the kind of the first word.
+_ENTRIES = (_packet, _no_entry, _psd, _note)
 
 
 class Log:
@@ -541,8 +644,12 @@ class Log:
     >>> list(Log([0x00050004, 0x43112233, 0x41440000, 0xC0020001]))
     [Packet(number=5, data=b'\\x11"3D'), Note(cause=<Cause.CRC: 2>, piece=1)]
 
-    Words that were kept, in a file of ``barzhilup log --format words`` or ``records``, are a log too; others raise :class:`MalformedLog`, at the first entry
-    that does not fit.
+    Words that were kept, in a file of ``barzhilup log --format words`` or ``records``, are a log too. The words are looked at when they are read: others raise
+    :class:`MalformedLog` at the first entry that does not fit, after those before it. These are the words that :func:`join` refuses with 23, that is data
+    words that are missing, left over, wrongly counted or not filled by threes up to the last, a bit that has no meaning, a length of 0 or a packet's over
+    4,096; and notes that no receiver logs, with another cause than 1 to 8, or with a piece where they are about none.
+
+    ``len`` counts the entries, an empty log is false, and ``+`` puts the entries of another log after these.
     """
 
     __slots__ = ("words",)
@@ -551,7 +658,7 @@ class Log:
     words: "array[int]"
 
     def __init__(self, words: Iterable[int] = ()) -> None:
-        self.words = array("I", words)
+        self.words = _words_of("words", words)
 
     def __iter__(self) -> Iterator[Entry]:
         place = 0
@@ -562,17 +669,10 @@ class Log:
     def _entry(self, place: int) -> Tuple[Entry, int]:
         """The entry at a place, and the place after it."""
         word = self.words[place]
-        kind = word >> 30
-        try:
-            if kind == 3:
-                cause = Cause(word >> 16 & 0x3FFF)
-                return Note(cause, None if cause in _ABOUT_NO_PIECE else word & 0xFFFF), place + 1
-            if kind == 1:
-                raise ValueError
-            data, end = _data(self.words, place + 1, word & 0xFFFF)
-        except ValueError:
-            raise MalformedLog(place) from None
-        return (Packet(word >> 16 & 0x3F, data) if kind == 0 else Psd(data)), end
+        found = _ENTRIES[word >> 30](self.words, place, word)
+        if found is None:
+            raise MalformedLog(place)
+        return found
 
     def packets(self) -> List[Packet]:
         """The packets alone."""
@@ -586,6 +686,15 @@ class Log:
         """The PSD entries' bytes alone."""
         return [entry.data for entry in self if isinstance(entry, Psd)]
 
+    def __len__(self) -> int:
+        return sum(1 for _ in self)
+
+    def __bool__(self) -> bool:
+        return bool(self.words)
+
+    def __add__(self, other: "Log") -> "Log":
+        return Log(self.words + other.words) if isinstance(other, Log) else NotImplemented
+
     def __eq__(self, other: object) -> bool:
         return isinstance(other, Log) and self.words == other.words
 
@@ -597,7 +706,7 @@ class Log:
 
 
 def _header(header: Buffer) -> Any:
-    lent, length = _copied(header)
+    lent, length = _copied("header", header)
     if length != HEADER_BYTES:
         raise ValueError("a header has {} bytes, and not {}".format(HEADER_BYTES, length))
     return lent
@@ -615,15 +724,17 @@ def parity(header: Buffer) -> bytes:
 
 def write_parity(pdu: Buffer) -> bytes:
     """The PDU with the parity of its header in bytes 0 to 7; a bytearray is changed itself too. Refused with 3."""
-    lent, length = _copied(pdu)
+    lent, length = _copied("pdu", pdu)
+    place = _place(pdu)
     _check(_c.barzhilup_write_parity(lent, length))
-    _give_back(pdu, lent, length)
-    return bytes(lent)[:length]
+    written = bytes(lent)[:length]
+    _give_back(place, written)
+    return written
 
 
 def add_parity_share(parity: Buffer, place: int, byte: int) -> bytes:
     """Eight bytes of parity with the share of the byte at a place, 8 to 95, added. Begin with ``bytes(8)``. Refused with 14."""
-    values = bytes(parity)
+    values = _plain("parity", parity)
     if len(values) != PARITY_BYTES:
         raise ValueError("a parity has {} bytes, and not {}".format(PARITY_BYTES, len(values)))
     answer = _c.barzhilup_add_parity_share(_Values.from_buffer_copy(values), _number("place", place, 2**32), _byte("byte", byte))
@@ -646,12 +757,14 @@ def correct_header(pdu: Buffer, marks: Iterable[int] = ()) -> Correction:
     ``marks`` has the places of bytes that the demodulator guessed, at most eight: with s of them, these may hold anything and (8 - s) // 2 others may be
     wrong. A bytearray is corrected itself too. Refused with 3, 19 or 4.
     """
-    lent, length = _copied(pdu)
+    lent, length = _copied("pdu", pdu)
+    place = _place(pdu)
     places, count = _listed("marks", marks, _u8, 255)
     answer = _c.barzhilup_correct_header_marked(lent, length, places, count)
     _check(answer.refusal)
-    _give_back(pdu, lent, length)
-    return Correction(bytes(lent)[:length], answer.corrected)
+    corrected = bytes(lent)[:length]
+    _give_back(place, corrected)
+    return Correction(corrected, answer.corrected)
 
 
 def crc8(data: Buffer, start: int = CRC_START) -> int:
@@ -660,7 +773,7 @@ def crc8(data: Buffer, start: int = CRC_START) -> int:
     >>> hex(crc8(b"\\x01")), hex(crc8(b"\\x01", CRC_START_OFF_AIR))
     ('0x31', '0x9d')
     """
-    lent, length = _copied(data)
+    lent, length = _copied("data", data)
     return int(_c.barzhilup_crc8_from(_byte("start", start), lent, length))
 
 
@@ -744,26 +857,30 @@ def read(pdu: Buffer) -> Reading:
 
     Refused with 3 to 5 or 7 to 12.
     """
-    lent, length = _copied(pdu)
+    lent, length = _copied("pdu", pdu)
+    place = _place(pdu)
     answer = _c.barzhilup_read(lent, length)
     _check(answer.refusal, answer.wrong_locator)
-    _give_back(pdu, lent, length)
-    return _reading(answer, bytes(lent)[:length], [None] * PIECES_MAX)
+    corrected = bytes(lent)[:length]
+    _give_back(place, corrected)
+    return _reading(answer, corrected, [None] * PIECES_MAX)
 
 
 def list_pieces(pdu: Buffer, crc_start: int = CRC_START) -> Reading:
     """As :func:`read`, with the verdict on each piece's CRC, whose register starts at this value. A wrong CRC is no refusal."""
-    lent, length = _copied(pdu)
+    lent, length = _copied("pdu", pdu)
+    place = _place(pdu)
     pieces = (_Piece * PIECES_MAX)()
     answer = _c.barzhilup_list_pieces(lent, length, _byte("crc_start", crc_start), pieces, PIECES_MAX)
     _check(answer.refusal, answer.wrong_locator)
-    _give_back(pdu, lent, length)
-    return _reading(answer, bytes(lent)[:length], [bool(piece.right) for piece in pieces])
+    corrected = bytes(lent)[:length]
+    _give_back(place, corrected)
+    return _reading(answer, corrected, [bool(piece.right) for piece in pieces])
 
 
 def choose(first: Buffer, second: Buffer) -> Optional[Buffer]:
     """Of two copies of a PDU, the one in whose header fewer bytes have to be corrected, the first if equal; None where neither can be corrected."""
-    (one, one_length), (two, two_length) = _copied(first), _copied(second)
+    (one, one_length), (two, two_length) = _copied("first", first), _copied("second", second)
     return (None, first, second)[_c.barzhilup_choose(one, one_length, two, two_length)]
 
 
@@ -805,12 +922,20 @@ class Settings(NamedTuple):
     services: Optional[Services] = None
 
     def _to_c(self) -> _Settings:
-        access, type_code = self.program_type or (0, 0)
-        applied, marker = self.services or (0, 0)
+        access, type_code = (0, 0) if self.program_type is None else self.program_type
+        applied, marker = (0, 0) if self.services is None else self.services
+        class_code, program = (0 if value is None else value for value in (self.class_code, self.program))
         return _Settings(_byte("blend", self.blend), _byte("gain", self.gain), _byte("common_delay", self.common_delay), _byte("latency", self.latency),
-                         self.class_code is not None, _byte("class_code", self.class_code or 0), self.program is not None,
-                         _byte("program", self.program or 0), bool(self.displacement), self.program_type is not None, _byte("access", access),
+                         self.class_code is not None, _byte("class_code", class_code), self.program is not None, _byte("program", program),
+                         bool(_number("displacement", self.displacement, 1)), self.program_type is not None, _byte("access", access),
                          _byte("type_code", type_code), self.services is not None, _byte("applied", applied), _number("marker", marker, 2**32 - 1))
+
+
+def _settings(settings: Settings) -> _Settings:
+    """These settings as C has them."""
+    if not isinstance(settings, Settings):
+        raise TypeError("settings: Settings are needed, and not {}".format(type(settings).__name__))
+    return settings._to_c()
 
 
 class Written(NamedTuple):
@@ -866,14 +991,14 @@ class Writer:
 
         Refused with 3, 10 or 14 to 17.
         """
-        plain = [bytes(packet) for packet in packets]
+        plain = [_plain("packet", packet) for packet in _several("packets", packets)]
         # A length that two bytes cannot hold is refused with 15 like any other over 4,096.
         lengths, count = _listed("length", (min(len(packet), 65535) for packet in plain), _u16, 65535)
-        data, data_length = _copied(b"".join(plain))
-        lent_psd, psd_length = _copied(psd)
+        data, data_length = _copied("packets", b"".join(plain))
+        lent_psd, psd_length = _copied("psd", psd)
         length = _number("length", length, 2**32)
         pdu = _lent(_u8, min(length, PDU_MAX + 1))
-        answer = _c.barzhilup_write(self._state, settings._to_c(), lent_psd, psd_length, lengths, count, data, data_length, pdu,
+        answer = _c.barzhilup_write(self._state, _settings(settings), lent_psd, psd_length, lengths, count, data, data_length, pdu,
                                     min(length, PDU_MAX + 1))
         _check(answer.refusal)
         self._state = answer.writer
@@ -885,14 +1010,14 @@ class Writer:
         >>> len(list(Writer(0).write_all([bytes(100)] * 10, length=256)))
         5
         """
+        _settings(settings)
+        return self._all(_several("packets", packets), _number("length", length, 2**32), _plain("psd", psd), settings)
+
+    def _all(self, packets: Iterator[Buffer], length: int, psd: bytes, settings: Settings) -> Iterator[bytes]:
+        """The PDUs of :meth:`write_all`. A packet is looked at before the PDU is written that it could stand in."""
         waiting: List[bytes] = []
-        source = iter(packets)
         while True:
-            while len(waiting) <= PIECES_MAX:
-                packet = next(source, None)
-                if packet is None:
-                    break
-                waiting.append(bytes(packet))
+            waiting.extend(_plain("packet", packet) for packet in islice(packets, PIECES_MAX + 1 - len(waiting)))
             if not waiting:
                 return
             pdu, ended = self.write(waiting, length, psd, settings)
@@ -1015,36 +1140,44 @@ class Receiver:
         """Takes over the state of an accepted answer, and hands out its log."""
         _check(answer.refusal, answer.wrong_locator)
         self._state = answer.receiver
-        return Log(self._log[:answer.words])
+        return Log(array("I", self._log[:answer.words]))
 
     def receive(self, pdu: Buffer, marks: Iterable[int] = ()) -> Log:
         """Receives a PDU: corrects its header, joins its pieces to packets, and hands out the log of this call.
 
-        ``marks`` has the places of header bytes that the demodulator guessed, each 0 to 95, at most eight and none twice. A bytearray is left with its header
-        corrected; other bytes stay as they are.
+        ``marks`` has the places of header bytes that the demodulator guessed, each 0 to 95, at most eight and none twice. A bytearray, or a memoryview that can
+        be written, is left with its header corrected; other bytes stay as they are.
 
         Refused with 3 to 12 or 27, and with 19 for marks.
         """
-        lent, length = _copied(pdu)
+        lent, length = _copied("pdu", pdu)
+        place = _place(pdu)
         places, count = _listed("marks", marks, _u8, 255)
         log = self._step(_c.barzhilup_receive_marked(self._state, self._carry, CARRY_BYTES, lent, length, places, count, self._log, LOG_WORDS))
-        _give_back(pdu, lent, length)
+        _give_back(place, bytes(lent)[:length])
         return log
 
     def receive_batch(self, pdus: Sequence[Buffer]) -> Batch:
-        """Receives several PDUs in one call, up to the first that is refused: that one and those after it are left."""
-        plain = [bytes(pdu) for pdu in pdus]
+        """Receives several PDUs in one call, up to the first that is refused: that one and those after it are left.
+
+        Bytearrays that are received are left with their headers corrected, as by :meth:`receive`.
+        """
+        given = list(_several("pdus", pdus))
+        plain, places = [_plain("pdu", pdu) for pdu in given], [_place(pdu) for pdu in given]
         taken, words = 0, array("I")
         room = LOG_WORDS * min(len(plain), _FRAME)
         log = _lent(_u32, room)
         # A long list goes in parts, so that its log does not take 33 KB for each PDU.
         for at in range(0, len(plain), _FRAME):
-            data, length = _copied(b"".join(plain[at:at + _FRAME]))
+            data, length = _copied("pdus", b"".join(plain[at:at + _FRAME]))
             lengths, count = _listed("length", map(len, plain[at:at + _FRAME]), _size, 2**32)
             answer = _c.barzhilup_receive_batch(self._state, self._carry, CARRY_BYTES, data, length, lengths, count, log, room)
             self._state = answer.receiver
             taken += int(answer.taken)
             words.extend(log[:answer.words])
+            corrected = BytesIO(bytes(data)[:length])
+            for place, pdu in zip(places[at:taken], plain[at:taken]):
+                _give_back(place, corrected.read(len(pdu)))
             if answer.refusal:
                 return Batch(taken, Log(words), Refusal(answer.refusal, answer.wrong_locator))
         return Batch(taken, Log(words), None)
@@ -1054,10 +1187,11 @@ class Receiver:
 
         Refused with 4 to 12, 20 or 27.
         """
-        (one, one_length), (two, two_length) = _copied(first), _copied(second)
+        (one, one_length), (two, two_length) = _copied("first", first), _copied("second", second)
+        places = _place(first), _place(second)
         log = self._step(_c.barzhilup_receive_pair(self._state, self._carry, CARRY_BYTES, one, one_length, two, two_length, self._log, LOG_WORDS))
-        _give_back(first, one, one_length)
-        _give_back(second, two, two_length)
+        _give_back(places[0], bytes(one)[:one_length])
+        _give_back(places[1], bytes(two)[:two_length])
         return log
 
     def mark_lost(self) -> Log:
@@ -1066,8 +1200,12 @@ class Receiver:
 
     def log(self, pdus: Iterable[Buffer]) -> Iterator[Logged]:
         """Receives a recording as ``barzhilup log`` does: an empty record is a lost PDU, and a refused PDU is marked lost."""
+        return self._logged(_several("pdus", pdus))
+
+    def _logged(self, pdus: Iterator[Buffer]) -> Iterator[Logged]:
+        """What :meth:`log` hands out."""
         for place, pdu in enumerate(pdus):
-            if len(pdu) == 0:
+            if not _plain("pdu", pdu):
                 yield Logged(place, "lost", None, self.mark_lost())
                 continue
             try:
@@ -1085,8 +1223,12 @@ class Receiver:
 
     @classmethod
     def load(cls, words: Iterable[int]) -> "Receiver":
-        """The receiver that was saved as these words. PDUs that passed meanwhile are marked lost, one by one. Refused with 25."""
-        lent, count = _listed("words", words, _u32, 2**32 - 1)
+        """The receiver that was saved as these words. PDUs that passed meanwhile are marked lost, one by one. Refused with 25.
+
+        Words without kind 6 load a receiver whose counts begin at 0: so one goes on after 27. Older words without kind 4 load one that is entitled to nothing;
+        the word 0x400000FF in its place entitles it to all programs.
+        """
+        lent, count = _lent_words("words", words)
         carry = _lent(_u8, CARRY_BYTES)
         answer = _c.barzhilup_load_receiver(lent, count, carry, CARRY_BYTES)
         _check(answer.refusal)
@@ -1095,8 +1237,12 @@ class Receiver:
         return receiver
 
     def copy(self) -> "Receiver":
-        """Another receiver that goes on from here."""
-        return Receiver.load(self.save())
+        """Another receiver that goes on from here; ``copy.copy`` and ``copy.deepcopy`` make one too, and so does ``pickle``."""
+        return copy.copy(self)
+
+    def __reduce__(self) -> Tuple[Any, ...]:
+        rest = {name: value for name, value in self.__dict__.items() if name not in ("_state", "_carry", "_log")}
+        return (type(self).load, (self.save(),), rest or None)
 
 
 # ---- Core and enhanced side by side -------------------------------------------------------------------------------------------------------------
@@ -1111,7 +1257,12 @@ class JoinedPacket(NamedTuple):
 
 
 class Joined:
-    """Two logs joined: its packets, in the core's order, when it is iterated."""
+    """Two logs joined: its packets, in the core's order, when it is iterated.
+
+    Words that were kept, in a file of ``barzhilup join --format words``, are such too. The words are looked at when they are read: others raise
+    :class:`MalformedLog` at the first packet that does not fit. Each packet has to be as one of a log, and an enhanced one to follow a core packet of its
+    number. That numbers rise is not looked at.
+    """
 
     __slots__ = ("words",)
 
@@ -1119,32 +1270,38 @@ class Joined:
     words: "array[int]"
 
     def __init__(self, words: Iterable[int]) -> None:
-        self.words = array("I", words)
+        self.words = _words_of("words", words)
 
     def __iter__(self) -> Iterator[JoinedPacket]:
-        place, packet = 0, None
+        place = 0
+        core: Optional[Packet] = None
         while place < len(self.words):
             word = self.words[place]
-            data, place = _data(self.words, place + 1, word & 0xFFFF)
-            if word & JOINED_ENHANCED and packet is not None:
-                packet = packet._replace(enhanced=data)
+            found = _packet(self.words, place, word & ~JOINED_ENHANCED)
+            enhanced = bool(word & JOINED_ENHANCED)
+            if found is None or (enhanced and (core is None or core.number != found[0].number)):
+                raise MalformedLog(place, "two logs joined")
+            packet, place = found
+            if enhanced and core is not None:
+                yield JoinedPacket(core.number, core.data, packet.data)
+                core = None
                 continue
-            if packet is not None:
-                yield packet
-            packet = JoinedPacket(word >> 16 & 0x3F, data, None)
-        if packet is not None:
-            yield packet
+            if core is not None:
+                yield JoinedPacket(core.number, core.data, None)
+            core = packet
+        if core is not None:
+            yield JoinedPacket(core.number, core.data, None)
 
 
 def join(core: Union[Log, Iterable[int]], enhanced: Union[Log, Iterable[int]]) -> Joined:
     """Joins two logs of one frame, core and enhanced, by packet number. Refused with 23 or 24."""
-    lent_core, core_count = _listed("core", getattr(core, "words", core), _u32, 2**32 - 1)
-    lent_enhanced, enhanced_count = _listed("enhanced", getattr(enhanced, "words", enhanced), _u32, 2**32 - 1)
+    lent_core, core_count = _lent_words("core", getattr(core, "words", core))
+    lent_enhanced, enhanced_count = _lent_words("enhanced", getattr(enhanced, "words", enhanced))
     room = core_count + enhanced_count
     result = _lent(_u32, room)
     answer = _c.barzhilup_join(lent_core, core_count, lent_enhanced, enhanced_count, result, room)
     _check(answer.refusal)
-    return Joined(result[:answer.words])
+    return Joined(array("I", result[:answer.words]))
 
 
 # ---- Latencies ----------------------------------------------------------------------------------------------------------------------------------
@@ -1200,8 +1357,28 @@ def _opened(source: Source, mode: str) -> Iterator[IO[Any]]:
     if hasattr(source, "read") or hasattr(source, "write"):
         yield source  # type: ignore[misc]
         return
-    with open(source, mode, newline=None if "b" in mode else "") as file:  # type: ignore[arg-type]
+    with open(source, mode) as file:  # type: ignore[arg-type]
         yield file
+
+
+def _read(file: IO[Any], count: int) -> bytes:
+    """So many bytes of a file, or all that are left. A read of a pipe may hand out fewer than are asked for, and more by the next."""
+    data = b""
+    while len(data) < count:
+        part = file.read(count - len(data))
+        if part is None:
+            raise BlockingIOError("a file that does not wait for its bytes cannot be read")
+        if not part:
+            break
+        data += _plain("what the file reads", part)
+    return data
+
+
+def _write(file: IO[Any], data: bytes) -> None:
+    """Writes these bytes. A write to a pipe may take fewer than all."""
+    while data:
+        taken = file.write(data)
+        data = b"" if taken is None else data[taken:]
 
 
 def read_records(source: Source) -> Iterator[bytes]:
@@ -1212,31 +1389,44 @@ def read_records(source: Source) -> Iterator[bytes]:
     with _opened(source, "rb") as file:
         place = 0
         while True:
-            head = file.read(2)
+            head = _read(file, 2)
             if not head:
                 return
             length = int.from_bytes(head, "little")
-            record = file.read(length) if len(head) == 2 else b""
+            record = _read(file, length) if len(head) == 2 else b""
             if len(head) < 2 or len(record) < length:
                 raise MalformedFile("the file ends inside record {}".format(place))
             yield record
             place += 1
 
 
+def _record(record: Buffer) -> bytes:
+    """A record as it stands in a file."""
+    plain = _plain("record", record)
+    return _number("the length of a record", len(plain), 65535).to_bytes(2, "little") + plain
+
+
 def write_records(target: Source, records: Iterable[Buffer]) -> int:
-    """Writes a file of packets or PDUs; answers how many records. A file of this name that is there is not overwritten: :class:`FileExistsError`."""
+    """Writes a file of packets or PDUs; answers how many records. A file of this name that is there is not overwritten: :class:`FileExistsError`.
+
+    A record has at most 65,535 bytes, others are a :class:`ValueError`. The records of a list or a tuple are looked at before the file is made; of records
+    that are made as they are written, those before one that cannot be written stay in the file.
+    """
+    coming = _several("records", records)
+    if isinstance(records, (list, tuple)):
+        for record in records:
+            _record(record)
     count = 0
     with _opened(target, "xb") as file:
-        for record in records:
-            plain = bytes(record)
-            file.write(_number("the length of a record", len(plain), 65535).to_bytes(2, "little") + plain)
+        for record in coming:
+            _write(file, _record(record))
             count += 1
     return count
 
 
 def read_words(source: Source) -> "array[int]":
     """The words of a file of ``barzhilup log --format words``, or of a record of ``--format records``: each in four bytes, low byte first."""
-    if isinstance(source, (bytes, bytearray)):
+    if isinstance(source, (bytes, bytearray, memoryview)):
         data = bytes(source)
     else:
         with _opened(source, "rb") as file:
@@ -1276,44 +1466,128 @@ class Csv(NamedTuple):
     whole: bool
 
 
-_CSV_COLUMNS = ["pdu", "kind", "number", "length", "cause", "delivered", "missing"]
-_CSV_KINDS = ("received", "lost", "refused", "packet", "psd", "note")
+_CSV_COLUMNS = "pdu,kind,number,length,cause,delivered,missing"
+#: The first line of logs without the loss column, as older ones are.
+_CSV_UNCOUNTED = "pdu,kind,number,length,cause"
+_CSV_PDUS = ("received", "lost", "refused")
+_CSV_KINDS = _CSV_PDUS + ("packet", "psd", "note")
+#: The longest line, in bytes, without its end.
+_CSV_LINE_MAX = 200
 
 
-def _csv_line(row: List[str], line: int) -> Line:
-    """A line from its columns."""
-    pdu, kind, number, length, cause, delivered, missing = row
+def _csv_number(text: str) -> int:
+    """A decimal number of 32 bits: digits and nothing else."""
+    if not (text.isascii() and text.isdigit()) or int(text) > 2**32 - 1:
+        raise MalformedFile("{!r} is no number of 32 bits".format(text))
+    return int(text)
+
+
+def _csv_line(text: str, counted: bool) -> Line:
+    """A line of a PDU, or of an entry of its log, from its columns. Where there is no loss column, the cause is the rest of the line."""
+    row = text.split(",") if counted else text.split(",", 4)
+    if len(row) != (7 if counted else 5):
+        raise MalformedFile("{} columns".format(len(row)))
+    kind, cause = row[1], row[4]
     if kind not in _CSV_KINDS:
-        raise MalformedFile("line {}: no kind {!r}".format(line, kind))
-    try:
-        numbers = [int(text) if text else None for text in (number, length, delivered, missing)]
-        return Line(int(pdu), kind, numbers[0], numbers[1], cause or None, numbers[2], numbers[3])
-    except ValueError:
-        raise MalformedFile("line {}: a number is wrong".format(line)) from None
+        raise MalformedFile("no kind {!r}".format(kind))
+    number = _csv_number(row[2]) if row[2] or kind in ("received", "packet") else None
+    length = _csv_number(row[3]) if row[3] else None
+    if kind == "packet" and number is not None and number > 63:
+        raise MalformedFile("a packet's number is over 63")
+    if kind in _CSV_PDUS:
+        delivered, missing = [_csv_number(count) for count in row[5:]] or [None, None]
+    elif any(row[5:]):
+        raise MalformedFile("counts that are not on the line of a PDU")
+    else:
+        delivered, missing = None, None
+    return Line(_csv_number(row[0]), kind, number, length, cause or None, delivered, missing)
+
+
+class _Drive:
+    """The CSV of a log, line by line."""
+
+    def __init__(self, first: str) -> None:
+        if first not in (_CSV_COLUMNS, _CSV_UNCOUNTED):
+            raise MalformedFile("the first line is not {}".format(_CSV_COLUMNS))
+        self.counted = first == _CSV_COLUMNS
+        self.lines: List[Line] = []
+        self.whole = False
+        self.pdus, self.delivered, self.missing = 0, 0, 0
+
+    def take(self, text: str, ended: bool) -> None:
+        """Takes a line. One that lacks its end, with which the file is cut, is left out if it may say less than it did."""
+        try:
+            pdus = self._last(text)
+            line = _csv_line(text, self.counted) if pdus is None else None
+        except MalformedFile:
+            if ended or self.whole:
+                raise
+            return
+        if not ended and not self.whole and self.counted and line is not None and line.kind in _CSV_PDUS:
+            return
+        if self.whole:
+            raise MalformedFile("there is more after the last line")
+        if line is not None:
+            self._take(line)
+        elif pdus != self.pdus:
+            raise MalformedFile("the last line has another count of PDUs")
+        else:
+            self.whole = True
+
+    def _last(self, text: str) -> Optional[int]:
+        """How many PDUs the last line tells; None of other lines."""
+        if not text.startswith(",end,"):
+            return None
+        number, _, rest = text[5:].partition(",")
+        if rest != (",whole,," if self.counted else ",whole"):
+            raise MalformedFile("not as the last line is")
+        return _csv_number(number)
+
+    def _take(self, line: Line) -> None:
+        """Takes the line of the next PDU, or one of an entry of the last PDU's log."""
+        if line.kind not in _CSV_PDUS:
+            if line.pdu != self.pdus - 1:
+                raise MalformedFile("not of the PDU before it")
+        elif line.pdu != self.pdus:
+            raise MalformedFile("PDU {} is not the next".format(line.pdu))
+        else:
+            self.pdus += 1
+        if line.delivered is not None and line.missing is not None:
+            if line.delivered < self.delivered or line.missing < self.missing:
+                raise MalformedFile("a count falls")
+            self.delivered, self.missing = line.delivered, line.missing
+        self.lines.append(line)
 
 
 def read_csv(source: Source) -> Csv:
     """Reads the CSV that ``barzhilup log --format csv`` writes.
 
-    A log that was cut, by a kill or a full disk, is read as far as it goes, and is not whole; the line that it ends in, if that is cut, is left out. Any
-    other line that is none of a log raises :class:`MalformedFile`.
+    A log that was cut, by a kill or a full disk, is read as far as it goes, and is not whole; the line that it ends in, if that is cut, is left out. Anything
+    else that ``barzhilup coverage`` does not take raises :class:`MalformedFile`: another first line; a line of over 200 bytes, of a kind that there is none
+    of, or with columns missing or left over; a number that is not decimal or does not fit 32 bits, or is missing on a line of a received PDU or a packet; a
+    packet's number over 63; PDUs that do not count from 0, or entries of another than the last; counts that are missing on the line of a PDU, stand on
+    others, or fall; a last line with another count of PDUs, and anything after it. Lengths and causes are not held to anything else.
+
+    Older logs, without the columns ``delivered`` and ``missing``, have None there.
     """
-    with _opened(source, "r") as file:
-        text = file.read()
-    ended = text.endswith("\n") or not text
-    rows = list(csv.reader(text.splitlines()))
-    if not ended:
-        rows.pop()
-    if not rows or rows[0] != _CSV_COLUMNS:
-        raise MalformedFile("the first line is not {}".format(",".join(_CSV_COLUMNS)))
-    lines: List[Line] = []
-    for line, row in enumerate(rows[1:], start=2):
-        if len(row) != len(_CSV_COLUMNS):
-            raise MalformedFile("line {}: {} columns".format(line, len(row)))
-        if row[1] == "end":
-            pdus = sum(entry.kind in ("received", "lost", "refused") for entry in lines)
-            if line != len(rows) or row != ["", "end", str(pdus), "", "whole", "", ""]:
-                raise MalformedFile("line {}: the last line has another count, or is not the last".format(line))
-            return Csv(lines, True)
-        lines.append(_csv_line(row, line))
-    return Csv(lines, False)
+    with _opened(source, "rb") as file:
+        data = file.read()
+    rows = (data.encode("utf-8", "surrogateescape") if isinstance(data, str) else bytes(data)).split(b"\n")
+    drive = None
+    for number, row in enumerate(rows, start=1):
+        ended = number < len(rows)
+        if not ended and not row:
+            break
+        try:
+            if len(row) > _CSV_LINE_MAX:
+                raise MalformedFile("over {} bytes".format(_CSV_LINE_MAX))
+            text = (row[:-1] if row.endswith(b"\r") else row).decode("utf-8", "surrogateescape")
+            if drive is None:
+                drive = _Drive(text)
+            else:
+                drive.take(text, ended)
+        except MalformedFile as fault:
+            raise MalformedFile("line {}: {}".format(number, fault)) from None
+    if drive is None:
+        raise MalformedFile("the file is empty")
+    return Csv(drive.lines, drive.whole)

@@ -3,11 +3,14 @@
 Needs the built program: in target/bin under the project's root, or in the directory that BARZHILUP_BIN names; and the shared library, as the module does.
 """
 
+import array
+import copy
 import doctest
 import io
 import os
 import pickle
 import random
+import re
 import subprocess
 import sys
 import tempfile
@@ -90,6 +93,25 @@ class RoundTrips(Case):
         view = memoryview(bytearray(damaged))
         b.Receiver(0).receive(view)
         self.assertEqual(bytes(view), pdu)
+
+    def test_every_call_corrects(self):
+        pdus = list(b.Writer(0).write_all(self.packets(150), 96))
+        self.assertGreater(len(pdus), 128)
+        damaged = [bytearray(pdu) for pdu in pdus]
+        for pdu in damaged:
+            pdu[50] ^= 1
+        damaged[129] = bytearray(range(96))
+        left = [bytes(pdu) for pdu in damaged[129:]]
+        batch = b.Receiver(0).receive_batch(damaged)
+        self.assertEqual((batch.taken, batch.refusal.number), (129, 4))
+        self.assertEqual([bytes(pdu) for pdu in damaged], pdus[:129] + left)
+        for call in (b.Receiver(0).receive, b.read, b.list_pieces, b.correct_header, b.write_parity, lambda pdu: b.Receiver(0).receive_batch([pdu]),
+                     lambda pdu: b.Receiver(0).receive_pair(pdu, b""), lambda pdu: b.Receiver(0).receive_pair(pdus[0], pdu)):
+            pdu = bytearray(pdus[0])
+            pdu[0] ^= 1
+            call(pdu)
+            self.assertEqual(bytes(pdu), pdus[0])
+            call(memoryview(pdu).toreadonly())
 
     def test_settings(self):
         settings = b.Settings(0, 24, 63, 7, 1, 3, True, b.ProgramType(1, 255), b.Services(1, 2097151))
@@ -196,7 +218,26 @@ class Refusals(Case):
         self.refused(4, receiver.receive, noise)
         self.refused(17, writer.write, [bytes(100)], 96, bytes(80))
         self.assertEqual(noise, bytearray(range(96)))
+        try:
+            receiver.receive(noise)
+        except b.Refusal:
+            noise.pop()
         self.assertEqual((receiver.save(), writer.sequence, writer.number, writer.sent), before)
+
+    def test_places_that_cannot_be_written(self):
+        pdu = b.Writer(0).write([b"audio"], 96).pdu
+        damaged = bytes([pdu[0] ^ 1]) + pdu[1:]
+        strided = memoryview(bytearray(192))[::2]
+        strided[:] = damaged
+        receiver = b.Receiver(0)
+        self.assertEqual(receiver.receive(strided).packets(), [b.Packet(0, b"audio")])
+        self.assertEqual(bytes(strided), pdu)
+        columns = memoryview(bytearray(192)).cast("B", (2, 96))[::-1]
+        before = receiver.save()
+        for call in (receiver.receive, b.read, b.list_pieces, b.correct_header, b.write_parity, lambda view: receiver.receive_pair(view, pdu),
+                     lambda view: receiver.receive_pair(pdu, view), lambda view: receiver.receive_batch([pdu, view])):
+            self.assertRaises(TypeError, call, columns)
+            self.assertEqual(receiver.save(), before)
 
     def test_words(self):
         self.assertEqual(b.refusal_text(0), "accepted")
@@ -209,14 +250,112 @@ class Refusals(Case):
             again = pickle.loads(pickle.dumps(refusal))
             self.assertEqual((again.number, again.locator), (refusal.number, refusal.locator))
         self.assertEqual(str(b.Refusal(11, 3)), "refused with 11: locator out of place (k 3)")
+        self.assertEqual((len(b.RefusalNumber), b.RefusalNumber.LIST_LENGTH, b.RefusalNumber.PLACE), (27, 13, 14))
         self.assertEqual([cause.text for cause in b.Cause], [b.note_text(number) for number in range(1, 9)])
 
     def test_numbers_that_do_not_fit(self):
         for call in (lambda: b.Writer(256), lambda: b.Receiver(-1), lambda: b.Receiver(0, crc_start=256), lambda: b.Receiver(0, entitled=[256]),
                      lambda: b.Writer(0).write([b"a"], 96, b"", b.Settings(gain=256)), lambda: b.Writer(0).write([b"a"], -1),
                      lambda: b.Receiver(0).receive(bytes(96), [256]), lambda: b.parity(bytes(95)), lambda: b.crc8(b"", 256),
-                     lambda: b.add_parity_share(bytes(7), 8, 1), lambda: b.try_latency(1, 0, [1], 256), lambda: b.join([2**32], [])):
+                     lambda: b.add_parity_share(bytes(7), 8, 1), lambda: b.try_latency(1, 0, [1], 256), lambda: b.join([2**32], []),
+                     lambda: b.Log([-1]), lambda: b.Log([2**32]), lambda: b.Joined([2**32]), lambda: b.Receiver.load([2**32])):
             self.assertRaises(ValueError, call)
+
+
+class Types(Case):
+    """What is of another type than is meant is a TypeError, before anything is done."""
+
+    def test_packets(self):
+        writer, file = b.Writer(0), io.BytesIO()
+        for packets in (b"audio", bytearray(b"audio"), memoryview(b"audio"), array.array("B", b"audio"), b"", "audio", [5], [None], ["audio"], [[1, 2]], 5,
+                        [1.5], [array.array("I", [1])]):
+            self.assertRaises(TypeError, writer.write, packets, 1024)
+            self.assertRaises(TypeError, lambda: list(writer.write_all(packets, 1024)))
+            self.assertRaises(TypeError, b.write_records, file, packets)
+            self.assertRaises(TypeError, b.Receiver(0).receive_batch, packets)
+            self.assertRaises(TypeError, lambda: list(b.Receiver(0).log(packets)))
+        self.assertRaises(TypeError, writer.write_all, b"audio", 1024)
+        self.assertRaises(TypeError, writer.write_all, [b"audio"], 1024, "PSD")
+        self.assertRaises(TypeError, b.Receiver(0).log, b"audio")
+        self.assertRaises(TypeError, lambda: list(writer.write_all([b"one", None, b"two"], 1024)))
+        self.assertRaises(TypeError, writer.write, [b"audio"], 1024, 4)
+        self.assertRaises(TypeError, writer.write, [b"audio"], 1024, "PSD")
+        self.assertEqual((writer.sequence, writer.number, file.getvalue()), (0, 0, b""))
+        for packet in (bytearray(b"audio"), memoryview(b"audio"), array.array("B", b"audio")):
+            self.assertEqual(writer.write((one for one in [packet]), 96).ended, 1)
+
+    def test_bytes(self):
+        pdu = b.Writer(0).write([b"audio"], 96).pdu
+        for wrong in (96, "x" * 96, [0] * 96, None, 1.5, array.array("I", bytes(96))):
+            receiver = b.Receiver(0)
+            for call in (b.crc8, b.syndromes, b.parity, b.write_parity, b.correct_header, b.read, b.list_pieces, receiver.receive):
+                self.assertRaises(TypeError, call, wrong)
+            for call in (b.choose, receiver.receive_pair):
+                self.assertRaises(TypeError, call, wrong, pdu)
+                self.assertRaises(TypeError, call, pdu, wrong)
+            self.assertRaises(TypeError, b.add_parity_share, wrong, 8, 1)
+            self.assertEqual(receiver.save(), b.Receiver(0).save())
+        self.assertRaises(TypeError, b.add_parity_share, 8, 8, 1)
+
+    def test_numbers(self):
+        pdu = b.Writer(0).write([b"audio"], 96).pdu
+        for wrong in (0.9, 1.0, "1", b"1", None, [1]):
+            for call in (lambda: b.Receiver(wrong), lambda: b.Receiver(1, wrong), lambda: b.Receiver(0, 0, wrong), lambda: b.Receiver(0, entitled=[wrong]),
+                         lambda: b.Writer(wrong), lambda: b.Writer(1, wrong), lambda: b.Writer(0, 0, wrong), lambda: b.Writer(0).write([b"a"], wrong),
+                         lambda: b.Writer(0).write_all([b"a"], wrong), lambda: b.crc8(b"", wrong), lambda: b.add_parity_share(bytes(8), wrong, 1),
+                         lambda: b.add_parity_share(bytes(8), 8, wrong), lambda: b.Receiver(0).receive(pdu, [wrong]), lambda: b.correct_header(pdu, [wrong]), lambda: b.list_pieces(pdu, wrong),
+                         lambda: b.smallest_latency(1, 0, [wrong]), lambda: b.try_latency(1, 0, [3], wrong), lambda: b.waiting_packets(wrong, 0, [3], 0),
+                         lambda: b.join([wrong], []), lambda: b.join([], [wrong]), lambda: b.Receiver.load([wrong]), lambda: b.Log([wrong]),
+                         lambda: b.Joined([wrong]), lambda: b.refusal_text(wrong), lambda: b.note_text(wrong)):
+                self.assertRaises(TypeError, call)
+        for words in (b"\0\0\0\0", bytearray(4), memoryview(bytes(4)), "0000", 5):
+            for call in (b.Log, b.Joined, b.Receiver.load, lambda words: b.join(words, []), lambda words: b.join([], words)):
+                self.assertRaises(TypeError, call, words)
+        self.assertRaises(TypeError, b.Receiver(0).receive, pdu, "89")
+        self.assertEqual(b.Receiver(0).receive(pdu, b"\x08\x09").packets(), [b.Packet(0, b"audio")])
+
+    def test_settings(self):
+        for settings in (b.Settings(gain=1.5), b.Settings(class_code=0.0), b.Settings(program="0"), b.Settings(program=""), b.Settings(displacement="no"),
+                         b.Settings(program_type=(0, "1")), b.Settings(services=(0, 1.5)), b.Settings(program_type=7), None, (0, 0)):
+            writer = b.Writer(0)
+            self.assertRaises(TypeError, writer.write, [b"audio"], 96, b"", settings)
+            self.assertRaises(TypeError, writer.write_all, [b"audio"], 96, b"", settings)
+            self.assertEqual(writer.number, 0)
+        self.assertRaises(ValueError, b.Writer(0).write, [b"audio"], 96, b"", b.Settings(program_type=()))
+
+
+class Copies(Case):
+    def test_independent(self):
+        pdus = list(b.Writer(0).write_all([bytes([k]) * 300 for k in range(20)], 200))
+        others = list(b.Writer(0).write_all([bytes([99]) * 300 for k in range(20)], 200))
+        for copied in (copy.copy, copy.deepcopy, b.Receiver.copy, lambda receiver: pickle.loads(pickle.dumps(receiver))):
+            receiver, alone = b.Receiver(0), b.Receiver(0)
+            for one in (receiver, alone):
+                one.receive_batch(pdus[:5])
+            other = copied(receiver)
+            self.assertEqual(other.save(), receiver.save())
+            self.assertTrue(receiver.held)
+            for mine, theirs in zip(pdus[5:], others[5:]):
+                other.receive(theirs)
+                self.assertEqual(receiver.receive(mine), alone.receive(mine))
+
+    def test_of_a_subclass(self):
+        class Named(b.Receiver):
+            """A receiver with a name."""
+
+        receiver = Named(1, entitled=[3])
+        receiver.name = "roof"
+        for other in (copy.copy(receiver), receiver.copy(), copy.deepcopy(receiver)):
+            self.assertEqual((type(other), other.name, other.entitled, other.save()), (Named, "roof", [3], receiver.save()))
+
+    def test_writer(self):
+        writer = b.Writer(0)
+        writer.write([bytes(300)], 200)
+        for other in (copy.copy(writer), copy.deepcopy(writer), pickle.loads(pickle.dumps(writer))):
+            before = writer.sequence, writer.number, writer.sent
+            self.assertEqual((other.sequence, other.number, other.sent), before)
+            other.write([bytes(300)], 200)
+            self.assertEqual((writer.sequence, writer.number, writer.sent), before)
 
 
 class Logs(Case):
@@ -226,6 +365,58 @@ class Logs(Case):
             with self.assertRaises(b.MalformedLog) as caught:
                 list(b.Log(words))
             self.assertEqual(caught.exception.place, place)
+
+    def test_what_join_refuses(self):
+        packet, psd, notes = [0x00050004, 0x43112233, 0x41440000], [0x80000005, 0x43505344, 0x42404100], [0xC0020007, 0xC0060000]
+        refused = others = 0
+        for words in ([0x00050000], [0x20050001, 0x41110000], [0x80000000], [0x90000001, 0x41110000], [0x00050001, 0x41110001], [0x00050002, 0x42111101],
+                      [0x00050001, 0x45110000], [0x00401001, *[0x43000000] * 1365, 0x42000000], [0x00001001, *[0x43000000] * 1365, 0x42000000]):
+            self.refused(23, b.join, words, [])
+            self.assertRaises(b.MalformedLog, list, b.Log(words))
+        for _ in range(3000):
+            words = sum((self.dice.choice([packet, psd, notes, [0x00060001, 0x41010000]]) for _ in range(3)), [])
+            place = self.dice.randrange(len(words))
+            words[place] ^= self.dice.choice([1 << self.dice.randrange(32), self.dice.randrange(2**32)])
+            try:
+                b.join(words, [])
+                number = 0
+            except b.Refusal as refusal:
+                number = refusal.number
+            try:
+                self.assertEqual(len(b.Log(words)), len(list(b.Log(words))))
+                self.assertNotEqual(number, 23, words)
+            except b.MalformedLog as fault:
+                refused += 1
+                if number != 23:
+                    note = words[fault.place]
+                    cause, piece = note >> 16 & 0x3FFF, note & 0xFFFF
+                    self.assertEqual(note >> 30, 3, words)
+                    self.assertTrue(not 1 <= cause <= 8 or (cause in (1, 4, 6, 8) and piece), words)
+                    others += 1
+        self.assertTrue(1000 < refused < 2900 and 10 < others)
+
+    def test_lengths_and_sums(self):
+        words = [0x80000003, 0x43505344, 0x00050004, 0x43112233, 0x41440000, 0xC0020007]
+        log = b.Log(words)
+        self.assertEqual((len(log), bool(log), len(b.Log()), bool(b.Log())), (3, True, 0, False))
+        self.assertEqual(log + b.Log([0xC0060000]), b.Log(words + [0xC0060000]))
+        self.assertEqual(sum([log, log], b.Log()), b.Log(words + words))
+        self.assertEqual(log, b.Log(words))
+        self.assertRaises(TypeError, lambda: log + words)
+        self.assertRaises(b.MalformedLog, len, b.Log([0x41110000]))
+
+    def test_joined_words(self):
+        core, enhanced = [0x00060001, 0x41220000], [0x20060001, 0x41330000]
+        self.assertEqual(list(b.Joined(core + enhanced + core)), [b.JoinedPacket(6, b"\x22", b"\x33"), b.JoinedPacket(6, b"\x22", None)])
+        for words, place in (([0xC0060000], 0), (core + [0x80000001, 0x41000000], 2), (core[:1], 0), (core + enhanced[:1], 2), (enhanced, 0),
+                             (core + enhanced + enhanced, 4), (core + [0x20070001, 0x41330000], 2), ([0x00060000], 0), ([0x41220000], 0),
+                             ([0x00460001, 0x41220000], 0)):
+            with self.assertRaises(b.MalformedLog) as caught:
+                list(b.Joined(words))
+            self.assertEqual(caught.exception.place, place)
+            self.assertEqual(str(caught.exception), "not two logs joined: the entry at word {} does not fit".format(place))
+            again = pickle.loads(pickle.dumps(caught.exception))
+            self.assertEqual((str(again), again.place), (str(caught.exception), place))
 
     def test_entries(self):
         words = [0x80000003, 0x43505344, 0x00050004, 0x43112233, 0x41440000, 0xC0020007, 0xC0060000]
@@ -450,8 +641,88 @@ class Files(Case):
         self.assertEqual(b.read_csv(io.StringIO(head + rows)), b.Csv(table.lines, False))
         self.assertEqual(b.read_csv(io.StringIO(head + rows + "3,rece")), b.Csv(table.lines, False))
         for wrong in ("", "pdu,kind\n", head + "0,other,,,,,\n", head + "0,lost\n", head + "x,lost,,,,1,0\n", head + rows + ",end,2,,whole,,\n",
-                      head + ",end,0,,whole,,\n0,lost,,,,0,0\n"):
-            self.assertRaises(b.MalformedFile, b.read_csv, io.StringIO(wrong))
+                      head + ",end,0,,whole,,\n0,lost,,,,0,0\n", head + "0,lost,,,,2,0\n1,lost,,,,1,0\n", head + "5,lost,,,,0,0\n3,lost,,,,0,0\n",
+                      head + "0,received,0,96,,1,0\n0,packet,99,99999,,,\n", head + "0,received,-5,96,,1,0\n", head + "0,received,1_000,96,,1,0\n",
+                      head + "0,received,0,{},,1,0\n".format("9" * 200000), head + "0,lost,,,,1,0\0\n", head + '0,lost,,,"' + "x" * 200000 + "\n",
+                      head + "0,received,\u0663,96,,1,0\n", head + "0,lost,,,,,\n", head + "0,lost,,,,0,0\n0,note,0,,lost,1,0\n", head + "\n"):
+            with self.assertRaises(b.MalformedFile) as caught:
+                b.read_csv(io.StringIO(wrong))
+            self.assertTrue(str(caught.exception))
+        older = "pdu,kind,number,length,cause\n0,refused,11,96,one, two\n0,note,0,,lost\n,end,1,,whole\n"
+        lines = [b.Line(0, "refused", 11, 96, "one, two", None, None), b.Line(0, "note", 0, None, "lost", None, None)]
+        self.assertEqual(b.read_csv(io.StringIO(older)), b.Csv(lines, True))
+        self.assertEqual(b.read_csv(io.BytesIO(older.replace("\n", "\r\n").encode())), b.Csv(lines, True))
+
+    def test_csv_as_coverage_takes_it(self):
+        head = "pdu,kind,number,length,cause,delivered,missing\n"
+        rows = "0,received,1,96,,1,0\n0,packet,5,4,,,\n0,psd,,3,,,\n1,refused,11,96,locator out of place (k 1),1,0\n1,note,0,,lost,,\n2,lost,,,,1,7\n"
+        older = "pdu,kind,number,length,cause\n0,received,1,96,\n0,packet,5,4,\n1,lost,,,\n,end,2,,whole\n"
+        texts = [head + rows + ",end,3,,whole,,\n", head + rows, older]
+        name, taken, wholes = self.file("log.csv"), 0, 0
+        for _ in range(800):
+            text = bytearray(self.dice.choice(texts).encode())
+            for _ in range(self.dice.randint(0, 2)):
+                at = self.dice.randrange(len(text))
+                at = self.dice.choice([at, max(text.rfind(b"\n", 0, at), 0)])
+                other = self.dice.choice([b"", b"0", b"2", b"64", b",", b"\n", b"\r", b"\0", b"-", b"_", b" ", b'"', b"\xff", b"x" * 150])
+                text[at:at + self.dice.randint(0, 2)] = other
+            if not self.dice.randint(0, 3):
+                del text[self.dice.randrange(len(text)):]
+            with open(name, "wb") as file:
+                file.write(text)
+            done = subprocess.run([PROGRAM, "coverage", "--in", name], stdout=subprocess.DEVNULL, stderr=subprocess.PIPE, check=False)
+            try:
+                table = b.read_csv(name)
+            except b.MalformedFile as fault:
+                self.assertEqual(done.returncode, 1, (text, fault, done.stderr))
+                place = str(fault).split(":")[0]
+                self.assertTrue(place == "the file is empty" or place.encode() + b":" in done.stderr, (text, fault, done.stderr))
+                continue
+            self.assertEqual(done.returncode, 0, (text, done.stderr))
+            self.assertEqual(table.whole, b"has no last line" not in done.stderr, text)
+            self.assertIn("PDUs {}:".format(sum(line.kind in ("received", "lost", "refused") for line in table.lines)).encode(), done.stderr)
+            taken, wholes = taken + 1, wholes + table.whole
+        self.assertGreater(min(taken - wholes, wholes, 800 - taken), 50)
+
+    def test_short_reads_and_writes(self):
+        records = [b"one", b"", bytes(range(256)) * 255]
+
+        class Slow(io.RawIOBase):
+            """A file that hands out and takes a few bytes at a time."""
+
+            def __init__(self, data=b""):
+                super().__init__()
+                self.bytes = io.BytesIO(data)
+
+            def readable(self):
+                return True
+
+            def writable(self):
+                return True
+
+            def readinto(self, room):
+                part = self.bytes.read(min(len(room), 1000 if self.bytes.tell() > 20 else 1))
+                room[:len(part)] = part
+                return len(part)
+
+            def write(self, data):
+                return self.bytes.write(bytes(data)[:1000])
+
+        slow = Slow()
+        self.assertEqual(b.write_records(slow, records), 3)
+        whole = slow.bytes.getvalue()
+        self.assertEqual(list(b.read_records(io.BytesIO(whole))), records)
+        self.assertEqual(list(b.read_records(Slow(whole))), records)
+        self.assertRaises(b.MalformedFile, list, b.read_records(Slow(whole[:-1])))
+        self.assertEqual(list(b.read_words(Slow(bytes(4000)))), [0] * 1000)
+
+    def test_a_record_that_cannot_be_written(self):
+        name = self.file("records")
+        for wrong in ([b"one", bytes(65536)], [b"one", 5], (b"one", None)):
+            self.assertRaises((ValueError, TypeError), b.write_records, name, wrong)
+            self.assertFalse(os.path.exists(name))
+        self.assertRaises(ValueError, b.write_records, name, iter([b"one", bytes(65536)]))
+        self.assertEqual(list(b.read_records(name)), [b"one"])
 
 
 class Module(Case):
@@ -475,6 +746,31 @@ class Module(Case):
         with open(example, encoding="utf-8") as file:
             lines = [line.split("  # noqa")[0] for line in file.read().splitlines()]
         self.assertEqual([line for line in shown.splitlines() if line[4:] not in lines], [])
+
+    def test_sentences(self):
+        """Each chapter of docs/USING.md with C's, Rust's and Python's calls has sentences for Python, and what stands there can be called."""
+        with open(os.path.join(ROOT, "docs", "USING.md"), encoding="utf-8") as file:
+            chapters = [part.split("\n", 1) for part in file.read().split("\n## ")]
+        self.assertEqual([name for name, _ in chapters if name.endswith("in C and Rust")], [])
+        told = {name.split(",")[0]: re.findall("`((?:barzhilup|receiver)[.].*?)`", text.split("\nIn Python ")[1])
+                for name, text in chapters if name.endswith(", in C, Rust and Python")}
+        self.assertEqual(len(told), 10)
+        one, other = list(b.Writer(0).write_all([b"audio", b"more"] * 9, 100))[:2]
+        older = [word for word in b.Receiver(0).save() if word >> 28 != 4]
+        core = [0x00050001, 0x41110000]
+        for name, expressions in told.items():
+            self.assertTrue(expressions, name)
+            for expression in expressions:
+                names = {"barzhilup": b, "receiver": b.Receiver(0), "pdu": one, "other": other, "first": one, "second": one, "piece": b"audio", "words": older,
+                         "parity": bytes(8), "header": one, "core": core, "enhanced": core}
+                eval(expression, names)
+        self.assertEqual(b.Receiver.load(older).entitled, [])
+        self.assertEqual(eval(told["A receiver that goes on after a restart"][2], names).save(), b.Receiver(0).save())
+        names["receiver"] = full = b.Receiver.load([0, 0x30000000, 0x400000FF, 0x6000FFFF, 0x6000FFFF, 0x60000000, 0x60000000, 0x60000000])
+        self.refused(27, full.receive, one)
+        on = eval(told["Packets delivered and missing"][3], names)
+        on.receive(one)
+        self.assertGreater(on.delivered, 0)
 
     def test_no_library(self):
         done = subprocess.run([sys.executable, "-c", "import barzhilup"], cwd=os.path.join(HERE, ".."), env={"BARZHILUP_LIB": self.folder, "PATH": ""},
