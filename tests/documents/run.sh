@@ -18,6 +18,15 @@ check_believe() {
     echo "documents: docs/CLAIMS.md, what a reader has to believe: held against scripts/believe"
 }
 
+# docs/AUDIT.md says that no name is defined in the specs/ of two crates.
+check_names() {
+    local line
+    while read -r line; do
+        [ -z "$line" ] || fail "docs/AUDIT.md: a name of two crates, $line"
+    done <<<"$(bash scripts/names)"
+    echo "documents: docs/AUDIT.md: one meaning for each name of specs/, held by scripts/names"
+}
+
 # The drawing of docs/ARCHITECTURE.md: a line for each layer and crate, "LAYER CRATE".
 drawn() {
     awk '
@@ -191,6 +200,7 @@ check_drive() {
 }
 
 check_believe
+check_names
 check_house
 check_crates
 check_contracts

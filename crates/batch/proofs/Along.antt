@@ -17,7 +17,7 @@ use Rattle.receiver.specs.declared.Receiver.{Receiver}
 use Rattle.receiver.specs.declared.Received.{Received}
 use Rattle.batch.specs.declared.Batch.{Batch}
 use Rattle.batch.specs.Batches.{Result, unchanged, followed, oneByOne, wordEnds}
-use Rattle.batch.specs.Steps.{leaving, begunWith, counted}
+use Rattle.batch.specs.Steps.{leaving, begunWith, withAnswer}
 use Rattle.batch.proofs.OneByOne.{followed-none, followed-twice, first-taken, first-refused, end-taken, end-refused}
 use Rattle.batch.proofs.Single.{kept, no-k, words-fit}
 
@@ -41,7 +41,7 @@ module _ (n : ℕ) (ns carry done left before rest : List ℕ) (b : Batch) where
   carryNext = carryAfter [] carry (take n left) rest (b .receiver)
 
   -- it is refused: that is the end
-  stopped : ¬ (next .refusal ≡ 0) → leaving (counted b next) carryNext (done ++ (pduNext ++ drop n left)) (before ++ logNext) ≡ so-far (oneByOne (n ∷ ns) (b .receiver) carry left rest)
+  stopped : ¬ (next .refusal ≡ 0) → leaving (withAnswer b next) carryNext (done ++ (pduNext ++ drop n left)) (before ++ logNext) ≡ so-far (oneByOne (n ∷ ns) (b .receiver) carry left rest)
   stopped h =
       let k = kept [] carry (take n left) rest (b .receiver) h in
       let t : eqb (next .refusal) 0 ≡ false = ne-eqb (next .refusal) 0 h in
@@ -166,7 +166,7 @@ module _ (lengths : List ℕ) (whole : Result) (carry pdus log : List ℕ) (b : 
   logEnd = logAfter [] carry pdu rest (b .receiver)
 
   -- a refused PDU ends the batch
-  turn-stops : ¬ (answer .refusal ≡ 0) → leaving (counted b answer) carryEnd (take from pdus ++ (pduEnd ++ drop n (drop from pdus))) (take (b .words) log ++ logEnd) ≡ whole
+  turn-stops : ¬ (answer .refusal ≡ 0) → leaving (withAnswer b answer) carryEnd (take from pdus ++ (pduEnd ++ drop n (drop from pdus))) (take (b .words) log ++ logEnd) ≡ whole
   turn-stops z = stopped n (drop (i + 1) lengths) carry (take from pdus) (drop from pdus) (take (b .words) log) rest b z ∙ left-is
 
   module _ (lp : length pduEnd ≡ length pdu) (ll : length logEnd ≡ length rest) (z : answer .refusal ≡ 0) where
@@ -180,7 +180,7 @@ module _ (lengths : List ℕ) (whole : Result) (carry pdus log : List ℕ) (b : 
     one-more = let t : eqb (answer .refusal) 0 ≡ true = eq-eqb (answer .refusal) 0 z in rw t
 
     -- one that is taken leaves the next
-    turn-goes-on : Along lengths whole carryEnd (take from pdus ++ (pduEnd ++ drop n (drop from pdus))) (take (b .words) log ++ logEnd) (counted b answer) (from + n) (i + 1)
+    turn-goes-on : Along lengths whole carryEnd (take from pdus ++ (pduEnd ++ drop n (drop from pdus))) (take (b .words) log ++ logEnd) (withAnswer b answer) (from + n) (i + 1)
     turn-goes-on = record {
       none = z;
       right = no-k [] carry pdu rest (b .receiver) z;
@@ -202,7 +202,7 @@ module _ (lengths : List ℕ) (whole : Result) (carry pdus log : List ℕ) (b : 
   size-is : size′ ≡ n
   size-is = omega arith
 
-  module _ (w : ℕ) (a : Batch) (c p l : List ℕ) (ea : a ≡ counted b (receiveAnswer [] carry pdu′ (take (length log - w) (drop w log)) (b .receiver)))
+  module _ (w : ℕ) (a : Batch) (c p l : List ℕ) (ea : a ≡ withAnswer b (receiveAnswer [] carry pdu′ (take (length log - w) (drop w log)) (b .receiver)))
       (ec : c ≡ carryAfter [] carry pdu′ (take (length log - w) (drop w log)) (b .receiver)) (ep : p ≡ pduAfter [] carry pdu′ (take (length log - w) (drop w log)) (b .receiver))
       (el : l ≡ logAfter [] carry pdu′ (take (length log - w) (drop w log)) (b .receiver)) (ew : w ≡ b .words) where
     abbrev rest′ : List ℕ
@@ -214,8 +214,8 @@ module _ (lengths : List ℕ) (whole : Result) (carry pdus log : List ℕ) (b : 
     none-after : drop (length log - w) (drop w log) ≡ []
     none-after = drop-of-length-le (drop w log) {i = length log - w} (let e = length-drop w log in omega (arith, e))
 
-    answer-is : a ≡ counted b answer
-    answer-is = ea ∙ ap₂ (λ (k : ℕ) (r : List ℕ). counted b (receiveAnswer [] carry (take k (drop from pdus)) r (b .receiver))) size-is rest-is
+    answer-is : a ≡ withAnswer b answer
+    answer-is = ea ∙ ap₂ (λ (k : ℕ) (r : List ℕ). withAnswer b (receiveAnswer [] carry (take k (drop from pdus)) r (b .receiver))) size-is rest-is
 
     carry-is : c ≡ carryEnd
     carry-is = ec ∙ ap₂ (λ (k : ℕ) (r : List ℕ). carryAfter [] carry (take k (drop from pdus)) r (b .receiver)) size-is rest-is

@@ -14,7 +14,7 @@ use Rattle.pieces.specs.Pieces.{total}
 use Rattle.receiver.specs.Steps.{stateTests}
 use Rattle.receiver.specs.declared.Receiver.{Receiver}
 use Rattle.batch.specs.declared.Batch.{Batch}
-use Rattle.batch.specs.Batches.{Result, unchanged, oneByOne, wordEnds, batchNumber, received, endsAfter}
+use Rattle.batch.specs.Batches.{Result, unchanged, oneByOne, wordEnds, batchNumber, batchReceived, endsAfter}
 use Rattle.batch.specs.Steps.{leaving, begunWith}
 
 -- where a row applies, those after it make no difference
@@ -28,14 +28,14 @@ module _ (lengths carry pdus log ends : List ℕ) (r : Receiver) where
   number = batchNumber lengths carry pdus log r
 
   abbrev whole : Result
-  whole = received lengths carry pdus log r
+  whole = batchReceived lengths carry pdus log r
 
   -- what is promised of the answer, and of the buffers after the call
   abbrev pub Promised : Batch → List ℕ → List ℕ → List ℕ → List ℕ → Type 0
   Promised b c p l e = (b ≡ whole .answer) × ((c ≡ whole .carry) × ((p ≡ whole .pdus) × ((l ≡ whole .log) × (e ≡ endsAfter lengths carry pdus log r ends))))
 
   turned-down : (n : ℕ) (b : Batch) → number ≡ n → ¬ (n ≡ 0) → b ≡ begunWith r n → Promised b carry pdus log ends
-  unfolding received endsAfter
+  unfolding batchReceived endsAfter
   turned-down n b e z q =
       let t : eqb number 0 ≡ false = ne-eqb number 0 (λ h. z (sym e ∙ h)) in
       (rw (t, e) q, (rw t, (rw t, (rw t, rw t))))
@@ -61,7 +61,7 @@ module _ (lengths carry pdus log ends : List ℕ) (r : Receiver) where
 
       -- one by one
       pub each-call : (b : Batch) (c p l told : List ℕ) → t ≡ true → leaving b c p l ≡ oneByOne lengths r carry pdus log → told ≡ sets ends 0 (wordEnds 0 lengths r carry pdus log) → Promised b c p l told
-      unfolding received endsAfter
+      unfolding batchReceived endsAfter
       each-call b c p l told f q s =
           let e : eqb number 0 ≡ true = eq-eqb number 0 (after-state ∙ rw f) in
           rw e (ap (λ (x : Result). x .answer) q, (ap (λ (x : Result). x .carry) q, (ap (λ (x : Result). x .pdus) q, (ap (λ (x : Result). x .log) q, s))))

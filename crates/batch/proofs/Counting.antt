@@ -10,20 +10,20 @@ use Rattle.receiver.specs.Receiving.{receiveAnswer}
 use Rattle.receiver.specs.declared.Receiver.{Receiver}
 use Rattle.receiver.specs.declared.Received.{Received}
 use Rattle.batch.specs.declared.Batch.{Batch}
-use Rattle.batch.specs.Steps.{counted}
+use Rattle.batch.specs.Steps.{withAnswer}
 use Rattle.batch.proofs.Single.{no-k}
 
 -- an answer x for a PDU whose call answers a
 module _ (b : Batch) (carry pdu log : List ℕ) (a : Received) (e : a ≡ receiveAnswer [] carry pdu log (b .receiver)) (x : Batch) (words : x .words ≡ b .words + a .words) (receiver : x .receiver ≡ a .receiver) where
   abbrev right : Batch
-  right = counted b (receiveAnswer [] carry pdu log (b .receiver))
+  right = withAnswer b (receiveAnswer [] carry pdu log (b .receiver))
 
   fields : x .refusal ≡ a .refusal → x .wrong ≡ a .wrong → x .taken ≡ b .taken + cond (eqb (a .refusal) 0) 1 0 → x ≡ right
   fields n k t =
       ap₂ (λ (i j : ℕ). record { refusal = i; wrong = j; taken = x .taken; words = x .words; receiver = x .receiver }) n k
       ∙ ap₂ (λ (i j : ℕ). record { refusal = a .refusal; wrong = a .wrong; taken = i; words = j; receiver = x .receiver }) t words
       ∙ ap (λ (r : Receiver). record { refusal = a .refusal; wrong = a .wrong; taken = b .taken + cond (eqb (a .refusal) 0) 1 0; words = b .words + a .words; receiver = r }) receiver
-      ∙ ap (counted b) e
+      ∙ ap (withAnswer b) e
 
   -- a refused PDU is not counted
   pub counted-refused : ¬ (a .refusal ≡ 0) → x .refusal ≡ a .refusal → x .wrong ≡ a .wrong → x .taken ≡ b .taken → x ≡ right

@@ -14,7 +14,7 @@ use Rattle.receiver.specs.Receiving.{receiveAnswer, carryAfter, logAfter}
 use Rattle.receiver.specs.declared.Receiver.{Receiver}
 use Rattle.receiver.specs.declared.Received.{Received}
 use Rattle.receiver.proofs.Enough.{enough-log}
-use Rattle.batch.specs.Batches.{Result, oneByOne, batchTests, batchNumber, received}
+use Rattle.batch.specs.Batches.{Result, oneByOne, batchTests, batchNumber, batchReceived}
 use Rattle.batch.proofs.OneByOne.{first-taken, first-refused}
 use Rattle.batch.proofs.Single.{refusal-is, words-most, log-long}
 
@@ -59,10 +59,10 @@ enough-left (n ∷ ns) r carry pdus log b big =
     (enough-left ns (a n ns r carry pdus log b big .receiver) (carryAfter [] carry (take n pdus) log r) (drop n pdus) (left n ns r carry pdus log b big) (bytes-drop n pdus b) (left-long n ns r carry pdus log b big))
 
 -- with a log of 8,400 words for each PDU a batch is never refused with 13, whatever receiver, carry and PDUs
-pub enough-for-all : (lengths carry pdus log : List ℕ) (r : Receiver) → Bytes pdus → 8400 * length lengths ≤ length log → ¬ (received lengths carry pdus log r .answer .refusal ≡ 13)
-unfolding received batchNumber
+pub enough-for-all : (lengths carry pdus log : List ℕ) (r : Receiver) → Bytes pdus → 8400 * length lengths ≤ length log → ¬ (batchReceived lengths carry pdus log r .answer .refusal ≡ 13)
+unfolding batchReceived batchNumber
 enough-for-all lengths carry pdus log r b big = go (eqb (batchNumber lengths carry pdus log r) 0) refl
   where
-    go : (t : Bool) → eqb (batchNumber lengths carry pdus log r) 0 ≡ t → ¬ (received lengths carry pdus log r .answer .refusal ≡ 13)
+    go : (t : Bool) → eqb (batchNumber lengths carry pdus log r) 0 ≡ t → ¬ (batchReceived lengths carry pdus log r .answer .refusal ≡ 13)
     go true h e = enough-left lengths r carry pdus log b big (rw h at e)
     go false h e = never 13 (batchTests lengths carry pdus log r) refl refl (rw h at e)

@@ -14,7 +14,7 @@ use Rattle.pieces.specs.Pieces.{total}
 use Rattle.receiver.specs.Receiving.{wrongState, receiveAnswer, carryAfter, pduAfter, logAfter}
 use Rattle.receiver.specs.declared.Receiver.{Receiver}
 use Rattle.receiver.specs.declared.Received.{Received}
-use Rattle.batch.specs.Batches.{Result, unchanged, followed, oneByOne, batchTests, batchNumber, received}
+use Rattle.batch.specs.Batches.{Result, unchanged, followed, oneByOne, batchTests, batchNumber, batchReceived}
 use Rattle.batch.proofs.OneByOne.{followed-none, followed-twice, first, firstLog, first-taken, first-refused, next-taken}
 use Rattle.batch.proofs.Single.{words-fit, log-long, carry-long}
 use Rattle.batch.proofs.Sums.{total-append}
@@ -105,16 +105,16 @@ module _ (lengths carry pdus log : List ℕ) (r : Receiver) where
   passes e f s = let g : eqb (total lengths) (length pdus) ≡ true = eq-eqb (total lengths) (length pdus) s in rw (e, f, g)
 
   -- a batch that is accepted passes 1, 2 and 18
-  passed-on : received lengths carry pdus log r .answer .refusal ≡ 0 → number ≡ 0
-  unfolding received
+  passed-on : batchReceived lengths carry pdus log r .answer .refusal ≡ 0 → number ≡ 0
+  unfolding batchReceived
   passed-on h = go (eqb number 0) refl
     where
       go : (b : Bool) → eqb number 0 ≡ b → number ≡ 0
       go true e = eqb-true number 0 e
       go false e = rw e at h
 
-  one-by-one : number ≡ 0 → received lengths carry pdus log r ≡ oneByOne lengths r carry pdus log
-  unfolding received
+  one-by-one : number ≡ 0 → batchReceived lengths carry pdus log r ≡ oneByOne lengths r carry pdus log
+  unfolding batchReceived
   one-by-one h = let e : eqb number 0 ≡ true = eq-eqb number 0 h in rw e
 
   rows-off : number ≡ 0 → (anyOf (wrongState r) ≡ false) × (ltb (length carry) 4096 ≡ false) × (total lengths ≡ length pdus)
@@ -124,22 +124,22 @@ module _ (lengths carry pdus log : List ℕ) (r : Receiver) where
       (off 0, off 1, eqb-true (total lengths) (length pdus) (not-false (eqb (total lengths) (length pdus)) (off 2)))
 
   -- an accepted batch takes all its PDUs
-  pub takes-all : received lengths carry pdus log r .answer .refusal ≡ 0 → received lengths carry pdus log r .answer .taken ≡ length lengths
+  pub takes-all : batchReceived lengths carry pdus log r .answer .refusal ≡ 0 → batchReceived lengths carry pdus log r .answer .taken ≡ length lengths
   takes-all h =
       let e = one-by-one (passed-on h) in
       ap (λ (x : Result). x .answer .taken) e ∙ all-taken lengths r carry pdus log (sym (ap (λ (x : Result). x .answer .refusal) e) ∙ h)
 
-  pub keeps-room : length carry ≤ length (received lengths carry pdus log r .carry)
-  unfolding received
+  pub keeps-room : length carry ≤ length (batchReceived lengths carry pdus log r .carry)
+  unfolding batchReceived
   keeps-room = go (eqb number 0) refl
     where
-      go : (b : Bool) → eqb number 0 ≡ b → length carry ≤ length (received lengths carry pdus log r .carry)
+      go : (b : Bool) → eqb number 0 ≡ b → length carry ≤ length (batchReceived lengths carry pdus log r .carry)
       go true e = rw e (carry-on lengths r carry pdus log)
       go false e = rw e (omega arith)
 
 -- where it is accepted, a batch with others after its PDUs is this one, and then the others
-pub then-others : (lengths carry pdus log ms bytes : List ℕ) (r : Receiver) → total ms ≡ length bytes → received lengths carry pdus log r .answer .refusal ≡ 0
-    → received (lengths ++ ms) carry (pdus ++ bytes) log r ≡ andThen (received lengths carry pdus log r) ms bytes
+pub then-others : (lengths carry pdus log ms bytes : List ℕ) (r : Receiver) → total ms ≡ length bytes → batchReceived lengths carry pdus log r .answer .refusal ≡ 0
+    → batchReceived (lengths ++ ms) carry (pdus ++ bytes) log r ≡ andThen (batchReceived lengths carry pdus log r) ms bytes
 then-others lengths carry pdus log ms bytes r s h =
     let z = passed-on lengths carry pdus log r h in
     let o = rows-off lengths carry pdus log r z in

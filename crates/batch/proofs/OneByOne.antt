@@ -12,7 +12,7 @@ use lib.Seq.{take-at, drop-at}
 use Rattle.receiver.specs.Receiving.{receiveAnswer, carryAfter, pduAfter, logAfter}
 use Rattle.receiver.specs.declared.Receiver.{Receiver}
 use Rattle.receiver.specs.declared.Received.{Received}
-use Rattle.batch.specs.Batches.{Result, unchanged, followed, oneByOne, wordEnds, batchNumber, received}
+use Rattle.batch.specs.Batches.{Result, unchanged, followed, oneByOne, wordEnds, batchNumber, batchReceived}
 
 pub followed-none : (x : Result) → followed 0 0 [] [] x ≡ x
 followed-none x = rw (zero-add (x .answer .taken), zero-add (x .answer .words))
@@ -80,13 +80,13 @@ first-stops (n ∷ ns) r carry pdus log h t = go (eqb (first n ns r carry pdus l
         let f = first-refused n ns r carry pdus log (eqb-false (first n ns r carry pdus log .refusal) 0 e) in
         f ∙ ap₂ (λ (i j : ℕ). unchanged i j r carry pdus log) (sym (ap (λ (x : Result). x .answer .refusal) f)) (sym (ap (λ (x : Result). x .answer .wrong) f))
 
-pub none-taken : (lengths carry pdus log : List ℕ) (r : Receiver) → ¬ (received lengths carry pdus log r .answer .refusal ≡ 0) → received lengths carry pdus log r .answer .taken ≡ 0
-    → (received lengths carry pdus log r .answer .receiver ≡ r) × (received lengths carry pdus log r .carry ≡ carry)
-unfolding received
+pub none-taken : (lengths carry pdus log : List ℕ) (r : Receiver) → ¬ (batchReceived lengths carry pdus log r .answer .refusal ≡ 0) → batchReceived lengths carry pdus log r .answer .taken ≡ 0
+    → (batchReceived lengths carry pdus log r .answer .receiver ≡ r) × (batchReceived lengths carry pdus log r .carry ≡ carry)
+unfolding batchReceived
 none-taken lengths carry pdus log r = go (eqb (batchNumber lengths carry pdus log r) 0) refl
   where
-    go : (b : Bool) → eqb (batchNumber lengths carry pdus log r) 0 ≡ b → ¬ (received lengths carry pdus log r .answer .refusal ≡ 0) → received lengths carry pdus log r .answer .taken ≡ 0
-        → (received lengths carry pdus log r .answer .receiver ≡ r) × (received lengths carry pdus log r .carry ≡ carry)
+    go : (b : Bool) → eqb (batchNumber lengths carry pdus log r) 0 ≡ b → ¬ (batchReceived lengths carry pdus log r .answer .refusal ≡ 0) → batchReceived lengths carry pdus log r .answer .taken ≡ 0
+        → (batchReceived lengths carry pdus log r .answer .receiver ≡ r) × (batchReceived lengths carry pdus log r .carry ≡ carry)
     go true e h t =
         let f = first-stops lengths r carry pdus log (rw e at h) (rw e at t) in
         rw e (ap (λ (x : Result). x .answer .receiver) f, ap (λ (x : Result). x .carry) f)

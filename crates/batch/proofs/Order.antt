@@ -10,7 +10,7 @@ use Rattle.refusal.specs.Refusal.{anyOf}
 use Rattle.pieces.specs.Pieces.{total}
 use Rattle.receiver.specs.Receiving.{wrongState, receiveNumber, receiveAnswer}
 use Rattle.receiver.specs.declared.Receiver.{Receiver}
-use Rattle.batch.specs.Batches.{unchanged, oneByOne, batchNumber, received}
+use Rattle.batch.specs.Batches.{unchanged, oneByOne, batchNumber, batchReceived}
 
 module _ (lengths carry pdus log : List ℕ) (r : Receiver) where
   pub state-first : anyOf (wrongState r) ≡ true → batchNumber lengths carry pdus log r ≡ 1
@@ -33,11 +33,11 @@ module _ (lengths carry pdus log : List ℕ) (r : Receiver) where
 
 module _ (carry log : List ℕ) (r : Receiver) (right : anyOf (wrongState r) ≡ false) (room : 4096 ≤ length carry) where
   -- an empty list with an empty buffer is accepted
-  pub empty-accepted : received [] carry [] log r ≡ unchanged 0 0 r carry [] log
-  unfolding received batchNumber total oneByOne
+  pub empty-accepted : batchReceived [] carry [] log r ≡ unchanged 0 0 r carry [] log
+  unfolding batchReceived batchNumber total oneByOne
   empty-accepted = let e : ltb (length carry) 4096 ≡ false = le-ltb (length carry) 4096 room in rw (right, e)
 
   -- a PDU of no bytes is refused with 3: its length is in the list
-  pub none-long : received (0 ∷ []) carry [] log r .answer .refusal ≡ 3
-  unfolding received batchNumber total oneByOne receiveAnswer receiveNumber
+  pub none-long : batchReceived (0 ∷ []) carry [] log r .answer .refusal ≡ 3
+  unfolding batchReceived batchNumber total oneByOne receiveAnswer receiveNumber
   none-long = let e : ltb (length carry) 4096 ≡ false = le-ltb (length carry) 4096 room in rw (right, e)

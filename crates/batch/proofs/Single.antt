@@ -11,11 +11,12 @@ use Rattle.refusal.specs.Refusal.{firstOf}
 use Rattle.refusal.proofs.Rows.{passed, row-off}
 use Rattle.buffer.specs.Buffer.{putAt}
 use Rattle.buffer.proofs.Laws.{put-length}
-use Rattle.reassembly.specs.Run.{bytesOf}
-use Rattle.receiver.specs.Receiving.{outcome, receivedWords, receiveTests, receiveNumber, receiveAnswer, carryAfter, pduAfter, logAfter}
+use Rattle.reassembly.specs.Run.{partialBytes}
+use Rattle.receiver.specs.Receiving.{outcome, receiveTests, receiveNumber, receiveAnswer, carryAfter, pduAfter, logAfter}
 use Rattle.receiver.specs.declared.Receiver.{Receiver}
 use Rattle.receiver.specs.declared.Received.{Received}
 use Rattle.receiver.proofs.Enough.{firstTwelve, most}
+use Rattle.receiver.proofs.AfterReceiving.{receivedWords}
 
 module _ (marks carry pdu log : List ℕ) (r : Receiver) where
   abbrev number : ℕ
@@ -98,7 +99,7 @@ module _ (marks carry pdu log : List ℕ) (r : Receiver) where
   carry-long = go (eqb number 0) refl
     where
       held : List ℕ
-      held = bytesOf (outcome marks carry pdu log r .partial)
+      held = partialBytes (outcome marks carry pdu log r .partial)
 
       go : (b : Bool) → eqb number 0 ≡ b → length carry ≤ length (carryAfter marks carry pdu log r)
       go true e = rw e (let l = length-append held (drop (0 + length held) carry) in let d = length-drop (0 + length held) carry in omega (arith, l, d))

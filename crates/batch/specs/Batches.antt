@@ -70,8 +70,8 @@ module _ (lengths carry pdus log : List ℕ) (r : Receiver) where
   unfoldable pub batchNumber : ℕ
   batchNumber = firstOf batchTests
 
-  unfoldable pub received : Result
-  received = cond (eqb batchNumber 0) (oneByOne lengths r carry pdus log) (unchanged batchNumber 0 r carry pdus log)
+  unfoldable pub batchReceived : Result
+  batchReceived = cond (eqb batchNumber 0) (oneByOne lengths r carry pdus log) (unchanged batchNumber 0 r carry pdus log)
 
   -- a list after the call that tells where words end: these ends, from its first place on, as far as it has places
   unfoldable pub endsAfter : List ℕ → List ℕ

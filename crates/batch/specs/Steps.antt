@@ -17,5 +17,5 @@ abbrev pub begunWith : Receiver → ℕ → Batch
 begunWith r number = record { refusal = number; wrong = 0; taken = 0; words = 0; receiver = r }
 
 -- the counts so far, and what the next PDU's call answers: its words are counted, and it is, if it is not refused
-abbrev pub counted : Batch → Received → Batch
-counted b a = record { refusal = a .refusal; wrong = a .wrong; taken = b .taken + cond (eqb (a .refusal) 0) 1 0; words = b .words + a .words; receiver = a .receiver }
+abbrev pub withAnswer : Batch → Received → Batch
+withAnswer b a = record { refusal = a .refusal; wrong = a .wrong; taken = b .taken + cond (eqb (a .refusal) 0) 1 0; words = b .words + a .words; receiver = a .receiver }

@@ -8,8 +8,8 @@ ghost use lib.ListN.{length, set};
 ghost use lib.Seq.{sets};
 ghost use Rattle.pieces.specs.Pieces.{total};
 ghost use Rattle.receiver.specs.Receiving.{receiveAnswer, carryAfter, pduAfter, logAfter};
-ghost use Rattle.batch.specs.Batches.{oneByOne, received, wordEnds, endsAfter};
-ghost use Rattle.batch.specs.Steps.{leaving, begunWith, counted};
+ghost use Rattle.batch.specs.Batches.{oneByOne, batchReceived, wordEnds, endsAfter};
+ghost use Rattle.batch.specs.Steps.{leaving, begunWith, withAnswer};
 
 // What came of a batch: the refusal number, 0 where there is none, with the smallest k whose locator is wrong where it is 11; how many PDUs were taken, and
 // how many log words were written; and the receiver as the last PDU taken left it.
@@ -56,7 +56,7 @@ fn begun(receiver: Receiver, number: u32) -> Batch
 fn receive_next(b: Batch, carry: &mut [u8], pdu: &mut [u8], log: &mut [u32]) -> Batch
     requires { ⌜ b .taken + 1 < 18446744073709551616 ⌝ }
     requires { ⌜ b .words + length (now log) < 18446744073709551616 ⌝ }
-    ensures { λ r. ⌜ r ≡ counted b (receiveAnswer [] (now (carry .entry)) (now (pdu .entry)) (now (log .entry)) (b .receiver)) ⌝ }
+    ensures { λ r. ⌜ r ≡ withAnswer b (receiveAnswer [] (now (carry .entry)) (now (pdu .entry)) (now (log .entry)) (b .receiver)) ⌝ }
     ensures { λ _. ⌜ now (carry .exit) ≡ carryAfter [] (now (carry .entry)) (now (pdu .entry)) (now (log .entry)) (b .receiver) ⌝ }
     ensures { λ _. ⌜ now (pdu .exit) ≡ pduAfter [] (now (carry .entry)) (now (pdu .entry)) (now (log .entry)) (b .receiver) ⌝ }
     ensures { λ _. ⌜ now (log .exit) ≡ logAfter [] (now (carry .entry)) (now (pdu .entry)) (now (log .entry)) (b .receiver) ⌝ }
@@ -134,10 +134,10 @@ pub fn receive_with_ends(
     log: &mut [u32],
     ends: &mut [usize],
 ) -> Batch
-    ensures { λ b. ⌜ b ≡ received (now (lengths .entry)) (now (carry .entry)) (now (pdus .entry)) (now (log .entry)) receiver .answer ⌝ }
-    ensures { λ _. ⌜ now (carry .exit) ≡ received (now (lengths .entry)) (now (carry .entry)) (now (pdus .entry)) (now (log .entry)) receiver .carry ⌝ }
-    ensures { λ _. ⌜ now (pdus .exit) ≡ received (now (lengths .entry)) (now (carry .entry)) (now (pdus .entry)) (now (log .entry)) receiver .pdus ⌝ }
-    ensures { λ _. ⌜ now (log .exit) ≡ received (now (lengths .entry)) (now (carry .entry)) (now (pdus .entry)) (now (log .entry)) receiver .log ⌝ }
+    ensures { λ b. ⌜ b ≡ batchReceived (now (lengths .entry)) (now (carry .entry)) (now (pdus .entry)) (now (log .entry)) receiver .answer ⌝ }
+    ensures { λ _. ⌜ now (carry .exit) ≡ batchReceived (now (lengths .entry)) (now (carry .entry)) (now (pdus .entry)) (now (log .entry)) receiver .carry ⌝ }
+    ensures { λ _. ⌜ now (pdus .exit) ≡ batchReceived (now (lengths .entry)) (now (carry .entry)) (now (pdus .entry)) (now (log .entry)) receiver .pdus ⌝ }
+    ensures { λ _. ⌜ now (log .exit) ≡ batchReceived (now (lengths .entry)) (now (carry .entry)) (now (pdus .entry)) (now (log .entry)) receiver .log ⌝ }
     ensures { λ _. ⌜ now (ends .exit) ≡ endsAfter (now (lengths .entry)) (now (carry .entry)) (now (pdus .entry)) (now (log .entry)) receiver (now (ends .entry)) ⌝ }
 {
     let number = receiver.state_refusal(carry.len());
@@ -160,10 +160,10 @@ pub fn receive(
     lengths: &[usize],
     log: &mut [u32],
 ) -> Batch
-    ensures { λ b. ⌜ b ≡ received (now (lengths .entry)) (now (carry .entry)) (now (pdus .entry)) (now (log .entry)) receiver .answer ⌝ }
-    ensures { λ _. ⌜ now (carry .exit) ≡ received (now (lengths .entry)) (now (carry .entry)) (now (pdus .entry)) (now (log .entry)) receiver .carry ⌝ }
-    ensures { λ _. ⌜ now (pdus .exit) ≡ received (now (lengths .entry)) (now (carry .entry)) (now (pdus .entry)) (now (log .entry)) receiver .pdus ⌝ }
-    ensures { λ _. ⌜ now (log .exit) ≡ received (now (lengths .entry)) (now (carry .entry)) (now (pdus .entry)) (now (log .entry)) receiver .log ⌝ }
+    ensures { λ b. ⌜ b ≡ batchReceived (now (lengths .entry)) (now (carry .entry)) (now (pdus .entry)) (now (log .entry)) receiver .answer ⌝ }
+    ensures { λ _. ⌜ now (carry .exit) ≡ batchReceived (now (lengths .entry)) (now (carry .entry)) (now (pdus .entry)) (now (log .entry)) receiver .carry ⌝ }
+    ensures { λ _. ⌜ now (pdus .exit) ≡ batchReceived (now (lengths .entry)) (now (carry .entry)) (now (pdus .entry)) (now (log .entry)) receiver .pdus ⌝ }
+    ensures { λ _. ⌜ now (log .exit) ≡ batchReceived (now (lengths .entry)) (now (carry .entry)) (now (pdus .entry)) (now (log .entry)) receiver .log ⌝ }
 {
     let mut none = [0usize; 0];
     receive_with_ends(receiver, carry, pdus, lengths, log, &mut none)

@@ -11,7 +11,7 @@ use Rattle.refusal.proofs.Rows.{passed, row-off}
 use Rattle.buffer.proofs.Laws.{take-put}
 use Rattle.reassembly.proofs.Fitting.{fit-received}
 use Rattle.reassembly.proofs.Tallies.{within-limit}
-use Rattle.receiver.specs.Receiving.{memoryOf, modeOf, tallyOf, remembering, said, outcome, receivedWords, tallyAfter, receiveTests, receiveNumber, receiveAnswer, logAfter}
+use Rattle.receiver.specs.Receiving.{memoryOf, modeOf, tallyOf, remembering, said, outcome, receiveTests, receiveNumber, receiveAnswer, logAfter}
 use Rattle.receiver.specs.declared.Receiver.{Receiver}
 use Rattle.receiver.proofs.Counting.{counts-fair}
 use Rattle.receiver.proofs.Enough.{firstTwelve}
@@ -19,6 +19,7 @@ use Rattle.writer.specs.RoundTrip.{Bytes}
 use Rattle.joinable.proofs.Saying.{said-sane, held-before}
 use Rattle.loss.specs.Column.{afterWords}
 use Rattle.loss.proofs.Words.{entries-tallied}
+use Rattle.receiver.proofs.AfterReceiving.{receivedWords, tallyAfter}
 
 module _ (marks carry pdu log : List ℕ) (r : Receiver) (bc : Bytes carry) (bp : Bytes pdu) where
   abbrev number : ℕ

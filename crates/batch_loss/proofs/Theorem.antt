@@ -12,7 +12,7 @@ use Rattle.reassembly.specs.Tally.{Tally}
 use Rattle.receiver.specs.Receiving.{tallyOf, receiveAnswer, carryAfter, pduAfter, logAfter}
 use Rattle.receiver.specs.declared.Receiver.{Receiver}
 use Rattle.receiver.specs.declared.Received.{Received}
-use Rattle.batch.specs.Batches.{Result, unchanged, followed, oneByOne, wordEnds, batchNumber, received, endsAfter}
+use Rattle.batch.specs.Batches.{Result, unchanged, followed, oneByOne, wordEnds, batchNumber, batchReceived, endsAfter}
 use Rattle.batch.proofs.OneByOne.{first, firstLog, first-taken, first-refused, end-taken, end-refused}
 use Rattle.batch.proofs.Single.{words-fit, log-long}
 use Rattle.writer.specs.RoundTrip.{Bytes}
@@ -113,7 +113,7 @@ told : (ends list : List ℕ) (k : ℕ) → length ends ≡ k → k ≤ length l
 told ends list k e h = ap (take k) (sets-eq ends list 0 (omega (arith, e, h))) ∙ take-at ends (drop (0 + length ends) list) k e
 
 pub columns-agree : ColumnsAgree
-unfolding received endsAfter
+unfolding batchReceived endsAfter
 columns-agree lengths carry pdus log ends r bc bp room = go (eqb (batchNumber lengths carry pdus log r) 0) refl
   where
     go : (b : Bool) → eqb (batchNumber lengths carry pdus log r) 0 ≡ b → Agree lengths carry pdus log ends r

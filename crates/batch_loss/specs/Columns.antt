@@ -8,7 +8,7 @@ use lib.ListN.{length, take, drop}
 use Rattle.reassembly.specs.Tally.{Tally}
 use Rattle.receiver.specs.Receiving.{tallyOf, receiveAnswer, carryAfter, logAfter}
 use Rattle.receiver.specs.declared.Receiver.{Receiver}
-use Rattle.batch.specs.Batches.{Result, batchNumber, received, endsAfter}
+use Rattle.batch.specs.Batches.{Result, batchNumber, batchReceived, endsAfter}
 use Rattle.writer.specs.RoundTrip.{Bytes}
 use Rattle.loss.specs.Column.{afterWords}
 
@@ -43,7 +43,7 @@ recordsAfter (n ∷ ns) r carry pdus log =
 
 module _ (lengths carry pdus log ends : List ℕ) (r : Receiver) where
   abbrev pub result : Result
-  result = received lengths carry pdus log r
+  result = batchReceived lengths carry pdus log r
 
   -- by the log and the list of ends as the call leaves them, for as many PDUs as it took
   abbrev pub columnsOfCall : List Tally

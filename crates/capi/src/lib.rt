@@ -21,15 +21,15 @@ ghost use Rattle.crc.specs.Crc.{crcFrom};
 ghost use Rattle.header.specs.Header.{syndromes, parityOf, lengthRefusal, withParity};
 ghost use Rattle.parity_share.specs.Shares.{shareRefusal, withShare};
 ghost use Rattle.pdu.specs.Reading.{readingOf, readPdu};
-ghost use Rattle.writer.specs.Writing.{opened, writeAnswer, writtenPdu};
-ghost use Rattle.receiver.specs.Receiving.{opened as receiverOpened, openedFor, receiveAnswer, carryAfter, pduAfter, logAfter, lostAnswer, logAfterLost};
-ghost use Rattle.batch.specs.Batches.{received};
-ghost use Rattle.diversity.specs.Diversity.{choiceOf, numberOf as choiceNumber, pairReceived};
+ghost use Rattle.writer.specs.Writing.{writerOpened, writeAnswer, writtenPdu};
+ghost use Rattle.receiver.specs.Receiving.{receiverOpened, openedFor, receiveAnswer, carryAfter, pduAfter, logAfter, lostAnswer, logAfterLost};
+ghost use Rattle.batch.specs.Batches.{batchReceived};
+ghost use Rattle.diversity.specs.Diversity.{choiceOf, choiceNumber, pairReceived};
 ghost use Rattle.snapshot.specs.Snapshot.{saved, wordsAfter, loaded, carryLoaded};
 ghost use Rattle.correction.specs.Marks.{correctionWith, correctedPduWith};
-ghost use Rattle.correction.specs.Correction.{correctionOf, correctedPdu, numberOf, countOf};
-ghost use Rattle.join.specs.Join.{joined, resultAfter};
-ghost use Rattle.latency.specs.Latency.{answer, numberOf as refusalOf, latencyOf, isFound, trial, shown, rowAfter};
+ghost use Rattle.correction.specs.Correction.{correctionOf, correctedPdu, correctionNumber, countOf};
+ghost use Rattle.join.specs.Join.{joinAnswer, resultAfter};
+ghost use Rattle.latency.specs.Latency.{answer, latencyRefusal, latencyOf, isFound, trial, shownTicks, rowAfter};
 
 // S1 to S8.
 #[repr(C)]
@@ -122,7 +122,7 @@ pub extern "C" fn barzhilup_add_parity_share(
 
 // What came of a correction, as two numbers.
 fn in_numbers(answer: Correction) -> CorrectionAnswer
-    ensures { λ r. ⌜ r .refusal ≡ numberOf answer ⌝ }
+    ensures { λ r. ⌜ r .refusal ≡ correctionNumber answer ⌝ }
     ensures { λ r. ⌜ r .corrected ≡ countOf answer ⌝ }
 {
     match answer {
@@ -140,7 +140,7 @@ fn in_numbers(answer: Correction) -> CorrectionAnswer
 // Corrects the header of a PDU in place, or refuses with 3 or 4 and leaves it as it was.
 #[no_mangle]
 pub extern "C" fn barzhilup_correct_header(pdu: &mut [u8]) -> CorrectionAnswer
-    ensures { λ r. ⌜ r .refusal ≡ numberOf (correctionOf (now (pdu .entry))) ⌝ }
+    ensures { λ r. ⌜ r .refusal ≡ correctionNumber (correctionOf (now (pdu .entry))) ⌝ }
     ensures { λ r. ⌜ r .corrected ≡ countOf (correctionOf (now (pdu .entry))) ⌝ }
     ensures { λ _. ⌜ now (pdu .exit) ≡ correctedPdu (now (pdu .entry)) ⌝ }
 {
@@ -151,7 +151,7 @@ pub extern "C" fn barzhilup_correct_header(pdu: &mut [u8]) -> CorrectionAnswer
 // Corrects the header of a PDU in place with a list of marked places, or refuses with 3, 19 or 4 and leaves it as it was.
 #[no_mangle]
 pub extern "C" fn barzhilup_correct_header_marked(pdu: &mut [u8], marks: &[u8]) -> CorrectionAnswer
-    ensures { λ r. ⌜ r .refusal ≡ numberOf (correctionWith (now (marks .entry)) (now (pdu .entry))) ⌝ }
+    ensures { λ r. ⌜ r .refusal ≡ correctionNumber (correctionWith (now (marks .entry)) (now (pdu .entry))) ⌝ }
     ensures { λ r. ⌜ r .corrected ≡ countOf (correctionWith (now (marks .entry)) (now (pdu .entry))) ⌝ }
     ensures { λ _. ⌜ now (pdu .exit) ≡ correctedPduWith (now (marks .entry)) (now (pdu .entry)) ⌝ }
 {
@@ -187,7 +187,7 @@ pub extern "C" fn barzhilup_read(pdu: &mut [u8]) -> Reading
 // Opens a writer for a mode and stream, whose CRCs start with a register of 0; or refuses with 5.
 #[no_mangle]
 pub extern "C" fn barzhilup_open_writer(mode: u8, stream: u8) -> Opened
-    ensures { λ r. ⌜ r ≡ opened mode stream 0 ⌝ }
+    ensures { λ r. ⌜ r ≡ writerOpened mode stream 0 ⌝ }
 {
     writer::open(mode, stream, 0)
 }
@@ -195,7 +195,7 @@ pub extern "C" fn barzhilup_open_writer(mode: u8, stream: u8) -> Opened
 // Opens a writer for a mode and stream, with the register that CRCs start with, any byte; or refuses with 5.
 #[no_mangle]
 pub extern "C" fn barzhilup_open_writer_with(mode: u8, stream: u8, register: u8) -> Opened
-    ensures { λ r. ⌜ r ≡ opened mode stream register ⌝ }
+    ensures { λ r. ⌜ r ≡ writerOpened mode stream register ⌝ }
 {
     writer::open(mode, stream, register)
 }
@@ -294,10 +294,10 @@ pub extern "C" fn barzhilup_receive_batch(
     lengths: &[usize],
     log: &mut [u32],
 ) -> Batch
-    ensures { λ b. ⌜ b ≡ received (now (lengths .entry)) (now (carry .entry)) (now (pdus .entry)) (now (log .entry)) receiver .answer ⌝ }
-    ensures { λ _. ⌜ now (carry .exit) ≡ received (now (lengths .entry)) (now (carry .entry)) (now (pdus .entry)) (now (log .entry)) receiver .carry ⌝ }
-    ensures { λ _. ⌜ now (pdus .exit) ≡ received (now (lengths .entry)) (now (carry .entry)) (now (pdus .entry)) (now (log .entry)) receiver .pdus ⌝ }
-    ensures { λ _. ⌜ now (log .exit) ≡ received (now (lengths .entry)) (now (carry .entry)) (now (pdus .entry)) (now (log .entry)) receiver .log ⌝ }
+    ensures { λ b. ⌜ b ≡ batchReceived (now (lengths .entry)) (now (carry .entry)) (now (pdus .entry)) (now (log .entry)) receiver .answer ⌝ }
+    ensures { λ _. ⌜ now (carry .exit) ≡ batchReceived (now (lengths .entry)) (now (carry .entry)) (now (pdus .entry)) (now (log .entry)) receiver .carry ⌝ }
+    ensures { λ _. ⌜ now (pdus .exit) ≡ batchReceived (now (lengths .entry)) (now (carry .entry)) (now (pdus .entry)) (now (log .entry)) receiver .pdus ⌝ }
+    ensures { λ _. ⌜ now (log .exit) ≡ batchReceived (now (lengths .entry)) (now (carry .entry)) (now (pdus .entry)) (now (log .entry)) receiver .log ⌝ }
 {
     batch::receive(receiver, carry, pdus, lengths, log)
 }
@@ -383,7 +383,7 @@ fn latency_answer(refusal: u32, latency: u32, found: bool) -> LatencyAnswer
 
 // What came of trying the latencies, as numbers.
 fn smallest_in_numbers(smallest: Answer) -> LatencyAnswer
-    ensures { λ r. ⌜ r .refusal ≡ refusalOf smallest ⌝ }
+    ensures { λ r. ⌜ r .refusal ≡ latencyRefusal smallest ⌝ }
     ensures { λ r. ⌜ r .latency ≡ latencyOf smallest ⌝ }
     ensures { λ r. ⌜ r .found ≡ isFound smallest ⌝ }
 {
@@ -398,7 +398,7 @@ fn smallest_in_numbers(smallest: Answer) -> LatencyAnswer
 // or 21.
 #[no_mangle]
 pub extern "C" fn barzhilup_smallest_latency(mode: u8, stream: u8, counts: &[u32]) -> LatencyAnswer
-    ensures { λ r. ⌜ r .refusal ≡ refusalOf (answer mode stream (now (counts .entry))) ⌝ }
+    ensures { λ r. ⌜ r .refusal ≡ latencyRefusal (answer mode stream (now (counts .entry))) ⌝ }
     ensures { λ r. ⌜ r .latency ≡ latencyOf (answer mode stream (now (counts .entry))) ⌝ }
     ensures { λ r. ⌜ r .found ≡ isFound (answer mode stream (now (counts .entry))) ⌝ }
 {
@@ -425,7 +425,7 @@ pub extern "C" fn barzhilup_waiting_packets(
     first: usize,
     waiting: &mut [u32],
 ) -> Shown
-    ensures { λ r. ⌜ r ≡ shown mode stream (now (counts .entry)) first (length (now (waiting .entry))) ⌝ }
+    ensures { λ r. ⌜ r ≡ shownTicks mode stream (now (counts .entry)) first (length (now (waiting .entry))) ⌝ }
     ensures { λ _. ⌜ now (waiting .exit) ≡ rowAfter mode stream (now (counts .entry)) latency first (now (waiting .entry)) ⌝ }
 {
     latency::show_waiting(mode, stream, counts, latency, first, waiting)
@@ -435,7 +435,7 @@ pub extern "C" fn barzhilup_waiting_packets(
 // first; or refuses with 23 (words that are no log), 24 (numbers that do not rise) or 13, and leaves the result buffer as it was.
 #[no_mangle]
 pub extern "C" fn barzhilup_join(core: &[u32], enhanced: &[u32], result: &mut [u32]) -> Joined
-    ensures { λ r. ⌜ r ≡ joined (now (core .entry)) (now (enhanced .entry)) (length (now (result .entry))) ⌝ }
+    ensures { λ r. ⌜ r ≡ joinAnswer (now (core .entry)) (now (enhanced .entry)) (length (now (result .entry))) ⌝ }
     ensures { λ _. ⌜ now (result .exit) ≡ resultAfter (now (core .entry)) (now (enhanced .entry)) (now (result .entry)) ⌝ }
 {
     join::join(core, enhanced, result)

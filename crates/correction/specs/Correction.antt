@@ -64,9 +64,9 @@ unfoldable pub correctedPdu : List ℕ → List ℕ
 correctedPdu p = cond (eqb (lengthRefusal (length p)) 0) (headerAfter (take 96 p) (corrected (take 96 p)) ++ drop 96 p) p
 
 -- the paper's number and count of each answer
-abbrev pub numberOf : Correction → ℕ
-numberOf (Corrected n) = 0
-numberOf (Refused n) = n
+abbrev pub correctionNumber : Correction → ℕ
+correctionNumber (Corrected n) = 0
+correctionNumber (Refused n) = n
 
 abbrev pub countOf : Correction → ℕ
 countOf (Corrected n) = n

@@ -17,10 +17,10 @@ use Rattle.refusal.specs.Refusal.{firstOf}
 use Rattle.refusal.proofs.Rows.{row-off}
 use Rattle.modes.specs.declared.Mode.{Mode}
 use Rattle.crc.specs.Crc.{crcFrom}
-use Rattle.layout.specs.Control.{controlAt}
+use Rattle.layout.specs.Control.{controlAt, odd}
 use Rattle.layout.specs.declared.ControlWord.{ControlWord}
 use Rattle.layout.specs.Locators.{locatorAt}
-use Rattle.expansion.specs.Expansion.{Field, class, program, ptype, services, odd, known, moreBytes, fieldOf, before, fieldsFrom, nothing, absorb, absorbAll, outcome, interpretation, expansionLength, septetsAt, expansionAt}
+use Rattle.expansion.specs.Expansion.{Field, class, program, ptype, services, known, moreBytes, fieldOf, before, fieldsFrom, nothing, absorb, absorbAll, interpretedAs, interpretation, expansionLength, septetsAt, expansionAt}
 use Rattle.expansion.specs.declared.Interpreted.{Interpreted}
 use Rattle.correction.specs.Correction.{headerAfter}
 use Rattle.correction.specs.Marks.{marksRefusal, correctedWith, correctedPduWith}
@@ -35,8 +35,9 @@ use Rattle.reassembly.proofs.Fitting.{SanePiece, SanePieces, SaneSaid}
 use Rattle.receiver.specs.Receiving.{pieceIn, piecesIn, saidBy, labelIn}
 use Rattle.receiver.proofs.Enough.{taken-few}
 use Rattle.writer.specs.RoundTrip.{Bytes}
-use Rattle.diversity.specs.Diversity.{sameBytes, pairPiece, pairPieces, pairSaid, differ}
+use Rattle.diversity.specs.Diversity.{pairPiece, pairPieces, pairSaid, differ}
 use Rattle.diversity.proofs.Alike.{alike-length, locators-same}
+use Rattle.log.specs.Log.{sameList}
 use Rattle.delivery.proofs.Made.{bytes-of, bytes-drop, bytes-take}
 use Rattle.delivery.proofs.Copies.{count-pieces}
 
@@ -89,7 +90,7 @@ narrow-absorbed (program p (some d) ∷ fs) v h n = narrow-absorbed fs (absorb (
 narrow-absorbed (ptype a t ∷ fs) v h n = narrow-absorbed fs (absorb (ptype a t) v) h (n .1)
 narrow-absorbed (services s m ∷ fs) v h n = narrow-absorbed fs (absorb (services s m) v) (n .0) (n .1)
 
-narrow-outcome : (o : Option (List Field)) → NarrowIf o → outcome (nothing true) o .services < 8
+narrow-outcome : (o : Option (List Field)) → NarrowIf o → interpretedAs (nothing true) o .services < 8
 narrow-outcome none n = omega arith
 narrow-outcome (some fs) n = narrow-absorbed fs (nothing true) (omega arith) n
 
@@ -97,7 +98,7 @@ narrow-expansion : (p : List ℕ) (at la : ℕ) → expansionAt p at la .service
 unfolding expansionAt interpretation
 narrow-expansion p at la = go (eqb (expansionLength p at la) 0)
   where
-    go : (t : Bool) → cond t (nothing false) (outcome (nothing true) (fieldsFrom 0 0 (septetsAt p at (expansionLength p at la)))) .services < 8
+    go : (t : Bool) → cond t (nothing false) (interpretedAs (nothing true) (fieldsFrom 0 0 (septetsAt p at (expansionLength p at la)))) .services < 8
     go true = omega arith
     go false = narrow-outcome (fieldsFrom 0 0 (septetsAt p at (expansionLength p at la))) (narrow-fields (septetsAt p at (expansionLength p at la)) 0 0)
 
@@ -168,7 +169,7 @@ module _ (register : ℕ) (m : Mode) (c : ControlWord) (y : List ℕ) (b : Bytes
 -- ---- two such that are alike
 
 sane-both : (a b : Piece) → SanePiece a → SanePiece b → SanePiece (pairPiece a b)
-sane-both a b h k = go (eqb (a .cause) 0) (eqb (b .cause) 0) (sameBytes (a .bytes) (b .bytes))
+sane-both a b h k = go (eqb (a .cause) 0) (eqb (b .cause) 0) (sameList (a .bytes) (b .bytes))
   where
     go : (t u v : Bool) → SanePiece (cond t (cond u (cond v a (record { cause = 7; bytes = a .bytes })) a) b)
     go true true true = h

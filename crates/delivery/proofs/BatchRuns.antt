@@ -12,7 +12,7 @@ use Rattle.pieces.specs.Pieces.{total}
 use Rattle.log.specs.Log.{packet, dataWords, entryWords, logWords, packetWords}
 use Rattle.receiver.specs.Entitling.{allPrograms}
 use Rattle.receiver.specs.Receiving.{receiveAnswer}
-use Rattle.batch.specs.Batches.{Result, oneByOne, received}
+use Rattle.batch.specs.Batches.{Result, oneByOne, batchReceived}
 use Rattle.batch.proofs.Single.{refusal-is}
 use Rattle.batch.proofs.OneByOne.{first-refused}
 use Rattle.batch.proofs.Laws.{takes-all, keeps-room, then-others}
@@ -79,7 +79,7 @@ module _ (x : Station) (log : List ℕ) where
 third-refused : RefusedAfter defined (length two) fresh (callOf (stops two (0 ∷ []) [] long))
 unfolding total
 third-refused =
-    let r : Result = received (map length two) carry (concatenated two) long (fresh .receiver) in
+    let r : Result = batchReceived (map length two) carry (concatenated two) long (fresh .receiver) in
     let e = then-others (map length two) carry (concatenated two) long (0 ∷ []) [] (fresh .receiver) refl two-taken in
     let n = none-after (record { receiver = r .answer .receiver; carry = r .carry }) (drop (r .answer .words) (r .log)) in
     let t : r .answer .taken ≡ length two = takes-all (map length two) carry (concatenated two) long (fresh .receiver) two-taken ∙ length-map two length in

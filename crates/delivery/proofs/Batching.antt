@@ -17,17 +17,18 @@ use Rattle.modes.specs.declared.Listing.the-variants.{Listed}
 use Rattle.pieces.specs.Pieces.{total}
 use Rattle.reassembly.specs.Rights.{Rights}
 use Rattle.reassembly.specs.Tally.{Countable}
-use Rattle.reassembly.specs.Holder.{Holder, after}
+use Rattle.reassembly.specs.Holder.{Holder}
 use Rattle.refusal.specs.Refusal.{anyOf}
 use Rattle.receiver.specs.Receiving.{wrongState, pduAfter}
 use Rattle.receiver.specs.declared.Receiver.{Receiver}
-use Rattle.batch.specs.Batches.{Result, unchanged, followed, oneByOne, batchNumber, received}
+use Rattle.batch.specs.Batches.{Result, unchanged, followed, oneByOne, batchNumber, batchReceived}
 use Rattle.batch.proofs.Single.{words-fit, words-most, log-long}
 use Rattle.batch.proofs.Laws.{passes}
 use Rattle.batch.proofs.OneByOne.{followed-none, followed-twice, next-taken, first-stops}
 use Rattle.runs.specs.Transmissions.{Way, gone, here}
 use Rattle.runs.proofs.Calls.{Speech, heard, Matching, Machine, Serves, Bridge, Step as Part, handed, waysHanded, Through as Goes, logsFrom as logsOf, finally, AllGood}
 use Rattle.runs.proofs.General.{Served, serve, countable-less}
+use Rattle.runs.proofs.Events.{after}
 use Rattle.delivery.specs.Delivery.{concatenated, Station, Call, receive, batch, markLost, defined, stationAfter, RefusedAfter, loggedBy, alone, paired}
 use Rattle.delivery.proofs.Parts.{logCounts, answerOf, logOf}
 use Rattle.delivery.proofs.SoundSteps.{Copy, causesFor, Came, pdusIn, Step, receives, pairs, batches, stops, loses, refuses, callOf, Takes, waysIn}
@@ -45,7 +46,7 @@ EachCopy register width (p ∷ ps) (c ∷ cs) = Copy register width p [] (c .pdu
 
 module _ (x : Station) (lengths pdus log : List ℕ) where
   abbrev result : Result
-  result = received lengths (x .carry) pdus log (x .receiver)
+  result = batchReceived lengths (x .carry) pdus log (x .receiver)
 
   pub record Does (y : Station) (words : List ℕ) : Type 0 where
     pub station : stationAfter defined x (batch lengths pdus log) ≡ y
@@ -194,8 +195,8 @@ module _ (mode stream register entitled : ℕ) (m : Mode) (l : listing mode stre
       all : Joins cs ps x log [] []
       all = joins cs ps x log [] [] each good
 
-      ends : received lengths (x .carry) (concatenated (pdusIn cs)) log (x .receiver) ≡ followed (length cs) (length words) (all .pdus) words (unchanged 0 0 (end .receiver) (end .carry) [] (logLeft x log cs))
-      unfolding received oneByOne
+      ends : batchReceived lengths (x .carry) (concatenated (pdusIn cs)) log (x .receiver) ≡ followed (length cs) (length words) (all .pdus) words (unchanged 0 0 (end .receiver) (end .carry) [] (logLeft x log cs))
+      unfolding batchReceived oneByOne
       ends =
           let t : eqb (batchNumber lengths (x .carry) (concatenated (pdusIn cs)) log (x .receiver)) 0 ≡ true = eq-eqb (batchNumber lengths (x .carry) (concatenated (pdusIn cs)) log (x .receiver)) 0 right-number in
           rw t (ap₂ (λ (ns ps : List ℕ). oneByOne ns (x .receiver) (x .carry) ps log) (sym (append-nil lengths)) (sym (append-nil (concatenated (pdusIn cs)))) ∙ all .is)
@@ -222,7 +223,7 @@ module _ (mode stream register entitled : ℕ) (m : Mode) (l : listing mode stre
       pdus′ = concatenated (pdusIn cs) ++ bytes
 
       abbrev whole : Result
-      whole = received lengths′ (x .carry) pdus′ log (x .receiver)
+      whole = batchReceived lengths′ (x .carry) pdus′ log (x .receiver)
 
       abbrev later : Result
       later = oneByOne ls (end .receiver) (end .carry) bytes (logLeft x log cs)
@@ -231,7 +232,7 @@ module _ (mode stream register entitled : ℕ) (m : Mode) (l : listing mode stre
       some = joins cs ps x log ls bytes each good
 
       batch-stops : Does x lengths′ pdus′ log end words
-      unfolding received
+      unfolding batchReceived
       batch-stops = go (eqb (batchNumber lengths′ (x .carry) pdus′ log (x .receiver)) 0) refl
         where
           go : (b : Bool) → eqb (batchNumber lengths′ (x .carry) pdus′ log (x .receiver)) 0 ≡ b → Does x lengths′ pdus′ log end words

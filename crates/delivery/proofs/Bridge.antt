@@ -23,7 +23,7 @@ use Rattle.log.proofs.Packets.{FitAll}
 use Rattle.reassembly.specs.Reassembly.{Said, Outcome, received}
 use Rattle.reassembly.specs.Rights.{Rights, Label, under}
 use Rattle.reassembly.specs.Tally.{Countable}
-use Rattle.reassembly.specs.Holder.{Come, lost, came, Holder, saidTo, holderFor, after}
+use Rattle.reassembly.specs.Holder.{Come, Holder, saidTo}
 use Rattle.reassembly.proofs.Fitting.{SaneSaid, fit-received}
 use Rattle.reassembly.proofs.Blind.{blankSaid}
 use Rattle.runs.proofs.Blind.{received-same, holder-same}
@@ -36,6 +36,7 @@ use Rattle.runs.proofs.Bridges.{serves-one, serves-none}
 use Rattle.runs.proofs.General.{countable-less}
 use Rattle.batch.proofs.Single.{kept}
 use Rattle.batch.proofs.OneByOne.{none-taken}
+use Rattle.runs.proofs.Events.{lost, came, holderFor, after}
 use Rattle.delivery.proofs.Parts.{answerOf}
 use Rattle.delivery.specs.Delivery.{Station, Call, receive, batch, markLost, stationAfter, takenBy, RefusedAfter, loggedBy, defined, HeaderAltered, alone, paired}
 use Rattle.delivery.specs.Copies.{frontLength, restored, bytesAt, crcAt}

@@ -17,18 +17,17 @@ use Rattle.expansion.specs.Expansion.{chained}
 use Rattle.expansion.specs.Writing.{expansionBytes}
 use Rattle.packing.specs.Packing.{largestUpTo, mostPieces, fit, wholesFrom, partAfter, partFrom}
 use Rattle.pieces.specs.Pieces.{total}
-use Rattle.log.specs.Log.{Entry, packet, logWords, packetWords}
+use Rattle.log.specs.Log.{Entry, packet, logWords, packetWords, sameList}
 use Rattle.reassembly.specs.Rights.{Label}
 use Rattle.writer.specs.Writing.{writeAnswer}
 use Rattle.receiver.specs.Entitling.{allPrograms}
 use Rattle.runs.proofs.Model.{wholePackets}
 use Rattle.runs.proofs.Promise.{arrivedBy}
 use Rattle.runs.specs.Transmissions.{Way, here}
-use Rattle.diversity.specs.Diversity.{sameBytes}
 use Rattle.delivery.specs.Delivery.{Station, defined, Step, receives, alone, paired, callOf, runOf, HeaderAltered, Through}
 use Rattle.delivery.proofs.Parts.{freshStation, logsFrom, dueEntries, runWith}
 use Rattle.delivery.specs.Entitlement.{labelsFrom, rightsFor}
-use Rattle.delivery.specs.Copies.{pieceAt, asSent, waysFrom, Damaged}
+use Rattle.delivery.specs.Copies.{sealedPiece, asSent, waysFrom, Damaged}
 use Rattle.delivery.proofs.SoundSteps.{causesFor}
 use Rattle.delivery.specs.Bursts.{Hit}
 use Rattle.delivery.proofs.Entitling.{all-allowed}
@@ -41,7 +40,7 @@ use Rattle.delivery.proofs.Theorem.{none-hit}
 
 -- ---- the first PDU
 
-burst-pieces : (k : ℕ) → k < controlAt sent .nop → InEight (pieceAt 16 sent sent k) (pieceAt 16 sent (pdu 1 9) k)
+burst-pieces : (k : ℕ) → k < controlAt sent .nop → InEight (sealedPiece 16 sent sent k) (sealedPiece 16 sent (pdu 1 9) k)
 unfolding controlOf locator16
 burst-pieces zero h = unaltered (replicate 100 1 ++ (crcFrom 0 (replicate 100 1) ∷ []))
 burst-pieces (suc zero) h = one-byte (replicate 39 2) (crcFrom 0 (replicate 40 2) ∷ []) 2 9
@@ -52,17 +51,17 @@ unfolding controlOf
 comes = record {
   header = within 1 9 second-bytes;
   front = drop-taken 96 18 second ∙ sym (drop-taken 96 18 sent);
-  pieces = λ k h e. subst (λ (y : List ℕ). InEight (pieceAt 16 sent sent k) (pieceAt 16 sent y k)) (sym (restored-is 1 9 second-bytes)) (burst-pieces k h);
+  pieces = λ k h e. subst (λ (y : List ℕ). InEight (sealedPiece 16 sent sent k) (sealedPiece 16 sent y k)) (sym (restored-is 1 9 second-bytes)) (burst-pieces k h);
 }
 
 -- the first piece was not hit, and the second was
 pub one-hit : (asSent 16 sent second 0 ≡ true) × (asSent 16 sent second 1 ≡ false)
-unfolding controlOf locator16 sameBytes altered alterAt crcFrom crcByte crcBits crcBit
+unfolding controlOf locator16 sameList altered alterAt crcFrom crcByte crcBits crcBit
 one-hit = (refl, refl)
 
 -- byte 95 is altered: if it counted, the first piece would be hit, whose packet is logged
-pub last-of-header : sameBytes (pieceAt 16 sent (take 95 sent ++ drop 95 second) 0) (pieceAt 16 sent sent 0) ≡ false
-unfolding controlOf locator16 sameBytes altered alterAt
+pub last-of-header : sameList (sealedPiece 16 sent (take 95 sent ++ drop 95 second) 0) (sealedPiece 16 sent sent 0) ≡ false
+unfolding controlOf locator16 sameList altered alterAt
 last-of-header = refl
 
 -- ---- the run

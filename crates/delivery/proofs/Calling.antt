@@ -14,7 +14,7 @@ use Rattle.modes.specs.declared.Mode.{Mode}
 use Rattle.modes.specs.declared.Listing.{Listing}
 use Rattle.modes.specs.declared.Listing.the-variants.{Listed}
 use Rattle.reassembly.specs.Reassembly.{following}
-use Rattle.writer.specs.Writing.{writerTests, pduOf, nextOf, acceptedAnswer, refusedAnswer, answerIn, writeAnswer, pduIn, writtenPdu}
+use Rattle.writer.specs.Writing.{writerTests, pduOf, nextOf, acceptedAnswer, refusedWrite, answerIn, writeAnswer, pduIn, writtenPdu}
 use Rattle.writer.specs.declared.Writer.{Writer}
 use Rattle.writer.specs.declared.Written.{Written}
 use Rattle.delivery.specs.Delivery.{Writing, answerTo, bufferAfter}
@@ -63,22 +63,22 @@ module _ (mode stream register : ℕ) (m : Mode) (l : listing mode stream ≡ Li
     abbrev acc : Written
     acc = acceptedAnswer (a .settings) (a .psd) (a .lengths) (a .bytes) (length (a .buffer)) m w
 
-    answer-by : answerTo w a ≡ cond (eqb (numberAt q i s a) 0) acc (refusedAnswer w (numberAt q i s a))
+    answer-by : answerTo w a ≡ cond (eqb (numberAt q i s a) 0) acc (refusedWrite w (numberAt q i s a))
     unfolding writeAnswer
     answer-by = ap (λ (k : Listing). answerIn (a .settings) (a .psd) (a .lengths) (a .bytes) (length (a .buffer)) k w) l
 
     pub refusal-is : answerTo w a .refusal ≡ numberAt q i s a
     refusal-is = ap (λ (r : Written). r .refusal) answer-by ∙ go (eqb (numberAt q i s a) 0) refl
       where
-        go : (b : Bool) → eqb (numberAt q i s a) 0 ≡ b → cond b acc (refusedAnswer w (numberAt q i s a)) .refusal ≡ numberAt q i s a
+        go : (b : Bool) → eqb (numberAt q i s a) 0 ≡ b → cond b acc (refusedWrite w (numberAt q i s a)) .refusal ≡ numberAt q i s a
         go true e = sym (eqb-true (numberAt q i s a) 0 e)
         go false e = refl
 
     pub refused-writer : eqb (numberAt q i s a) 0 ≡ false → answerTo w a .writer ≡ w
-    refused-writer e = ap (λ (r : Written). r .writer) answer-by ∙ ap (λ (b : Bool). cond b acc (refusedAnswer w (numberAt q i s a)) .writer) e
+    refused-writer e = ap (λ (r : Written). r .writer) answer-by ∙ ap (λ (b : Bool). cond b acc (refusedWrite w (numberAt q i s a)) .writer) e
 
     pub accepted-writer : eqb (numberAt q i s a) 0 ≡ true → answerTo w a .writer ≡ nextOf (a .settings) (a .psd) (a .lengths) (a .bytes) (length (a .buffer)) m w
-    accepted-writer e = ap (λ (r : Written). r .writer) answer-by ∙ ap (λ (b : Bool). cond b acc (refusedAnswer w (numberAt q i s a)) .writer) e
+    accepted-writer e = ap (λ (r : Written). r .writer) answer-by ∙ ap (λ (b : Bool). cond b acc (refusedWrite w (numberAt q i s a)) .writer) e
 
     pub accepted-pdu : eqb (numberAt q i s a) 0 ≡ true → bufferAfter w a ≡ pduOf (a .settings) (a .psd) (a .lengths) (a .bytes) (length (a .buffer)) m w
     unfolding writtenPdu

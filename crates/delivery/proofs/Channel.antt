@@ -21,8 +21,7 @@ use Rattle.log.specs.Log.{logWords, packetWords}
 use Rattle.pdu.specs.Reading.{modeIn}
 use Rattle.reassembly.specs.Reassembly.{Piece, following}
 use Rattle.reassembly.specs.Tally.{noTally, tallied}
-use Rattle.reassembly.specs.Holder.{opened}
-use Rattle.writer.specs.Writing.{opened as writerOpened, openedAs as writerOpenedAs}
+use Rattle.writer.specs.Writing.{writerOpened, openedAs as writerOpenedAs}
 use Rattle.writer.specs.RoundTrip.{Bytes}
 use Rattle.writer.specs.declared.Writer.{Writer}
 use Rattle.receiver.specs.Entitling.{allowedPrograms, maskOf}
@@ -35,6 +34,7 @@ use Rattle.runs.proofs.Promise.{arrivedBy, indices}
 use Rattle.runs.proofs.Calls.{Load, labelsOf, LoadsFit, Machine, spansFrom as spansOfLoads, speechesFrom, Matching, Bridge, Step as Part, handed, waysHanded, Through as Goes, logsFrom as logsOf, finally as lastOf, AllGood}
 use Rattle.runs.proofs.General.{Asked as RunAsked, general}
 use Rattle.runs.proofs.Promised.{arrivals-told, promised}
+use Rattle.runs.proofs.Events.{openedHolder}
 use Rattle.delivery.specs.Delivery.{Packets, Writing, pdusFrom, spansFrom, InOrder, Station, receive, markLost, defined, stationAfter, loggedBy, finally, runOf, alone, paired}
 use Rattle.delivery.proofs.Parts.{freshStation, NoneRefused, logsFrom, made as madeBy, spans as spansOf, EntriesFit, dueEntries, dueIndices}
 use Rattle.delivery.proofs.SoundSteps.{causesFor, Came, Step, receives, pairs, batches, stops, loses, refuses, callOf, AllCopies, Through, Takes, waysIn, ways, Asked, Delivered, SoundDelivery}
@@ -180,7 +180,7 @@ unfolding openedFor openingNumber
 fresh-receiver mode stream register programs m l a = rw (l, a)
 
 pub shows-fresh : (mode stream register entitled : ℕ) (m : Mode) (l : listing mode stream ≡ Listed m) (range : 0 < m .sequences) (carry : List ℕ) → 4096 ≤ length carry
-    → Shows mode stream register entitled m l range (record { receiver = freshFor mode stream register entitled; carry = carry }) opened
+    → Shows mode stream register entitled m l range (record { receiver = freshFor mode stream register entitled; carry = carry }) openedHolder
 unfolding memoryOf
 shows-fresh mode stream register entitled m l range carry big =
     let q : leb (m .sequences) 0 ≡ false = lt-leb (m .sequences) 0 range in

@@ -13,7 +13,7 @@ use Rattle.runs.specs.Spans.{lies, every, dueAt, wholeIndices, entriesAt}
 use Rattle.runs.specs.Transmissions.{Way}
 use Rattle.runs.proofs.Model.{wholePackets}
 use Rattle.runs.proofs.Spans.{entries-are}
-use Rattle.delivery.specs.Delivery.{Writing, HeaderAltered, Coming, Station, Behaviour, Step, callOf, Takes, receptions, finally, inReceived, Run, runOf, freshStation as freshIn, spans as spansIn, made as madeIn, Asked as AskedBy, Claim, Holds, demand3, Demand3For}
+use Rattle.delivery.specs.Delivery.{Writing, HeaderAltered, Coming, Station, Behaviour, Step, callOf, NotRefused, receptions, finally, inReceived, Run, runOf, freshStation as freshIn, spans as spansIn, made as madeIn, Asked as AskedBy, Claim, Holds, demand3, Demand3For}
 use Rattle.delivery.specs.Copies.{widthIn, waysOf}
 use Rattle.delivery.specs.Entitlement.{fates, forPrograms}
 use Rattle.delivery.proofs.Parts.{runWith, freshStation, EntriesFit, NoneRefused, logsFrom, spans, arrivedEntries, dueEntries, waysBy, Asked}
@@ -22,7 +22,7 @@ use Rattle.delivery.proofs.Theorem.{same-ways}
 
 -- what a claim says of a run of so few packets, by the packets as they are logged
 pub record Logged (b : Behaviour) (x : Station) (steps : List Step) (es : List Entry) : Type 0 where
-  pub accepted : NoneRefused b callOf Takes x steps
+  pub accepted : NoneRefused b callOf NotRefused x steps
   pub log : packetWords (logsFrom b x (map callOf steps)) ≡ logWords es
   pub counts : tallyOf (finally b x (map callOf steps) .receiver) ≡ tallied noTally es
 

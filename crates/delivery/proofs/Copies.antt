@@ -25,7 +25,7 @@ use Rattle.correction.proofs.MarkLists.{allowed-marks}
 use Rattle.correction.proofs.Marking.{with-some}
 use Rattle.correction.proofs.Theorem.{corrects-with}
 use Rattle.expansion.specs.Expansion.{chainLength, expansionLength}
-use Rattle.pdu.specs.Reading.{afterLocators, expansionBytes, markAt, startAt, lengthAt, psdOf, wrongLa, fieldsOf, correctedTests, listingOf, modeIn, answered, accepted, judged, widthOf, uncorrectable}
+use Rattle.pdu.specs.Reading.{afterLocators, expansionCount, markAt, startAt, lengthAt, psdOf, wrongLa, fieldsOf, correctedTests, listingOf, modeIn, answered, accepted, judged, widthOf, uncorrectable}
 use Rattle.pdu.specs.declared.ExpansionFields.{ExpansionFields}
 use Rattle.pdu.specs.declared.Reading.{Reading}
 use Rattle.pdu.proofs.Ignored.{control-same, locator-same, reserved-ignored}
@@ -185,14 +185,14 @@ module _ (register width : ℕ) (p marks q : List ℕ) (sound : ℕ → Bool) (w
 
   -- ---- PSD
 
-  expansion-is : expansionBytes width c y ≡ expansionBytes width c p
+  expansion-is : expansionCount width c y ≡ expansionCount width c p
   unfolding expansionLength
   expansion-is = ap (λ (l : List ℕ). cond (c .flag) (chainLength (take 16 (drop (afterLocators width c) l))) 0) (front)
 
   psd-is : take (psdOf width c y .length) (drop (psdOf width c y .start) y) ≡ take (psdOf width c p .length) (drop (psdOf width c p .start) p)
   psd-is =
       ap (λ (n : ℕ). take (c .la + 1 - (afterLocators width c + n)) (drop (afterLocators width c + n) y)) expansion-is
-      ∙ same-slice (afterLocators width c + expansionBytes width c p) (c .la + 1) y p (front)
+      ∙ same-slice (afterLocators width c + expansionCount width c p) (c .la + 1) y p (front)
 
   -- ---- pieces
 

@@ -16,7 +16,7 @@ use Rattle.pdu.specs.Reading.{modeIn}
 use Rattle.pieces.specs.Pieces.{total}
 use Rattle.reassembly.specs.Reassembly.{following}
 use Rattle.reassembly.specs.Rights.{Label}
-use Rattle.writer.specs.Writing.{writerTests, placed, endedOf, partOf, pduOf}
+use Rattle.writer.specs.Writing.{writerTests, placedLengths, endedOf, partOf, pduOf}
 use Rattle.writer.specs.declared.Writer.{Writer}
 use Rattle.runs.proofs.Model.{cut, Fits, sentAfter, saidOf, bytesIn}
 use Rattle.runs.specs.Spans.{Span, packetAt}
@@ -63,9 +63,9 @@ module _ (mode stream register : ℕ) (m : Mode) (l : listing mode stream ≡ Li
     writer-is : eqb (answerTo w a .refusal) 0 ≡ eqb n 0
     writer-is = ap (λ (x : ℕ). eqb x 0) (refusal-is mode stream register m l q i s a)
 
-    placed-is : placedAt mode stream ps g a ≡ total (placed (a .settings) (a .psd) (a .lengths) (a .bytes) (length (a .buffer)) m w)
+    placed-is : placedAt mode stream ps g a ≡ total (placedLengths (a .settings) (a .psd) (a .lengths) (a .bytes) (length (a .buffer)) m w)
     placed-is =
-        ap₂ (λ (k : Listing) (x : Writer). total (placed (a .settings) (a .psd) (a .lengths) (a .bytes) (length (a .buffer)) (modeIn k) x)) l told-is
+        ap₂ (λ (k : Listing) (x : Writer). total (placedLengths (a .settings) (a .psd) (a .lengths) (a .bytes) (length (a .buffer)) (modeIn k) x)) l told-is
 
     -- a refused call makes nothing
     refused-pdus : eqb n 0 ≡ false → pdusFrom w (a ∷ al) ≡ pdusFrom w al

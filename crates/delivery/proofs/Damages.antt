@@ -14,7 +14,7 @@ use Rattle.burst.proofs.Strings.{hit-burst}
 use Rattle.header.proofs.Unique.{all-bytes, all-take, all-drop}
 use Rattle.layout.specs.Control.{controlAt}
 use Rattle.layout.specs.Locators.{locatorAt}
-use Rattle.log.specs.Log.{logWords, packetWords}
+use Rattle.log.specs.Log.{logWords, packetWords, sameList}
 use Rattle.pdu.specs.Reading.{startAt, lengthAt}
 use Rattle.writer.specs.RoundTrip.{Bytes}
 use Rattle.reassembly.specs.Tally.{noTally, tallied}
@@ -23,10 +23,9 @@ use Rattle.receiver.specs.Receiving.{tallyOf}
 use Rattle.runs.specs.Spans.{lies, dueAt}
 use Rattle.runs.specs.Transmissions.{Way, gone, here}
 use Rattle.runs.proofs.Spans.{entries-are}
-use Rattle.diversity.specs.Diversity.{sameBytes}
-use Rattle.diversity.proofs.Bytes.{same-itself, same-true}
-use Rattle.delivery.specs.Delivery.{concatenated, Station, Call, receive, batch, markLost, Behaviour, defined, stationAfter, RefusedAfter, HeaderAltered, Coming, Copies, alone, paired, Comes, AllCome, Step, receives, batches, stops, loses, refuses, callOf, Takes, Through, finally, Run, runOf, made, freshStation, spans, Asked}
-use Rattle.delivery.specs.Copies.{frontLength, restored, bytesAt, crcAt, pieceAt, asSent, soundIn, cameAs, Damage, Damaged, waysIn, waysFrom, widthIn}
+use Rattle.log.proofs.Same.{same-true, same-itself}
+use Rattle.delivery.specs.Delivery.{concatenated, Station, Call, receive, batch, markLost, Behaviour, defined, stationAfter, RefusedAfter, HeaderAltered, Coming, Copies, alone, paired, Comes, AllCome, Step, receives, batches, stops, loses, refuses, callOf, NotRefused, Through, finally, Run, runOf, made, freshStation, spans, Asked}
+use Rattle.delivery.specs.Copies.{frontLength, restored, bytesAt, crcAt, sealedPiece, asSent, soundIn, cameAs, Damage, Damaged, waysIn, waysFrom, widthIn}
 use Rattle.delivery.specs.Entitlement.{EntitledDelivery, forPrograms, fates}
 use Rattle.delivery.specs.Diversity.{WrongCrc, EntitledPairDelivery}
 use Rattle.delivery.specs.Bursts.{Hit, BurstDelivery}
@@ -81,9 +80,9 @@ front-of n p q h e = go (decLe n 96)
 -- ---- a copy
 
 module _ (register width : ℕ) (marks p q : List ℕ) (w : Usable p) (x : Damaged WrongOrHit register width marks p q) where
-  piece-bytes : (y : List ℕ) → Bytes y → (k i : ℕ) → getD (pieceAt width p y k) i 0 < 256
+  piece-bytes : (y : List ℕ) → Bytes y → (k i : ℕ) → getD (sealedPiece width p y k) i 0 < 256
   piece-bytes y h k =
-      all-bytes (pieceAt width p y k)
+      all-bytes (sealedPiece width p y k)
       (all-join (λ n. n < 256) (bytesAt width p y k) (crcAt width p y k ∷ [])
       (bytes-take (lengthAt width (controlAt p) p k) (drop (startAt width (controlAt p) p k) y) (bytes-drop (startAt width (controlAt p) p k) y h))
       (all-bytes y h (locatorAt width p k), tt))
@@ -92,12 +91,12 @@ module _ (register width : ℕ) (marks p q : List ℕ) (w : Usable p) (x : Damag
   bytes-right = all-join (λ n. n < 256) (take 96 p) (drop 96 q) (all-take 96 p (all-bytes p (w .0))) (all-drop 96 q (x .header .bytes))
 
   -- a piece that was hit, one bit at least being altered
-  hit-damage : (k : ℕ) → k < controlAt p .nop → asSent width p q k ≡ false → ¬ (pieceAt width p p k ≡ pieceAt width p (restored p q) k)
-  hit-damage k h e s = true≢false (sym (same-itself (pieceAt width p p k)) ∙ ap (λ (l : List ℕ). sameBytes l (pieceAt width p p k)) s ∙ e)
+  hit-damage : (k : ℕ) → k < controlAt p .nop → asSent width p q k ≡ false → ¬ (sealedPiece width p p k ≡ sealedPiece width p (restored p q) k)
+  hit-damage k h e s = true≢false (sym (same-itself (sealedPiece width p p k)) ∙ ap (λ (l : List ℕ). sameList l (sealedPiece width p p k)) s ∙ e)
 
   damage : (k : ℕ) → k < controlAt p .nop → asSent width p q k ≡ false → WrongOrHit register width p (restored p q) k → PieceDamage register width p (restored p q) k
   damage k h e (inl d) = wrong d
-  damage k h e (inr d) = burst (hit-burst (pieceAt width p p k) (pieceAt width p (restored p q) k) (piece-bytes p (w .0) k) (piece-bytes (restored p q) bytes-right k) d (hit-damage k h e))
+  damage k h e (inr d) = burst (hit-burst (sealedPiece width p p k) (sealedPiece width p (restored p q) k) (piece-bytes p (w .0) k) (piece-bytes (restored p q) bytes-right k) d (hit-damage k h e))
 
   front-as-sent : take (frontLength p) (restored p q) ≡ take (frontLength p) p
   front-as-sent = front-of (frontLength p) p q (w .1) (x .front)
@@ -107,7 +106,7 @@ module _ (register width : ℕ) (marks p q : List ℕ) (w : Usable p) (x : Damag
   as-copy = record {
     header = x .header;
     front = front-as-sent;
-    whole = λ k h e. last-same (bytesAt width p (restored p q) k) (bytesAt width p p k) (crcAt width p (restored p q) k) (crcAt width p p k) (same-true (pieceAt width p (restored p q) k) (pieceAt width p p k) e);
+    whole = λ k h e. last-same (bytesAt width p (restored p q) k) (bytesAt width p p k) (crcAt width p (restored p q) k) (crcAt width p p k) (same-true (sealedPiece width p (restored p q) k) (sealedPiece width p p k) e);
     found = λ k h e. damage k h e (x .pieces k h e);
   }
 
@@ -164,7 +163,7 @@ same-ways width (loses log ∷ ss) (p ∷ ps) = ap (λ (l : List Way). gone ∷ 
 
 -- a batch that takes all its copies takes as many PDUs
 batch-takes : (x : Station) (cs : List Came) (qs : List (List ℕ)) (log : List ℕ) → soundCall (takesAll cs log) ≡ callOf (batches qs log) → length cs ≡ length qs
-    → SoundTakes (takesAll cs log) (answerOf x (soundCall (takesAll cs log))) → Takes (batches qs log) (answerOf x (callOf (batches qs log)))
+    → SoundTakes (takesAll cs log) (answerOf x (soundCall (takesAll cs log))) → NotRefused (batches qs log) (answerOf x (callOf (batches qs log)))
 batch-takes x cs qs log e n a =
     let t = subst (λ (c : Call). answerOf x c .taken ≡ length cs) e (a .1) in
     (subst (λ (c : Call). answerOf x c .refusal ≡ 0) e (a .0), omega (arith, t, n))
@@ -190,14 +189,14 @@ module _ (register width : ℕ) where
   record Same (x : Station) (ps : List (List ℕ)) (ss : List Step) (ts : List SoundStep) : Type 0 where
     goes : Goes register width x ps ts
     calls : map soundCall ts ≡ map callOf ss
-    accepted : NoneRefused defined soundCall SoundTakes x ts → NoneRefused defined callOf Takes x ss
+    accepted : NoneRefused defined soundCall SoundTakes x ts → NoneRefused defined callOf NotRefused x ss
 
   -- a call, and those after it
   module _ (s : Step) (t : SoundStep) (e : soundCall t ≡ callOf s) (ss : List Step) (ts : List SoundStep) (x : Station) (qs : List (List ℕ)) (r : Same (stationAfter defined x (callOf s)) qs ss ts) where
     goes-on : Goes register width (stationAfter defined x (soundCall t)) qs ts
     goes-on = subst (λ (c : Call). Goes register width (stationAfter defined x c) qs ts) (sym e) (r .goes)
 
-    with-call : (ps : List (List ℕ)) → Goes register width x ps (t ∷ ts) → (SoundTakes t (answerOf x (soundCall t)) → Takes s (answerOf x (callOf s))) → Same x ps (s ∷ ss) (t ∷ ts)
+    with-call : (ps : List (List ℕ)) → Goes register width x ps (t ∷ ts) → (SoundTakes t (answerOf x (soundCall t)) → NotRefused s (answerOf x (callOf s))) → Same x ps (s ∷ ss) (t ∷ ts)
     with-call ps g f = record {
       goes = g;
       calls = ap₂ (λ (c : Call) (cs : List Call). c ∷ cs) e (r .calls);
@@ -328,7 +327,7 @@ module _ (register width : ℕ) (marks p q : List ℕ) where
 
     -- every piece is as sent
     pub all-sound : (k : ℕ) → asSent width p q k ≡ true
-    all-sound k = ap (λ (y : List ℕ). sameBytes (pieceAt width p y k) (pieceAt width p p k)) same-read ∙ same-itself (pieceAt width p p k)
+    all-sound k = ap (λ (y : List ℕ). sameList (sealedPiece width p y k) (sealedPiece width p p k)) same-read ∙ same-itself (sealedPiece width p p k)
 
     pub no-damage : (damage : Damage) → Damaged damage register width marks p q
     no-damage damage = record {

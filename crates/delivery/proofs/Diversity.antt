@@ -10,14 +10,14 @@ use borrow.Author.Tests.{eq-eqb, le-ltb}
 use lib.ListN.{length, getD, take, drop}
 use Rattle.refusal.specs.Refusal.{firstOf}
 use Rattle.refusal.proofs.Rows.{row-off, rest-off}
-use Rattle.modes.specs.Modes.{listing, numberOf}
+use Rattle.modes.specs.Modes.{listing, listingNumber}
 use Rattle.modes.specs.declared.Mode.{Mode}
 use Rattle.modes.specs.declared.Listing.the-variants.{Listed}
 use Rattle.buffer.proofs.Laws.{take-put}
 use Rattle.header.specs.Header.{lengthRefusal}
 use Rattle.layout.specs.Control.{controlAt}
 use Rattle.layout.specs.declared.ControlWord.{ControlWord}
-use Rattle.log.specs.Log.{logWords}
+use Rattle.log.specs.Log.{logWords, sameList}
 use Rattle.correction.specs.Correction.{corrected, answerFor, correctionOf, correctedPdu}
 use Rattle.correction.specs.Marks.{correctedWith, correctedPduWith}
 use Rattle.correction.proofs.Decoding.{no-marks}
@@ -25,15 +25,17 @@ use Rattle.correction.proofs.Answers.{no-marks-pdu}
 use Rattle.pdu.specs.Reading.{modeIn, listingOf, correctedTests, readerTests, judged, uncorrectable}
 use Rattle.reassembly.specs.Reassembly.{Outcome, received}
 use Rattle.reassembly.specs.Tally.{Countable}
-use Rattle.reassembly.specs.Holder.{Come, came, Holder, saidTo, holderFor}
+use Rattle.reassembly.specs.Holder.{Come, Holder, saidTo}
 use Rattle.reassembly.proofs.Fitting.{SaneSaid}
 use Rattle.receiver.specs.Receiving.{labelIn}
 use Rattle.receiver.specs.Steps.{stateTests, streamTests}
 use Rattle.receiver.specs.declared.Receiver.{Receiver}
 use Rattle.batch.proofs.Single.{kept}
-use Rattle.diversity.specs.Diversity.{correctable, sameBytes, pairSaid, pairCome, frontOf, copyNumber, differ, Result, come, said, pairWords, tallyAfter, pairNumber, together, receivedBy, pairReceived}
-use Rattle.diversity.proofs.Bytes.{same-itself}
+use Rattle.diversity.specs.Diversity.{correctable, pairSaid, pairCome, frontOf, copyNumber, differ, PairResult, pairAs, pairNumber, together, receivedBy, pairReceived}
 use Rattle.pair.proofs.Enough.{Passes, taken, passes-taken, passes-most}
+use Rattle.log.proofs.Same.{same-itself}
+use Rattle.runs.proofs.Events.{came, holderFor}
+use Rattle.diversity.proofs.AfterPair.{pairTold, pairWords, pairTally}
 use Rattle.delivery.proofs.Parts.{answerOf}
 use Rattle.delivery.specs.Delivery.{Station, ofOne, stationAfter, loggedBy, defined, paired, receive}
 use Rattle.delivery.proofs.Copies.{same-slice}
@@ -42,7 +44,7 @@ use Rattle.delivery.proofs.Serving.{rightsBy, Shows, mode-is, taking, o
 
 -- ---- a refused pair leaves receiver and carry
 
-abbrev Keeps : List ℕ → Receiver → Result → Type 0
+abbrev Keeps : List ℕ → Receiver → PairResult → Type 0
 Keeps carry r x = ¬ (x .answer .refusal ≡ 0) → (x .answer .receiver ≡ r) × (x .carry ≡ carry)
 
 module _ (carry p q log : List ℕ) (r : Receiver) where
@@ -93,7 +95,7 @@ module _ (mode stream register entitled : ℕ) (m : Mode) (l : listing mode stre
         subst (λ (z : List ℕ). firstOf (streamTests (x .receiver) (controlAt z) ++ readerTests (modeIn (listingOf (controlAt z))) (controlAt z) z) ≡ 0) (no-marks-pdu p)
         (let z = correctedPduWith [] p in
         let c = controlAt z in
-        let e5 : not (eqb (numberOf (listingOf c)) 0) ≡ false = row-off (correctedTests c z) 0 refl (h .reads) in
+        let e5 : not (eqb (listingNumber (listingOf c)) 0) ≡ false = row-off (correctedTests c z) 0 refl (h .reads) in
         let em : eqb (c .mode) (x .receiver .mode) ≡ true = eq-eqb (c .mode) (x .receiver .mode) (h .sameMode ∙ sym (v .sameMode)) in
         let es : eqb (c .stream) (x .receiver .stream) ≡ true = eq-eqb (c .stream) (x .receiver .stream) (h .sameStream ∙ sym (v .sameStream)) in
         rw (e5, em, es) (rest-off (correctedTests c z) 1 refl (h .reads)))
@@ -109,7 +111,7 @@ module _ (mode stream register entitled : ℕ) (m : Mode) (l : listing mode stre
         let fa : frontOf a ≡ take (c .la + 1 - 8) (drop 8 a) = ap (λ (k : ControlWord). take (k .la + 1 - 8) (drop 8 a)) ea in
         let fb : frontOf b ≡ take (c .la + 1 - 8) (drop 8 b) = ap (λ (k : ControlWord). take (k .la + 1 - 8) (drop 8 b)) eb in
         let f : frontOf b ≡ frontOf a = fb ∙ sym (same-slice 8 (c .la + 1) a b front) ∙ sym fa in
-        let s : sameBytes (frontOf a) (frontOf b) ≡ true = ap (sameBytes (frontOf a)) f ∙ same-itself (frontOf a) in
+        let s : sameList (frontOf a) (frontOf b) ≡ true = ap (sameList (frontOf a)) f ∙ same-itself (frontOf a) in
         rw (t, s)
 
     pub pair-passes : (c : ControlWord) (p q log : List ℕ) (d e : Come) → Heard mode stream register (m .width) [] p d → Heard mode stream register (m .width) [] q e
@@ -135,26 +137,26 @@ module _ (mode stream register entitled : ℕ) (m : Mode) (l : listing mode stre
       abbrev carry : List ℕ
       carry = x .carry
 
-      come-is : come carry p q log r ≡ d
+      come-is : pairAs carry p q log r ≡ d
       come-is = ap₂ (λ (i : ℕ) (t : Mode). pairCome i (t .width) (controlAt (correctedPdu p)) (correctedPdu p) (correctedPdu q)) (v .sameRegister) (ap modeIn (mode-is mode stream register entitled m l range r (v .sameMode) (v .sameStream))) ∙ comes
 
-      not-over : Countable (tallyAfter carry p q log r)
-      not-over = subst Countable (sym (tally-is mode stream register entitled m l range x y v (come carry p q log r) d come-is)) within
+      not-over : Countable (pairTally carry p q log r)
+      not-over = subst Countable (sym (tally-is mode stream register entitled m l range x y v (pairAs carry p q log r) d come-is)) within
 
       all-taken : pairReceived carry p q log r ≡ taken carry p q log r
       all-taken = passes-taken carry p q log r h (let n = passes-most carry p q log r h bytes in omega (arith, n, big)) not-over
 
       pub pair-accepted : answerOf x (receive (paired p q) log) .refusal ≡ 0
-      pair-accepted = ap (λ (z : Result). z .answer .refusal) all-taken
+      pair-accepted = ap (λ (z : PairResult). z .answer .refusal) all-taken
 
       pub pair-logged : loggedBy defined x (receive (paired p q) log) ≡ logWords (received (m .sequences) (y .memory) (saidTo (rightsBy entitled stream m) (m .sequences) y d) .entries)
       pair-logged =
-          ap (λ (z : Result). loggedAlone (ofOne (z .answer)) (z .log)) all-taken
+          ap (λ (z : PairResult). loggedAlone (ofOne (z .answer)) (z .log)) all-taken
           ∙ take-put log (pairWords carry p q log r)
-          ∙ ap (λ (o : Outcome). logWords (o .entries)) (outcome-is mode stream register entitled m l range x y v (come carry p q log r) d come-is)
+          ∙ ap (λ (o : Outcome). logWords (o .entries)) (outcome-is mode stream register entitled m l range x y v (pairAs carry p q log r) d come-is)
 
       pub pair-shows : Shows mode stream register entitled m l range (stationAfter defined x (receive (paired p q) log)) (holderFor (rightsBy entitled stream m) (m .sequences) y (came d))
       pair-shows =
-          let e : stationAfter defined x (receive (paired p q) log) ≡ taking mode stream register entitled m l range x (come carry p q log r) = ap (λ (u : Result). record { receiver = u .answer .receiver; carry = u .carry }) all-taken in
+          let e : stationAfter defined x (receive (paired p q) log) ≡ taking mode stream register entitled m l range x (pairAs carry p q log r) = ap (λ (u : PairResult). record { receiver = u .answer .receiver; carry = u .carry }) all-taken in
           subst (λ (t : Station). Shows mode stream register entitled m l range t (holderFor (rightsBy entitled stream m) (m .sequences) y (came d))) (sym e)
-          (taking-shows mode stream register entitled m l range x y v (come carry p q log r) d come-is s below narrow)
+          (taking-shows mode stream register entitled m l range x y v (pairAs carry p q log r) d come-is s below narrow)

@@ -15,7 +15,7 @@ use Rattle.packing.specs.Packing.{largestUpTo, mostPieces, fit, wholesFrom, par
 use Rattle.pieces.specs.Pieces.{total}
 use Rattle.log.specs.Log.{packet, logWords, packetWords}
 use Rattle.reassembly.specs.Rights.{Label}
-use Rattle.writer.specs.Writing.{opened as writerOpened, writeAnswer}
+use Rattle.writer.specs.Writing.{writerOpened, writeAnswer}
 use Rattle.receiver.specs.Entitling.{allowedPrograms}
 use Rattle.runs.specs.Spans.{Span}
 use Rattle.runs.proofs.Model.{wholePackets}

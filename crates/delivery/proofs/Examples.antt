@@ -3,12 +3,11 @@ use mathlib.Core.Path.{_≡_, refl}
 use mathlib.Core.Bool.{true, false}
 use mathlib.Core.List.{List, [], _∷_, map}
 use Prim.Native.Nat.{ℕ}
-use Rattle.log.specs.Log.{packet, dataWords, entryWords, logWords}
+use Rattle.log.specs.Log.{packet, dataWords, entryWords, logWords, sameList}
 use Rattle.runs.specs.Spans.{Span, lies, packetAt, every, dueAt}
 use Rattle.runs.proofs.Model.{wholePackets}
 use Rattle.runs.proofs.Calls.{plainFate}
 use Rattle.delivery.specs.Delivery.{alreadySent, defined, markLost, loggedBy, inReceived, receives, alone, loses}
-use Rattle.diversity.specs.Diversity.{sameBytes}
 use Rattle.layout.specs.Control.{controlOf}
 use Rattle.layout.specs.Locators.{locator16}
 use Rattle.buffer.specs.Buffer.{putAt}
@@ -35,7 +34,7 @@ second-lost = refl
 
 -- over a channel, the second PDU lost
 pub second-missing : wholePackets (dueAt (lies three fourSpans (map plainFate (waysFrom (asSent 16) ([] ∷ [] ∷ [] ∷ [] ∷ []) (receives (alone [] []) [] ∷ loses [] ∷ receives (alone [] []) [] ∷ receives (alone [] []) [] ∷ []))))) 0 0 three ≡ packet 2 (8 ∷ 9 ∷ 10 ∷ []) ∷ []
-unfolding wholePackets sameBytes controlOf locator16
+unfolding wholePackets sameList controlOf locator16
 second-missing = refl
 
 -- of a PDU marked lost, with a log of two words, the word is logged that the answer counts

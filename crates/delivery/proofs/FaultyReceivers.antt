@@ -32,10 +32,26 @@ withReceiver r a = record { refusal = a .refusal; wrong = a .wrong; taken = a .t
 
 -- the log as it was lent
 abbrev pub lentLog : Call → List ℕ
-lentLog (receive (alone marks pdu) log) = log
+lentLog (receive copies log) = log
 lentLog (batch lengths pdus log) = log
-lentLog (receive (paired first second) log) = log
 lentLog (markLost log) = log
+
+-- what a call says or leaves, but for one kind of call: a PDU alone, a batch, or marking lost
+abbrev pub butAlone : {A : Type 0} → (Station → Call → A) → (Station → List ℕ → List ℕ → List ℕ → A) → Station → Call → A
+butAlone usual own x (receive (alone marks pdu) log) = own x marks pdu log
+butAlone usual own x (batch lengths pdus log) = usual x (batch lengths pdus log)
+butAlone usual own x (receive (paired first second) log) = usual x (receive (paired first second) log)
+butAlone usual own x (markLost log) = usual x (markLost log)
+
+abbrev pub butBatches : {A : Type 0} → (Station → Call → A) → (Station → List ℕ → List ℕ → List ℕ → A) → Station → Call → A
+butBatches usual own x (receive copies log) = usual x (receive copies log)
+butBatches usual own x (batch lengths pdus log) = own x lengths pdus log
+butBatches usual own x (markLost log) = usual x (markLost log)
+
+abbrev pub butLost : {A : Type 0} → (Station → Call → A) → (Station → List ℕ → A) → Station → Call → A
+butLost usual own x (receive copies log) = usual x (receive copies log)
+butLost usual own x (batch lengths pdus log) = usual x (batch lengths pdus log)
+butLost usual own x (markLost log) = own x log
 
 -- an empty log for everything
 abbrev pub silent : Behaviour
@@ -51,52 +67,34 @@ module _ (number : ℕ) (bytes : List ℕ) where
   fixedWords = logWords (packet number bytes ∷ [])
 
   abbrev pub fixedAnswer : Station → Call → Batch
-  fixedAnswer x (receive (alone marks pdu) log) = withWords (length fixedWords) (answerOf x (receive (alone marks pdu) log))
-  fixedAnswer x (batch lengths pdus log) = answerOf x (batch lengths pdus log)
-  fixedAnswer x (receive (paired first second) log) = answerOf x (receive (paired first second) log)
-  fixedAnswer x (markLost log) = answerOf x (markLost log)
+  fixedAnswer = butAlone answerOf (λ x marks pdu log. withWords (length fixedWords) (answerOf x (receive (alone marks pdu) log)))
 
   abbrev pub fixedLog : Station → Call → List ℕ
-  fixedLog x (receive (alone marks pdu) log) = putAt log 0 fixedWords
-  fixedLog x (batch lengths pdus log) = logOf x (batch lengths pdus log)
-  fixedLog x (receive (paired first second) log) = logOf x (receive (paired first second) log)
-  fixedLog x (markLost log) = logOf x (markLost log)
+  fixedLog = butAlone logOf (λ x marks pdu log. putAt log 0 fixedWords)
 
   abbrev pub fixed : Behaviour
   fixed = behaving (defined .opening) fixedAnswer carryOf fixedLog
 
   -- it delivers the packet for every PDU marked lost, and says that it took none
   abbrev pub inventingAnswer : Station → Call → Batch
-  inventingAnswer x (receive (alone marks pdu) log) = answerOf x (receive (alone marks pdu) log)
-  inventingAnswer x (batch lengths pdus log) = answerOf x (batch lengths pdus log)
-  inventingAnswer x (receive (paired first second) log) = answerOf x (receive (paired first second) log)
-  inventingAnswer x (markLost log) = record { refusal = answerOf x (markLost log) .refusal; wrong = 0; taken = 0; words = length fixedWords; receiver = answerOf x (markLost log) .receiver }
+  inventingAnswer = butLost answerOf (λ x log. record { refusal = answerOf x (markLost log) .refusal; wrong = 0; taken = 0; words = length fixedWords; receiver = answerOf x (markLost log) .receiver })
 
   abbrev pub inventingLog : Station → Call → List ℕ
-  inventingLog x (receive (alone marks pdu) log) = logOf x (receive (alone marks pdu) log)
-  inventingLog x (batch lengths pdus log) = logOf x (batch lengths pdus log)
-  inventingLog x (receive (paired first second) log) = logOf x (receive (paired first second) log)
-  inventingLog x (markLost log) = putAt log 0 fixedWords
+  inventingLog = butLost logOf (λ x log. putAt log 0 fixedWords)
 
   abbrev pub inventing : Behaviour
   inventing = behaving (defined .opening) inventingAnswer carryOf inventingLog
 
 -- it joins in the first PDU, and then, by single calls, only advances
 abbrev pub advancingAnswer : Station → Call → Batch
-advancingAnswer x (receive (alone marks pdu) log) = cond (x .receiver .known) (withWords 0 (answerOf x (receive (alone marks pdu) log))) (answerOf x (receive (alone marks pdu) log))
-advancingAnswer x (batch lengths pdus log) = answerOf x (batch lengths pdus log)
-advancingAnswer x (receive (paired first second) log) = answerOf x (receive (paired first second) log)
-advancingAnswer x (markLost log) = answerOf x (markLost log)
+advancingAnswer = butAlone answerOf (λ x marks pdu log. cond (x .receiver .known) (withWords 0 (answerOf x (receive (alone marks pdu) log))) (answerOf x (receive (alone marks pdu) log)))
 
 abbrev pub advancing : Behaviour
 advancing = behaving (defined .opening) advancingAnswer carryOf logOf
 
 -- marking lost leaves it as it was, so that the one-bit sequence may fit again
 abbrev pub joiningAnswer : Station → Call → Batch
-joiningAnswer x (receive (alone marks pdu) log) = answerOf x (receive (alone marks pdu) log)
-joiningAnswer x (batch lengths pdus log) = answerOf x (batch lengths pdus log)
-joiningAnswer x (receive (paired first second) log) = answerOf x (receive (paired first second) log)
-joiningAnswer x (markLost log) = withReceiver (x .receiver) (answerOf x (markLost log))
+joiningAnswer = butLost answerOf (λ x log. withReceiver (x .receiver) (answerOf x (markLost log)))
 
 abbrev pub joining : Behaviour
 joining = behaving (defined .opening) joiningAnswer carryOf logOf
@@ -107,10 +105,7 @@ zeroed = behaving (λ mode stream register programs. defined .opening mode strea
 
 -- a batch hands back the receiver that it got (document 02, Ask 1)
 abbrev pub handingBackAnswer : Station → Call → Batch
-handingBackAnswer x (receive (alone marks pdu) log) = answerOf x (receive (alone marks pdu) log)
-handingBackAnswer x (batch lengths pdus log) = withReceiver (x .receiver) (answerOf x (batch lengths pdus log))
-handingBackAnswer x (receive (paired first second) log) = answerOf x (receive (paired first second) log)
-handingBackAnswer x (markLost log) = answerOf x (markLost log)
+handingBackAnswer = butBatches answerOf (λ x lengths pdus log. withReceiver (x .receiver) (answerOf x (batch lengths pdus log)))
 
 abbrev pub handingBack : Behaviour
 handingBack = behaving (defined .opening) handingBackAnswer carryOf logOf
@@ -161,10 +156,7 @@ abbrev pub servicesKept : Station → Receiver
 servicesKept x = remembering (x .receiver) forgotten (keptOf (x .receiver)) (tallyOf (x .receiver))
 
 abbrev pub keepingAnswer : Station → Call → Batch
-keepingAnswer x (receive (alone marks pdu) log) = answerOf x (receive (alone marks pdu) log)
-keepingAnswer x (batch lengths pdus log) = answerOf x (batch lengths pdus log)
-keepingAnswer x (receive (paired first second) log) = answerOf x (receive (paired first second) log)
-keepingAnswer x (markLost log) = withReceiver (servicesKept x) (answerOf x (markLost log))
+keepingAnswer = butLost answerOf (λ x log. withReceiver (servicesKept x) (answerOf x (markLost log)))
 
 abbrev pub keeping : Behaviour
 keeping = behaving (defined .opening) keepingAnswer carryOf logOf
@@ -198,18 +190,10 @@ module _ (x : Station) (marks pdu log : List ℕ) where
   trustedWords = logWords trustedEntries
 
 abbrev pub trustingAnswer : Station → Call → Batch
-trustingAnswer x (receive (alone marks pdu) log) =
-    let a = answerOf x (receive (alone marks pdu) log) in
-    withWords (cond (eqb (a .refusal) 0) (length (trustedWords x marks pdu log)) 0) a
-trustingAnswer x (batch lengths pdus log) = answerOf x (batch lengths pdus log)
-trustingAnswer x (receive (paired first second) log) = answerOf x (receive (paired first second) log)
-trustingAnswer x (markLost log) = answerOf x (markLost log)
+trustingAnswer = butAlone answerOf (λ x marks pdu log. let a = answerOf x (receive (alone marks pdu) log) in withWords (cond (eqb (a .refusal) 0) (length (trustedWords x marks pdu log)) 0) a)
 
 abbrev pub trustingLog : Station → Call → List ℕ
-trustingLog x (receive (alone marks pdu) log) = cond (eqb (answerOf x (receive (alone marks pdu) log) .refusal) 0) (putAt log 0 (trustedWords x marks pdu log)) log
-trustingLog x (batch lengths pdus log) = logOf x (batch lengths pdus log)
-trustingLog x (receive (paired first second) log) = logOf x (receive (paired first second) log)
-trustingLog x (markLost log) = logOf x (markLost log)
+trustingLog = butAlone logOf (λ x marks pdu log. cond (eqb (answerOf x (receive (alone marks pdu) log) .refusal) 0) (putAt log 0 (trustedWords x marks pdu log)) log)
 
 abbrev pub trusting : Behaviour
 trusting = behaving (defined .opening) trustingAnswer carryOf trustingLog
@@ -235,10 +219,7 @@ uncounted r = record {
 }
 
 abbrev pub resettingAnswer : Station → Call → Batch
-resettingAnswer x (receive (alone marks pdu) log) = answerOf x (receive (alone marks pdu) log)
-resettingAnswer x (batch lengths pdus log) = answerOf x (batch lengths pdus log)
-resettingAnswer x (receive (paired first second) log) = answerOf x (receive (paired first second) log)
-resettingAnswer x (markLost log) = withReceiver (uncounted (answerOf x (markLost log) .receiver)) (answerOf x (markLost log))
+resettingAnswer = butLost answerOf (λ x log. withReceiver (uncounted (answerOf x (markLost log) .receiver)) (answerOf x (markLost log)))
 
 abbrev pub resetting : Behaviour
 resetting = behaving (defined .opening) resettingAnswer carryOf logOf

@@ -21,9 +21,9 @@ use Rattle.receiver.specs.Entitling.{allPrograms}
 use Rattle.runs.specs.Spans.{lies, dueAt, wholeIndices, entriesAt}
 use Rattle.runs.specs.Transmissions.{Way, gone}
 use Rattle.runs.specs.Withheld.{fateIn}
-use Rattle.diversity.specs.Diversity.{sameBytes}
+use Rattle.log.specs.Log.{sameList}
 use Rattle.delivery.specs.Delivery.{Correctable, Coming, Copies, alone, paired, Comes, AllCome, Station, Behaviour, defined, stationAfter, markLost, Step, receives, batches, stops, loses, refuses, callOf, Through, seenFrom, finally, Run, runOf, made, spans, freshStation, Asked, Delivered, Claim, Holds}
-use Rattle.delivery.specs.Copies.{frontLength, restored, bytesAt, crcAt, pieceAt, asSent, Damaged, cameAs, soundIn, waysIn, waysFrom, widthIn}
+use Rattle.delivery.specs.Copies.{frontLength, restored, bytesAt, crcAt, sealedPiece, asSent, Damaged, cameAs, soundIn, waysIn, waysFrom, widthIn}
 use Rattle.delivery.specs.Diversity.{WrongCrc, arrivedPieces}
 use Rattle.delivery.proofs.Parts.{EntriesFit}
 use Rattle.delivery.proofs.Channel.{Usable}
@@ -36,7 +36,7 @@ use Rattle.delivery.proofs.Theorem.{pairs-deliver}
 
 -- piece k, with its CRC byte, is as sent once q is mended
 abbrev pub sentOnceCorrected : (width : ℕ) (p q : List ℕ) → ℕ → Bool
-sentOnceCorrected width p q k = sameBytes (pieceAt width p (correctedPdu q) k) (pieceAt width p p k)
+sentOnceCorrected width p q k = sameList (sealedPiece width p (correctedPdu q) k) (sealedPiece width p p k)
 
 pub record ComesAs (register width : ℕ) (p q : List ℕ) : Type 0 where
   pub bytes : Bytes q
@@ -77,7 +77,7 @@ module _ (p q : List ℕ) (w : Usable p) where
 
     -- a piece is as sent once the copy is mended
     as-sent : Correctable [] p q → (k : ℕ) → sentOnceCorrected width p q k ≡ asSent width p q k
-    as-sent h k = ap (λ (y : List ℕ). sameBytes (pieceAt width p y k) (pieceAt width p p k)) (back h)
+    as-sent h k = ap (λ (y : List ℕ). sameList (sealedPiece width p y k) (sealedPiece width p p k)) (back h)
 
     -- a copy comes so exactly if it comes as Diversity.antt says, with no marks
     pub four-bytes : ComesAs register width p q → Damaged WrongCrc register width [] p q

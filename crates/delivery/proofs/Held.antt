@@ -16,13 +16,15 @@ use Rattle.correction.specs.Correction.{correctionOf, correctedPdu}
 use Rattle.correction.specs.Marks.{correctedPduWith}
 use Rattle.pdu.specs.Reading.{wrongOf}
 use Rattle.reassembly.specs.Reassembly.{Partial, beginning, remembered, forgotten, lostEntries}
-use Rattle.reassembly.specs.Run.{bytesOf, partialOf, lastOf}
-use Rattle.receiver.specs.Receiving.{memoryOf, tallyOf, remembering, refusedAnswer, outcome, receivedWords, memoryAfter, keptServices, tallyAfter, receiveNumber, receiveAnswer, carryAfter, pduAfter, logAfter, lostNumber, lostAnswer}
+use Rattle.reassembly.specs.Run.{partialBytes, partialOf, lastOf}
+use Rattle.receiver.specs.Receiving.{memoryOf, tallyOf, remembering, refusedAnswer, outcome, receiveNumber, receiveAnswer, carryAfter, pduAfter, logAfter, lostNumber, lostAnswer}
 use Rattle.receiver.specs.declared.Receiver.{Receiver}
 use Rattle.receiver.specs.declared.Received.{Received}
-use Rattle.batch.specs.Batches.{Result, unchanged, followed, oneByOne, batchNumber, received}
+use Rattle.batch.specs.Batches.{Result, unchanged, followed, oneByOne, batchNumber, batchReceived}
 use Rattle.batch.specs.declared.Batch.{Batch}
-use Rattle.diversity.specs.Diversity.{Result as PairResult, correctable, unchanged as unchangedPair, outcome as pairOutcome, memoryAfter as pairMemory, keptServices as pairServices, tallyAfter as pairTally, pairWords, wrongInPair, pairNumber, together, receivedBy, pairReceived}
+use Rattle.diversity.specs.Diversity.{PairResult, correctable, unchangedPair, pairOutcome, wrongInPair, pairNumber, together, receivedBy, pairReceived}
+use Rattle.receiver.proofs.AfterReceiving.{receivedWords, memoryAfter, keptServices, tallyAfter}
+use Rattle.diversity.proofs.AfterPair.{pairWords, pairMemory, pairServices, pairTally}
 use Rattle.delivery.proofs.Parts.{answerOf, logOf}
 use Rattle.delivery.specs.Delivery.{Station, Call, receive, batch, markLost, ofOne, defined, stationAfter, alone, paired}
 
@@ -75,7 +77,7 @@ module _ (r : Receiver) (a b : List ℕ) (s : Alike r a b) where
     receive-log = rw (number-same, memory-same)
 
     -- the other carry after it, by what is said of the first
-    carry-same : cond (eqb (receiveNumber marks a pdu log r) 0) (putAt b 0 (bytesOf (outcome marks a pdu log r .partial))) b ≡ carryAfter marks b pdu log r
+    carry-same : cond (eqb (receiveNumber marks a pdu log r) 0) (putAt b 0 (partialBytes (outcome marks a pdu log r .partial))) b ≡ carryAfter marks b pdu log r
     unfolding carryAfter
     carry-same = rw (number-same, memory-same)
 
@@ -87,7 +89,7 @@ module _ (r : Receiver) (a b : List ℕ) (s : Alike r a b) where
         n = receiveNumber marks a pdu log r
 
         bytes : List ℕ
-        bytes = bytesOf (outcome marks a pdu log r .partial)
+        bytes = partialBytes (outcome marks a pdu log r .partial)
 
         go : (t : Bool) → Alike (cond t (record { refusal = 0; wrong = 0; words = length (receivedWords marks a pdu log r); receiver = remembering r (memoryAfter marks a pdu log r) (keptServices marks a pdu log r) (tallyAfter marks a pdu log r) }) (refusedAnswer r n (wrongOf (correctedPduWith marks pdu) n)) .receiver) (cond t (putAt a 0 bytes) a) (cond t (putAt b 0 bytes) b)
         go true = put-alike r (remembering r (memoryAfter marks a pdu log r) (keptServices marks a pdu log r) (tallyAfter marks a pdu log r)) a b bytes refl s
@@ -122,7 +124,7 @@ module _ (r : Receiver) (a b : List ℕ) (s : Alike r a b) where
     abbrev taken : List ℕ → PairResult
     taken c = record {
       answer = record { refusal = 0; wrong = 0; words = length (pairWords a p q log r); receiver = remembering r (pairMemory a p q log r) (pairServices a p q log r) (pairTally a p q log r) };
-      carry = putAt c 0 (bytesOf (pairOutcome a p q log r .partial));
+      carry = putAt c 0 (partialBytes (pairOutcome a p q log r .partial));
       first = correctedPdu p;
       second = correctedPdu q;
       log = putAt log 0 (pairWords a p q log r);
@@ -141,7 +143,7 @@ module _ (r : Receiver) (a b : List ℕ) (s : Alike r a b) where
         k = wrongInPair (correctedPdu p) (correctedPdu q) n
 
         go : (t : Bool) → SamePair (cond t (taken a) (unchangedPair a p q log r n k)) (cond t (taken b) (unchangedPair b p q log r n k))
-        go true = record { answer = refl; log = refl; after = put-alike r (taken a .answer .receiver) a b (bytesOf (pairOutcome a p q log r .partial)) refl s }
+        go true = record { answer = refl; log = refl; after = put-alike r (taken a .answer .receiver) a b (partialBytes (pairOutcome a p q log r .partial)) refl s }
         go false = record { answer = refl; log = refl; after = s }
 
     pair-by : (t u : Bool) → SamePair (receivedBy a p q log r t u) (receivedBy b p q log r t u)
@@ -194,12 +196,12 @@ each-same (n ∷ ns) r a b pdus log s =
     (followed-same (f .words) (pduAfter [] a p log r) (pduAfter [] b p log r) (take (f .words) l) _ _ (each-same ns (f .receiver) (carryAfter [] a p log r) c (drop n pdus) (drop (f .words) l) (receive-alike r a b s [] p log)))
     (unchanged-same (f .refusal) (f .wrong) r a b pdus log s))
 
-batch-same : (lengths : List ℕ) (r : Receiver) (a b pdus log : List ℕ) → Alike r a b → SameBatch (received lengths a pdus log r) (received lengths b pdus log r)
-unfolding received
+batch-same : (lengths : List ℕ) (r : Receiver) (a b pdus log : List ℕ) → Alike r a b → SameBatch (batchReceived lengths a pdus log r) (batchReceived lengths b pdus log r)
+unfolding batchReceived
 batch-same lengths r a b pdus log s =
     let n : ℕ = batchNumber lengths a pdus log r in
     let e : n ≡ batchNumber lengths b pdus log r = unfold batchNumber in rw (short-same r a b s) in
-    subst (λ (m : ℕ). SameBatch (received lengths a pdus log r) (cond (eqb m 0) (oneByOne lengths r b pdus log) (unchanged m 0 r b pdus log))) e
+    subst (λ (m : ℕ). SameBatch (batchReceived lengths a pdus log r) (cond (eqb m 0) (oneByOne lengths r b pdus log) (unchanged m 0 r b pdus log))) e
     (batch-cond (eqb n 0) (oneByOne lengths r a pdus log) (oneByOne lengths r b pdus log) (unchanged n 0 r a pdus log) (unchanged n 0 r b pdus log) (each-same lengths r a b pdus log s) (unchanged-same n 0 r a b pdus log s))
 
 -- ---- every call, of two stations with one record and the same held bytes

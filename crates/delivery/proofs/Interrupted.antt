@@ -19,7 +19,7 @@ use Rattle.snapshot.proofs.Round.{loaded-saved, saved-words, save-room, few-wor
 use Rattle.delivery.proofs.Parts.{answerOf, logOf}
 use Rattle.batch.specs.declared.Batch.{Batch}
 use Rattle.delivery.specs.Delivery.{Station, Call, receive, batch, markLost, defined, stationAfter, loggedBy, finally, Seen, seenOf, seenFrom, alone, paired}
-use Rattle.delivery.specs.Interruptions.{definedSnapshot, Interruption, wordsOf, resumed, Turn, called, interrupted, callsIn, seenIn, endIn, AllResume, Running, Suffices, Interruptions, EnoughWords}
+use Rattle.delivery.specs.Interruptions.{definedSnapshot, Interruption, keptWords, resumed, Turn, called, interrupted, callsIn, seenIn, endIn, AllResume, Running, Suffices, Interruptions, EnoughWords}
 use Rattle.delivery.proofs.Made.{bytes-of}
 use Rattle.delivery.proofs.Held.{Alike, put-longer, SameHeld, SameCall, same-call}
 use Rattle.delivery.proofs.Running.{still-runs}
@@ -79,21 +79,21 @@ module _ (x : Station) (i : Interruption) (h : Running x) (words : ¬ (definedSn
   unfolding saved
   save-accepted = rw save-none
 
-  words-are : wordsOf definedSnapshot x i ≡ savedWords r (x .carry)
+  words-are : keptWords definedSnapshot x i ≡ savedWords r (x .carry)
   words-are = saved-words r (x .carry) (i .words) save-accepted
 
-  pub loaded-is : (loaded (wordsOf definedSnapshot x i) (i .carry) ≡ openedBy 0 r) × (take (r .held) (carryLoaded (wordsOf definedSnapshot x i) (i .carry)) ≡ take (r .held) (x .carry))
+  pub loaded-is : (loaded (keptWords definedSnapshot x i) (i .carry) ≡ openedBy 0 r) × (take (r .held) (carryLoaded (keptWords definedSnapshot x i) (i .carry)) ≡ take (r .held) (x .carry))
   loaded-is =
       subst (λ (ws : List ℕ). (loaded ws (i .carry) ≡ openedBy 0 r) × (take (r .held) (carryLoaded ws (i .carry)) ≡ take (r .held) (x .carry))) (sym words-are)
       (loaded-saved r (x .carry) (h .right) (h .register) (h .entitled) (let k = h .counts .0 in omega (arith, k)) (let k = h .counts .1 in omega (arith, k)) (h .room) (bytes-of (take (r .held) (x .carry)) (h .held)) (i .carry) room)
 
-  pub resumes : (definedSnapshot .saved x (i .words) .refusal ≡ 0) × (definedSnapshot .loaded (wordsOf definedSnapshot x i) (i .carry) .refusal ≡ 0)
+  pub resumes : (definedSnapshot .saved x (i .words) .refusal ≡ 0) × (definedSnapshot .loaded (keptWords definedSnapshot x i) (i .carry) .refusal ≡ 0)
   resumes = (save-accepted, ap (λ (o : Opened). o .refusal) (loaded-is .0))
 
   pub resumed-held : SameHeld x (resumed definedSnapshot x i)
   resumed-held = record {
     receiver = sym (ap (λ (o : Opened). o .receiver) (loaded-is .0));
-    carry = record { held = sym (loaded-is .1); room = h .room; other = (let k = loaded-longer (wordsOf definedSnapshot x i) (i .carry) in omega (arith, k, room)) };
+    carry = record { held = sym (loaded-is .1); room = h .room; other = (let k = loaded-longer (keptWords definedSnapshot x i) (i .carry) in omega (arith, k, room)) };
   }
 
 -- ---- a run

@@ -12,10 +12,10 @@ use Rattle.modes.specs.declared.Mode.{Mode}
 use Rattle.modes.specs.declared.Listing.the-variants.{Listed}
 use Rattle.modes.proofs.Listable.{listable}
 use Rattle.pdu.specs.Reading.{modeIn}
-use Rattle.receiver.specs.Entitling.{isListed, allowedPrograms, allPrograms, bitsOf, maskOf}
+use Rattle.receiver.specs.Entitling.{isListed, allowedPrograms, allPrograms, programBits, maskOf}
 use Rattle.receiver.specs.Receiving.{openingTests, openingNumber, openedFor}
 use Rattle.receiver.specs.declared.Receiver.{Receiver}
-use Rattle.writer.specs.Writing.{opened as writerOpened}
+use Rattle.writer.specs.Writing.{writerOpened}
 use Rattle.delivery.specs.Delivery.{Station, Call, defined, callOf, seenFrom, finally, Run, freshStation as freshIn, Delivered, HeaderAltered, Claim, Holds, demand3}
 use Rattle.delivery.specs.Interruptions.{definedSnapshot, seenIn, endIn, Running, OpenedRuns, OverInterruptions, InterruptedDemand3, InterruptedEntitled, InterruptedBursts, InterruptedPairs, InterruptedEntitledPairs, InterruptedChannel}
 use Rattle.delivery.specs.Copies.{Damaged}
@@ -36,7 +36,7 @@ at-most : (b : Bool) (n : ℕ) → cond b n 0 ≤ n
 at-most true n = omega arith
 at-most false n = omega arith
 
-mask-byte : (f : ℕ → Bool) → bitsOf f allPrograms < 256
+mask-byte : (f : ℕ → Bool) → programBits f allPrograms < 256
 mask-byte f = omega (arith, at-most (f 0) 1, at-most (f 1) 2, at-most (f 2) 4, at-most (f 3) 8, at-most (f 4) 16, at-most (f 5) 32, at-most (f 6) 64, at-most (f 7) 128)
 
 fresh-runs : (mode stream register : ℕ) (programs carry : List ℕ) (m : Mode) → listing mode stream ≡ Listed m → allowedPrograms programs ≡ true → register < 256 → 4096 ≤ length carry

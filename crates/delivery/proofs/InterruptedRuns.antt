@@ -40,7 +40,7 @@ use Rattle.writer.specs.RoundTrip.{Bytes}
 use Rattle.snapshot.specs.Snapshot.{loaded, carryLoaded}
 use Rattle.delivery.proofs.Parts.{answerOf}
 use Rattle.delivery.specs.Delivery.{Station, receive, markLost, defined, stationAfter, loggedBy, Seen, logsIn, alone}
-use Rattle.delivery.specs.Interruptions.{Snapshot, definedSnapshot, Interruption, wordsOf, resumed, Turn, called, interrupted, seenIn, Running, Suffices, InterruptionsFor}
+use Rattle.delivery.specs.Interruptions.{Snapshot, definedSnapshot, Interruption, keptWords, resumed, Turn, called, interrupted, seenIn, Running, Suffices, InterruptionsFor}
 use Rattle.delivery.proofs.FaultySnapshots.{unregistered, unsequenced, forgetsRegister, forgetsSequence, forgetsHeld, forgetsCounts}
 use Rattle.delivery.proofs.Made.{Heard}
 use Rattle.delivery.proofs.Copies.{corrected-back}
@@ -296,9 +296,9 @@ differs s p l m k b e f claim =
 
 -- what loading leaves in the carry
 abbrev back : List ℕ
-back = carryLoaded (wordsOf definedSnapshot held halt) carry
+back = carryLoaded (keptWords definedSnapshot held halt) carry
 
-answered : loaded (wordsOf definedSnapshot held halt) carry ≡ openedBy 0 (held .receiver)
+answered : loaded (keptWords definedSnapshot held halt) carry ≡ openedBy 0 (held .receiver)
 answered = loaded-is held halt held-runs halt-words carry-room .0
 
 back-stands : (register : ℕ) (known : Bool) → Stands register (at (state register known 2) back) (holding known 7)

@@ -32,7 +32,7 @@ use Rattle.reassembly.proofs.Fitting.{SaneSaid, SanePiece, SanePieces}
 use Rattle.reassembly.specs.Rights.{Label}
 use Rattle.reassembly.specs.Holder.{Come}
 use Rattle.receiver.specs.Receiving.{saidBy, labelIn, comeBy}
-use Rattle.writer.specs.Writing.{noRoom, wrongUnfinished, writerTests, extraOf, placed, endedOf, partOf, piecesOf, pduOf, nextOf}
+use Rattle.writer.specs.Writing.{noRoom, wrongUnfinished, writerTests, extraOf, placedLengths, endedOf, partOf, piecesOf, pduOf, nextOf}
 use Rattle.writer.specs.declared.Writer.{Writer}
 use Rattle.writer.proofs.Accepted.{Fine, fine, few}
 use Rattle.writer.proofs.Sending.{extra-small}
@@ -187,7 +187,7 @@ module _ (mode stream register : ℕ) (m : Mode) (l : listing mode stream ≡ Li
   -- what an accepted call makes, of packets offered from packet i on
   pub record Made (settings : Settings) (psd lengths bytes : List ℕ) (size : ℕ) : Type 0 where
     pub fits : Fits s (endedOf settings psd lengths bytes size m (stateAt mode stream register q i s)) (partOf settings psd lengths bytes size m (stateAt mode stream register q i s)) (drop i ps)
-    pub counts : total (placed settings psd lengths bytes size m (stateAt mode stream register q i s))
+    pub counts : total (placedLengths settings psd lengths bytes size m (stateAt mode stream register q i s))
         ≡ bytesIn (cut s (endedOf settings psd lengths bytes size m (stateAt mode stream register q i s)) (partOf settings psd lengths bytes size m (stateAt mode stream register q i s)) (drop i ps))
     pub says : Says mode stream register (m .width) (pduOf settings psd lengths bytes size m (stateAt mode stream register q i s))
         (record {
@@ -226,7 +226,7 @@ module _ (mode stream register : ℕ) (m : Mode) (l : listing mode stream ≡ Li
     fo : Fits s ended over os
     fo = placed-fits (m .width) extra size os 0 0 s (sized-of os yo) uo (offered-room m extra size s (map length os) (extra-small settings psd (map length os) (concatenated os) size m w f l) (f .unfinished) (f .room))
 
-    lengths-are : placed settings psd (map length os) (concatenated os) size m w ≡ map length (cut s ended over os)
+    lengths-are : placedLengths settings psd (map length os) (concatenated os) size m w ≡ map length (cut s ended over os)
     lengths-are = placed-lengths (m .width) extra size os 0 0 s fo
 
     more : cut s ended over os ≡ cut s ended over (drop i ps)
@@ -240,8 +240,8 @@ module _ (mode stream register : ℕ) (m : Mode) (l : listing mode stream ≡ Li
         ap₂ (λ (n : ℕ) (b : List Piece). record { sequence = q; pfirst = ltb 0 s; plast = ltb 0 over; start = n; psdBytes = psd; pieces = b; withheld = false }) (same-start i (ltb 0 s))
         (taken-read (piecesOf settings psd (map length os) (concatenated os) size m w) ∙ ap (readPieces (λ k. 0)) pieces-are)
 
-    counted : length (cut s ended over (drop i ps)) ≡ length (placed settings psd (map length os) (concatenated os) size m w)
-    counted = sym (ap length pieces-are) ∙ cut-count (placed settings psd (map length os) (concatenated os) size m w) (drop s (concatenated os))
+    counted : length (cut s ended over (drop i ps)) ≡ length (placedLengths settings psd (map length os) (concatenated os) size m w)
+    counted = sym (ap length pieces-are) ∙ cut-count (placedLengths settings psd (map length os) (concatenated os) size m w) (drop s (concatenated os))
 
     pub made : Made settings psd (map length os) (concatenated os) size
     made =

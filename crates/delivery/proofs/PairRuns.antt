@@ -22,8 +22,8 @@ use Rattle.expansion.specs.Writing.{expansionBytes}
 use Rattle.packing.specs.Packing.{largestUpTo, mostPieces, fit, wholesFrom, partAfter, partFrom}
 use Rattle.pieces.specs.Pieces.{cutBy, pieceBytes, locatorsFrom, total}
 use Rattle.correction.specs.Correction.{correctionOf}
-use Rattle.log.specs.Log.{packet, dataWords, entryWords, logWords, packetWords}
-use Rattle.writer.specs.Writing.{opened as writerOpened, pduOf, writeAnswer, writtenPdu}
+use Rattle.log.specs.Log.{packet, dataWords, entryWords, logWords, packetWords, sameList}
+use Rattle.writer.specs.Writing.{writerOpened, pduOf, writeAnswer, writtenPdu}
 use Rattle.writer.specs.RoundTrip.{Bytes}
 use Rattle.receiver.specs.Entitling.{allPrograms}
 use Rattle.receiver.specs.Receiving.{wrongState}
@@ -32,10 +32,10 @@ use Rattle.runs.specs.Transmissions.{Way, gone, here}
 use Rattle.runs.specs.Spans.{Span, lies, every, dueAt}
 use Rattle.runs.proofs.Model.{wholePackets}
 use Rattle.runs.proofs.Calls.{plainFate}
-use Rattle.diversity.specs.Diversity.{Choice, neither, theFirst, theSecond, choiceOf, sameBytes, pairReceived}
+use Rattle.diversity.specs.Diversity.{Choice, neither, theFirst, theSecond, choiceOf, pairReceived}
 use Rattle.delivery.specs.Delivery.{Packets, Writing, bufferAfter, pdusFrom, spansFrom, InOrder, Behaviour, Station, receive, defined, RefusedAfter, loggedBy, runOf, HeaderAltered, Correctable, Step, receives, loses, refuses, callOf, alone, paired, Through, inReceived, Holds}
 use Rattle.delivery.proofs.Parts.{freshStation, logsFrom, made, spans, runWith, answerOf, logOf}
-use Rattle.delivery.specs.Copies.{bytesAt, crcAt, pieceAt, asSent, waysFrom, restored, Damaged}
+use Rattle.delivery.specs.Copies.{bytesAt, crcAt, sealedPiece, asSent, waysFrom, restored, Damaged}
 use Rattle.delivery.proofs.SoundSteps.{causesFor}
 use Rattle.delivery.specs.Diversity.{WrongCrc, pairs}
 use Rattle.delivery.proofs.FaultyReceivers.{chosenCopy, choosing}
@@ -134,7 +134,7 @@ another (x ∷ a) b v w h z = (z .0, another a b v w h (z .1))
 
 -- the pieces that are as sent
 abbrev pub sound : ℕ → ℕ → ℕ → Bool
-sound x y k = sameBytes (pieceAt 16 sent (pdu x y) k) (pieceAt 16 sent sent k)
+sound x y k = sameList (sealedPiece 16 sent (pdu x y) k) (sealedPiece 16 sent sent k)
 
 module _ (x y : ℕ) (bytes : Bytes (pdu x y)) where
   pub alters : HeaderAltered [] (pdu x y) (altered (pdu x y))
@@ -147,7 +147,7 @@ module _ (x y : ℕ) (bytes : Bytes (pdu x y)) where
   restored-is = ap (λ (l : List ℕ). take 96 sent ++ l) (alters .rest)
 
   as-sent : (k : ℕ) → asSent 16 sent (altered (pdu x y)) k ≡ sound x y k
-  as-sent k = ap (λ (l : List ℕ). sameBytes (pieceAt 16 sent l k) (pieceAt 16 sent sent k)) restored-is
+  as-sent k = ap (λ (l : List ℕ). sameList (sealedPiece 16 sent l k) (sealedPiece 16 sent sent k)) restored-is
 
   comes : ((k : ℕ) → k < controlAt sent .nop → sound x y k ≡ false → ¬ (crcFrom 0 (bytesAt 16 sent (pdu x y) k) ≡ crcAt 16 sent (pdu x y) k)) → Damaged WrongCrc 0 16 [] sent (altered (pdu x y))
   unfolding controlOf
@@ -172,11 +172,11 @@ pub second-bytes : Bytes (pdu 1 9)
 second-bytes = another (header ++ (1 ∷ between)) end 2 9 (omega arith) (usable .0)
 
 first-sound : (sound 9 2 0 ≡ false) × (sound 9 2 1 ≡ true)
-unfolding controlOf locator16 sameBytes crcFrom crcByte crcBits crcBit
+unfolding controlOf locator16 sameList crcFrom crcByte crcBits crcBit
 first-sound = (refl, refl)
 
 pub second-sound : (sound 1 9 0 ≡ true) × (sound 1 9 1 ≡ false)
-unfolding controlOf locator16 sameBytes crcFrom crcByte crcBits crcBit
+unfolding controlOf locator16 sameList crcFrom crcByte crcBits crcBit
 second-sound = (refl, refl)
 
 first-crc : ¬ (crcFrom 0 (replicate 99 1 ++ (9 ∷ [])) ≡ crcFrom 0 (replicate 100 1))

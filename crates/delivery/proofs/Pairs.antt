@@ -17,32 +17,33 @@ use Rattle.reassembly.proofs.Fitting.{SanePiece, SanePieces, SaneSaid}
 use Rattle.reassembly.proofs.Blind.{blank, blanks, blankSaid}
 use Rattle.receiver.specs.Receiving.{pieceIn, piecesIn, saidBy}
 use Rattle.runs.proofs.Model.{later}
+use Rattle.log.specs.Log.{sameList}
+use Rattle.log.proofs.Same.{same-itself}
 use Rattle.delivery.specs.Copies.{restored}
 use Rattle.delivery.proofs.SoundSteps.{Copy}
-use Rattle.diversity.specs.Diversity.{sameBytes, pairPiece, pairPieces, pairSaid}
-use Rattle.diversity.proofs.Bytes.{same-itself}
+use Rattle.diversity.specs.Diversity.{pairPiece, pairPieces, pairSaid}
 use Rattle.delivery.proofs.Copies.{struck, stricken, blank-two, Plain, sound-piece, unsound-piece, own-right, sane-piece, count-pieces, copy-corrected, copy-control-is, copy-psd}
 
 -- either of two like pieces
 pair-both : (a : Piece) → a .cause ≡ 0 → pairPiece a a ≡ a
 pair-both a e =
     let z : eqb (a .cause) 0 ≡ true = eq-eqb (a .cause) 0 e in
-    ap (λ (b : Bool). cond b (cond b (cond (sameBytes (a .bytes) (a .bytes)) a (record { cause = 7; bytes = a .bytes })) a) a) z
+    ap (λ (b : Bool). cond b (cond b (cond (sameList (a .bytes) (a .bytes)) a (record { cause = 7; bytes = a .bytes })) a) a) z
     ∙ ap (λ (b : Bool). cond b a (record { cause = 7; bytes = a .bytes })) (same-itself (a .bytes))
 
 pair-first : (a b : Piece) → a .cause ≡ 0 → b .cause ≡ 2 → pairPiece a b ≡ a
 pair-first a b e f =
     let z : eqb (a .cause) 0 ≡ true = eq-eqb (a .cause) 0 e in
     let u : eqb (b .cause) 0 ≡ false = ap (λ (n : ℕ). eqb n 0) f in
-    ap₂ (λ (s t : Bool). cond s (cond t (cond (sameBytes (a .bytes) (b .bytes)) a (record { cause = 7; bytes = a .bytes })) a) b) z u
+    ap₂ (λ (s t : Bool). cond s (cond t (cond (sameList (a .bytes) (b .bytes)) a (record { cause = 7; bytes = a .bytes })) a) b) z u
 
 pair-second : (a b : Piece) → a .cause ≡ 2 → pairPiece a b ≡ b
 pair-second a b e =
     let z : eqb (a .cause) 0 ≡ false = ap (λ (n : ℕ). eqb n 0) e in
-    ap (λ (s : Bool). cond s (cond (eqb (b .cause) 0) (cond (sameBytes (a .bytes) (b .bytes)) a (record { cause = 7; bytes = a .bytes })) a) b) z
+    ap (λ (s : Bool). cond s (cond (eqb (b .cause) 0) (cond (sameList (a .bytes) (b .bytes)) a (record { cause = 7; bytes = a .bytes })) a) b) z
 
 sane-pair : (a b : Piece) → SanePiece a → SanePiece b → SanePiece (pairPiece a b)
-sane-pair a b s t = go (eqb (a .cause) 0) (eqb (b .cause) 0) (sameBytes (a .bytes) (b .bytes))
+sane-pair a b s t = go (eqb (a .cause) 0) (eqb (b .cause) 0) (sameList (a .bytes) (b .bytes))
   where
     go : (u v w : Bool) → SanePiece (cond u (cond v (cond w a (record { cause = 7; bytes = a .bytes })) a) b)
     go true true true = s

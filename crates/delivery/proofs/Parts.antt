@@ -9,7 +9,7 @@ use Rattle.modes.specs.Modes.{listing}
 use Rattle.pdu.specs.Reading.{modeIn}
 use Rattle.log.specs.Log.{Entry}
 use Rattle.reassembly.specs.Tally.{noTally, tallied, Countable}
-use Rattle.writer.specs.Writing.{opened as writerOpened}
+use Rattle.writer.specs.Writing.{writerOpened}
 use Rattle.runs.specs.Spans.{Span, every, wholeIndices, entriesAt}
 use Rattle.runs.specs.Transmissions.{Way, gone, here}
 use Rattle.runs.proofs.Model.{wholePackets}

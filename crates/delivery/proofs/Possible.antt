@@ -10,7 +10,7 @@ use lib.Seq.{length-take-le, drop-append-seam, drop-length}
 use Rattle.algebra.specs.Places.{All}
 use Rattle.correction.specs.Marks.{marksRefusal}
 use Rattle.refusal.proofs.Rows.{row-off}
-use Rattle.writer.specs.Writing.{opened as writerOpened}
+use Rattle.writer.specs.Writing.{writerOpened}
 use Rattle.writer.specs.RoundTrip.{Bytes, Altered}
 use Rattle.correction.proofs.Marking.{unmarked-self, unmarked-adopted}
 use Rattle.receiver.specs.Receiving.{receiveTests, receiveNumber}

@@ -32,7 +32,7 @@ use Rattle.pdu.proofs.ReadBack.{read-accepted}
 use Rattle.reassembly.specs.Reassembly.{Piece, Said}
 use Rattle.reassembly.specs.Rights.{Label}
 use Rattle.receiver.specs.Receiving.{pieceIn, piecesIn, saidBy, labelIn, comeBy}
-use Rattle.writer.specs.Writing.{writerTests, piecesOf, partOf, placed, controlFor, pduOf}
+use Rattle.writer.specs.Writing.{writerTests, piecesOf, partOf, placedLengths, controlFor, pduOf}
 use Rattle.writer.specs.declared.Writer.{Writer}
 use Rattle.writer.proofs.Bytes.{Byte}
 use Rattle.writer.specs.RoundTrip.{ReadBack}
@@ -150,7 +150,7 @@ module _ (settings : Settings) (psd lengths bytes : List ℕ) (size : ℕ) (m : 
       ap (λ (r : Part). take (r .length) (drop (r .start) p)) (sym (psd-of (m .width) c p) ∙ back .place) ∙ back .psd-read
 
   nop-is : c .nop ≡ length ps
-  nop-is = sym (cut-count (placed settings psd lengths bytes size m w) (drop (w .sent) bytes))
+  nop-is = sym (cut-count (placedLengths settings psd lengths bytes size m w) (drop (w .sent) bytes))
 
   -- the CRC of each piece stands at its locator
   pub crcs-right : (k : ℕ) → k < controlAt p .nop → crcFrom (w .register) (take (lengthAt (m .width) (controlAt p) p k) (drop (startAt (m .width) (controlAt p) p k) p)) ≡ getD p (locatorAt (m .width) p k) 0

@@ -22,7 +22,7 @@ use Rattle.pieces.specs.Pieces.{cutBy, pieceBytes, locatorsFrom, total}
 use Rattle.correction.specs.Marks.{marksRefusal}
 use Rattle.correction.proofs.Marking.{unmarked-self}
 use Rattle.log.specs.Log.{packet, dataWords, entryWords, logWords, packetWords}
-use Rattle.writer.specs.Writing.{opened as writerOpened, pduOf, writeAnswer, writtenPdu}
+use Rattle.writer.specs.Writing.{writerOpened, pduOf, writeAnswer, writtenPdu}
 use Rattle.receiver.specs.Entitling.{allPrograms}
 use Rattle.runs.proofs.Calls.{plainFate}
 use Rattle.runs.specs.Spans.{Span, lies, Mark, every, dueAt}

@@ -13,7 +13,7 @@ use Rattle.log.specs.Log.{logWords}
 use Rattle.log.proofs.Packets.{Bytes as logBytes}
 use Rattle.refusal.specs.Refusal.{firstOf}
 use Rattle.refusal.proofs.Rows.{passed, row-off, rest-off, none-at}
-use Rattle.modes.specs.Modes.{listing, numberOf}
+use Rattle.modes.specs.Modes.{listing, listingNumber}
 use Rattle.modes.specs.declared.Mode.{Mode}
 use Rattle.modes.specs.declared.Listing.{Listing}
 use Rattle.modes.specs.declared.Listing.the-variants.{Listed, Refused}
@@ -30,11 +30,11 @@ use Rattle.pdu.specs.Reading.{modeIn, listingOf, readerTests, wrongOf}
 use Rattle.pdu.proofs.Assembling.{nop-small}
 use Rattle.reassembly.specs.Reassembly.{Memory, forgotten, lostEntries}
 use Rattle.reassembly.specs.Tally.{passesLimit, Countable}
-use Rattle.reassembly.specs.Holder.{Come, came, Holder, holderFor}
-use Rattle.reassembly.specs.Run.{bytesOf, partialOf, lastOf}
+use Rattle.reassembly.specs.Holder.{Come, Holder}
+use Rattle.reassembly.specs.Run.{partialBytes, partialOf, lastOf}
 use Rattle.reassembly.proofs.Fitting.{SanePartial, SaneSaid}
 use Rattle.reassembly.proofs.Tallies.{within-limit}
-use Rattle.receiver.specs.Receiving.{saidBy, memoryOf, holderOf, tallyOf, remembering, modeOf, wrongState, refusedAnswer, come, outcome, receivedWords, memoryAfter, keptServices, tallyAfter, receiveNumber, receiveAnswer, carryAfter, pduAfter, logAfter, lostNumber, lostAnswer}
+use Rattle.receiver.specs.Receiving.{saidBy, memoryOf, holderOf, tallyOf, remembering, modeOf, wrongState, refusedAnswer, come, outcome, receiveNumber, receiveAnswer, carryAfter, pduAfter, logAfter, lostNumber, lostAnswer}
 use Rattle.receiver.specs.Steps.{stateTests, streamTests}
 use Rattle.receiver.specs.declared.Receiver.{Receiver}
 use Rattle.receiver.specs.declared.Received.{Received}
@@ -42,10 +42,13 @@ use Rattle.receiver.proofs.Rows.{both-on, same-listing}
 use Rattle.receiver.proofs.Counting.{counts-fair}
 use Rattle.receiver.proofs.Enough.{firstTwelve, corrected-length}
 use Rattle.writer.specs.RoundTrip.{Bytes}
-use Rattle.batch.specs.Batches.{Result, unchanged, followed, oneByOne, batchNumber, received}
-use Rattle.diversity.specs.Diversity.{Result as PairResult, correctable, pairSaid, lower, copyNumber, differ, come as pairOf, pairWords, tallyAfter as pairTally, unchanged as unchangedPair, wrongInPair, pairTests, pairNumber, together, receivedBy, pairReceived}
+use Rattle.batch.specs.Batches.{Result, unchanged, followed, oneByOne, batchNumber, batchReceived}
+use Rattle.diversity.specs.Diversity.{PairResult, correctable, pairSaid, lower, copyNumber, differ, pairAs as pairOf, unchangedPair, wrongInPair, pairTests, pairNumber, together, receivedBy, pairReceived}
 use Rattle.pair.proofs.Calling.{corrected-is}
 use Rattle.pair.proofs.Enough.{taken as takenPair}
+use Rattle.runs.proofs.Events.{came, holderFor}
+use Rattle.receiver.proofs.AfterReceiving.{receivedWords, memoryAfter, keptServices, tallyAfter}
+use Rattle.diversity.proofs.AfterPair.{pairWords, pairTally}
 use Rattle.delivery.specs.Delivery.{Station, Call, receive, batch, markLost, defined, stationAfter, alone, paired}
 use Rattle.delivery.specs.Interruptions.{Running, BytesIn}
 use Rattle.delivery.proofs.Made.{said-in, label-in, bytes-of, bytes-drop, bytes-take}
@@ -74,7 +77,7 @@ fair-kept false keeps v s k = tt
 fair-kept true keeps v s k = (let h = ltb-false 7 v s in omega (arith, h), not-false keeps k)
 
 -- the table has a line for its mode and stream
-pub listed-by : (l : Listing) (mode stream : ℕ) → listing mode stream ≡ l → not (eqb (numberOf l) 0) ≡ false → l ≡ Listed (modeIn l)
+pub listed-by : (l : Listing) (mode stream : ℕ) → listing mode stream ≡ l → not (eqb (listingNumber l) 0) ≡ false → l ≡ Listed (modeIn l)
 listed-by (Listed m) mode stream e z = refl
 listed-by (Refused n) mode stream e z =
     let f : n ≡ 5 = refusal-five mode stream n e in
@@ -198,7 +201,7 @@ module _ (x : Station) (h : Running x) where
       where
         go : (t : Bool) → eqb number 0 ≡ t → Running (record {
           receiver = cond t (record { refusal = 0; wrong = 0; words = length (receivedWords marks (x .carry) pdu log r); receiver = remembering r (memoryAfter marks (x .carry) pdu log r) (keptServices marks (x .carry) pdu log r) (tallyAfter marks (x .carry) pdu log r) }) (refusedAnswer r number (wrongOf y number)) .receiver;
-          carry = cond t (putAt (x .carry) 0 (bytesOf (outcome marks (x .carry) pdu log r .partial))) (x .carry);
+          carry = cond t (putAt (x .carry) 0 (partialBytes (outcome marks (x .carry) pdu log r .partial))) (x .carry);
         })
         go true e = taken (eqb-true number 0 e)
         go false e = h
@@ -329,7 +332,7 @@ each-runs (n ∷ ns) x pdus log h b =
     (each-runs ns (stationAfter defined x (receive (alone [] (take n pdus)) log)) (drop n pdus) (drop (a .words) logged) (receive-runs x h [] (take n pdus) log (bytes-take n pdus b)) (bytes-drop n pdus b)) h
 
 batch-runs : (x : Station) (lengths pdus log : List ℕ) → Running x → Bytes pdus → Running (stationAfter defined x (batch lengths pdus log))
-unfolding received
+unfolding batchReceived
 batch-runs x lengths pdus log h b =
     let n : ℕ = batchNumber lengths (x .carry) pdus log (x .receiver) in
     running-cond (eqb n 0) (oneByOne lengths (x .receiver) (x .carry) pdus log) (unchanged n 0 (x .receiver) (x .carry) pdus log) (each-runs lengths x pdus log h b) h

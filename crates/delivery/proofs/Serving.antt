@@ -9,7 +9,7 @@ use lib.Dec.{eqb, ltb, leb, eqb·suc-zero}
 use borrow.Author.Tests.{le-ltb, lt-leb, eq-eqb, eqb-true}
 use lib.ListN.{length, getD, take}
 use Rattle.refusal.specs.Refusal.{firstOf, anyOf}
-use Rattle.modes.specs.Modes.{listing, numberOf}
+use Rattle.modes.specs.Modes.{listing, listingNumber}
 use Rattle.modes.specs.declared.Mode.{Mode}
 use Rattle.modes.specs.declared.Listing.the-variants.{Listed}
 use Rattle.buffer.specs.Buffer.{putAt}
@@ -21,17 +21,19 @@ use Rattle.pdu.specs.Reading.{modeIn, listingOf, correctedTests, judged}
 use Rattle.reassembly.specs.Reassembly.{Partial, nothing, beginning, Memory, Outcome, inSequence, received, remembered, lostEntries, forgotten}
 use Rattle.reassembly.specs.Rights.{Rights, forgetting, inForce, keptAfter}
 use Rattle.reassembly.specs.Tally.{Tally, tallied, passesLimit, Countable}
-use Rattle.reassembly.specs.Holder.{Come, came, lost, Holder, valueFor, saidTo, holderFor}
-use Rattle.reassembly.specs.Run.{bytesOf, numberOf as partialNumber, lastOf}
+use Rattle.reassembly.specs.Holder.{Come, Holder, valueFor, saidTo}
+use Rattle.reassembly.specs.Run.{partialBytes, partialNumber, lastOf}
 use Rattle.reassembly.proofs.Fitting.{SanePartial, SaneSaid, fit-received}
 use Rattle.reassembly.proofs.Runs.{partial-kept}
 use Rattle.reassembly.proofs.Tallies.{FairTally, fair-tallied, not-passed}
 use Rattle.receiver.specs.Entitling.{entitles}
-use Rattle.receiver.specs.Receiving.{comeBy, memoryOf, keptOf, tallyOf, remembering, isKnown, orZero, keepsServices, shown, keptBy, modeOf, wrongState, come, outcome, receivedWords, memoryAfter, keptServices, tallyAfter, refusedAnswer, receiveNumber, receiveAnswer, carryAfter, logAfter, lostNumber, lostAnswer, logAfterLost}
+use Rattle.receiver.specs.Receiving.{comeBy, memoryOf, keptOf, tallyOf, remembering, isKnown, orZero, keepsServices, shown, keptBy, modeOf, wrongState, come, outcome, refusedAnswer, receiveNumber, receiveAnswer, carryAfter, logAfter, lostNumber, lostAnswer, logAfterLost}
 use Rattle.receiver.specs.declared.Receiver.{Receiver}
 use Rattle.receiver.specs.declared.Received.{Received}
 use Rattle.refusal.proofs.Rows.{past, row-off, rest-off}
 use Rattle.receiver.proofs.Enough.{firstTwelve, most}
+use Rattle.runs.proofs.Events.{lost, came, holderFor}
+use Rattle.receiver.proofs.AfterReceiving.{receivedWords, memoryAfter, keptServices, tallyAfter}
 use Rattle.delivery.proofs.Parts.{answerOf}
 use Rattle.batch.specs.declared.Batch.{Batch}
 use Rattle.delivery.specs.Delivery.{Station, receive, markLost, ofOne, stationAfter, loggedBy, defined, alone}
@@ -47,11 +49,11 @@ last-back : (o : Option ℕ) → lastOf (isKnown o) (orZero o) ≡ o
 last-back none = refl
 last-back (some q) = refl
 
-held-none : (h : Partial) → SanePartial h → length (bytesOf h) ≡ 0 → h ≡ nothing
+held-none : (h : Partial) → SanePartial h → length (partialBytes h) ≡ 0 → h ≡ nothing
 held-none nothing s e = refl
 held-none (beginning n b) s e = absurd (omega (arith, s .1, e))
 
-memory-back : (r : Receiver) (z : Memory) (k : Option ℕ) (t : Tally) (carry : List ℕ) → SanePartial (z .partial) → memoryOf (remembering r z k t) (putAt carry 0 (bytesOf (z .partial))) ≡ z
+memory-back : (r : Receiver) (z : Memory) (k : Option ℕ) (t : Tally) (carry : List ℕ) → SanePartial (z .partial) → memoryOf (remembering r z k t) (putAt carry 0 (partialBytes (z .partial))) ≡ z
 unfolding memoryOf remembering
 memory-back r z k t carry s =
     ap₂ (λ (a : Option ℕ) (b : Partial). record { last = a; partial = b }) (last-back (z .last)) (partial-kept (z .partial) carry (held-none (z .partial) s))
@@ -85,7 +87,7 @@ fair-after true range q v last kept f h = go (eqb q 0) (inSequence range last q)
     go false false = tt
 
 held-right : (h : Partial) → SanePartial h
-    → (ltb 4096 (length (bytesOf h)) ≡ false) × (ltb 63 (partialNumber h) ≡ false) × ((eqb (length (bytesOf h)) 0 && not (eqb (partialNumber h) 0)) ≡ false)
+    → (ltb 4096 (length (partialBytes h)) ≡ false) × (ltb 63 (partialNumber h) ≡ false) × ((eqb (length (partialBytes h)) 0 && not (eqb (partialNumber h) 0)) ≡ false)
 held-right nothing s = (refl, refl, refl)
 held-right (beginning n []) s = absurd (omega (arith, s .1))
 held-right (beginning n (x ∷ b)) s = (le-ltb 4096 (suc (length b)) (s .2), le-ltb 63 n (omega (arith, s .3)), ap (λ (t : Bool). t && not (eqb n 0)) (eqb·suc-zero (length b)))
@@ -101,7 +103,7 @@ tally-right t f = go (eqb (t .delivered) 0) refl
         let n = f .none (eqb-true (t .delivered) 0 e) in
         (le-ltb 63 (t .last) (f .last), ap not (eq-eqb (t .missing) 0 (n .0)), ap not (eq-eqb (t .last) 0 (n .1)))
 
-held-long : (h : Partial) → SanePartial h → length (bytesOf h) ≤ 4096
+held-long : (h : Partial) → SanePartial h → length (partialBytes h) ≤ 4096
 held-long nothing s = omega arith
 held-long (beginning n b) s = s .2
 
@@ -151,7 +153,7 @@ module _ (mode stream register entitled : ℕ) (m : Mode) (l : listing mode stre
 
   -- the station that remembers z, keeps k and counted t
   abbrev pub put : Receiver → List ℕ → Memory → Option ℕ → Tally → Station
-  put r carry z k t = record { receiver = remembering r z k t; carry = putAt carry 0 (bytesOf (z .partial)) }
+  put r carry z k t = record { receiver = remembering r z k t; carry = putAt carry 0 (partialBytes (z .partial)) }
 
   pub shows-put : (r : Receiver) (carry : List ℕ) (y : Holder) → r .mode ≡ mode → r .stream ≡ stream → r .register ≡ register → r .entitled ≡ entitled → 4096 ≤ length carry
       → Below (m .sequences) (y .memory .last) → SanePartial (y .memory .partial) → Fair keeping (y .kept) → FairTally (y .tally)
@@ -162,7 +164,7 @@ module _ (mode stream register entitled : ℕ) (m : Mode) (l : listing mode stre
     sameRegister = unfold remembering in g;
     sameEntitled = unfold remembering in t;
     right = state-right r (y .memory) (y .kept) (y .tally) a b w s f c;
-    room = (let e = put-length carry 0 (bytesOf (y .memory .partial)) (let h = held-long (y .memory .partial) s in omega (arith, h, big)) in omega (arith, e, big));
+    room = (let e = put-length carry 0 (partialBytes (y .memory .partial)) (let h = held-long (y .memory .partial) s in omega (arith, h, big)) in omega (arith, e, big));
     memory = memory-back r (y .memory) (y .kept) (y .tally) carry s;
     kept = unfold remembering in last-back (y .kept);
     tally = unfold remembering in refl;
@@ -180,7 +182,7 @@ module _ (mode stream register entitled : ℕ) (m : Mode) (l : listing mode stre
       let n = modeOf r .sequences in
       let d = shown n r (x .carry) c in
       let o = received n (memoryOf r (x .carry)) d in
-      record { receiver = remembering r (remembered n (memoryOf r (x .carry)) d) (keptBy n r (x .carry) c) (tallied (tallyOf r) (o .entries)); carry = putAt (x .carry) 0 (bytesOf (o .partial)) }
+      record { receiver = remembering r (remembered n (memoryOf r (x .carry)) d) (keptBy n r (x .carry) c) (tallied (tallyOf r) (o .entries)); carry = putAt (x .carry) 0 (partialBytes (o .partial)) }
 
   -- of a station that stands for y, where the PDU is d
   module _ (x : Station) (y : Holder) (v : Shows x y) (c d : Come) (e : c ≡ d) where
@@ -210,7 +212,7 @@ module _ (mode stream register entitled : ℕ) (m : Mode) (l : listing mode stre
         let z = holderFor (rightsBy entitled stream m) (m .sequences) y (came d) in
         let f = fit-received (m .sequences) (y .memory) (saidTo (rightsBy entitled stream m) (m .sequences) y d) (v .sane) (sane-shown (rightsBy entitled stream m) (m .sequences) y d s) in
         let p : taking x c ≡ put (x .receiver) (x .carry) (z .memory) (z .kept) (z .tally) =
-        (λ i. record { receiver = remembering (x .receiver) (remembered (mode-here i .sequences) (v .memory i) (shown-is i)) (kept-is i) (tally-is i); carry = putAt (x .carry) 0 (bytesOf (outcome-is i .partial)) }) in
+        (λ i. record { receiver = remembering (x .receiver) (remembered (mode-here i .sequences) (v .memory i) (shown-is i)) (kept-is i) (tally-is i); carry = putAt (x .carry) 0 (partialBytes (outcome-is i .partial)) }) in
         subst (λ (t : Station). Shows t z) (sym p)
         (shows-put (x .receiver) (x .carry) z (v .sameMode) (v .sameStream) (v .sameRegister) (v .sameEntitled) (v .room) below
         (f .1)
@@ -238,7 +240,7 @@ module _ (mode stream register entitled : ℕ) (m : Mode) (l : listing mode stre
         let c = controlAt y in
         let e1 : anyOf (wrongState r) ≡ false = v .right in
         let e2 : ltb (length carry) 4096 ≡ false = le-ltb (length carry) 4096 (v .room) in
-        let e5 : not (eqb (numberOf (listingOf c)) 0) ≡ false = row-off (correctedTests c y) 0 refl (h .reads) in
+        let e5 : not (eqb (listingNumber (listingOf c)) 0) ≡ false = row-off (correctedTests c y) 0 refl (h .reads) in
         let em : eqb (c .mode) (r .mode) ≡ true = eq-eqb (c .mode) (r .mode) (h .sameMode ∙ sym (v .sameMode)) in
         let es : eqb (c .stream) (r .stream) ≡ true = eq-eqb (c .stream) (r .stream) (h .sameStream ∙ sym (v .sameStream)) in
         rw (e1, e2, h .size, h .allowed, h .correctable, e5, em, es) (rest-off (correctedTests c y) 1 refl (h .reads))
@@ -268,11 +270,11 @@ module _ (mode stream register entitled : ℕ) (m : Mode) (l : listing mode stre
         let t : eqb (receiveNumber marks carry q log r) 0 ≡ true = eq-eqb (receiveNumber marks carry q log r) 0 accepts in
         ap (λ (b : Bool). cond b (putAt log 0 (receivedWords marks carry q log r)) log) t
 
-    carry-is : carryAfter marks carry q log r ≡ putAt carry 0 (bytesOf (outcome marks carry q log r .partial))
+    carry-is : carryAfter marks carry q log r ≡ putAt carry 0 (partialBytes (outcome marks carry q log r .partial))
     unfolding carryAfter
     carry-is =
         let t : eqb (receiveNumber marks carry q log r) 0 ≡ true = eq-eqb (receiveNumber marks carry q log r) 0 accepts in
-        ap (λ (b : Bool). cond b (putAt carry 0 (bytesOf (outcome marks carry q log r .partial))) carry) t
+        ap (λ (b : Bool). cond b (putAt carry 0 (partialBytes (outcome marks carry q log r .partial))) carry) t
 
     pub receive-logged : loggedBy defined x (receive (alone marks q) log) ≡ logWords (received (m .sequences) (y .memory) (saidTo (rightsBy entitled stream m) (m .sequences) y d) .entries)
     receive-logged =

@@ -23,7 +23,7 @@ use Rattle.expansion.specs.Writing.{expansionBytes}
 use Rattle.packing.specs.Packing.{largestUpTo, mostPieces, fit, wholesFrom, partAfter, partFrom}
 use Rattle.pieces.specs.Pieces.{total}
 use Rattle.log.specs.Log.{Entry, packet, entryWords, logWords, packetWords}
-use Rattle.writer.specs.Writing.{opened as writerOpened, writeAnswer}
+use Rattle.writer.specs.Writing.{writerOpened, writeAnswer}
 use Rattle.writer.specs.RoundTrip.{Bytes}
 use Rattle.receiver.specs.Entitling.{allPrograms}
 use Rattle.receiver.specs.Receiving.{receiveNumber, receiveAnswer, lostNumber, lostAnswer, refusedAnswer, wrongState}

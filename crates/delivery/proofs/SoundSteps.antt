@@ -12,14 +12,14 @@ use Rattle.modes.specs.Modes.{listing}
 use Rattle.pdu.specs.Reading.{modeIn}
 use Rattle.log.specs.Log.{logWords, packetWords}
 use Rattle.reassembly.specs.Tally.{noTally, tallied}
-use Rattle.writer.specs.Writing.{opened as writerOpened}
+use Rattle.writer.specs.Writing.{writerOpened}
 use Rattle.receiver.specs.Entitling.{allowedPrograms}
 use Rattle.receiver.specs.Receiving.{tallyOf}
 use Rattle.runs.specs.Transmissions.{Way, gone, here, Close, AddsUp}
 use Rattle.batch.specs.declared.Batch.{Batch}
 use Rattle.delivery.specs.Delivery.{Packets, concatenated, Writing, InOrder, Station, Call, receive, batch, markLost, defined, stationAfter, RefusedAfter, finally, runOf, Correctable, alone, paired}
 use Rattle.delivery.proofs.Parts.{freshStation, NoneRefused, logsFrom, made, EntriesFit, dueEntries, dueIndices}
-use Rattle.delivery.specs.Copies.{restored, frontLength, bytesAt, crcAt, pieceAt}
+use Rattle.delivery.specs.Copies.{restored, frontLength, bytesAt, crcAt, sealedPiece}
 
 -- ---- a copy of a PDU
 
@@ -27,7 +27,7 @@ module _ (register width : ℕ) (p : List ℕ) where
   -- what may have become of a piece that is not as sent: its CRC is wrong, or its altered bits, one at least, lie inside eight consecutive bits
   pub data PieceDamage (y : List ℕ) (k : ℕ) : Type 0 where
     wrong : ¬ (crcFrom register (bytesAt width p y k) ≡ crcAt width p y k) → PieceDamage y k
-    burst : Burst (pieceAt width p p k) (pieceAt width p y k) → PieceDamage y k
+    burst : Burst (sealedPiece width p p k) (sealedPiece width p y k) → PieceDamage y k
 
   -- q is p with its first 96 bytes altered and marked within the bound; bytes 96 to La are as sent, and so is each piece with its CRC byte where
   -- `sound` says so; any other is damaged

@@ -19,13 +19,13 @@ use Rattle.pieces.specs.Pieces.{cutBy, pieceBytes, locatorsFrom, total}
 use Rattle.log.specs.Log.{packet, dataWords, entryWords, logWords, kindOf, ofPacket, packetWordsAfter, packetWords, packetsOf}
 use Rattle.log.proofs.Packets.{Fit, packet-words}
 use Rattle.reassembly.specs.Reassembly.{lostEntries, remembered}
-use Rattle.writer.specs.Writing.{opened as writerOpened, pduOf, writeAnswer, writtenPdu}
+use Rattle.writer.specs.Writing.{writerOpened, pduOf, writeAnswer, writtenPdu}
 use Rattle.receiver.specs.Entitling.{allowedPrograms, allPrograms}
 use Rattle.receiver.specs.Receiving.{openingNumber, openedFor, tallyOf, remembering, receiveNumber, receiveAnswer, lostNumber, lostAnswer, logAfterLost}
 use Rattle.runs.specs.Spans.{Span, every}
 use Rattle.reassembly.specs.Tally.{Tally, noTally, counted, tallied}
 use Rattle.batch.specs.declared.Batch.{Batch}
-use Rattle.delivery.specs.Delivery.{Packets, Writing, bufferAfter, pdusFrom, spansFrom, InOrder, Behaviour, Station, Call, receive, markLost, defined, callOf, Takes, receptions, stationAfter, loggedBy, finally, inReceived, runOf, Demand3For, alone}
+use Rattle.delivery.specs.Delivery.{Packets, Writing, bufferAfter, pdusFrom, spansFrom, InOrder, Behaviour, Station, Call, receive, markLost, defined, callOf, NotRefused, receptions, stationAfter, loggedBy, finally, inReceived, runOf, Demand3For, alone}
 use Rattle.delivery.proofs.Parts.{freshStation, NoneRefused, logCounts, logsFrom, made, spans, arrivedEntries, Asked, answerOf, logOf}
 use Rattle.runs.proofs.Model.{wholePackets}
 use Rattle.delivery.proofs.FaultyReceivers.{withWords, lentLog, silent, untouched, fixedWords, fixed, inventing, advancing, joining, resetting}
@@ -142,7 +142,7 @@ module _ (number : ℕ) (bytes : List ℕ) (fits : Fit (packet number bytes)) wh
   fixed-wrong claim =
       go (runOf 1 1 (made 0 0 0 six)) (run-length 1 1 1 refl) (claimed defined delivers 1 1 (true ∷ []) .accepted) (claimed (fixed number bytes) claim 1 1 (true ∷ []) .log ∙ ap (askedFor 1 1) (told 1 1 (true ∷ []) refl) ∙ second-asked)
     where
-      go : (pdus : List (List ℕ)) → length pdus ≡ 1 → NoneRefused defined callOf Takes (freshStation defined 0 0 0 allPrograms carry) (stepsFor [] verbatim [] pdus (true ∷ []))
+      go : (pdus : List (List ℕ)) → length pdus ≡ 1 → NoneRefused defined callOf NotRefused (freshStation defined 0 0 0 allPrograms carry) (stepsFor [] verbatim [] pdus (true ∷ []))
           → ¬ (packetWords (logsFrom (fixed number bytes) (freshStation defined 0 0 0 allPrograms carry) (map callOf (stepsFor [] verbatim [] pdus (true ∷ [])))) ≡ [])
       go [] n a e = absurd (omega (arith, n))
       go (p ∷ q ∷ ps) n a e = absurd (omega (arith, n))
@@ -154,7 +154,7 @@ module _ (number : ℕ) (bytes : List ℕ) (fits : Fit (packet number bytes)) wh
   inventing-wrong claim =
       go (runOf 1 1 (made 0 0 0 six)) (run-length 1 1 1 refl) (claimed defined delivers 1 1 (false ∷ []) .accepted) (claimed (inventing number bytes) claim 1 1 (false ∷ []) .log ∙ ap (askedFor 1 1) (told 1 1 (false ∷ []) refl) ∙ second-lost)
     where
-      go : (pdus : List (List ℕ)) → length pdus ≡ 1 → NoneRefused defined callOf Takes (freshStation defined 0 0 0 allPrograms carry) (stepsFor [] verbatim [] pdus (false ∷ []))
+      go : (pdus : List (List ℕ)) → length pdus ≡ 1 → NoneRefused defined callOf NotRefused (freshStation defined 0 0 0 allPrograms carry) (stepsFor [] verbatim [] pdus (false ∷ []))
           → ¬ (packetWords (logsFrom (inventing number bytes) (freshStation defined 0 0 0 allPrograms carry) (map callOf (stepsFor [] verbatim [] pdus (false ∷ [])))) ≡ [])
       go [] n a e = absurd (omega (arith, n))
       go (p ∷ q ∷ ps) n a e = absurd (omega (arith, n))
@@ -204,7 +204,7 @@ unfolding stepsFor logWords entryWords dataWords
 advancing-wrong claim =
     go (made 0 0 0 six) (run-length 0 5 5 refl) (claimed defined delivers 0 1 (true ∷ []) .accepted) (claimed defined delivers 0 1 (true ∷ []) .log ∙ ap (askedFor 0 1) (told 0 1 (true ∷ []) refl) ∙ first-asked) (all-logged advancing claim)
   where
-    go : (ps : List (List ℕ)) → length (runOf 0 5 ps) ≡ 5 → NoneRefused defined callOf Takes fresh (stepsFor [] verbatim [] (runOf 0 1 ps) (true ∷ []))
+    go : (ps : List (List ℕ)) → length (runOf 0 5 ps) ≡ 5 → NoneRefused defined callOf NotRefused fresh (stepsFor [] verbatim [] (runOf 0 1 ps) (true ∷ []))
         → packetWords (logsFrom defined fresh (map callOf (stepsFor [] verbatim [] (runOf 0 1 ps) (true ∷ [])))) ≡ logWords (packet 0 (replicate 20 1) ∷ [])
         → ¬ (packetWords (logsFrom advancing fresh (map callOf (stepsFor [] verbatim [] (runOf 0 5 ps) all))) ≡ askedFor 0 5 all)
     go [] n a l e = absurd (omega (arith, n))

@@ -21,8 +21,8 @@ use Rattle.log.proofs.Packets.{FitAll}
 use Rattle.reassembly.specs.Reassembly.{Piece, lostEntries, forgotten, received, remembered, contentsStep, sequenceStep, beginningStep, psdEntries, piecesStep, pieceStep, joined as joinedStep, finished}
 use Rattle.reassembly.specs.Rights.{Label}
 use Rattle.reassembly.specs.Tally.{Tally, noTally, counted, tallied, Countable}
-use Rattle.reassembly.specs.Holder.{Holder, opened, logged, after}
-use Rattle.writer.specs.Writing.{opened as writerOpened, writerTests, endedOf, partOf, pduOf, writeAnswer, writtenPdu}
+use Rattle.reassembly.specs.Holder.{Holder}
+use Rattle.writer.specs.Writing.{writerOpened, writerTests, endedOf, partOf, pduOf, writeAnswer, writtenPdu}
 use Rattle.receiver.specs.Entitling.{allowedPrograms, maskOf, entitles}
 use Rattle.receiver.specs.Receiving.{fresh as freshFor, memoryOf, remembering}
 use Rattle.receiver.specs.declared.Receiver.{Receiver}
@@ -31,6 +31,7 @@ use Rattle.runs.specs.Transmissions.{Way, here}
 use Rattle.runs.proofs.Promise.{arrivedBy}
 use Rattle.runs.proofs.Calls.{Speech, heard}
 use Rattle.runs.proofs.Theorem.{Unfinished}
+use Rattle.runs.proofs.Events.{openedHolder, logged, after}
 use Rattle.delivery.specs.Delivery.{Packets, concatenated, Writing, pdusFrom, spansFrom, InOrder, Behaviour, Station, receive, markLost, defined, Step, callOf, stationAfter, loggedBy, receptions, runOf, HeaderAltered, Holds, alone}
 use Rattle.delivery.proofs.Parts.{freshStation, logsFrom, made, spans, Asked, dueEntries, waysBy, runWith}
 use Rattle.delivery.proofs.SoundSteps.{causesFor}
@@ -171,13 +172,13 @@ third-given : (t : Tally) → (logged (rightsBy mask 0 m) 8 (knowing t) (heard c
 unfolding logged after heard received contentsStep remembered sequenceStep beginningStep psdEntries piecesStep pieceStep joinedStep finished readPieces cut entitles maskOf tallied
 third-given t = (refl, refl)
 
-first-given : (logged (rightsBy mask 0 m) 8 opened (heard came (speech 0 ∷ [])) ≡ packet 0 (triple 0) ∷ []) × (after (rightsBy mask 0 m) 8 opened (heard came (speech 0 ∷ [])) .kept ≡ some 0)
-    × (after (rightsBy mask 0 m) 8 opened (heard came (speech 0 ∷ [])) .tally ≡ one)
+first-given : (logged (rightsBy mask 0 m) 8 openedHolder (heard came (speech 0 ∷ [])) ≡ packet 0 (triple 0) ∷ []) × (after (rightsBy mask 0 m) 8 openedHolder (heard came (speech 0 ∷ [])) .kept ≡ some 0)
+    × (after (rightsBy mask 0 m) 8 openedHolder (heard came (speech 0 ∷ [])) .tally ≡ one)
 unfolding logged after heard received contentsStep remembered sequenceStep beginningStep psdEntries piecesStep pieceStep joinedStep finished readPieces cut entitles maskOf tallied counted
 first-given = (refl, refl, refl)
 
-first-logs : (x : Station) → Shows 1 0 0 mask m listed range x opened → Logs 0 x opened
-first-logs x s = all 0 (omega arith) (triple 0) refl refl (omega arith) (passes .0) (ends 0 .0) (ends 0 .1) x opened s (subst Countable (sym (first-given .2)) (omega arith, omega arith))
+first-logs : (x : Station) → Shows 1 0 0 mask m listed range x openedHolder → Logs 0 x openedHolder
+first-logs x s = all 0 (omega arith) (triple 0) refl refl (omega arith) (passes .0) (ends 0 .0) (ends 0 .1) x openedHolder s (subst Countable (sym (first-given .2)) (omega arith, omega arith))
 
 third-logs : (x : Station) (t : Tally) → Shows 1 0 0 mask m listed range x (knowing t) → Countable (counted t 2) → Logs 2 x (knowing t)
 third-logs x t s c = all 2 (omega arith) (triple 2) refl refl (omega arith) (passes .1) (ends 2 .0) (ends 2 .1) x (knowing t) s (subst Countable (sym (third-given t .1)) c)
@@ -233,7 +234,7 @@ begun x = stationAfter defined x (receive (alone [] (pduAt 0)) words)
 abbrev kept : Station → Station
 kept x = record { receiver = servicesKept (begun x); carry = begun x .carry }
 
-begun-shows : Shows 1 0 0 mask m listed range (begun fresh) (after (rightsBy mask 0 m) 8 opened (heard came (speech 0 ∷ [])))
+begun-shows : Shows 1 0 0 mask m listed range (begun fresh) (after (rightsBy mask 0 m) 8 openedHolder (heard came (speech 0 ∷ [])))
 begun-shows = first-logs fresh (shows-fresh 1 0 0 mask m listed range carry carry-room) .2
 
 kept-shows : Shows 1 0 0 mask m listed range (kept fresh) (knowing one)

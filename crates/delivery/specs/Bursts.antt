@@ -3,12 +3,12 @@
 -- batches, pairs, lost PDUs and refused calls among them, are demand 3's (Delivery.antt), and the receiver is entitled to any list of programs (Entitlement.antt).
 use Rattle.burst.specs.Burst.{InEight}
 use Rattle.delivery.specs.Delivery.{defined, Holds}
-use Rattle.delivery.specs.Copies.{pieceAt, Damage, Damaged}
+use Rattle.delivery.specs.Copies.{sealedPiece, Damage, Damaged}
 use Rattle.delivery.specs.Entitlement.{forPrograms}
 
 -- the bits that are altered of a piece with its CRC byte, from byte 96 on, lie inside eight consecutive bits
 abbrev pub Hit : Damage
-Hit register width p y k = InEight (pieceAt width p p k) (pieceAt width p y k)
+Hit register width p y k = InEight (sealedPiece width p p k) (sealedPiece width p y k)
 
 -- of demand 3's packets, those that begin in a PDU not withheld and none of whose pieces was hit, where a PDU came as a pair none in both copies; for every register
 -- that CRCs start with, and every list of programs that is not refused with 22

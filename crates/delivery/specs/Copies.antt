@@ -12,7 +12,7 @@ use Rattle.layout.specs.Locators.{locatorAt}
 use Rattle.modes.specs.Modes.{listing}
 use Rattle.pdu.specs.Reading.{modeIn, startAt, lengthAt}
 use Rattle.runs.specs.Transmissions.{Way, gone, here}
-use Rattle.diversity.specs.Diversity.{sameBytes}
+use Rattle.log.specs.Log.{sameList}
 use Rattle.delivery.specs.Delivery.{Correctable, Copies, alone, paired, Step, receives, batches, stops, loses, refuses, Run, runOf, made}
 
 -- what a receiver reads of a PDU p that came as q, once corrected: the header is p's again
@@ -32,12 +32,12 @@ module _ (width : ℕ) (p : List ℕ) where
   crcAt y k = getD y (locatorAt width p k) 0
 
   -- piece k with its CRC byte
-  abbrev pub pieceAt : List ℕ → ℕ → List ℕ
-  pieceAt y k = bytesAt y k ++ (crcAt y k ∷ [])
+  abbrev pub sealedPiece : List ℕ → ℕ → List ℕ
+  sealedPiece y k = bytesAt y k ++ (crcAt y k ∷ [])
 
   -- it is as sent, once q is corrected
   abbrev pub asSent : List ℕ → ℕ → Bool
-  asSent q k = sameBytes (pieceAt (restored p q) k) (pieceAt p k)
+  asSent q k = sameList (sealedPiece (restored p q) k) (sealedPiece p k)
 
 -- what may have become of piece k of p, read as y, by the register that CRCs start with and the locators' width
 abbrev pub Damage : Type 1

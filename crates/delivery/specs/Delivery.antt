@@ -19,7 +19,7 @@ use Rattle.log.specs.Log.{logWords, packetWords}
 use Rattle.reassembly.specs.Tally.{noTally, tallied, Countable}
 use Rattle.runs.specs.Spans.{packetAt, Span, covers, every, wholeIndices, entriesAt}
 use Rattle.runs.specs.Transmissions.{Close, AddsUp}
-use Rattle.writer.specs.Writing.{opened as writerOpened, placed, writeAnswer, writtenPdu}
+use Rattle.writer.specs.Writing.{writerOpened, placedLengths, writeAnswer, writtenPdu}
 use Rattle.writer.specs.RoundTrip.{Bytes}
 use Rattle.writer.specs.declared.Writer.{Writer}
 use Rattle.writer.specs.declared.Written.{Written}
@@ -27,7 +27,7 @@ use Rattle.receiver.specs.Entitling.{allPrograms}
 use Rattle.receiver.specs.Receiving.{openedFor, tallyOf, receiveAnswer, carryAfter, logAfter, lostAnswer, logAfterLost}
 use Rattle.receiver.specs.declared.Receiver.{Receiver}
 use Rattle.receiver.specs.declared.Received.{Received}
-use Rattle.batch.specs.Batches.{received}
+use Rattle.batch.specs.Batches.{batchReceived}
 use Rattle.batch.specs.declared.Batch.{Batch}
 use Rattle.diversity.specs.Diversity.{pairReceived}
 
@@ -88,7 +88,7 @@ module _ (mode stream : ℕ) (packets : List (List ℕ)) where
 
   -- how many bytes the placing rule gives
   abbrev pub placedAt : ℕ → Writing → ℕ
-  placedAt g a = total (placed (a .settings) (a .psd) (a .lengths) (a .bytes) (length (a .buffer)) (modeIn (listing mode stream)) (told g))
+  placedAt g a = total (placedLengths (a .settings) (a .psd) (a .lengths) (a .bytes) (length (a .buffer)) (modeIn (listing mode stream)) (told g))
 
   -- the bytes in each PDU that a list of calls makes: an accepted call sends, from G on, those that the placing rule gives, and G grows by
   -- them; a refused one sends none
@@ -140,7 +140,7 @@ abbrev pub effectOf : Station → Call → Effect
 effectOf x (receive (alone marks pdu) log) =
     record { answer = ofOne (receiveAnswer marks (x .carry) pdu log (x .receiver)); carry = carryAfter marks (x .carry) pdu log (x .receiver); log = logAfter marks (x .carry) pdu log (x .receiver) }
 effectOf x (receive (paired first second) log) = let u = pairReceived (x .carry) first second log (x .receiver) in record { answer = ofOne (u .answer); carry = u .carry; log = u .log }
-effectOf x (batch lengths pdus log) = let u = received lengths (x .carry) pdus log (x .receiver) in record { answer = u .answer; carry = u .carry; log = u .log }
+effectOf x (batch lengths pdus log) = let u = batchReceived lengths (x .carry) pdus log (x .receiver) in record { answer = u .answer; carry = u .carry; log = u .log }
 effectOf x (markLost log) = record { answer = ofOne (lostAnswer log (x .receiver)); carry = x .carry; log = logAfterLost log (x .receiver) }
 
 abbrev pub defined : Behaviour
@@ -195,12 +195,12 @@ callOf (loses log) = markLost log
 callOf (refuses c) = c
 
 -- what is promised of a call's answer: a call for PDUs of the run alone is not refused, and a batch of them takes them all
-abbrev pub Takes : Step → Batch → Type 0
-Takes (receives copies log) a = a .refusal ≡ 0
-Takes (batches pdus log) a = (a .refusal ≡ 0) × (a .taken ≡ length pdus)
-Takes (stops pdus lengths bytes log) a = Unit {0}
-Takes (loses log) a = a .refusal ≡ 0
-Takes (refuses c) a = Unit {0}
+abbrev pub NotRefused : Step → Batch → Type 0
+NotRefused (receives copies log) a = a .refusal ≡ 0
+NotRefused (batches pdus log) a = (a .refusal ≡ 0) × (a .taken ≡ length pdus)
+NotRefused (stops pdus lengths bytes log) a = Unit {0}
+NotRefused (loses log) a = a .refusal ≡ 0
+NotRefused (refuses c) a = Unit {0}
 
 -- which PDUs of the run are received
 abbrev pub receptions : List Step → List Bool
@@ -320,7 +320,7 @@ module _ (r : Run) where
   -- plus missing is the number of packets from the first delivered to the last
   pub record Delivered (due : List ℕ) (seen : List Seen) (last : Receiver) : Type 0 where
     pub as-many : length spans ≡ length made
-    pub accepted : Each Takes (r .steps) seen
+    pub accepted : Each NotRefused (r .steps) seen
     pub log : packetWords (logsIn seen) ≡ logWords (entriesAt (r .packets) due)
     pub counts : tallyOf last ≡ tallied noTally (entriesAt (r .packets) due)
     pub adds-up : Close due → AddsUp due (tallyOf last)

@@ -42,12 +42,12 @@ pub record Interruption : Type 0 where
 
 module _ (s : Snapshot) where
   -- the words: the buffer as far as saving's answer counts
-  abbrev pub wordsOf : Station → Interruption → List ℕ
-  wordsOf x i = take (s .saved x (i .words) .words) (s .words x (i .words))
+  abbrev pub keptWords : Station → Interruption → List ℕ
+  keptWords x i = take (s .saved x (i .words) .words) (s .words x (i .words))
 
   -- receiver and carry after it, as loading these words leaves them
   abbrev pub resumed : Station → Interruption → Station
-  resumed x i = record { receiver = s .loaded (wordsOf x i) (i .carry) .receiver; carry = s .carry (wordsOf x i) (i .carry) }
+  resumed x i = record { receiver = s .loaded (keptWords x i) (i .carry) .receiver; carry = s .carry (keptWords x i) (i .carry) }
 
 -- ---- what is asked of receiver and calls
 
@@ -96,7 +96,7 @@ module _ (b : Behaviour) (s : Snapshot) where
   abbrev pub AllResume : Station → List Turn → Type 0
   AllResume x [] = Unit {0}
   AllResume x (called c ∷ ts) = AllResume (stationAfter b x c) ts
-  AllResume x (interrupted i ∷ ts) = ((s .saved x (i .words) .refusal ≡ 0) × (s .loaded (wordsOf s x i) (i .carry) .refusal ≡ 0)) × AllResume (resumed s x i) ts
+  AllResume x (interrupted i ∷ ts) = ((s .saved x (i .words) .refusal ≡ 0) × (s .loaded (keptWords s x i) (i .carry) .refusal ≡ 0)) × AllResume (resumed s x i) ts
 
   -- what is asked besides: the PDUs of each call are of bytes, and at each interruption the buffer of words is not too short, 26, and the carry has 4,096 bytes at least
   abbrev pub Suffices : Station → List Turn → Type 0

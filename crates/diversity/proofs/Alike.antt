@@ -19,16 +19,17 @@ use Rattle.pdu.proofs.Assembling.{nop-small}
 use Rattle.pdu.proofs.Ignored.{locator-same}
 use Rattle.pdu.proofs.Sizes.{sized}
 use Rattle.reassembly.specs.Reassembly.{Piece, Said}
-use Rattle.reassembly.specs.Run.{placeAt, lengthAt, pieceAt, pieceOf, piecesFrom, Marked, psdOf, Parsed, saidOf}
+use Rattle.reassembly.specs.Run.{placeAt, lengthBy, pieceAt, pieceOf, piecesFrom, Marked, psdBy, Parsed, saidOf}
 use Rattle.reassembly.specs.declared.Head.{Head}
 use Rattle.receiver.specs.Receiving.{pieceIn, saidBy, labelIn}
 use Rattle.receiver.specs.Steps.{MarksOf, causeAt, CausesOf, headOf, comeOf}
 use Rattle.receiver.proofs.Parsing.{all-marked, parsed}
 use Rattle.receiver.proofs.Rows.{both-on}
 use Rattle.receiver.proofs.Saying.{piece-here, same-said}
-use Rattle.diversity.specs.Diversity.{sameBytes, pairPiece, pairPieces, pairSaid, pairCome, frontOf, differ}
+use Rattle.log.specs.Log.{sameList}
+use Rattle.log.proofs.Same.{same-true}
+use Rattle.diversity.specs.Diversity.{pairPiece, pairPieces, pairSaid, pairCome, frontOf, differ}
 use Rattle.diversity.specs.Steps.{pieceBy, pairCauseAt, PairCausesOf, mixed, exchanged}
-use Rattle.diversity.proofs.Bytes.{same-true}
 use Rattle.diversity.proofs.Mixing.{part-first, part-second}
 use Rattle.diversity.proofs.Exchanging.{up-to-la, in-piece}
 
@@ -43,11 +44,11 @@ taken-short n l j a = let e = length-take n l in omega (arith, e)
 module _ (y z : List ℕ) (e : differ y z ≡ false) where
   pub alike-length : length y ≡ length z
   unfolding differ
-  alike-length = eqb-true (length y) (length z) (both-on (eqb (length y) (length z)) (sameBytes (frontOf y) (frontOf z)) e .0)
+  alike-length = eqb-true (length y) (length z) (both-on (eqb (length y) (length z)) (sameList (frontOf y) (frontOf z)) e .0)
 
   front : frontOf y ≡ frontOf z
   unfolding differ
-  front = same-true (frontOf y) (frontOf z) (both-on (eqb (length y) (length z)) (sameBytes (frontOf y) (frontOf z)) e .1)
+  front = same-true (frontOf y) (frontOf z) (both-on (eqb (length y) (length z)) (sameList (frontOf y) (frontOf z)) e .1)
 
   -- a byte from 8 to La
   from-eight : (j : ℕ) → controlAt y .la < length y → 8 + j < controlAt y .la + 1 → getD y (8 + j) 0 ≡ getD z (8 + j) 0
@@ -87,7 +88,7 @@ parsed-long head y z marks e p = record { marked = marked-long y z marks (head .
 -- ---- what the first says once pieces are exchanged
 
 pub pair-bytes : (a b : Piece) → pairPiece a b .bytes ≡ cond (eqb (a .cause) 0) (a .bytes) (b .bytes)
-pair-bytes a b = go (eqb (a .cause) 0) (eqb (b .cause) 0) (sameBytes (a .bytes) (b .bytes))
+pair-bytes a b = go (eqb (a .cause) 0) (eqb (b .cause) 0) (sameList (a .bytes) (b .bytes))
   where
     go : (u v w : Bool) → cond u (cond v (cond w a (record { cause = 7; bytes = a .bytes })) a) b .bytes ≡ cond u (a .bytes) (b .bytes)
     go true true true = refl
@@ -104,12 +105,12 @@ module _ (register width : ℕ) (c : ControlWord) (y z marks causes both : List 
   unfolding pieceAt
   piece-mixed k h = go (eqb (causeAt register y marks k) 0) refl
     where
-      mask : (i : ℕ) → placeAt marks k ≤ i → i < placeAt marks k + lengthAt marks k → exchanged marks causes (c .nop) i ≡ not (eqb (causeAt register y marks k) 0)
+      mask : (i : ℕ) → placeAt marks k ≤ i → i < placeAt marks k + lengthBy marks k → exchanged marks causes (c .nop) i ≡ not (eqb (causeAt register y marks k) 0)
       mask i a b = in-piece y marks (c .nop) w causes (c .nop) k i h (omega arith) a (let r = w .rising k h in omega (arith, r)) ∙ ap (λ (n : ℕ). not (eqb n 0)) (ec k h)
 
       go : (t : Bool) → eqb (causeAt register y marks k) 0 ≡ t → pieceAt mix marks k ≡ cond t (pieceAt y marks k) (pieceAt z marks k)
-      go true e = part-first (exchanged marks causes (c .nop)) (placeAt marks k) (lengthAt marks k) y z (λ i a b. mask i a b ∙ ap not e)
-      go false e = part-second (exchanged marks causes (c .nop)) (placeAt marks k) (lengthAt marks k) y z long (λ i a b. mask i a b ∙ ap not e)
+      go true e = part-first (exchanged marks causes (c .nop)) (placeAt marks k) (lengthBy marks k) y z (λ i a b. mask i a b ∙ ap not e)
+      go false e = part-second (exchanged marks causes (c .nop)) (placeAt marks k) (lengthBy marks k) y z long (λ i a b. mask i a b ∙ ap not e)
 
   piece-pair : (k : ℕ) → k < c .nop → pieceOf (getD both k 0) (pieceAt mix marks k) ≡ pairPiece (pieceIn register width c y k) (pieceIn register width c z k)
   unfolding pairCauseAt
@@ -123,8 +124,8 @@ module _ (register width : ℕ) (c : ControlWord) (y z marks causes both : List 
   pieces-pair zero k h = refl
   pieces-pair (suc n) k h = ap₂ _∷_ (piece-pair k (omega arith)) (ap (λ (i : ℕ). piecesFrom mix marks both i n) (add-one k) ∙ pieces-pair n (suc k) (omega arith))
 
-  psd-mixed : psdOf (headOf width c y) marks mix ≡ psdOf (headOf width c y) marks y
-  unfolding psdOf
+  psd-mixed : psdBy (headOf width c y) marks mix ≡ psdBy (headOf width c y) marks y
+  unfolding psdBy
   psd-mixed =
       part-first (exchanged marks causes (c .nop)) (headOf width c y .psd) (placeAt marks 0 - headOf width c y .psd) y z
       (λ i a b. up-to-la y marks (c .nop) w causes (c .nop) i (omega arith) (omega arith))

@@ -14,7 +14,7 @@ use Rattle.correction.specs.Correction.{correctionOf}
 use Rattle.correction.specs.declared.Correction.{Correction}
 use Rattle.correction.specs.declared.Correction.the-variants.{Corrected, Refused}
 use Rattle.correction.proofs.Answers.{length-refused, no-marks-answer}
-use Rattle.diversity.specs.Diversity.{Choice, neither, theFirst, theSecond, better, choiceOf, numberOf}
+use Rattle.diversity.specs.Diversity.{Choice, neither, theFirst, theSecond, better, choiceOf, choiceNumber}
 
 -- ---- how many bytes would be corrected
 
@@ -35,22 +35,22 @@ count-header p w a lo hi ew ea =
 
 -- ---- which is better
 
-pub better-first : (a b : Correction) (m n : ℕ) → a ≡ Corrected m → b ≡ Corrected n → m ≤ n → 1 ≡ numberOf (better a b)
+pub better-first : (a b : Correction) (m n : ℕ) → a ≡ Corrected m → b ≡ Corrected n → m ≤ n → 1 ≡ choiceNumber (better a b)
 better-first a b m n ea eb h = let t : leb m n ≡ true = le-leb m n h in rw (ea, eb, t)
 
-pub better-second : (a b : Correction) (m n : ℕ) → a ≡ Corrected m → b ≡ Corrected n → n < m → 2 ≡ numberOf (better a b)
+pub better-second : (a b : Correction) (m n : ℕ) → a ≡ Corrected m → b ≡ Corrected n → n < m → 2 ≡ choiceNumber (better a b)
 better-second a b m n ea eb h = let t : leb m n ≡ false = lt-leb m n h in rw (ea, eb, t)
 
-pub choice-is : (p q : List ℕ) (a b : Correction) (n : ℕ) → a ≡ correctionOf p → b ≡ correctionOf q → n ≡ numberOf (better a b) → n ≡ numberOf (choiceOf p q)
+pub choice-is : (p q : List ℕ) (a b : Correction) (n : ℕ) → a ≡ correctionOf p → b ≡ correctionOf q → n ≡ choiceNumber (better a b) → n ≡ choiceNumber (choiceOf p q)
 unfolding choiceOf
-choice-is p q a b n ea eb e = e ∙ ap numberOf (ap₂ better ea eb)
+choice-is p q a b n ea eb e = e ∙ ap choiceNumber (ap₂ better ea eb)
 
 -- the choice by its number
-module _ (p q : List ℕ) (n : ℕ) (en : n ≡ numberOf (choiceOf p q)) where
+module _ (p q : List ℕ) (n : ℕ) (en : n ≡ choiceNumber (choiceOf p q)) where
   pub is-first : n ≡ 1 → choiceOf p q ≡ theFirst
   is-first e = go (choiceOf p q) (sym en ∙ e)
     where
-      go : (x : Choice) → numberOf x ≡ 1 → x ≡ theFirst
+      go : (x : Choice) → choiceNumber x ≡ 1 → x ≡ theFirst
       go neither h = absurd (omega arith)
       go theFirst h = refl
       go theSecond h = absurd (omega arith)
@@ -58,7 +58,7 @@ module _ (p q : List ℕ) (n : ℕ) (en : n ≡ numberOf (choiceOf p q)) where
   pub is-second : n ≡ 2 → choiceOf p q ≡ theSecond
   is-second e = go (choiceOf p q) (sym en ∙ e)
     where
-      go : (x : Choice) → numberOf x ≡ 2 → x ≡ theSecond
+      go : (x : Choice) → choiceNumber x ≡ 2 → x ≡ theSecond
       go neither h = absurd (omega arith)
       go theFirst h = absurd (omega arith)
       go theSecond h = refl
@@ -66,7 +66,7 @@ module _ (p q : List ℕ) (n : ℕ) (en : n ≡ numberOf (choiceOf p q)) where
   pub is-neither : ¬ (n ≡ 1) → ¬ (n ≡ 2) → choiceOf p q ≡ neither
   is-neither e f = go (choiceOf p q) (λ h. e (en ∙ h)) (λ h. f (en ∙ h))
     where
-      go : (x : Choice) → ¬ (numberOf x ≡ 1) → ¬ (numberOf x ≡ 2) → x ≡ neither
+      go : (x : Choice) → ¬ (choiceNumber x ≡ 1) → ¬ (choiceNumber x ≡ 2) → x ≡ neither
       go neither g h = refl
       go theFirst g h = absurd (g refl)
       go theSecond g h = absurd (h refl)

@@ -12,7 +12,8 @@ use Rattle.layout.specs.Locators.{locator16}
 use Rattle.correction.specs.declared.Correction.the-variants.{Corrected, Refused}
 use Rattle.pdu.specs.Reading.{wrongLocator, lowestBelow, widthOf}
 use Rattle.reassembly.specs.Reassembly.{Piece, nothing, dropped, pieceStep}
-use Rattle.diversity.specs.Diversity.{neither, theFirst, theSecond, better, Chosen, sameBytes, pairPiece, pairPieces, lower, wrongInPair, differ}
+use Rattle.log.specs.Log.{sameList}
+use Rattle.diversity.specs.Diversity.{neither, theFirst, theSecond, better, Chosen, pairPiece, pairPieces, lower, wrongInPair, differ}
 
 -- ---- the better copy
 
@@ -45,22 +46,22 @@ pieces y z = pairPieces 0 16 (controlAt y) y z 0 2
 
 -- the CRC of 1 is 49, that of 128 is 122. One piece is wrong in the first, the other in the second: both are taken, each from its own copy
 pub each-from-one : pieces (two 1 48 128 122) (two 1 49 128 121) ≡ record { cause = 0; bytes = 1 ∷ [] } ∷ record { cause = 0; bytes = 128 ∷ [] } ∷ []
-unfolding pairPieces sameBytes controlOf locator16 crcFrom crcByte crcBits crcBit
+unfolding pairPieces sameList controlOf locator16 crcFrom crcByte crcBits crcBit
 each-from-one = refl
 
 -- both wrong and alike: a wrong CRC
 pub both-wrong : pieces (two 1 48 128 122) (two 1 48 128 122) ≡ record { cause = 2; bytes = 1 ∷ [] } ∷ record { cause = 0; bytes = 128 ∷ [] } ∷ []
-unfolding pairPieces sameBytes controlOf locator16 crcFrom crcByte crcBits crcBit
+unfolding pairPieces sameList controlOf locator16 crcFrom crcByte crcBits crcBit
 both-wrong = refl
 
 -- both right and different: 7
 pub both-right : pieces (two 1 49 128 122) (two 128 122 128 122) ≡ record { cause = 7; bytes = 1 ∷ [] } ∷ record { cause = 0; bytes = 128 ∷ [] } ∷ []
-unfolding pairPieces sameBytes controlOf locator16 crcFrom crcByte crcBits crcBit
+unfolding pairPieces sameList controlOf locator16 crcFrom crcByte crcBits crcBit
 both-right = refl
 
 -- which is noted where 2 would be: before 3, for a piece that continues nothing
 pub before-three : pieceStep 5 0 true true nothing (pairPiece (record { cause = 0; bytes = 1 ∷ [] }) (record { cause = 0; bytes = 2 ∷ [] })) ≡ dropped 7 0
-unfolding sameBytes pieceStep
+unfolding sameList pieceStep
 before-three = refl
 
 -- ---- rows
@@ -78,16 +79,16 @@ front a b c = replicate 8 a ++ (0 ∷ 0 ∷ 0 ∷ 0 ∷ 0 ∷ 15 ∷ 7 ∷ b ∷
 
 -- parity and bytes after La may differ
 pub parity-ignored : differ (front 1 9 5) (front 2 9 6) ≡ false
-unfolding differ sameBytes controlOf
+unfolding differ sameList controlOf
 parity-ignored = refl
 
 -- a byte before La may not, nor the length
 pub byte-differs : differ (front 1 9 5) (front 1 8 5) ≡ true
-unfolding differ sameBytes controlOf
+unfolding differ sameList controlOf
 byte-differs = refl
 
 pub length-differs : differ (front 1 9 5) (front 1 9 5 ++ (0 ∷ [])) ≡ true
-unfolding differ sameBytes controlOf
+unfolding differ sameList controlOf
 length-differs = refl
 
 -- NOP 3, La 19, 16 bits: locators 50, 30 and 60, of which the second is wrong, and 10, 50 and 60, of which the first is

@@ -10,7 +10,7 @@ use lib.Dec.{eqb, ltb, leb}
 use lib.ListN.{length, getD, set}
 use borrow.Author.Tests.{eq-eqb, ne-eqb, le-leb, lt-leb, lt-ltb, le-ltb}
 use Rattle.reassembly.specs.Run.{placeAt, Marked}
-use Rattle.diversity.specs.Steps.{mixed, within, either, pieceTo, exchanged}
+use Rattle.diversity.specs.Steps.{mixed, inPlaces, either, pieceTo, exchanged}
 use Rattle.diversity.proofs.Mixing.{mixed-same, mixed-none, mixed-twice, mixed-at, mixed-more}
 
 no-and : (t : Bool) → (t && false) ≡ false
@@ -19,34 +19,34 @@ no-and false = refl
 
 -- ---- places from one up to another
 
-pub within-yes : (from to i : ℕ) → from ≤ i → i < to → within from to i ≡ true
-unfolding within
+pub within-yes : (from to i : ℕ) → from ≤ i → i < to → inPlaces from to i ≡ true
+unfolding inPlaces
 within-yes from to i a b = let e : leb from i ≡ true = le-leb from i a in let f : ltb i to ≡ true = lt-ltb i to b in rw (e, f)
 
-pub within-below : (from to i : ℕ) → i < from → within from to i ≡ false
-unfolding within
+pub within-below : (from to i : ℕ) → i < from → inPlaces from to i ≡ false
+unfolding inPlaces
 within-below from to i a = let e : leb from i ≡ false = lt-leb from i a in rw e
 
-pub within-past : (from to i : ℕ) → to ≤ i → within from to i ≡ false
-unfolding within
+pub within-past : (from to i : ℕ) → to ≤ i → inPlaces from to i ≡ false
+unfolding inPlaces
 within-past from to i b = let f : ltb i to ≡ false = le-ltb i to b in rw f (no-and (leb from i))
 
 -- none
-pub within-none : (from : ℕ) (y z : List ℕ) → y ≡ mixed (within from from) y z
-within-none from y z = sym (mixed-none (within from from) y z (λ i. go i (decLt i from)))
+pub within-none : (from : ℕ) (y z : List ℕ) → y ≡ mixed (inPlaces from from) y z
+within-none from y z = sym (mixed-none (inPlaces from from) y z (λ i. go i (decLt i from)))
   where
-    go : (i : ℕ) → Dec (i < from) → within from from i ≡ false
+    go : (i : ℕ) → Dec (i < from) → inPlaces from from i ≡ false
     go i (yes h) = within-below from from i h
     go i (no h) = within-past from from i (omega arith)
 
 -- one more: y and z are mixed up to place i, and v is the byte of z there
-pub within-more : (from i : ℕ) (y z l m : List ℕ) (v : ℕ) → from ≤ i → i < length y → length y ≡ length z → l ≡ mixed (within from i) y z → m ≡ mixed (within from i) z y → v ≡ getD m i 0
-    → set l i v ≡ mixed (within from (i + 1)) y z
+pub within-more : (from i : ℕ) (y z l m : List ℕ) (v : ℕ) → from ≤ i → i < length y → length y ≡ length z → l ≡ mixed (inPlaces from i) y z → m ≡ mixed (inPlaces from i) z y → v ≡ getD m i 0
+    → set l i v ≡ mixed (inPlaces from (i + 1)) y z
 within-more from i y z l m v h a e el em ev =
-    ap₂ (λ (k : List ℕ) (n : ℕ). set k i n) el (ev ∙ ap (λ (k : List ℕ). getD k i 0) em ∙ mixed-at (within from i) i z y (within-past from i i (omega arith)))
-    ∙ mixed-more (within from i) (within from (i + 1)) i y z a (omega arith) (within-yes from (i + 1) i h (omega arith)) (λ j n. go j n (decLt j i) (decLt j from))
+    ap₂ (λ (k : List ℕ) (n : ℕ). set k i n) el (ev ∙ ap (λ (k : List ℕ). getD k i 0) em ∙ mixed-at (inPlaces from i) i z y (within-past from i i (omega arith)))
+    ∙ mixed-more (inPlaces from i) (inPlaces from (i + 1)) i y z a (omega arith) (within-yes from (i + 1) i h (omega arith)) (λ j n. go j n (decLt j i) (decLt j from))
   where
-    go : (j : ℕ) → ¬ (j ≡ i) → Dec (j < i) → Dec (j < from) → within from i j ≡ within from (i + 1) j
+    go : (j : ℕ) → ¬ (j ≡ i) → Dec (j < i) → Dec (j < from) → inPlaces from i j ≡ inPlaces from (i + 1) j
     go j n a (yes b) = within-below from i j b ∙ sym (within-below from (i + 1) j b)
     go j n (yes a) (no b) = within-yes from i j (omega arith) a ∙ sym (within-yes from (i + 1) j (omega arith) (omega arith))
     go j n (no a) (no b) = within-past from i j (omega arith) ∙ sym (within-past from (i + 1) j (omega arith))
@@ -58,11 +58,11 @@ unfolding pieceTo
 piece-stays marks cause k y z e = sym (mixed-none (pieceTo marks cause k) y z (λ i. let t : eqb cause 0 ≡ true = eq-eqb cause 0 e in rw t))
 
 -- a and e are the marks before and after it
-pub piece-goes : (marks : List ℕ) (cause k a e : ℕ) (y z l : List ℕ) → ¬ (cause ≡ 0) → a ≡ getD marks k 0 → e ≡ getD marks (k + 1) 0 → l ≡ mixed (within (a + 1) e) y z → l ≡ mixed (pieceTo marks cause k) y z
+pub piece-goes : (marks : List ℕ) (cause k a e : ℕ) (y z l : List ℕ) → ¬ (cause ≡ 0) → a ≡ getD marks k 0 → e ≡ getD marks (k + 1) 0 → l ≡ mixed (inPlaces (a + 1) e) y z → l ≡ mixed (pieceTo marks cause k) y z
 unfolding pieceTo
 piece-goes marks cause k a e y z l n ea ee el =
-    el ∙ mixed-same (within (a + 1) e) (pieceTo marks cause k) y z
-    (λ i. (let t : eqb cause 0 ≡ false = ne-eqb cause 0 n in ap₂ (λ (u v : ℕ). within (u + 1) v i) ea ee ∙ ap (λ (b : Bool). not b && within (placeAt marks k) (getD marks (k + 1) 0) i) (sym t)))
+    el ∙ mixed-same (inPlaces (a + 1) e) (pieceTo marks cause k) y z
+    (λ i. (let t : eqb cause 0 ≡ false = ne-eqb cause 0 n in ap₂ (λ (u v : ℕ). inPlaces (u + 1) v i) ea ee ∙ ap (λ (b : Bool). not b && inPlaces (placeAt marks k) (getD marks (k + 1) 0) i) (sym t)))
 
 -- ---- pieces
 

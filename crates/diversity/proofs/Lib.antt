@@ -1,3 +1,4 @@
+pub mod AfterPair
 pub mod Alike
 pub mod Bytes
 pub mod Choosing

@@ -12,7 +12,8 @@ use Rattle.correction.specs.Correction.{correctedPdu}
 use Rattle.receiver.specs.Steps.{stateTests}
 use Rattle.receiver.specs.declared.Receiver.{Receiver}
 use Rattle.receiver.proofs.Rows.{first-on}
-use Rattle.diversity.specs.Diversity.{copyNumber, lower, differ, pairWords, pairTests, pairNumber, receivedBy}
+use Rattle.diversity.proofs.AfterPair.{pairWords}
+use Rattle.diversity.specs.Diversity.{copyNumber, lower, differ, pairTests, pairNumber, receivedBy}
 
 module _ (carry first second log : List ℕ) (r : Receiver) where
   abbrev ofEither : ℕ

@@ -9,7 +9,8 @@ use borrow.Author.Tests.{eq-eqb, ne-eqb}
 use Rattle.reassembly.specs.Reassembly.{Piece}
 use Rattle.reassembly.specs.Run.{pieceAt}
 use Rattle.receiver.specs.Steps.{causeAt}
-use Rattle.diversity.specs.Diversity.{sameBytes, pairPiece}
+use Rattle.log.specs.Log.{sameList}
+use Rattle.diversity.specs.Diversity.{pairPiece}
 use Rattle.diversity.specs.Steps.{pieceBy, pairCauseAt}
 
 -- the bytes between two marks
@@ -21,8 +22,8 @@ piece-of y marks k a e ea ee = rw (ea, ee) refl
 abbrev causeBy : Bool → Bool → Bool → ℕ → ℕ → ℕ
 causeBy u v w a b = cond u (cond v (cond w a 7) a) b
 
-cause-by : (a b : Piece) → pairPiece a b .cause ≡ causeBy (eqb (a .cause) 0) (eqb (b .cause) 0) (sameBytes (a .bytes) (b .bytes)) (a .cause) (b .cause)
-cause-by a b = go (eqb (a .cause) 0) (eqb (b .cause) 0) (sameBytes (a .bytes) (b .bytes))
+cause-by : (a b : Piece) → pairPiece a b .cause ≡ causeBy (eqb (a .cause) 0) (eqb (b .cause) 0) (sameList (a .bytes) (b .bytes)) (a .cause) (b .cause)
+cause-by a b = go (eqb (a .cause) 0) (eqb (b .cause) 0) (sameList (a .bytes) (b .bytes))
   where
     go : (u v w : Bool) → cond u (cond v (cond w a (record { cause = 7; bytes = a .bytes })) a) b .cause ≡ causeBy u v w (a .cause) (b .cause)
     go true true true = refl
@@ -32,11 +33,11 @@ cause-by a b = go (eqb (a .cause) 0) (eqb (b .cause) 0) (sameBytes (a .bytes) (b
 
 -- the first's cause is n
 module _ (register : ℕ) (y z marks : List ℕ) (k n : ℕ) (en : n ≡ causeAt register y marks k) where
-  cause-is : pairCauseAt register y z marks k ≡ causeBy (eqb n 0) (eqb (causeAt register z marks k) 0) (sameBytes (pieceAt y marks k) (pieceAt z marks k)) n (causeAt register z marks k)
+  cause-is : pairCauseAt register y z marks k ≡ causeBy (eqb n 0) (eqb (causeAt register z marks k) 0) (sameList (pieceAt y marks k) (pieceAt z marks k)) n (causeAt register z marks k)
   unfolding pairCauseAt
   cause-is =
       cause-by (pieceBy register y marks k) (pieceBy register z marks k)
-      ∙ ap (λ (m : ℕ). causeBy (eqb m 0) (eqb (causeAt register z marks k) 0) (sameBytes (pieceAt y marks k) (pieceAt z marks k)) m (causeAt register z marks k)) (sym en)
+      ∙ ap (λ (m : ℕ). causeBy (eqb m 0) (eqb (causeAt register z marks k) 0) (sameList (pieceAt y marks k) (pieceAt z marks k)) m (causeAt register z marks k)) (sym en)
 
   -- the first's CRC is wrong
   pub second-cause : (m : ℕ) → ¬ (n ≡ 0) → m ≡ causeAt register z marks k → m ≡ pairCauseAt register y z marks k
@@ -51,9 +52,9 @@ module _ (register : ℕ) (y z marks : List ℕ) (k n : ℕ) (en : n ≡ causeAt
     same-cause false m = refl
 
     -- the bytes are the same
-    pub taken-cause : (b : Bool) → b ≡ sameBytes (pieceAt y marks k) (pieceAt z marks k) → b ≡ true → 0 ≡ pairCauseAt register y z marks k
+    pub taken-cause : (b : Bool) → b ≡ sameList (pieceAt y marks k) (pieceAt z marks k) → b ≡ true → 0 ≡ pairCauseAt register y z marks k
     taken-cause b eb h =
-        let w : sameBytes (pieceAt y marks k) (pieceAt z marks k) ≡ true = sym eb ∙ h in
+        let w : sameList (pieceAt y marks k) (pieceAt z marks k) ≡ true = sym eb ∙ h in
         sym (cause-is ∙ rw (t, w, right) (same-cause (eqb (causeAt register z marks k) 0) (causeAt register z marks k)))
 
     -- the second's CRC is wrong
@@ -63,8 +64,8 @@ module _ (register : ℕ) (y z marks : List ℕ) (k n : ℕ) (en : n ≡ causeAt
         sym (cause-is ∙ rw (t, v, right))
 
     -- both are right, and differ
-    pub apart-cause : (m : ℕ) (b : Bool) → m ≡ causeAt register z marks k → m ≡ 0 → b ≡ sameBytes (pieceAt y marks k) (pieceAt z marks k) → b ≡ false → 7 ≡ pairCauseAt register y z marks k
+    pub apart-cause : (m : ℕ) (b : Bool) → m ≡ causeAt register z marks k → m ≡ 0 → b ≡ sameList (pieceAt y marks k) (pieceAt z marks k) → b ≡ false → 7 ≡ pairCauseAt register y z marks k
     apart-cause m b em h eb f =
         let v : eqb (causeAt register z marks k) 0 ≡ true = eq-eqb (causeAt register z marks k) 0 (sym em ∙ h) in
-        let w : sameBytes (pieceAt y marks k) (pieceAt z marks k) ≡ false = sym eb ∙ f in
+        let w : sameList (pieceAt y marks k) (pieceAt z marks k) ≡ false = sym eb ∙ f in
         sym (cause-is ∙ rw (t, v, w))

@@ -3,7 +3,6 @@
 use mathlib.Core.Path.{_≡_}
 use mathlib.Core.Bool.{Bool, true, false, not, _&&_, _||_, cond}
 use mathlib.Core.List.{List, [], _∷_, _++_}
-use mathlib.Core.Option.{Option}
 use Prim.Native.Nat.{ℕ, zero, suc, _+_, _-_}
 use lib.Dec.{eqb, ltb, leb}
 use lib.ListN.{length, take, drop}
@@ -12,16 +11,15 @@ use Rattle.refusal.specs.Refusal.{firstOf}
 use Rattle.buffer.specs.Buffer.{putAt}
 use Rattle.layout.specs.Control.{controlAt}
 use Rattle.layout.specs.declared.ControlWord.{ControlWord}
-use Rattle.log.specs.Log.{logWords}
+use Rattle.log.specs.Log.{logWords, sameList}
 use Rattle.correction.specs.Correction.{correctionOf, correctedPdu}
 use Rattle.correction.specs.declared.Correction.{Correction}
 use Rattle.correction.specs.declared.Correction.the-variants.{Corrected, Refused}
 use Rattle.pdu.specs.Reading.{wrongLocator, lowestBelow, readerTests, modeIn, listingOf, widthOf}
-use Rattle.reassembly.specs.Reassembly.{Piece, Said, Memory, Outcome, received, remembered}
+use Rattle.reassembly.specs.Reassembly.{Piece, Said, Outcome}
 use Rattle.reassembly.specs.Holder.{Come}
-use Rattle.reassembly.specs.Tally.{Tally, tallied, passesLimit}
-use Rattle.reassembly.specs.Run.{bytesOf}
-use Rattle.receiver.specs.Receiving.{pieceIn, saidBy, labelIn, memoryOf, tallyOf, shown, keptBy, remembering, modeOf, refusedAnswer, receiveAnswer, carryAfter, pduAfter, logAfter}
+use Rattle.reassembly.specs.Run.{partialBytes}
+use Rattle.receiver.specs.Receiving.{pieceIn, saidBy, labelIn, modeOf, refusedAnswer, outcomeIn, lastTests, takenAnswer, receiveAnswer, carryAfter, pduAfter, logAfter}
 use Rattle.receiver.specs.Steps.{stateTests, streamTests}
 use Rattle.receiver.specs.declared.Receiver.{Receiver}
 use Rattle.receiver.specs.declared.Received.{Received}
@@ -49,10 +47,10 @@ unfoldable pub choiceOf : List ℕ → List ℕ → Choice
 choiceOf first second = better (correctionOf first) (correctionOf second)
 
 -- as a number, for C
-abbrev pub numberOf : Choice → ℕ
-numberOf neither = 0
-numberOf theFirst = 1
-numberOf theSecond = 2
+abbrev pub choiceNumber : Choice → ℕ
+choiceNumber neither = 0
+choiceNumber theFirst = 1
+choiceNumber theSecond = 2
 
 -- what is handed back: the chosen buffer itself, whole, with its place; or an empty part of the first, at its place
 abbrev pub Chosen : Choice → RefT (List ℕ) → RefT (List ℕ) → RefT (List ℕ) → Type 0
@@ -62,16 +60,10 @@ Chosen neither first second r = (r .ptr ≡ first .ptr) × (r .now ≡ [])
 
 -- ---- what two copies say together, both corrected and alike in bytes 8 to La, by the register that CRCs start with
 
-unfoldable pub sameBytes : List ℕ → List ℕ → Bool
-sameBytes [] [] = true
-sameBytes [] (b ∷ l) = false
-sameBytes (a ∷ k) [] = false
-sameBytes (a ∷ k) (b ∷ l) = eqb a b && sameBytes k l
-
 -- the first's bytes if only its CRC is right, the second's likewise, either if both are right and agree; both wrong: a wrong CRC; both right and
 -- different: note 7 in place of note 2
 abbrev pub pairPiece : Piece → Piece → Piece
-pairPiece a b = cond (eqb (a .cause) 0) (cond (eqb (b .cause) 0) (cond (sameBytes (a .bytes) (b .bytes)) a (record { cause = 7; bytes = a .bytes })) a) b
+pairPiece a b = cond (eqb (a .cause) 0) (cond (eqb (b .cause) 0) (cond (sameList (a .bytes) (b .bytes)) a (record { cause = 7; bytes = a .bytes })) a) b
 
 -- n pieces from piece k on
 unfoldable pub pairPieces : ℕ → ℕ → ControlWord → List ℕ → List ℕ → ℕ → ℕ → List Piece
@@ -112,12 +104,12 @@ frontOf y = take (controlAt y .la + 1 - 8) (drop 8 y)
 
 -- 20: lengths or corrected bytes 8 to La differ
 unfoldable pub differ : List ℕ → List ℕ → Bool
-differ y z = not (eqb (length y) (length z) && sameBytes (frontOf y) (frontOf z))
+differ y z = not (eqb (length y) (length z) && sameList (frontOf y) (frontOf z))
 
 -- ---- receiving a pair
 
 -- the answer, and the lent buffers after the call
-pub record Result : Type 0 where
+pub record PairResult : Type 0 where
   pub answer : Received
   pub carry : List ℕ
   pub first : List ℕ
@@ -127,50 +119,26 @@ pub record Result : Type 0 where
 -- the lent carry, the two PDUs and the log before the call, and the receiver
 module _ (carry first second log : List ℕ) (r : Receiver) where
   -- a refusal: all is as it was
-  abbrev pub unchanged : ℕ → ℕ → Result
-  unchanged number k = record { answer = refusedAnswer r number k; carry = carry; first = first; second = second; log = log }
+  abbrev pub unchangedPair : ℕ → ℕ → PairResult
+  unchangedPair number k = record { answer = refusedAnswer r number k; carry = carry; first = first; second = second; log = log }
+
+  -- one PDU received by itself; the first and the second are then these
+  abbrev pub receivedAlone : List ℕ → List ℕ → List ℕ → PairResult
+  receivedAlone pdu p q = record { answer = receiveAnswer [] carry pdu log r; carry = carryAfter [] carry pdu log r; first = p; second = q; log = logAfter [] carry pdu log r }
 
   -- where only one can be corrected, that one is received alone, and the other is as it was
-  abbrev pub firstAlone : Result
-  firstAlone = record {
-    answer = receiveAnswer [] carry first log r;
-    carry = carryAfter [] carry first log r;
-    first = pduAfter [] carry first log r;
-    second = second;
-    log = logAfter [] carry first log r;
-  }
+  abbrev pub firstAlone : PairResult
+  firstAlone = receivedAlone first (pduAfter [] carry first log r) second
 
-  abbrev pub secondAlone : Result
-  secondAlone = record {
-    answer = receiveAnswer [] carry second log r;
-    carry = carryAfter [] carry second log r;
-    first = first;
-    second = pduAfter [] carry second log r;
-    log = logAfter [] carry second log r;
-  }
+  abbrev pub secondAlone : PairResult
+  secondAlone = receivedAlone second first (pduAfter [] carry second log r)
 
-  -- both together as they come, what they say to the receiver, what is logged and held, and what is remembered
-  abbrev pub come : Come
-  come = let y = correctedPdu first in pairCome (r .register) (modeOf r .width) (controlAt y) y (correctedPdu second)
+  -- both together as they come, and what is logged and held
+  abbrev pub pairAs : Come
+  pairAs = let y = correctedPdu first in pairCome (r .register) (modeOf r .width) (controlAt y) y (correctedPdu second)
 
-  abbrev pub said : Said
-  said = shown (modeOf r .sequences) r carry come
-
-  abbrev pub outcome : Outcome
-  outcome = received (modeOf r .sequences) (memoryOf r carry) said
-
-  abbrev pub pairWords : List ℕ
-  pairWords = logWords (outcome .entries)
-
-  abbrev pub memoryAfter : Memory
-  memoryAfter = remembered (modeOf r .sequences) (memoryOf r carry) said
-
-  abbrev pub keptServices : Option ℕ
-  keptServices = keptBy (modeOf r .sequences) r carry come
-
-  -- delivered, missing and the last delivered number after it
-  abbrev pub tallyAfter : Tally
-  tallyAfter = tallied (tallyOf r) (outcome .entries)
+  abbrev pub pairOutcome : Outcome
+  pairOutcome = outcomeIn (modeOf r .sequences) pairAs r carry log
 
   -- rows 1 and 2, then 5 to 12, the lowest over both, then 20, then 13, then 27
   abbrev pub pairTests : List (Bool × ℕ)
@@ -181,34 +149,32 @@ module _ (carry first second log : List ℕ) (r : Receiver) where
       stateTests r (length carry)
       ++ (not (eqb n 0), n)
       ∷ (differ y z, 20)
-      ∷ (ltb (length log) (length pairWords), 13)
-      ∷ (passesLimit tallyAfter, 27)
-      ∷ []
+      ∷ lastTests (modeOf r .sequences) pairAs r carry log
 
   unfoldable pub pairNumber : ℕ
   pairNumber = firstOf pairTests
 
   -- both corrected, what is held first in the carry, the words in the log from its first word on; or a refusal
-  unfoldable pub together : Result
+  unfoldable pub together : PairResult
   together =
       let y = correctedPdu first in
       let z = correctedPdu second in
       cond (eqb pairNumber 0)
       (record {
-        answer = record { refusal = 0; wrong = 0; words = length pairWords; receiver = remembering r memoryAfter keptServices tallyAfter };
-        carry = putAt carry 0 (bytesOf (outcome .partial));
+        answer = takenAnswer (modeOf r .sequences) pairAs r carry log;
+        carry = putAt carry 0 (partialBytes (pairOutcome .partial));
         first = y;
         second = z;
-        log = putAt log 0 pairWords;
+        log = putAt log 0 (logWords (pairOutcome .entries));
       })
-      (unchanged pairNumber (wrongInPair y z pairNumber))
+      (unchangedPair pairNumber (wrongInPair y z pairNumber))
 
   -- by whether the first and the second can be corrected; where neither can, 4 after 1 and 2
-  abbrev pub receivedBy : Bool → Bool → Result
+  abbrev pub receivedBy : Bool → Bool → PairResult
   receivedBy true true = together
   receivedBy true false = firstAlone
   receivedBy false true = secondAlone
-  receivedBy false false = unchanged (firstOf (stateTests r (length carry) ++ (true, 4) ∷ [])) 0
+  receivedBy false false = unchangedPair (firstOf (stateTests r (length carry) ++ (true, 4) ∷ [])) 0
 
-  unfoldable pub pairReceived : Result
+  unfoldable pub pairReceived : PairResult
   pairReceived = receivedBy (correctable (correctionOf first)) (correctable (correctionOf second))

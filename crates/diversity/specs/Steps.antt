@@ -31,8 +31,8 @@ mixed t (a ∷ y) [] = a ∷ y
 mixed t (a ∷ y) (b ∷ z) = cond (t 0) b a ∷ mixed (λ i. t (suc i)) y z
 
 -- the places from one up to another
-unfoldable pub within : ℕ → ℕ → ℕ → Bool
-within from to i = leb from i && ltb i to
+unfoldable pub inPlaces : ℕ → ℕ → ℕ → Bool
+inPlaces from to i = leb from i && ltb i to
 
 -- one or the other
 abbrev pub either : Bool → Bool → Bool
@@ -41,7 +41,7 @@ either false b = b
 
 -- the places of piece k, unless its cause is 0
 unfoldable pub pieceTo : List ℕ → ℕ → ℕ → ℕ → Bool
-pieceTo marks cause k i = not (eqb cause 0) && within (placeAt marks k) (getD marks (k + 1) 0) i
+pieceTo marks cause k i = not (eqb cause 0) && inPlaces (placeAt marks k) (getD marks (k + 1) 0) i
 
 -- the places of the pieces below n whose causes are not 0
 unfoldable pub exchanged : List ℕ → List ℕ → ℕ → ℕ → Bool

@@ -14,8 +14,9 @@ ghost use Rattle.layout.specs.Control.{controlAt};
 ghost use Rattle.pdu.specs.Reading.{readerTests};
 ghost use Rattle.reassembly.specs.Run.{placeAt, pieceAt, Marked, Parsed};
 ghost use Rattle.receiver.specs.Steps.{causeAt, CausesOf, comeOf, Usable, Takes};
-ghost use Rattle.diversity.specs.Diversity.{better, choiceOf, numberOf, Chosen, sameBytes, pairCome, differ};
-ghost use Rattle.diversity.specs.Steps.{pairCauseAt, PairCausesOf, mixed, within, pieceTo, exchanged};
+ghost use Rattle.log.specs.Log.{sameList};
+ghost use Rattle.diversity.specs.Diversity.{better, choiceOf, choiceNumber, Chosen, pairCome, differ};
+ghost use Rattle.diversity.specs.Steps.{pairCauseAt, PairCausesOf, mixed, inPlaces, pieceTo, exchanged};
 
 // What correction of a PDU answers; the PDU itself is not changed.
 fn count(pdu: &[u8]) -> Correction
@@ -33,7 +34,7 @@ fn count(pdu: &[u8]) -> Correction
 
 // Which of two copies is the better one, of which so many bytes were corrected or that can't be corrected: 1 the first, 2 the second, 0 neither.
 fn better_of(first: Correction, second: Correction) -> u32
-    ensures { λ r. ⌜ r ≡ numberOf (better first second) ⌝ }
+    ensures { λ r. ⌜ r ≡ choiceNumber (better first second) ⌝ }
 {
     match first {
         Correction::Corrected(m) => match second {
@@ -54,7 +55,7 @@ fn better_of(first: Correction, second: Correction) -> u32
 
 // Which of two PDUs is the better copy: 1 the first, 2 the second, 0 where neither can be corrected. Nothing is refused or changed.
 pub fn choice(first: &[u8], second: &[u8]) -> u32
-    ensures { λ r. ⌜ r ≡ numberOf (choiceOf (now (first .entry)) (now (second .entry))) ⌝ }
+    ensures { λ r. ⌜ r ≡ choiceNumber (choiceOf (now (first .entry)) (now (second .entry))) ⌝ }
 {
     let a = count(first);
     let b = count(second);
@@ -78,7 +79,7 @@ pub fn choose<'a>(first: &'a [u8], second: &'a [u8]) -> &'a [u8]
 
 // Whether two lists of bytes are the same.
 pub fn same_bytes(a: &[u8], b: &[u8]) -> bool
-    ensures { λ r. ⌜ r ≡ sameBytes (now (a .entry)) (now (b .entry)) ⌝ }
+    ensures { λ r. ⌜ r ≡ sameList (now (a .entry)) (now (b .entry)) ⌝ }
 {
     if a.len() != b.len() {
         return false;
@@ -102,7 +103,7 @@ fn place(x: u16) -> usize
 fn same_piece(first: &[u8], second: &[u8], marks: [u16; 64], k: usize) -> bool
     requires { ⌜ (k < 63) × (placeAt marks k < getD marks (k + 1) 0) ⌝ }
     requires { ⌜ (getD marks (k + 1) 0 < length (now first)) × (getD marks (k + 1) 0 < length (now second)) ⌝ }
-    ensures { λ r. ⌜ r ≡ sameBytes (pieceAt (now (first .entry)) marks k) (pieceAt (now (second .entry)) marks k) ⌝ }
+    ensures { λ r. ⌜ r ≡ sameList (pieceAt (now (first .entry)) marks k) (pieceAt (now (second .entry)) marks k) ⌝ }
 {
     let a = place(marks[k]) + 1;
     let e = place(marks[k + 1]);
@@ -161,8 +162,8 @@ fn pair_causes(
 // Exchanges the bytes of two PDUs from a place up to another.
 fn exchange(first: &mut [u8], second: &mut [u8], from: usize, to: usize)
     requires { ⌜ (from ≤ to) × (to ≤ length (now first)) × (length (now first) ≡ length (now second)) ⌝ }
-    ensures { λ _. ⌜ now (first .exit) ≡ mixed (within from to) (now (first .entry)) (now (second .entry)) ⌝ }
-    ensures { λ _. ⌜ now (second .exit) ≡ mixed (within from to) (now (second .entry)) (now (first .entry)) ⌝ }
+    ensures { λ _. ⌜ now (first .exit) ≡ mixed (inPlaces from to) (now (first .entry)) (now (second .entry)) ⌝ }
+    ensures { λ _. ⌜ now (second .exit) ≡ mixed (inPlaces from to) (now (second .entry)) (now (first .entry)) ⌝ }
 {
     let mut i = from;
     while i < to {

@@ -22,7 +22,7 @@ use Rattle.expansion.specs.Writing.{expansionBytes}
 use Rattle.settings.specs.Settings.{fieldsFor}
 use Rattle.pieces.specs.Pieces.{cutBy, locatorsFrom, total}
 use Rattle.packing.specs.Packing.{largestUpTo, mostPieces, fit, wholesFrom, partAfter, partFrom}
-use Rattle.writer.specs.Writing.{opened, writeAnswer}
+use Rattle.writer.specs.Writing.{writerOpened, writeAnswer}
 use Rattle.crc.proofs.Examples as crc
 use Rattle.log.proofs.Examples as log
 use Rattle.header.specs.Header.{sumUp, term, syndrome, isCodeWord, distance, exponents, lengthRefusal}
@@ -166,7 +166,7 @@ module _ (choice : List Bool) (l : length choice ≡ 9) where
       })
 
 pub examples : Examples
-unfolding controlBytes bytes16 bytes12 listing opened writeAnswer fieldsFor expansionBytes chained total largestUpTo mostPieces fit wholesFrom partAfter partFrom cutBy locatorsFrom lengthRefusal
+unfolding controlBytes bytes16 bytes12 listing writerOpened writeAnswer fieldsFor expansionBytes chained total largestUpTo mostPieces fit wholesFrom partAfter partFrom cutBy locatorsFrom lengthRefusal
 examples = record {
   a = refl;
   b = refl;

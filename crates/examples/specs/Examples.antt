@@ -14,7 +14,7 @@ use Rattle.modes.specs.declared.Listing.the-variants.{Listed}
 use Rattle.settings.specs.declared.Settings.{Settings}
 use Rattle.pieces.specs.Pieces.{total}
 use Rattle.contents.specs.Contents.{locatorsOf}
-use Rattle.writer.specs.Writing.{opened, expansionOf, piecesOf, controlFor, writeAnswer}
+use Rattle.writer.specs.Writing.{writerOpened, expansionOf, piecesOf, controlFor, writeAnswer}
 use Rattle.writer.specs.declared.Writer.{Writer}
 use Rattle.writer.specs.declared.Written.{Written}
 use Rattle.field.specs.Field.{pow}
@@ -51,8 +51,8 @@ mode0 = record { width = 16; sequences = 2; limit = 128; psd = true }
 abbrev pub noSettings : Settings
 noSettings = record { blend = 0; gain = 0; common = 0; latency = 0; classed = false; class = 0; programmed = false; program = 0; displaced = false; typed = false; access = 0; ptype = 0; serviced = false; services = 0; marker = 0 }
 
-abbrev pub answered : ℕ → List ℕ → Writer → Written
-answered n lengths w = writeAnswer noSettings (replicate n 0) lengths (replicate (total lengths) 0) 96 w
+abbrev pub exampleAnswer : ℕ → List ℕ → Writer → Written
+exampleAnswer n lengths w = writeAnswer noSettings (replicate n 0) lengths (replicate (total lengths) 0) 96 w
 
 abbrev pub locators : List ℕ → Writer → List ℕ
 locators lengths w = locatorsOf 16 (expansionOf noSettings [] lengths (replicate (total lengths) 0) 96) [] (piecesOf noSettings [] lengths (replicate (total lengths) 0) 96 mode0 w)
@@ -84,19 +84,19 @@ pub record Examples : Type 0 where
   -- with five to all zero
   pub i : (choice : List Bool) → length choice ≡ 9 → chosen choice ≡ 5 → corrected (zeroing choice generatorWord) ≡ some (replicate 96 0)
   -- mode 0, 96 bytes, packet of 100: 79 sent, locator 95, Plast
-  pub j : answered 0 (100 ∷ []) (opened 0 0 0 .writer) ≡ record { refusal = 0; ended = 0; writer = next }
+  pub j : exampleAnswer 0 (100 ∷ []) (writerOpened 0 0 0 .writer) ≡ record { refusal = 0; ended = 0; writer = next }
   pub j-mode : listing 0 0 ≡ Listed mode0
-  pub j-locators : locators (100 ∷ []) (opened 0 0 0 .writer) ≡ 95 ∷ []
-  pub j-plast : control (100 ∷ []) (opened 0 0 0 .writer) .plast ≡ true
+  pub j-locators : locators (100 ∷ []) (writerOpened 0 0 0 .writer) ≡ 95 ∷ []
+  pub j-plast : control (100 ∷ []) (writerOpened 0 0 0 .writer) .plast ≡ true
   -- next, with one of 50: locators 39 and 90, start 1
-  pub k : answered 0 (100 ∷ 50 ∷ []) next .refusal ≡ 0
+  pub k : exampleAnswer 0 (100 ∷ 50 ∷ []) next .refusal ≡ 0
   pub k-locators : locators (100 ∷ 50 ∷ []) next ≡ 39 ∷ 90 ∷ []
   pub k-start : control (100 ∷ 50 ∷ []) next .start ≡ 1
   -- with 56 instead, 55 of it sent
-  pub l : answered 0 (100 ∷ 56 ∷ []) next ≡ record { refusal = 0; ended = 1; writer = record { mode = 0; stream = 0; register = 0; sequence = 0; number = 1; sent = 55 } }
+  pub l : exampleAnswer 0 (100 ∷ 56 ∷ []) next ≡ record { refusal = 0; ended = 1; writer = record { mode = 0; stream = 0; register = 0; sequence = 0; number = 1; sent = 55 } }
   -- mode 0, 96 bytes, packets offered: PSD 78 fits, 79 is 17
-  pub m-fits : answered 78 (100 ∷ []) (opened 0 0 0 .writer) .refusal ≡ 0
-  pub m-not : answered 79 (100 ∷ []) (opened 0 0 0 .writer) .refusal ≡ 17
+  pub m-fits : exampleAnswer 78 (100 ∷ []) (writerOpened 0 0 0 .writer) .refusal ≡ 0
+  pub m-not : exampleAnswer 79 (100 ∷ []) (writerOpened 0 0 0 .writer) .refusal ≡ 17
   -- packet 5, bytes 11 22 33 44: 0x00050004 0x43112233 0x41440000; length 95: 3
   pub n : entryWords (packet 5 (0x11 ∷ 0x22 ∷ 0x33 ∷ 0x44 ∷ [])) ≡ 0x00050004 ∷ 0x43112233 ∷ 0x41440000 ∷ []
   pub n-length : lengthRefusal 95 ≡ 3

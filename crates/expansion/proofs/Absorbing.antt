@@ -7,7 +7,8 @@ use lib.Dec.{eqb}
 use lib.ListN.{length, getD, take, drop, List·getD-eq-default}
 use lib.Seq.{getD-take, getD-drop}
 use borrow.Author.Tests.{eq-eqb, ne-eqb}
-use Rattle.expansion.specs.Expansion.{septetsAt, odd, fieldOf, absorb}
+use Rattle.layout.specs.Control.{odd}
+use Rattle.expansion.specs.Expansion.{septetsAt, fieldOf, absorb}
 use Rattle.expansion.specs.declared.Interpreted.{Interpreted}
 use Rattle.expansion.proofs.Chains.{outside}
 

@@ -11,8 +11,8 @@ use lib.ListN.{length, take, drop, length-append, take-append-drop}
 use lib.Seq.{take-take, drop-append-seam}
 use Rattle.expansion.specs.declared.Fields.{Fields}
 use Rattle.expansion.specs.declared.Interpreted.{Interpreted}
-use Rattle.expansion.specs.Expansion.{Field, class, program, ptype, services, septetsOf, septetsOfAll, chained, chainLength, expansionLength, septetsAt, known, moreBytes, fieldOf, before, fieldsFrom, nothing, absorbAll, outcome, interpretation, expansionAt}
-use Rattle.expansion.specs.Writing.{classField, programField, typeField, servicesField, fieldsOf, expansionBytes, InRange, interpretedOf}
+use Rattle.expansion.specs.Expansion.{Field, class, program, ptype, services, septetsOf, septetsOfAll, chained, chainLength, expansionLength, septetsAt, known, moreBytes, fieldOf, before, fieldsFrom, nothing, absorbAll, interpretedAs, interpretation, expansionAt}
+use Rattle.expansion.specs.Writing.{classField, programField, typeField, servicesField, sentFields, expansionBytes, InRange, interpretedOf}
 use Rattle.expansion.proofs.Interpreting.{skipped, said}
 use Rattle.expansion.proofs.Marks.{all-septets, length-chained, chain-found, septets-back}
 
@@ -120,10 +120,10 @@ module _ (x : Fields) where
       let t : length (septetsOfAll (typeField x ++ servicesField x)) ≤ 6 = few (x .typed) (ptype (x .access) (x .ptype)) (servicesField x) 2 4 (omega arith) s in
       let p : length (septetsOfAll (programField x ++ (typeField x ++ servicesField x))) ≤ 9 =
       few (x .programmed) (program (x .program) (cond (x .displaced) (some (x .displacement)) none)) (typeField x ++ servicesField x) 3 6 (few-program (x .displaced) (x .program) (x .displacement)) t in
-      let c : length (septetsOfAll (fieldsOf x)) ≤ 10 = few (x .classed) (class (x .class)) (programField x ++ (typeField x ++ servicesField x)) 1 9 (omega arith) p in
-      subst (λ (n : ℕ). n ≤ 10) (sym (length-chained (septetsOfAll (fieldsOf x)))) c
+      let c : length (septetsOfAll (sentFields x)) ≤ 10 = few (x .classed) (class (x .class)) (programField x ++ (typeField x ++ servicesField x)) 1 9 (omega arith) p in
+      subst (λ (n : ℕ). n ≤ 10) (sym (length-chained (septetsOfAll (sentFields x)))) c
 
-  rises : InRange x → Rising 0 (fieldsOf x)
+  rises : InRange x → Rising 0 (sentFields x)
   rises h =
       let s : (n : ℕ) → n ≤ 4 → Rising n (servicesField x) =
       λ n o. subst (Rising n) (append-nil (servicesField x)) (rise (x .serviced) (services (x .services) (x .marker)) [] n o (h .services) (λ k q. tt)) in
@@ -134,8 +134,8 @@ module _ (x : Fields) where
       (λ q. sound-program (x .displaced) (x .program) (x .displacement) (h .program q) (h .displacement q)) t in
       rise (x .classed) (class (x .class)) (programField x ++ (typeField x ++ servicesField x)) 0 (omega arith) (h .class) p
 
-  pub fields-law : InRange x → fieldsFrom 0 0 (septetsOfAll (fieldsOf x)) ≡ some (fieldsOf x)
-  fields-law h = rising-law (fieldsOf x) 0 (rises h)
+  pub fields-law : InRange x → fieldsFrom 0 0 (septetsOfAll (sentFields x)) ≡ some (sentFields x)
+  fields-law h = rising-law (sentFields x) 0 (rises h)
 
 -- ---- what is told of them
 
@@ -164,7 +164,7 @@ services-told : (sent : Bool) (c p : ℕ) (i : Bool) (d a t s m : ℕ)
 services-told true c p i d a t s m = refl
 services-told false c p i d a t s m = refl
 
-all-told : (x : Fields) → absorbAll (nothing true) (fieldsOf x) ≡ interpretedOf x
+all-told : (x : Fields) → absorbAll (nothing true) (sentFields x) ≡ interpretedOf x
 all-told x =
     class-told (x .classed) (x .class) (programField x ++ (typeField x ++ servicesField x))
     ∙ program-told (x .programmed) (x .displaced) _ (x .program) (x .displacement) (typeField x ++ servicesField x)
@@ -174,7 +174,7 @@ all-told x =
 -- where there are no bytes, nothing is sent
 pub none-sent : (x : Fields) → length (expansionBytes x) ≡ 0 → interpretedOf x ≡ nothing true
 unfolding expansionBytes
-none-sent x h = sym (all-told x) ∙ ap (absorbAll (nothing true)) (no-field (fieldsOf x) (sym (length-chained (septetsOfAll (fieldsOf x))) ∙ h))
+none-sent x h = sym (all-told x) ∙ ap (absorbAll (nothing true)) (no-field (sentFields x) (sym (length-chained (septetsOfAll (sentFields x))) ∙ h))
   where
     no-field : (fs : List Field) → length (septetsOfAll fs) ≡ 0 → fs ≡ []
     no-field [] e = refl
@@ -198,21 +198,21 @@ module _ (p : List ℕ) (at la : ℕ) (x : Fields) (h : InRange x) (any : 0 < le
   found : expansionLength p at la ≡ length (expansionBytes x)
   unfolding expansionLength expansionBytes
   found =
-      let s = septetsOfAll (fieldsOf x) in
+      let s = septetsOfAll (sentFields x) in
       let n = length (expansionBytes x) in
       let w = take 16 (drop at (take (la + 1) p)) in
       let t : length (expansionBytes x) ≤ 10 = at-most-ten x in
-      let e : length (expansionBytes x) ≡ length (septetsOfAll (fieldsOf x)) = length-chained s in
+      let e : length (expansionBytes x) ≡ length (septetsOfAll (sentFields x)) = length-chained s in
       let f : take n w ≡ chained s = take-take n 16 (drop at (take (la + 1) p)) (omega arith) ∙ window n at (la + 1) p within ∙ stand in
       ap chainLength (sym (take-append-drop n w) ∙ ap (λ (l : List ℕ). l ++ drop n w) f)
-      ∙ chain-found s (drop n w) (omega arith) (all-septets (fieldsOf x)) ∙ sym e
+      ∙ chain-found s (drop n w) (omega arith) (all-septets (sentFields x)) ∙ sym e
 
   told : interpretedOf x ≡ interpretation (septetsAt p at (length (expansionBytes x)))
   unfolding interpretation septetsAt expansionBytes
   told =
-      let s = septetsOfAll (fieldsOf x) in
-      let e : map (λ b. b % 128) (take (length (expansionBytes x)) (drop at p)) ≡ s = ap (map (λ b. b % 128)) stand ∙ septets-back s (all-septets (fieldsOf x)) in
-      sym (ap (λ (l : List ℕ). outcome (nothing true) (fieldsFrom 0 0 l)) e ∙ ap (outcome (nothing true)) (fields-law x h) ∙ all-told x)
+      let s = septetsOfAll (sentFields x) in
+      let e : map (λ b. b % 128) (take (length (expansionBytes x)) (drop at p)) ≡ s = ap (map (λ b. b % 128)) stand ∙ septets-back s (all-septets (sentFields x)) in
+      sym (ap (λ (l : List ℕ). interpretedAs (nothing true) (fieldsFrom 0 0 l)) e ∙ ap (interpretedAs (nothing true)) (fields-law x h) ∙ all-told x)
 
   pub expansion-law : (expansionLength p at la ≡ length (expansionBytes x)) × (expansionAt p at la ≡ interpretedOf x)
   expansion-law =

@@ -10,10 +10,10 @@ use lib.Dec.{eqb, ltb}
 use lib.ListN.{length, getD, drop, length-drop, drop-of-length-le}
 use lib.Seq.{drop-cons, drop-drop, getD-drop}
 use borrow.Author.Tests.{lt-ltb, le-ltb, eq-eqb, ne-eqb}
-use Rattle.expansion.specs.Expansion.{Field, known, moreBytes, fieldOf, before, fieldsFrom, nothing, absorb, absorbAll, outcome, interpretation, expansionLength, septetsAt, expansionAt}
+use Rattle.expansion.specs.Expansion.{Field, known, moreBytes, fieldOf, before, fieldsFrom, nothing, absorb, absorbAll, interpretedAs, interpretation, expansionLength, septetsAt, expansionAt}
 use Rattle.expansion.specs.declared.Interpreted.{Interpreted}
 
-outcome-before : (v : Interpreted) (f : Field) (o : Option (List Field)) → outcome v (before f o) ≡ outcome (absorb f v) o
+outcome-before : (v : Interpreted) (f : Field) (o : Option (List Field)) → interpretedAs v (before f o) ≡ interpretedAs (absorb f v) o
 outcome-before v f none = refl
 outcome-before v f (some fs) = refl
 
@@ -28,7 +28,7 @@ field-same id b r x y z ex ey ez = rw (ex, ey, ez)
 
 -- what is left to interpret of the septets l after i of them
 abbrev pub Left : List ℕ → Interpreted → ℕ → ℕ → Type 0
-Left l v next i = outcome v (fieldsFrom 0 next (drop i l)) ≡ interpretation l
+Left l v next i = interpretedAs v (fieldsFrom 0 next (drop i l)) ≡ interpretation l
 
 pub left-start : (l : List ℕ) → Left l (nothing true) 0 0
 unfolding interpretation
@@ -55,7 +55,7 @@ module _ (l : List ℕ) (v : Interpreted) (next i b : ℕ) (inside : i < length 
   rest = drop (suc i) l
 
   -- the tests at the septet
-  turn : outcome v
+  turn : interpretedAs v
       (cond (ltb (b / 16) next) none
       (cond (not (known (b / 16) b)) (some [])
       (cond (eqb b 0) none
@@ -96,11 +96,11 @@ module _ (l : List ℕ) (v : Interpreted) (next i b : ℕ) (inside : i < length 
         left-next h x y z ex ey ez w ew =
             let d : length (drop (suc i) l) ≡ length l - suc i = length-drop (suc i) l in
             let t : ltb (length (drop (suc i) l)) (moreBytes (b / 16) b) ≡ false = le-ltb (length (drop (suc i) l)) (moreBytes (b / 16) b) (omega arith) in
-            let u : outcome v (before (fieldOf (b / 16) b (drop (suc i) l)) (fieldsFrom (moreBytes (b / 16) b) (suc (b / 16)) (drop (suc i) l))) ≡ interpretation l = (rw (risen, k, nonzero, t) at turn) in
+            let u : interpretedAs v (before (fieldOf (b / 16) b (drop (suc i) l)) (fieldsFrom (moreBytes (b / 16) b) (suc (b / 16)) (drop (suc i) l))) ≡ interpretation l = (rw (risen, k, nonzero, t) at turn) in
             let plain : i + 1 + moreBytes (b / 16) b ≡ suc i + moreBytes (b / 16) b = omega arith in
             let f : fieldOf (b / 16) b (x ∷ y ∷ z ∷ []) ≡ fieldOf (b / 16) b (drop (suc i) l) =
             field-same (b / 16) b (drop (suc i) l) x y z (ex ∙ at 0 (i + 1) (omega arith)) (ey ∙ at 1 (i + 2) (omega arith)) (ez ∙ at 2 (i + 3) (omega arith)) in
-            ap₂ outcome (ew ∙ ap (λ (q : Field). absorb q v) f) (ap₂ (λ (n m : ℕ). fieldsFrom 0 n (drop m l)) (add-one (b / 16)) plain
+            ap₂ interpretedAs (ew ∙ ap (λ (q : Field). absorb q v) f) (ap₂ (λ (n m : ℕ). fieldsFrom 0 n (drop m l)) (add-one (b / 16)) plain
             ∙ sym (skipped (moreBytes (b / 16) b) (suc (b / 16)) (drop (suc i) l) ∙ ap (fieldsFrom 0 (suc (b / 16))) (drop-drop (moreBytes (b / 16) b) (suc i) l)))
             ∙ sym (outcome-before v (fieldOf (b / 16) b (drop (suc i) l)) (fieldsFrom (moreBytes (b / 16) b) (suc (b / 16)) (drop (suc i) l))) ∙ u
           where

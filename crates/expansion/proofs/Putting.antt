@@ -12,7 +12,7 @@ use borrow.Author.Tests.{not-true, not-false}
 use Rattle.expansion.specs.Expansion.{Field, program, septetsOf, septetsOfAll}
 use Rattle.expansion.specs.declared.ExpansionBytes.{ExpansionBytes}
 use Rattle.expansion.specs.declared.Fields.{Fields}
-use Rattle.expansion.specs.Writing.{marked, classField, programField, typeField, servicesField, fieldsOf, expansionBytes}
+use Rattle.expansion.specs.Writing.{marked, classField, programField, typeField, servicesField, sentFields, expansionBytes}
 use Rattle.expansion.proofs.Marks.{joined, all-septets, length-chained, cleared}
 
 -- the bytes so far
@@ -50,7 +50,7 @@ module _ (sent : Bool) (f : Field) (t : List ℕ) where
       rw y (h ∙ ap (λ (l : List ℕ). t ++ marked l) (sym (append-nil (septetsOf f))))
 
 -- the septets of the four fields, one after another
-pub four : (x : Fields) → septetsOfAll (classField x) ++ septetsOfAll (programField x) ++ septetsOfAll (typeField x) ++ septetsOfAll (servicesField x) ≡ septetsOfAll (fieldsOf x)
+pub four : (x : Fields) → septetsOfAll (classField x) ++ septetsOfAll (programField x) ++ septetsOfAll (typeField x) ++ septetsOfAll (servicesField x) ≡ septetsOfAll (sentFields x)
 four x =
     ap (λ (l : List ℕ). l ++ septetsOfAll (typeField x) ++ septetsOfAll (servicesField x)) (sym (joined (classField x) (programField x)))
     ∙ ap (λ (l : List ℕ). l ++ septetsOfAll (servicesField x)) (sym (joined (classField x ++ programField x) (typeField x)))
@@ -66,12 +66,12 @@ module _ (displaced : Bool) (p d : ℕ) (t w : List ℕ) where
   with e h = let y : displaced ≡ true = not-false displaced e in rw y h
 
 -- the bytes when bit 7 is set in each, and the last byte's is still to be cleared
-module _ (x : Fields) (l : ExpansionBytes) (e : soFar l ≡ marked (septetsOfAll (fieldsOf x))) (g : length (l .bytes) ≡ 16) where
+module _ (x : Fields) (l : ExpansionBytes) (e : soFar l ≡ marked (septetsOfAll (sentFields x))) (g : length (l .bytes) ≡ 16) where
   counted : l .length ≤ 16 → l .length ≡ length (expansionBytes x)
   unfolding expansionBytes
   counted h =
-      sym (length-take-le (l .length) (l .bytes) (omega arith)) ∙ ap length e ∙ length-map (septetsOfAll (fieldsOf x)) (λ b. 128 + b)
-      ∙ sym (length-chained (septetsOfAll (fieldsOf x)))
+      sym (length-take-le (l .length) (l .bytes) (omega arith)) ∙ ap length e ∙ length-map (septetsOfAll (sentFields x)) (λ b. 128 + b)
+      ∙ sym (length-chained (septetsOfAll (sentFields x)))
 
   pub none-put : l .length ≡ 0 → ((l .length ≡ length (expansionBytes x)) × (l .length ≤ 10)) × (soFar l ≡ expansionBytes x)
   none-put z = ((counted (omega arith), omega arith), both-empty (soFar l) (expansionBytes x) (ap (λ (n : ℕ). length (take n (l .bytes))) z) (sym (counted (omega arith)) ∙ z))
@@ -82,5 +82,5 @@ module _ (x : Fields) (l : ExpansionBytes) (e : soFar l ≡ marked (septetsOfAll
   some-put v z h q = (
     (counted (omega arith), h),
     ap (λ (k : ℕ). take (l .length) (set (l .bytes) (l .length - 1) k)) q
-        ∙ cleared (septetsOfAll (fieldsOf x)) (l .bytes) (l .length) (all-septets (fieldsOf x)) e (omega arith) z,
+        ∙ cleared (septetsOfAll (sentFields x)) (l .bytes) (l .length) (all-septets (sentFields x)) e (omega arith) z,
   )

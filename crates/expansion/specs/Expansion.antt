@@ -5,6 +5,7 @@ use mathlib.Core.Option.{Option, none, some}
 use Prim.Native.Nat.{ℕ, zero, suc, _+_, _*_, _%_, _/_}
 use lib.Dec.{eqb, ltb}
 use lib.ListN.{length, getD, take, drop}
+use Rattle.layout.specs.Control.{odd}
 use Rattle.expansion.specs.declared.Interpreted.{Interpreted}
 
 pub data Field : Type 0 where
@@ -51,10 +52,6 @@ expansionLength p at la = chainLength (take 16 (drop at (take (la + 1) p)))
 -- bits 6-0 of n bytes from a place on
 unfoldable pub septetsAt : List ℕ → ℕ → ℕ → List ℕ
 septetsAt p at n = map (λ b. b % 128) (take n (drop at p))
-
--- is bit 0 set?
-abbrev pub odd : ℕ → Bool
-odd n = eqb (n % 2) 1
 
 -- interpretation stops at ID 3, 5, 6, 7, or 4 with bit 3 clear
 abbrev pub known : ℕ → ℕ → Bool
@@ -105,13 +102,13 @@ abbrev pub absorbAll : Interpreted → List Field → Interpreted
 absorbAll v [] = v
 absorbAll v (f ∷ fs) = absorbAll (absorb f v) fs
 
-abbrev pub outcome : Interpreted → Option (List Field) → Interpreted
-outcome v none = nothing false
-outcome v (some fs) = absorbAll v fs
+abbrev pub interpretedAs : Interpreted → Option (List Field) → Interpreted
+interpretedAs v none = nothing false
+interpretedAs v (some fs) = absorbAll v fs
 
 -- what septets say
 unfoldable pub interpretation : List ℕ → Interpreted
-interpretation l = outcome (nothing true) (fieldsFrom 0 0 l)
+interpretation l = interpretedAs (nothing true) (fieldsFrom 0 0 l)
 
 -- what the expansion bytes from a place on say; a chain over 16 bytes or past La breaks the rules
 unfoldable pub expansionAt : List ℕ → ℕ → ℕ → Interpreted

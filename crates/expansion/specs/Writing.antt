@@ -21,11 +21,11 @@ abbrev pub servicesField : Fields → List Field
 servicesField x = cond (x .serviced) (services (x .services) (x .marker) ∷ []) []
 
 -- the fields that are sent, in the order of their IDs
-abbrev pub fieldsOf : Fields → List Field
-fieldsOf x = classField x ++ (programField x ++ (typeField x ++ servicesField x))
+abbrev pub sentFields : Fields → List Field
+sentFields x = classField x ++ (programField x ++ (typeField x ++ servicesField x))
 
 unfoldable pub expansionBytes : Fields → List ℕ
-expansionBytes x = chained (septetsOfAll (fieldsOf x))
+expansionBytes x = chained (septetsOfAll (sentFields x))
 
 -- septets with bit 7 set in each
 abbrev pub marked : List ℕ → List ℕ

@@ -10,7 +10,7 @@ use lib.Seq.{drop-cons, drop-length, getD-drop}
 use Rattle.field.specs.Field.{mul, shift, pow}
 use Rattle.field.proofs.Laws.{shift-lt, mul-comm, mul-pow, pow-lt}
 use Rattle.header.proofs.CodeWords.{Bytes}
-use Rattle.header.specs.Horner.{points, horner, hornerStep, value, values}
+use Rattle.header.specs.Horner.{points, hornerAt, hornerStep, value, values}
 
 value-lt : (j : ℕ) (w : List ℕ) → Bytes w → value j w < 256
 unfolding value
@@ -22,7 +22,7 @@ map-ext f g [] e = refl
 map-ext f g (j ∷ l) e = ap₂ _∷_ (e j) (map-ext f g l e)
 
 values-below : (w : List ℕ) (b : ℕ) → Bytes w → hornerStep (values w) b ≡ values (b ∷ w)
-unfolding values hornerStep horner points value
+unfolding values hornerStep hornerAt points value
 values-below w b h =
     map-ext (λ j. bitXor b (mul (value j w) (pow j))) (λ j. bitXor b (shift j (value j w))) (1 ∷ 2 ∷ 3 ∷ 4 ∷ 5 ∷ 6 ∷ 7 ∷ 8 ∷ [])
     (λ j. ap (bitXor b) (mul-comm (value j w) (pow j) (value-lt j w h) (pow-lt j) ∙ mul-pow j (value j w) (value-lt j w h)))

@@ -68,9 +68,13 @@ headerOf p = take 96 p ++ drop (length p) (replicate 96 0)
 unfoldable pub frontReplaced : List ℕ → List ℕ → List ℕ
 frontReplaced p f = take (length p) f ++ drop (length f) p
 
--- refusal 3 for a PDU length outside 96 to 20,480, else 0
+-- a PDU has 96 to 20,480 bytes
+abbrev pub allowedLength : ℕ → Bool
+allowedLength n = leb 96 n && leb n 20480
+
+-- refusal 3 for another length, else 0
 unfoldable pub lengthRefusal : ℕ → ℕ
-lengthRefusal n = cond (leb 96 n && leb n 20480) 0 3
+lengthRefusal n = cond (allowedLength n) 0 3
 
 -- a PDU with its parity in bytes 0 to 7; one of a refused length stays as it is
 unfoldable pub withParity : List ℕ → List ℕ

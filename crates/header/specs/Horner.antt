@@ -11,12 +11,12 @@ unfoldable pub points : List ℕ
 points = map pow (1 ∷ 2 ∷ 3 ∷ 4 ∷ 5 ∷ 6 ∷ 7 ∷ 8 ∷ [])
 
 -- entry k of the sums with byte b below
-unfoldable pub horner : List ℕ → ℕ → ℕ → ℕ
-horner s b k = bitXor b (mul (getD s k 0) (getD points k 0))
+unfoldable pub hornerAt : List ℕ → ℕ → ℕ → ℕ
+hornerAt s b k = bitXor b (mul (getD s k 0) (getD points k 0))
 
 -- the eight sums with byte b below
 unfoldable pub hornerStep : List ℕ → ℕ → List ℕ
-hornerStep s b = map (horner s b) (0 ∷ 1 ∷ 2 ∷ 3 ∷ 4 ∷ 5 ∷ 6 ∷ 7 ∷ [])
+hornerStep s b = map (hornerAt s b) (0 ∷ 1 ∷ 2 ∷ 3 ∷ 4 ∷ 5 ∷ 6 ∷ 7 ∷ [])
 
 -- the value of a polynomial at a^j
 unfoldable pub value : ℕ → List ℕ → ℕ

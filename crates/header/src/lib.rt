@@ -4,7 +4,7 @@ ghost use mathlib.Core.List.{map};
 ghost use Prim.Native.Nat.{_+_, _/_, _%_, _<_, _≤_};
 ghost use lib.ListN.{length, getD, take, drop};
 ghost use Rattle.field.specs.Field.{pow, timesA, Powers, Logarithms};
-ghost use Rattle.header.specs.Horner.{points, horner as hornerAt, hornerStep, values};
+ghost use Rattle.header.specs.Horner.{points, hornerAt, hornerStep, values};
 ghost use Rattle.header.specs.Packed.{pack, unpacked, lowCoefficients, timesAll, leftOf, LeftOver};
 ghost use Rattle.header.specs.Header.{syndromes as syndromesOf, distance, exponents, divideStep, parityOf, headerOf, allZero, isCodeWord, frontReplaced, lengthRefusal, withParity};
 

@@ -8,7 +8,7 @@ use lib.Dec.{eqb, ltb}
 use lib.ListN.{length, length-append}
 use borrow.Author.Tests.{lt-ltb, ltb-true, eqb-true, ne-eqb}
 use Rattle.log.specs.Log.{Entry, packet, psd, note, entryWords, logWords}
-use Rattle.join.specs.Join.{entriesOf, isLog, numbersOf, counted, risingAfter, rising, outOfOrder, withBit29, partnerOf, sideBySide, resultWords, joinRefusal}
+use Rattle.join.specs.Join.{entriesOf, isLog, numbersOf, countedFrom, risingAfter, rising, outOfOrder, withBit29, partnerOf, sideBySide, resultWords, joinRefusal}
 use Rattle.join.proofs.Entries.{both, log-words}
 
 -- ---- numbers that rise are distinct
@@ -23,7 +23,7 @@ Distinct (n ∷ ns) = Absent n ns × Distinct ns
 
 abbrev Above : ℕ → ℕ → List ℕ → Type 0
 Above first last [] = Unit {0}
-Above first last (n ∷ ns) = (last < counted first n) × Above first last ns
+Above first last (n ∷ ns) = (last < countedFrom first n) × Above first last ns
 
 above-less : (first a b : ℕ) (ns : List ℕ) → a ≤ b → Above first b ns → Above first a ns
 above-less first a b [] h p = tt
@@ -33,24 +33,24 @@ rising-above : (first last : ℕ) (ns : List ℕ) → risingAfter first last ns 
 unfolding risingAfter
 rising-above first last [] e = tt
 rising-above first last (n ∷ ns) e =
-    let p = both (ltb last (counted first n)) (risingAfter first (counted first n) ns) e in
-    let l = ltb-true last (counted first n) (p .0) in
-    (l, above-less first last (counted first n) ns (omega (arith, l)) (rising-above first (counted first n) ns (p .1)))
+    let p = both (ltb last (countedFrom first n)) (risingAfter first (countedFrom first n) ns) e in
+    let l = ltb-true last (countedFrom first n) (p .0) in
+    (l, above-less first last (countedFrom first n) ns (omega (arith, l)) (rising-above first (countedFrom first n) ns (p .1)))
 
-above-absent : (first m last : ℕ) (ns : List ℕ) → counted first m ≡ last → Above first last ns → Absent m ns
+above-absent : (first m last : ℕ) (ns : List ℕ) → countedFrom first m ≡ last → Above first last ns → Absent m ns
 above-absent first m last [] c p = tt
 above-absent first m last (n ∷ ns) c p =
-    (ne-eqb m n (λ e. let q = ap (counted first) e in omega (arith, p .0, c, q)), above-absent first m last ns c (p .1))
+    (ne-eqb m n (λ e. let q = ap (countedFrom first) e in omega (arith, p .0, c, q)), above-absent first m last ns c (p .1))
 
 rising-distinct : (first last : ℕ) (ns : List ℕ) → risingAfter first last ns ≡ true → Distinct ns
 unfolding risingAfter
 rising-distinct first last [] e = tt
 rising-distinct first last (n ∷ ns) e =
-    let p = both (ltb last (counted first n)) (risingAfter first (counted first n) ns) e in
-    (above-absent first n (counted first n) ns refl (rising-above first (counted first n) ns (p .1)), rising-distinct first (counted first n) ns (p .1))
+    let p = both (ltb last (countedFrom first n)) (risingAfter first (countedFrom first n) ns) e in
+    (above-absent first n (countedFrom first n) ns refl (rising-above first (countedFrom first n) ns (p .1)), rising-distinct first (countedFrom first n) ns (p .1))
 
 -- the first counts 0
-counted-self : (n : ℕ) → counted n n ≡ 0
+counted-self : (n : ℕ) → countedFrom n n ≡ 0
 counted-self n =
     let p : n + 64 - n ≡ 64 = omega arith in
     ap (λ (k : ℕ). k % 64) p

@@ -6,10 +6,11 @@ use Prim.Native.Nat.{ℕ, zero, suc, _+_, _/_, _%_, _<_, _≤_}
 use native.Mathlib.Omega.{arith}
 use lib.Dec.{eqb, leb, ltb}
 use lib.ListN.{length, take}
-use borrow.Author.Tests.{eq-eqb, ne-eqb, eqb-true, leb-true, ltb-true}
-use Rattle.log.specs.Log.{Entry, packet, psd, note, word, dataWord, dataWords, entryWords, logWords, kindOf}
+use borrow.Author.Tests.{eq-eqb, ne-eqb, leb-true, ltb-true}
+use Rattle.log.specs.Log.{Entry, packet, psd, note, word, dataWord, dataWords, entryWords, logWords, kindOf, sameList, dataBytes}
 use Rattle.log.proofs.Packets.{Bytes, FitAll}
-use Rattle.join.specs.Join.{high, low, bytesOf, dataOf, entryAt, entriesOf, sized, allSized, sameWords, isLog}
+use Rattle.log.proofs.Same.{same-itself, same-true}
+use Rattle.join.specs.Join.{dataOf, begunEntry, entriesOf, sized, allSized, isLog}
 use Rattle.join.proofs.Fields.{kind-of, high-of, low-of, number-of, data-kind, data-bytes, high-most, low-most, number-most}
 
 pub both : (a b : Bool) → (a && b) ≡ true → (a ≡ true) × (b ≡ true)
@@ -46,7 +47,7 @@ begins P p q (note cause piece ∷ es) h =
     let k : kindOf (word 3 cause piece) ≡ 3 = kind-of 3 cause piece (omega arith) (h .0 .0) (h .0 .1) in
     q (word 3 cause piece) (logWords es) (λ e. omega arith)
 
-data-more : (w : ℕ) (ws : List ℕ) → kindOf w ≡ 1 → dataOf (w ∷ ws) ≡ bytesOf w ++ dataOf ws
+data-more : (w : ℕ) (ws : List ℕ) → kindOf w ≡ 1 → dataOf (w ∷ ws) ≡ dataBytes w ++ dataOf ws
 unfolding dataOf
 data-more w ws e = rw (eq-eqb (kindOf w) 1 e)
 
@@ -77,16 +78,16 @@ bytes-back bytes es b h =
 
 -- ---- reading undoes the layout
 
-by-kind : (k w : ℕ) (ws : List ℕ) → kindOf w ≡ k → entriesOf (w ∷ ws) ≡ entryAt k w ws ++ entriesOf ws
+by-kind : (k w : ℕ) (ws : List ℕ) → kindOf w ≡ k → entriesOf (w ∷ ws) ≡ begunEntry k w ws ++ entriesOf ws
 unfolding entriesOf
 by-kind k w ws e = rw e
 
 past-one : (w : ℕ) (ws : List ℕ) → kindOf w ≡ 1 → entriesOf (w ∷ ws) ≡ entriesOf ws
-unfolding entryAt
+unfolding begunEntry
 past-one w ws e = by-kind 1 w ws e
 
 pub entries-back : (es : List Entry) → FitAll es → entriesOf (logWords es) ≡ es
-unfolding logWords entryWords entryAt
+unfolding logWords entryWords begunEntry
 entries-back [] h = unfold entriesOf in refl
 entries-back (packet n bytes ∷ es) h =
     let l : length bytes < 65536 = omega (arith, h .0 .1) in
@@ -114,18 +115,18 @@ bytes-append [] b p q = q
 bytes-append (x ∷ a) b p q = (p .0, bytes-append a b (p .1) q)
 
 bytes-data : (ws : List ℕ) → Bytes (dataOf ws)
-unfolding dataOf bytesOf
+unfolding dataOf dataBytes
 bytes-data [] = tt
 bytes-data (w ∷ ws) = go (eqb (kindOf w) 1) (bytes-data ws)
   where
-    go : (t : Bool) → Bytes (dataOf ws) → Bytes (cond t (bytesOf w ++ dataOf ws) [])
+    go : (t : Bool) → Bytes (dataOf ws) → Bytes (cond t (dataBytes w ++ dataOf ws) [])
     go true r =
-        bytes-append (bytesOf w) (dataOf ws)
-        (bytes-some (high w / 0x100 % 4) (high w % 0x100) (low w / 0x100) (low w % 0x100) (omega arith) (omega (arith, low-most w)) (omega arith)) r
+        bytes-append (dataBytes w) (dataOf ws)
+        (bytes-some (w / 0x1000000 % 4) (w / 0x10000 % 0x100) (w / 0x100 % 0x100) (w % 0x100) (omega arith) (omega arith) (omega arith)) r
     go false r = tt
 
-fit-at : (k w : ℕ) (ws : List ℕ) (es : List Entry) → FitAll es → allSized (entryAt k w ws ++ es) ≡ true → FitAll (entryAt k w ws ++ es)
-unfolding entryAt allSized sized
+fit-at : (k w : ℕ) (ws : List ℕ) (es : List Entry) → FitAll es → allSized (begunEntry k w ws ++ es) ≡ true → FitAll (begunEntry k w ws ++ es)
+unfolding begunEntry allSized sized
 fit-at zero w ws es h e =
     let p = both (leb 1 (length (dataOf ws)) && leb (length (dataOf ws)) 4096) (allSized es) e in
     let q = both (leb 1 (length (dataOf ws))) (leb (length (dataOf ws)) 4096) (p .0) in
@@ -145,32 +146,18 @@ sized-rest (x ∷ a) b e = sized-rest a b (both (sized x) (allSized (a ++ b)) e 
 pub fit-entries : (ws : List ℕ) → allSized (entriesOf ws) ≡ true → FitAll (entriesOf ws)
 unfolding entriesOf
 fit-entries [] e = tt
-fit-entries (w ∷ ws) e = fit-at (kindOf w) w ws (entriesOf ws) (fit-entries ws (sized-rest (entryAt (kindOf w) w ws) (entriesOf ws) e)) e
+fit-entries (w ∷ ws) e = fit-at (kindOf w) w ws (entriesOf ws) (fit-entries ws (sized-rest (begunEntry (kindOf w) w ws) (entriesOf ws) e)) e
 
 -- ---- a log is laid out from entries
-
-same-refl : (ws : List ℕ) → sameWords ws ws ≡ true
-unfolding sameWords
-same-refl [] = refl
-same-refl (w ∷ ws) = one-and (eqb w w) (sameWords ws ws) (eq-eqb w w refl) (same-refl ws)
-
-pub same-true : (vs ws : List ℕ) → sameWords vs ws ≡ true → vs ≡ ws
-unfolding sameWords
-same-true [] [] e = refl
-same-true [] (w ∷ ws) e = absurd (true≢false (sym e))
-same-true (v ∷ vs) [] e = absurd (true≢false (sym e))
-same-true (v ∷ vs) (w ∷ ws) e =
-    let p = both (eqb v w) (sameWords vs ws) e in
-    ap₂ _∷_ (eqb-true v w (p .0)) (same-true vs ws (p .1))
 
 -- the words of entries with lengths in range are a log
 pub words-log : (es : List Entry) → FitAll es → allSized es ≡ true → isLog (logWords es) ≡ true
 unfolding isLog
-words-log es h e = rw (entries-back es h, e) (same-refl (logWords es))
+words-log es h e = rw (entries-back es h, e) (same-itself (logWords es))
 
 -- a log is the words of its entries
 pub log-words : (ws : List ℕ) → isLog ws ≡ true → FitAll (entriesOf ws) × (allSized (entriesOf ws) ≡ true) × (logWords (entriesOf ws) ≡ ws)
 unfolding isLog
 log-words ws e =
-    let p = both (allSized (entriesOf ws)) (sameWords (logWords (entriesOf ws)) ws) e in
+    let p = both (allSized (entriesOf ws)) (sameList (logWords (entriesOf ws)) ws) e in
     (fit-entries ws (p .0), p .0, same-true (logWords (entriesOf ws)) ws (p .1))

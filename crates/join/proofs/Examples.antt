@@ -4,8 +4,8 @@ use mathlib.Core.Bool.{Bool, true, false, cond}
 use mathlib.Core.List.{List, [], _∷_}
 use Prim.Native.Nat.{ℕ}
 use lib.ListN.{length, replicate}
-use Rattle.log.specs.Log.{packet, psd, note, dataWords, entryWords, logWords}
-use Rattle.join.specs.Join.{bytesOf, dataOf, entryAt, entriesOf, sized, allSized, sameWords, isLog, numbersOf, risingAfter, rising, outOfOrder, withBit29, partnerOf, sideBySide, resultWords, joinRefusal}
+use Rattle.log.specs.Log.{packet, psd, note, dataWords, entryWords, logWords, sameList, dataBytes}
+use Rattle.join.specs.Join.{dataOf, begunEntry, entriesOf, sized, allSized, isLog, numbersOf, risingAfter, rising, outOfOrder, withBit29, partnerOf, sideBySide, resultWords, joinRefusal}
 
 -- core 62, 63 and 0, with PSD and a note between them
 abbrev core : List ℕ
@@ -21,7 +21,7 @@ pub two-pairs : resultWords core enhanced
     ∷ 0x003F0001 ∷ 0x41020000 ∷ 0x203F0004 ∷ 0x43040506 ∷ 0x41070000
     ∷ 0x00000001 ∷ 0x41030000 ∷ 0x20000001 ∷ 0x41080000
     ∷ []
-unfolding logWords entryWords dataWords bytesOf dataOf entryAt entriesOf numbersOf withBit29 partnerOf sideBySide
+unfolding logWords entryWords dataWords dataBytes dataOf begunEntry entriesOf numbersOf withBit29 partnerOf sideBySide
 two-pairs = refl
 
 -- bit 29 in the first word alone
@@ -30,11 +30,11 @@ unfolding entryWords dataWords withBit29 partnerOf
 marked-once = refl
 
 pub room-11 : joinRefusal core enhanced 11 ≡ 0
-unfolding logWords entryWords dataWords bytesOf dataOf entryAt entriesOf sized allSized sameWords isLog numbersOf risingAfter rising outOfOrder withBit29 partnerOf sideBySide joinRefusal
+unfolding logWords entryWords dataWords dataBytes dataOf begunEntry entriesOf sized allSized sameList isLog numbersOf risingAfter rising outOfOrder withBit29 partnerOf sideBySide joinRefusal
 room-11 = refl
 
 pub room-10 : joinRefusal core enhanced 10 ≡ 13
-unfolding logWords entryWords dataWords bytesOf dataOf entryAt entriesOf sized allSized sameWords isLog numbersOf risingAfter rising outOfOrder withBit29 partnerOf sideBySide joinRefusal
+unfolding logWords entryWords dataWords dataBytes dataOf begunEntry entriesOf sized allSized sameList isLog numbersOf risingAfter rising outOfOrder withBit29 partnerOf sideBySide joinRefusal
 room-10 = refl
 
 -- a number twice
@@ -43,11 +43,11 @@ twice = logWords (packet 3 (1 ∷ []) ∷ packet 3 (1 ∷ []) ∷ [])
 
 -- it is 24 in either log, whatever the room
 pub core-twice : joinRefusal twice core 0 ≡ 24
-unfolding logWords entryWords dataWords bytesOf dataOf entryAt entriesOf sized allSized sameWords isLog numbersOf risingAfter rising outOfOrder withBit29 partnerOf sideBySide joinRefusal
+unfolding logWords entryWords dataWords dataBytes dataOf begunEntry entriesOf sized allSized sameList isLog numbersOf risingAfter rising outOfOrder withBit29 partnerOf sideBySide joinRefusal
 core-twice = refl
 
 pub enhanced-twice : joinRefusal core twice 0 ≡ 24
-unfolding logWords entryWords dataWords bytesOf dataOf entryAt entriesOf sized allSized sameWords isLog numbersOf risingAfter rising outOfOrder withBit29 partnerOf sideBySide joinRefusal
+unfolding logWords entryWords dataWords dataBytes dataOf begunEntry entriesOf sized allSized sameList isLog numbersOf risingAfter rising outOfOrder withBit29 partnerOf sideBySide joinRefusal
 enhanced-twice = refl
 
 -- a number between two that rise: 5, 7 and 6, in either log
@@ -55,20 +55,20 @@ abbrev falling : List ℕ
 falling = logWords (packet 5 (1 ∷ []) ∷ packet 7 (1 ∷ []) ∷ packet 6 (1 ∷ []) ∷ [])
 
 pub core-falling : joinRefusal falling core 0 ≡ 24
-unfolding logWords entryWords dataWords bytesOf dataOf entryAt entriesOf sized allSized sameWords isLog numbersOf risingAfter rising outOfOrder withBit29 partnerOf sideBySide joinRefusal
+unfolding logWords entryWords dataWords dataBytes dataOf begunEntry entriesOf sized allSized sameList isLog numbersOf risingAfter rising outOfOrder withBit29 partnerOf sideBySide joinRefusal
 core-falling = refl
 
 pub enhanced-falling : joinRefusal core falling 0 ≡ 24
-unfolding logWords entryWords dataWords bytesOf dataOf entryAt entriesOf sized allSized sameWords isLog numbersOf risingAfter rising outOfOrder withBit29 partnerOf sideBySide joinRefusal
+unfolding logWords entryWords dataWords dataBytes dataOf begunEntry entriesOf sized allSized sameList isLog numbersOf risingAfter rising outOfOrder withBit29 partnerOf sideBySide joinRefusal
 enhanced-falling = refl
 
 -- a log of notes alone is accepted; with no core packet the result is empty and 24 isn't checked
 pub notes-alone : joinRefusal (logWords (note 6 0 ∷ note 2 1 ∷ [])) twice 0 ≡ 0
-unfolding logWords entryWords dataWords bytesOf dataOf entryAt entriesOf sized allSized sameWords isLog numbersOf risingAfter rising outOfOrder withBit29 partnerOf sideBySide joinRefusal
+unfolding logWords entryWords dataWords dataBytes dataOf begunEntry entriesOf sized allSized sameList isLog numbersOf risingAfter rising outOfOrder withBit29 partnerOf sideBySide joinRefusal
 notes-alone = refl
 
 pub none-written : length (resultWords (logWords (note 6 0 ∷ note 2 1 ∷ [])) twice) ≡ 0
-unfolding logWords entryWords dataWords bytesOf dataOf entryAt entriesOf withBit29 partnerOf sideBySide
+unfolding logWords entryWords dataWords dataBytes dataOf begunEntry entriesOf withBit29 partnerOf sideBySide
 none-written = refl
 
 -- whether one of these is a log
@@ -97,18 +97,18 @@ pub no-logs : anyLog
     ∷ (0x00051001 ∷ [])
     ∷ [])
     ≡ false
-unfolding logWords entryWords dataWords bytesOf dataOf entryAt entriesOf sized allSized sameWords isLog withBit29 partnerOf sideBySide
+unfolding logWords entryWords dataWords dataBytes dataOf begunEntry entriesOf sized allSized sameList isLog withBit29 partnerOf sideBySide
 no-logs = refl
 
 -- a packet of 4,096 bytes, and one of 4,097; PSD may have more
 pub longest-packet : isLog (logWords (packet 5 (replicate 4096 1) ∷ [])) ≡ true
-unfolding logWords entryWords dataWords bytesOf dataOf entryAt entriesOf sized allSized sameWords isLog
+unfolding logWords entryWords dataWords dataBytes dataOf begunEntry entriesOf sized allSized sameList isLog
 longest-packet = refl
 
 pub packet-too-long : isLog (logWords (packet 5 (replicate 4097 1) ∷ [])) ≡ false
-unfolding logWords entryWords dataWords bytesOf dataOf entryAt entriesOf sized allSized sameWords isLog
+unfolding logWords entryWords dataWords dataBytes dataOf begunEntry entriesOf sized allSized sameList isLog
 packet-too-long = refl
 
 pub longer-psd : isLog (logWords (psd (replicate 4097 1) ∷ [])) ≡ true
-unfolding logWords entryWords dataWords bytesOf dataOf entryAt entriesOf sized allSized sameWords isLog
+unfolding logWords entryWords dataWords dataBytes dataOf begunEntry entriesOf sized allSized sameList isLog
 longer-psd = refl

@@ -1,11 +1,12 @@
 -- A log word and its fields.
-use mathlib.Core.Path.{_≡_, refl, ap, ap₂, _∙_}
+use mathlib.Core.Path.{_≡_, ap, ap₂, _∙_}
 use mathlib.Core.List.{[], _∷_}
 use Prim.Native.Nat.{ℕ, _+_, _*_, _/_, _%_, _<_, _≤_}
 use native.Mathlib.Omega.{arith}
 use lib.ListN.{take}
-use Rattle.log.specs.Log.{word, dataWord, kindOf}
-use Rattle.join.specs.Join.{high, low, number, bytesOf}
+use Rattle.log.specs.Log.{word, dataWord, kindOf, dataBytes}
+use Rattle.log.proofs.Data.{bytes-back}
+use Rattle.join.specs.Join.{high, low, number}
 
 -- ---- the fields of a word that is laid out
 
@@ -30,17 +31,6 @@ number-of n l h b =
     let r : n % 64 ≡ n = omega arith in
     ap (λ (k : ℕ). k % 64) q ∙ r
 
-four-parts : (h l n a b c : ℕ) → n ≤ 3 → a < 256 → b < 256 → c < 256 → h ≡ n * 0x100 + a → l ≡ b * 0x100 + c
-    → take (h / 0x100 % 4) (h % 0x100 ∷ l / 0x100 ∷ l % 0x100 ∷ []) ≡ take n (a ∷ b ∷ c ∷ [])
-four-parts h l n a b c hn ha hb hc p q =
-    let d : h / 0x100 ≡ n = omega arith in
-    let m : n % 4 ≡ n = omega arith in
-    let e : h / 0x100 % 4 ≡ n = ap (λ (x : ℕ). x % 4) d ∙ m in
-    let f : h % 0x100 ≡ a = omega arith in
-    let g : l / 0x100 ≡ b = omega arith in
-    let i : l % 0x100 ≡ c = omega arith in
-    ap₂ take e (ap₂ _∷_ f (ap₂ _∷_ g (ap₂ _∷_ i refl)))
-
 module _ (n a b c : ℕ) (hn : n ≤ 3) (ha : a < 256) (hb : b < 256) (hc : c < 256) where
   pub data-kind : kindOf (dataWord n a b c) ≡ 1
   data-kind = kind-of 1 (n * 0x100 + a) (b * 0x100 + c) (omega arith) (omega arith) (omega arith)
@@ -52,9 +42,8 @@ module _ (n a b c : ℕ) (hn : n ≤ 3) (ha : a < 256) (hb : b < 256) (hc : c < 
   data-low = low-of 1 (n * 0x100 + a) (b * 0x100 + c) (omega arith) (omega arith) (omega arith)
 
   -- its bytes are read back
-  pub data-bytes : bytesOf (dataWord n a b c) ≡ take n (a ∷ b ∷ c ∷ [])
-  unfolding bytesOf
-  data-bytes = four-parts (high (dataWord n a b c)) (low (dataWord n a b c)) n a b c hn ha hb hc data-high data-low
+  pub data-bytes : dataBytes (dataWord n a b c) ≡ take n (a ∷ b ∷ c ∷ [])
+  data-bytes = bytes-back (dataWord n a b c) 16 n a b c (omega arith) hn ha hb hc
 
 -- ---- any word is made of its fields
 

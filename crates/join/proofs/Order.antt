@@ -6,7 +6,7 @@ use Prim.Native.Nat.{ℕ, _+_, _<_, _≤_}
 use lib.Dec.{ltb}
 use lib.ListN.{length, getD, drop}
 use borrow.Author.Tests.{lt-ltb, le-ltb}
-use Rattle.join.specs.Join.{number, counted, risingAfter, rising}
+use Rattle.join.specs.Join.{number, countedFrom, risingAfter, rising}
 use Rattle.join.specs.Scan.{isPacket, numbers}
 use Rattle.join.proofs.Scanning.{numbers-here, numbers-end}
 
@@ -22,7 +22,7 @@ module _ (log : List ℕ) (start : ℕ) (e : numbers (drop start log) ≡ number
       ap (λ (ns : List ℕ). risingAfter f 0 ns) r ∙ ap (λ (k : ℕ). risingAfter k 0 (numbers (drop (start + 1) log))) q
       ∙ ap rising (sym (numbers-here log start h p) ∙ e)
 
-module _ (log : List ℕ) (i f last n : ℕ) (h : i < length log) (p : isPacket (getD log i 0) ≡ true) (q : n ≡ counted f (number (getD log i 0))) where
+module _ (log : List ℕ) (i f last n : ℕ) (h : i < length log) (p : isPacket (getD log i 0) ≡ true) (q : n ≡ countedFrom f (number (getD log i 0))) where
   here : risingAfter f last (numbers (drop i log)) ≡ (ltb last n && risingAfter f n (numbers (drop (i + 1) log)))
   unfolding risingAfter
   here =

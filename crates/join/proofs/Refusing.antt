@@ -8,7 +8,7 @@ use lib.Dec.{leb, ltb}
 use lib.ListN.{length, getD, drop}
 use borrow.Author.Tests.{lt-ltb, le-ltb, ltb-false, leb-true, leb-false, ne-eqb}
 use Rattle.buffer.specs.Buffer.{putAt}
-use Rattle.join.specs.Join.{isLog, numbersOf, entriesOf, rising, outOfOrder, resultWords, joinRefusal, joined, resultAfter}
+use Rattle.join.specs.Join.{isLog, numbersOf, entriesOf, rising, outOfOrder, resultWords, joinRefusal, joinAnswer, resultAfter}
 use Rattle.join.specs.Scan.{isPacket, numbers, joinedWords}
 use Rattle.join.proofs.Scanning.{numbers-here, numbers-end}
 use Rattle.join.proofs.Agreeing.{numbers-read, joined-read}
@@ -110,18 +110,18 @@ module _ (core enhanced : List ℕ) (room : ℕ) (e : 0 ≡ joinRefusal core enh
 
 module _ (core enhanced result : List ℕ) where
   pub refused-all : (n : ℕ) → n ≡ joinRefusal core enhanced (length result) → (n ≡ 0 → ⊥)
-      → (record { refusal = n; words = 0 } ≡ joined core enhanced (length result)) × (result ≡ resultAfter core enhanced result)
-  unfolding joined resultAfter
+      → (record { refusal = n; words = 0 } ≡ joinAnswer core enhanced (length result)) × (result ≡ resultAfter core enhanced result)
+  unfolding joinAnswer resultAfter
   refused-all n e z = rw (← e, ne-eqb n 0 z) (refl, refl)
 
   put-all : 0 ≡ joinRefusal core enhanced (length result)
-      → (record { refusal = 0; words = length (resultWords core enhanced) } ≡ joined core enhanced (length result))
+      → (record { refusal = 0; words = length (resultWords core enhanced) } ≡ joinAnswer core enhanced (length result))
       × (putAt result 0 (resultWords core enhanced) ≡ resultAfter core enhanced result)
-  unfolding joined resultAfter
+  unfolding joinAnswer resultAfter
   put-all e = rw (← e) (refl, refl)
 
   pub joined-all : 0 ≡ joinRefusal core enhanced (length result)
-      → (record { refusal = 0; words = length (joinedWords enhanced core) } ≡ joined core enhanced (length result))
+      → (record { refusal = 0; words = length (joinedWords enhanced core) } ≡ joinAnswer core enhanced (length result))
       × (putAt result 0 (joinedWords enhanced core) ≡ resultAfter core enhanced result)
   joined-all e =
       let r = result-read core enhanced (length result) e in

@@ -1,13 +1,13 @@
 -- Document 02, Ask 11: two logs of one frame, core and enhanced, joined by packet number.
-use mathlib.Core.Bool.{Bool, true, false, not, _&&_, cond}
+use mathlib.Core.Bool.{Bool, true, not, _&&_, cond}
 use mathlib.Core.List.{List, [], _∷_, _++_}
 use Prim.Native.Nat.{ℕ, zero, suc, _+_, _-_, _/_, _%_}
 use lib.Bits.{bitOr}
 use lib.Dec.{eqb, leb, ltb}
-use lib.ListN.{length, take}
+use lib.ListN.{length}
 use Rattle.refusal.specs.Refusal.{firstOf}
 use Rattle.buffer.specs.Buffer.{putAt}
-use Rattle.log.specs.Log.{Entry, packet, psd, note, entryWords, logWords, kindOf}
+use Rattle.log.specs.Log.{Entry, packet, psd, note, entryWords, logWords, kindOf, sameList, dataBytes}
 use Rattle.join.specs.declared.Joined.{Joined}
 
 -- ---- words read as entries (document 01, "Receiver"; entryWords has the layout)
@@ -23,25 +23,21 @@ low w = w % 0x10000
 abbrev pub number : ℕ → ℕ
 number w = w / 0x10000 % 64
 
--- the bytes of a data word: as many as bits 25-24 say, the first in 23-16
-unfoldable pub bytesOf : ℕ → List ℕ
-bytesOf w = take (high w / 0x100 % 4) (high w % 0x100 ∷ low w / 0x100 ∷ low w % 0x100 ∷ [])
-
 -- the bytes of the data words that words begin with
 unfoldable pub dataOf : List ℕ → List ℕ
 dataOf [] = []
-dataOf (w ∷ ws) = cond (eqb (kindOf w) 1) (bytesOf w ++ dataOf ws) []
+dataOf (w ∷ ws) = cond (eqb (kindOf w) 1) (dataBytes w ++ dataOf ws) []
 
 -- the entry that a word of a kind begins, with the data words after it; a data word begins none
-unfoldable pub entryAt : ℕ → ℕ → List ℕ → List Entry
-entryAt zero w ws = packet (number w) (dataOf ws) ∷ []
-entryAt (suc zero) w ws = []
-entryAt (suc (suc zero)) w ws = psd (dataOf ws) ∷ []
-entryAt (suc (suc (suc kind))) w ws = note (high w) (low w) ∷ []
+unfoldable pub begunEntry : ℕ → ℕ → List ℕ → List Entry
+begunEntry zero w ws = packet (number w) (dataOf ws) ∷ []
+begunEntry (suc zero) w ws = []
+begunEntry (suc (suc zero)) w ws = psd (dataOf ws) ∷ []
+begunEntry (suc (suc (suc kind))) w ws = note (high w) (low w) ∷ []
 
 unfoldable pub entriesOf : List ℕ → List Entry
 entriesOf [] = []
-entriesOf (w ∷ ws) = entryAt (kindOf w) w ws ++ entriesOf ws
+entriesOf (w ∷ ws) = begunEntry (kindOf w) w ws ++ entriesOf ws
 
 -- ---- number 23
 
@@ -55,16 +51,10 @@ unfoldable pub allSized : List Entry → Bool
 allSized [] = true
 allSized (e ∷ es) = sized e && allSized es
 
-unfoldable pub sameWords : List ℕ → List ℕ → Bool
-sameWords [] [] = true
-sameWords [] (w ∷ ws) = false
-sameWords (v ∷ vs) [] = false
-sameWords (v ∷ vs) (w ∷ ws) = eqb v w && sameWords vs ws
-
 -- Whether words are a log: the layout gives these very words for their entries. It does not where data words are missing, left over, wrongly counted or not
 -- filled by threes up to the last, or where a bit is set that the layout leaves without meaning.
 unfoldable pub isLog : List ℕ → Bool
-isLog ws = allSized (entriesOf ws) && sameWords (logWords (entriesOf ws)) ws
+isLog ws = allSized (entriesOf ws) && sameList (logWords (entriesOf ws)) ws
 
 -- ---- number 24
 
@@ -76,13 +66,13 @@ numbersOf (psd bytes ∷ es) = numbersOf es
 numbersOf (note cause piece ∷ es) = numbersOf es
 
 -- a number counted from the log's own first packet, modulo 64
-abbrev pub counted : ℕ → ℕ → ℕ
-counted first n = (n + 64 - first) % 64
+abbrev pub countedFrom : ℕ → ℕ → ℕ
+countedFrom first n = (n + 64 - first) % 64
 
 -- whether numbers so counted rise strictly after the last one
 unfoldable pub risingAfter : ℕ → ℕ → List ℕ → Bool
 risingAfter first last [] = true
-risingAfter first last (n ∷ ns) = ltb last (counted first n) && risingAfter first (counted first n) ns
+risingAfter first last (n ∷ ns) = ltb last (countedFrom first n) && risingAfter first (countedFrom first n) ns
 
 -- the first one counts 0
 unfoldable pub rising : List ℕ → Bool
@@ -130,8 +120,8 @@ joinRefusal core enhanced room =
     ∷ [])
 
 -- the refusal number and the count of words written
-unfoldable pub joined : List ℕ → List ℕ → ℕ → Joined
-joined core enhanced room =
+unfoldable pub joinAnswer : List ℕ → List ℕ → ℕ → Joined
+joinAnswer core enhanced room =
     let n = joinRefusal core enhanced room in
     cond (eqb n 0) (record { refusal = 0; words = length (resultWords core enhanced) }) (record { refusal = n; words = 0 })
 

@@ -7,7 +7,7 @@ ghost use lib.ListN.{length, getD, drop};
 ghost use lib.Seq.{slice};
 ghost use Rattle.buffer.specs.Buffer.{putAt};
 ghost use Rattle.log.specs.Log.{kindOf};
-ghost use Rattle.join.specs.Join.{high as highOf, low as lowOf, number as numberOf, isLog, counted as countedFrom, rising as risingNumbers, outOfOrder, joinRefusal, joined, resultAfter};
+ghost use Rattle.join.specs.Join.{high as highOf, low as lowOf, number as numberOf, isLog, countedFrom, rising as risingNumbers, outOfOrder, joinRefusal, joinAnswer, resultAfter};
 ghost use Rattle.join.specs.Scan.{headFitsAs, unusedZero, dataFits, fits as fitsAt, leftAfter, isPacket, numbers, dataRun, fromNumber, Placed, partner, firstJoined, joinedWords};
 
 // The refusal number, 0 where there is none, and how many words were written.
@@ -412,7 +412,7 @@ fn refusal(core: &[u32], enhanced: &[u32], places: &[usize], room: usize) -> u32
 // Joins two logs of one frame by packet number: each core packet's words, and after them those of the enhanced one of its number, bit 29 set in
 // its first. Refused with 23 for words that are no log, 24 for numbers that do not rise, 13 for a result buffer that is too short.
 pub fn join(core: &[u32], enhanced: &[u32], result: &mut [u32]) -> Joined
-    ensures { λ r. ⌜ r ≡ joined (now (core .entry)) (now (enhanced .entry)) (length (now (result .entry))) ⌝ }
+    ensures { λ r. ⌜ r ≡ joinAnswer (now (core .entry)) (now (enhanced .entry)) (length (now (result .entry))) ⌝ }
     ensures { λ _. ⌜ now (result .exit) ≡ resultAfter (now (core .entry)) (now (enhanced .entry)) (now (result .entry)) ⌝ }
 {
     let places = places_in(enhanced);

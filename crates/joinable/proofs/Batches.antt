@@ -9,7 +9,7 @@ use lib.ListN.{length, take, drop}
 use lib.Seq.{length-take-le}
 use Rattle.receiver.specs.Receiving.{receiveAnswer, carryAfter, pduAfter, logAfter}
 use Rattle.receiver.specs.declared.Receiver.{Receiver}
-use Rattle.batch.specs.Batches.{Result, unchanged, followed, oneByOne, batchNumber, received}
+use Rattle.batch.specs.Batches.{Result, unchanged, followed, oneByOne, batchNumber, batchReceived}
 use Rattle.batch.proofs.Single.{words-fit, log-long}
 use Rattle.join.specs.Join.{isLog}
 use Rattle.join.proofs.Logs.{log-after}
@@ -54,8 +54,8 @@ one-by-one (n ∷ ns) r carry pdus log b p =
     (one-by-one ns (a .receiver) (carryAfter [] carry pdu log r) (drop n pdus) (drop (a .words) logged) (carry-bytes [] carry pdu log r b (bytes-take n pdus p)) (bytes-drop n pdus p)))
     (no-words, b)
 
-pub batch-log : (lengths carry pdus log : List ℕ) (r : Receiver) → Bytes carry → Bytes pdus → Right (received lengths carry pdus log r)
-unfolding received
+pub batch-log : (lengths carry pdus log : List ℕ) (r : Receiver) → Bytes carry → Bytes pdus → Right (batchReceived lengths carry pdus log r)
+unfolding batchReceived
 batch-log lengths carry pdus log r b p =
     right-cond (eqb (batchNumber lengths carry pdus log r) 0) (oneByOne lengths r carry pdus log) (unchanged (batchNumber lengths carry pdus log r) 0 r carry pdus log)
     (one-by-one lengths r carry pdus log b p) (no-words, b)

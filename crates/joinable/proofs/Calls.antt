@@ -9,30 +9,31 @@ use borrow.Author.Tests.{eqb-true}
 use lib.ListN.{length, take, drop}
 use Rattle.buffer.specs.Buffer.{putAt}
 use Rattle.buffer.proofs.Laws.{take-put}
-use Rattle.log.specs.Log.{logWords}
+use Rattle.log.specs.Log.{logWords, sameList}
 use Rattle.log.proofs.Packets.{Bytes as LogBytes}
 use Rattle.reassembly.specs.Reassembly.{Said, Partial, nothing, beginning, Memory, received, lostEntries}
-use Rattle.reassembly.specs.Run.{bytesOf}
+use Rattle.reassembly.specs.Run.{partialBytes}
 use Rattle.reassembly.proofs.Fitting.{SanePartial, SaneSaid, fit-received}
-use Rattle.receiver.specs.Receiving.{memoryOf, modeOf, said, outcome, receivedWords, receiveNumber, receiveAnswer, carryAfter, logAfter, lostNumber, lostAnswer, logAfterLost}
+use Rattle.receiver.specs.Receiving.{memoryOf, modeOf, said, outcome, receiveNumber, receiveAnswer, carryAfter, logAfter, lostNumber, lostAnswer, logAfterLost}
 use Rattle.receiver.specs.declared.Receiver.{Receiver}
-use Rattle.join.specs.Join.{sized, allSized, isLog, entriesOf, sameWords}
+use Rattle.join.specs.Join.{sized, allSized, isLog, entriesOf}
 use Rattle.join.proofs.Entries.{words-log}
 use Rattle.writer.specs.RoundTrip.{Bytes}
+use Rattle.receiver.proofs.AfterReceiving.{receivedWords}
 use Rattle.joinable.proofs.Filled.{sized-all, filled-received}
 use Rattle.delivery.proofs.Made.{bytes-take, bytes-drop}
 use Rattle.joinable.proofs.Saying.{said-sane, held-before}
 use Rattle.algebra.proofs.Places.{all-join}
 
 pub no-words : isLog [] ≡ true
-unfolding isLog allSized entriesOf sameWords
+unfolding isLog allSized entriesOf sameList
 no-words = unfold logWords in refl
 
 back-bytes : (l : List ℕ) → LogBytes l → Bytes l
 back-bytes [] b = tt
 back-bytes (x ∷ l) b = (b .0, back-bytes l (b .1))
 
-held-bytes : (h : Partial) → SanePartial h → Bytes (bytesOf h)
+held-bytes : (h : Partial) → SanePartial h → Bytes (partialBytes h)
 held-bytes nothing s = tt
 held-bytes (beginning n b) s = back-bytes b (s .0)
 
@@ -49,8 +50,8 @@ module _ (range : ℕ) (x : Memory) (d : Said) (h : SanePartial (x .partial)) (s
       let f = fit-received range x d h s .0 in
       words-log es f (sized-all es f (filled-received range x d (s .pieces)))
 
-  pub partial-put : (carry : List ℕ) → Bytes carry → Bytes (putAt carry 0 (bytesOf (received range x d .partial)))
-  partial-put carry b = put-bytes carry (bytesOf (received range x d .partial)) 0 b (held-bytes (received range x d .partial) (fit-received range x d h s .1))
+  pub partial-put : (carry : List ℕ) → Bytes carry → Bytes (putAt carry 0 (partialBytes (received range x d .partial)))
+  partial-put carry b = put-bytes carry (partialBytes (received range x d .partial)) 0 b (held-bytes (received range x d .partial) (fit-received range x d h s .1))
 
 -- ---- a PDU received
 
@@ -72,7 +73,7 @@ module _ (marks carry pdu log : List ℕ) (r : Receiver) (bc : Bytes carry) (bp 
   unfolding carryAfter
   carry-bytes = go (eqb (receiveNumber marks carry pdu log r) 0) refl
     where
-      go : (t : Bool) → eqb (receiveNumber marks carry pdu log r) 0 ≡ t → Bytes (cond t (putAt carry 0 (bytesOf (outcome marks carry pdu log r .partial))) carry)
+      go : (t : Bool) → eqb (receiveNumber marks carry pdu log r) 0 ≡ t → Bytes (cond t (putAt carry 0 (partialBytes (outcome marks carry pdu log r .partial))) carry)
       go true e =
           let n = eqb-true (receiveNumber marks carry pdu log r) 0 e in
           partial-put (modeOf r .sequences) (memoryOf r carry) (said marks carry pdu log r) (held-before marks carry pdu log r bc bp n) (said-sane marks carry pdu log r bc bp n) carry bc

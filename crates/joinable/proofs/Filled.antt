@@ -9,11 +9,12 @@ use lib.ListN.{length, length-append}
 use borrow.Author.Tests.{le-leb, lt-ltb}
 use Rattle.log.specs.Log.{Entry, packet, psd, note}
 use Rattle.log.proofs.Packets.{FitAll}
-use Rattle.reassembly.specs.Reassembly.{Piece, Said, Partial, nothing, beginning, Memory, Outcome, dropped, kept, inSequence, sequenceStep, beginningStep, psdEntries, finished, joined, pieceStep, numberAt, endsHere, piecesStep, continuingStep, contentsStep, received}
+use Rattle.reassembly.specs.Reassembly.{Piece, Said, Partial, nothing, beginning, Memory, Outcome, dropped, kept, inSequence, sequenceStep, beginningStep, psdEntries, finished, joined, pieceStep, endsHere, piecesStep, continuingStep, contentsStep, received}
 use Rattle.reassembly.proofs.Laws.{delivered}
 use Rattle.reassembly.proofs.Fitting.{SanePieces}
 use Rattle.join.specs.Join.{sized, allSized}
 use Rattle.join.proofs.Entries.{one-and}
+use Rattle.layout.specs.Control.{pieceNumber}
 
 abbrev Filled : Entry → Type 0
 Filled (packet n bytes) = 1 ≤ length bytes
@@ -96,9 +97,9 @@ fills-continuing n plast (beginning m b) (p ∷ ps) t = fills-piece n 0 true (en
 fills-contents : (w : Bool) (d : Said) (h : Partial) → SanePieces (d .pieces) → Fills (contentsStep w d h)
 unfolding contentsStep
 fills-contents false d h t =
-    filled-append (psdEntries (d .psdBytes)) (piecesStep (numberAt (d .pfirst) (d .start)) 0 (d .pfirst) (d .plast) h (d .pieces) .entries) (filled-psd (d .psdBytes))
-    (fills-pieces (numberAt (d .pfirst) (d .start)) 0 (d .pfirst) (d .plast) h (d .pieces) t)
-fills-contents true d h t = (tt, fills-continuing (numberAt (d .pfirst) (d .start) 0) (d .plast) h (d .pieces) t)
+    filled-append (psdEntries (d .psdBytes)) (piecesStep (pieceNumber (d .pfirst) (d .start)) 0 (d .pfirst) (d .plast) h (d .pieces) .entries) (filled-psd (d .psdBytes))
+    (fills-pieces (pieceNumber (d .pfirst) (d .start)) 0 (d .pfirst) (d .plast) h (d .pieces) t)
+fills-contents true d h t = (tt, fills-continuing (pieceNumber (d .pfirst) (d .start) 0) (d .plast) h (d .pieces) t)
 
 -- a call
 pub filled-received : (range : ℕ) (x : Memory) (d : Said) → SanePieces (d .pieces) → FilledAll (received range x d .entries)

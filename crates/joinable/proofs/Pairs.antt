@@ -23,12 +23,13 @@ use Rattle.receiver.specs.Steps.{stateTests, streamTests}
 use Rattle.receiver.specs.declared.Receiver.{Receiver}
 use Rattle.receiver.proofs.Enough.{corrected-length}
 use Rattle.receiver.proofs.Rows.{same-listing}
-use Rattle.diversity.specs.Diversity.{correctable, pairSaid, pairCome, copyNumber, lower, differ, Result, said, pairWords, pairTests, pairNumber, together, receivedBy, pairReceived}
+use Rattle.diversity.specs.Diversity.{correctable, pairSaid, pairCome, copyNumber, lower, differ, PairResult, pairTests, pairNumber, together, receivedBy, pairReceived}
 use Rattle.pair.proofs.Calling.{corrected-is}
 use Rattle.pair.proofs.Lowest.{lower-is-zero}
 use Rattle.join.specs.Join.{isLog}
 use Rattle.writer.specs.RoundTrip.{Bytes}
 use Rattle.delivery.proofs.Accepted.{corrected-bytes, sane-pair}
+use Rattle.diversity.proofs.AfterPair.{pairTold, pairWords}
 use Rattle.joinable.proofs.Saying.{held-sane, under-sane}
 use Rattle.joinable.proofs.Calls.{no-words, entries-log, partial-put, received-log, carry-bytes}
 
@@ -62,7 +63,7 @@ copy-right r y e =
 -- ---- a pair received
 
 -- the words that count are a log, and the carry is of bytes
-abbrev Right : Result → Type 0
+abbrev Right : PairResult → Type 0
 Right x = (isLog (take (x .answer .words) (x .log)) ≡ true) × Bytes (x .carry)
 
 module _ (carry first second log : List ℕ) (r : Receiver) (bc : Bytes carry) (bf : Bytes first) (bs : Bytes second) where
@@ -84,12 +85,12 @@ module _ (carry first second log : List ℕ) (r : Receiver) (bc : Bytes carry) (
     held : SanePartial (memoryOf r carry .partial)
     held = held-sane carry r bc (row-off (stateTests r (length carry)) 0 refl (rows .0)) (row-off (stateTests r (length carry)) 1 refl (rows .0))
 
-    says : SaneSaid (said carry first second log r)
+    says : SaneSaid (pairTold carry first second log r)
     unfolding pairCome
     says =
         let f = copy-bytes first cf bf in
         let c = controlAt y in
-        under-sane (said carry first second log r .withheld) (pairSaid (r .register) (modeOf r .width) c y z)
+        under-sane (pairTold carry first second log r .withheld) (pairSaid (r .register) (modeOf r .width) c y z)
         (sane-pair (r .register) (modeOf r) y z (f .0) (copy-bytes second cs bs .0) (copy-right r y (rows .1)) (rows .2) (f .1))
 
   both : correctable (correctionOf first) ≡ true → correctable (correctionOf second) ≡ true → Right (together carry first second log r)
@@ -100,7 +101,7 @@ module _ (carry first second log : List ℕ) (r : Receiver) (bc : Bytes carry) (
       go true e =
           let n = eqb-true (pairNumber carry first second log r) 0 e in
           let range = modeOf r .sequences in
-          let d = said carry first second log r in
+          let d = pairTold carry first second log r in
           rw e (
             subst (λ (ws : List ℕ). isLog ws ≡ true) (sym (take-put log (pairWords carry first second log r))) (entries-log range (memoryOf r carry) d (held cf cs n) (says cf cs n)),
             partial-put range (memoryOf r carry) d (held cf cs n) (says cf cs n) carry bc,

@@ -103,19 +103,19 @@ spacingOf mode stream counts = spacingFor (listing mode stream) counts
 
 -- ---- the answers
 
-abbrev pub answerFor : Spacing → List ℕ → Answer
-answerFor (NotTried k) counts = Refused k
-answerFor (Every n) counts = smallestOf n counts 0 8
+abbrev pub smallestFor : Spacing → List ℕ → Answer
+smallestFor (NotTried k) counts = Refused k
+smallestFor (Every n) counts = smallestOf n counts 0 8
 
 -- the smallest v from 0 to 7 without a dry tick, or none
 unfoldable pub answer : ℕ → ℕ → List ℕ → Answer
-answer mode stream counts = answerFor (spacingOf mode stream counts) counts
+answer mode stream counts = smallestFor (spacingOf mode stream counts) counts
 
 -- the paper's number of an answer, its v, 0 where there is none, and whether there is one
-abbrev pub numberOf : Answer → ℕ
-numberOf (Refused k) = k
-numberOf (Smallest v) = 0
-numberOf AllDry = 0
+abbrev pub latencyRefusal : Answer → ℕ
+latencyRefusal (Refused k) = k
+latencyRefusal (Smallest v) = 0
+latencyRefusal AllDry = 0
 
 abbrev pub latencyOf : Answer → ℕ
 latencyOf (Refused k) = 0
@@ -147,8 +147,8 @@ shownFor (NotTried k) counts t room = record { refusal = k; count = 0 }
 shownFor (Every n) counts t room = record { refusal = 0; count = shownCount n counts t room }
 
 -- how many ticks are shown from tick t on, in a row of so many places
-unfoldable pub shown : ℕ → ℕ → List ℕ → ℕ → ℕ → Shown
-shown mode stream counts t room = shownFor (spacingOf mode stream counts) counts t room
+unfoldable pub shownTicks : ℕ → ℕ → List ℕ → ℕ → ℕ → Shown
+shownTicks mode stream counts t room = shownFor (spacingOf mode stream counts) counts t room
 
 abbrev pub rowFor : Spacing → List ℕ → ℕ → ℕ → List ℕ → List ℕ
 rowFor (NotTried k) counts v t row = row

@@ -6,7 +6,7 @@ ghost use Prim.Native.Nat.{_+_, _-_, _*_, _<_, _≤_, min, max};
 ghost use lib.Dec.{eqb};
 ghost use lib.ListN.{length};
 ghost use Rattle.buffer.specs.Buffer.{putAt};
-ghost use Rattle.latency.specs.Latency.{spacing as ticksApart, added as addedAt, taken as takenAt, isDry, left, ticks, tally, runsDry, smallestOf, waitingFrom, overMost, countsRefused, spacingOf, answer, trialWith, trial, shownCount, shown, rowAfter};
+ghost use Rattle.latency.specs.Latency.{spacing as ticksApart, added as addedAt, taken as takenAt, isDry, left, ticks, tally, runsDry, smallestOf, waitingFrom, overMost, countsRefused, spacingOf, answer, trialWith, trial, shownCount, shownTicks, rowAfter};
 ghost use Rattle.latency.specs.Bench.{Tried};
 use modes::Listing;
 use modes::Mode;
@@ -360,7 +360,7 @@ pub fn show_waiting(
     first: usize,
     row: &mut [u32],
 ) -> Shown
-    ensures { λ r. ⌜ r ≡ shown mode stream (now (counts .entry)) first (length (now (row .entry))) ⌝ }
+    ensures { λ r. ⌜ r ≡ shownTicks mode stream (now (counts .entry)) first (length (now (row .entry))) ⌝ }
     ensures { λ _. ⌜ now (row .exit) ≡ rowAfter mode stream (now (counts .entry)) v first (now (row .entry)) ⌝ }
 {
     match spacing_for(mode, stream, counts) {

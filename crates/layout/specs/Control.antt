@@ -59,8 +59,8 @@ abbrev pub controlAt : List ℕ → ControlWord
 controlAt p = controlOf (getD p 8 0) (getD p 9 0) (getD p 10 0) (getD p 11 0) (getD p 12 0) (getD p 13 0)
 
 -- piece k (from 0) has the starting number plus k, minus 1 if Pfirst, modulo 64
-abbrev pub pieceNumber : ControlWord → ℕ → ℕ
-pieceNumber c k = (c .start + cond (c .pfirst) 63 0 + k) % 64
+abbrev pub pieceNumber : Bool → ℕ → ℕ → ℕ
+pieceNumber pfirst start k = (start + cond pfirst 63 0 + k) % 64
 
 -- every field within its width
 pub record InWidth (c : ControlWord) : Type 0 where

@@ -1,9 +1,10 @@
 -- Document 01, "Receiver": log words have 32 bits; bits 31-30 are the kind.
 use mathlib.Core.Path.{_≡_}
-use mathlib.Core.Bool.{Bool, true, false, cond}
+use mathlib.Core.Bool.{Bool, true, false, _&&_, cond}
 use mathlib.Core.List.{List, [], _∷_, _++_}
-use Prim.Native.Nat.{ℕ, zero, suc, _+_, _-_, _*_, _/_, min}
-use lib.ListN.{length, getD, drop}
+use Prim.Native.Nat.{ℕ, zero, suc, _+_, _-_, _*_, _/_, _%_, min}
+use lib.Dec.{eqb}
+use lib.ListN.{length, getD, take, drop}
 use Rattle.buffer.specs.Buffer.{putAt}
 
 pub data Entry : Type 0 where
@@ -25,6 +26,10 @@ dataWords [] = []
 dataWords (a ∷ []) = dataWord 1 a 0 0 ∷ []
 dataWords (a ∷ b ∷ []) = dataWord 2 a b 0 ∷ []
 dataWords (a ∷ b ∷ c ∷ rest) = dataWord 3 a b c ∷ dataWords rest
+
+-- the bytes of a data word: as many as bits 25-24 say, the first in 23-16
+unfoldable pub dataBytes : ℕ → List ℕ
+dataBytes w = take (w / 0x1000000 % 4) (w / 0x10000 % 0x100 ∷ w / 0x100 % 0x100 ∷ w % 0x100 ∷ [])
 
 -- the data word of the bytes from a place on, three at most
 abbrev pub dataWordAt : List ℕ → ℕ → ℕ
@@ -74,3 +79,11 @@ packetsOf [] = []
 packetsOf (packet number bytes ∷ es) = packet number bytes ∷ packetsOf es
 packetsOf (psd bytes ∷ es) = packetsOf es
 packetsOf (note cause piece ∷ es) = packetsOf es
+
+-- ---- two lists of words or of bytes
+
+unfoldable pub sameList : List ℕ → List ℕ → Bool
+sameList [] [] = true
+sameList [] (b ∷ l) = false
+sameList (a ∷ k) [] = false
+sameList (a ∷ k) (b ∷ l) = eqb a b && sameList k l

@@ -26,8 +26,8 @@ module _ (marks carry pdu log : List ℕ) (r : Receiver) where
   unfoldable pub recordNumber : ℕ
   recordNumber = cond empty (lostNumber log r) (receiveNumber marks carry pdu log r)
 
-  abbrev pub accepted : Bool
-  accepted = eqb recordNumber 0
+  abbrev pub isAccepted : Bool
+  isAccepted = eqb recordNumber 0
 
   -- how many header bytes were corrected
   abbrev pub correctedBytes : ℕ
@@ -44,11 +44,11 @@ module _ (marks carry pdu log : List ℕ) (r : Receiver) where
   refusedOutcome = outcomeOf 2 recordNumber (wrongOf (correctedPduWith marks pdu) recordNumber) (length pdu) (lostAnswer log r)
 
   unfoldable pub recordOutcome : Outcome
-  recordOutcome = cond accepted (cond empty lostOutcome receivedOutcome) refusedOutcome
+  recordOutcome = cond isAccepted (cond empty lostOutcome receivedOutcome) refusedOutcome
 
   -- the log after it: all but an accepted PDU is marked lost
   unfoldable pub recordLog : List ℕ
-  recordLog = cond (accepted && not empty) (logAfter marks carry pdu log r) (logAfterLost log r)
+  recordLog = cond (isAccepted && not empty) (logAfter marks carry pdu log r) (logAfterLost log r)
 
   -- the carry and the record after it
   unfoldable pub recordCarry : List ℕ

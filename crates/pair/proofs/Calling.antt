@@ -20,14 +20,15 @@ use Rattle.correction.specs.declared.Correction.the-variants.{Corrected, Refuse
 use Rattle.correction.proofs.Answers.{no-marks-answer, no-marks-pdu, refused-unchanged, corrected-allowed, header-put-back}
 use Rattle.pdu.specs.Reading.{modeIn}
 use Rattle.buffer.specs.Buffer.{putAt}
-use Rattle.reassembly.specs.Run.{bytesOf}
+use Rattle.reassembly.specs.Run.{partialBytes}
 use Rattle.receiver.specs.Receiving.{remembering, modeOf, wrongFields, wrongState, refusedAnswer, receiveTests, receiveNumber}
 use Rattle.receiver.specs.Steps.{stateTests, Usable, correctedNumber}
 use Rattle.receiver.specs.declared.Receiver.{Receiver}
 use Rattle.receiver.specs.declared.Received.{Received}
 use Rattle.receiver.proofs.Calling.{Corrects, Promised as Alone, turned-down, corrected-call}
 use Rattle.receiver.proofs.Rows.{first-on, state-listed, state-unlisted, usable}
-use Rattle.diversity.specs.Diversity.{correctable, Result, unchanged, firstAlone, secondAlone, outcome, pairWords, memoryAfter, keptServices, tallyAfter, wrongInPair, pairTests, pairNumber, together, receivedBy, pairReceived}
+use Rattle.diversity.specs.Diversity.{correctable, PairResult, unchangedPair, firstAlone, secondAlone, pairOutcome, wrongInPair, pairTests, pairNumber, together, receivedBy, pairReceived}
+use Rattle.diversity.proofs.AfterPair.{pairWords, pairMemory, pairServices, pairTally}
 use Rattle.pair.specs.Steps.{bothNumber, Paired}
 
 -- ---- which can be corrected
@@ -64,31 +65,31 @@ module _ (p : List ℕ) (a : Correction) (b : Bool) (ea : a ≡ correctionOf p) 
 -- ---- the answer and the buffers after the call
 
 -- both accepted
-abbrev accepted : List ℕ → List ℕ → List ℕ → List ℕ → Receiver → Result
+abbrev accepted : List ℕ → List ℕ → List ℕ → List ℕ → Receiver → PairResult
 accepted carry p q log r = record {
-  answer = record { refusal = 0; wrong = 0; words = length (pairWords carry p q log r); receiver = remembering r (memoryAfter carry p q log r) (keptServices carry p q log r) (tallyAfter carry p q log r) };
-  carry = putAt carry 0 (bytesOf (outcome carry p q log r .partial));
+  answer = record { refusal = 0; wrong = 0; words = length (pairWords carry p q log r); receiver = remembering r (pairMemory carry p q log r) (pairServices carry p q log r) (pairTally carry p q log r) };
+  carry = putAt carry 0 (partialBytes (pairOutcome carry p q log r .partial));
   first = correctedPdu p;
   second = correctedPdu q;
   log = putAt log 0 (pairWords carry p q log r);
 }
 
 -- a result that is one of two
-result-by : (b : Bool) (x u v : Result) (a : Received) (carryEnd firstEnd secondEnd logEnd : List ℕ) → v ≡ cond b x u
+result-by : (b : Bool) (x u v : PairResult) (a : Received) (carryEnd firstEnd secondEnd logEnd : List ℕ) → v ≡ cond b x u
     → a ≡ cond b (x .answer) (u .answer) → carryEnd ≡ cond b (x .carry) (u .carry) → firstEnd ≡ cond b (x .first) (u .first) → secondEnd ≡ cond b (x .second) (u .second) → logEnd ≡ cond b (x .log) (u .log)
     → (a ≡ v .answer) × ((carryEnd ≡ v .carry) × ((firstEnd ≡ v .first) × ((secondEnd ≡ v .second) × (logEnd ≡ v .log))))
 result-by b x u v a carryEnd firstEnd secondEnd logEnd e ea ec ef es el = (
-  ea ∙ field b (λ z. z .answer) ∙ ap (λ (z : Result). z .answer) (sym e),
+  ea ∙ field b (λ z. z .answer) ∙ ap (λ (z : PairResult). z .answer) (sym e),
   (
-    ec ∙ field b (λ z. z .carry) ∙ ap (λ (z : Result). z .carry) (sym e),
+    ec ∙ field b (λ z. z .carry) ∙ ap (λ (z : PairResult). z .carry) (sym e),
     (
-      ef ∙ field b (λ z. z .first) ∙ ap (λ (z : Result). z .first) (sym e),
-      (es ∙ field b (λ z. z .second) ∙ ap (λ (z : Result). z .second) (sym e), el ∙ field b (λ z. z .log) ∙ ap (λ (z : Result). z .log) (sym e)),
+      ef ∙ field b (λ z. z .first) ∙ ap (λ (z : PairResult). z .first) (sym e),
+      (es ∙ field b (λ z. z .second) ∙ ap (λ (z : PairResult). z .second) (sym e), el ∙ field b (λ z. z .log) ∙ ap (λ (z : PairResult). z .log) (sym e)),
     ),
   ),
 )
   where
-    field : {A : Type 0} (t : Bool) (f : Result → A) → cond t (f x) (f u) ≡ f (cond t x u)
+    field : {A : Type 0} (t : Bool) (f : PairResult → A) → cond t (f x) (f u) ≡ f (cond t x u)
     field true f = refl
     field false f = refl
 
@@ -105,11 +106,11 @@ module _ (carry p q log : List ℕ) (r : Receiver) where
   unfolding pairReceived
   by-both s t es et = ap₂ (receivedBy carry p q log r) es et
 
-  given : (x : Result) (a : Received) (carryEnd firstEnd secondEnd logEnd : List ℕ) → pairReceived carry p q log r ≡ x → a ≡ x .answer → carryEnd ≡ x .carry → firstEnd ≡ x .first → secondEnd ≡ x .second → logEnd ≡ x .log
+  given : (x : PairResult) (a : Received) (carryEnd firstEnd secondEnd logEnd : List ℕ) → pairReceived carry p q log r ≡ x → a ≡ x .answer → carryEnd ≡ x .carry → firstEnd ≡ x .first → secondEnd ≡ x .second → logEnd ≡ x .log
       → Promised a carryEnd firstEnd secondEnd logEnd
   given x a carryEnd firstEnd secondEnd logEnd e ea ec ef es el = (
-    ea ∙ ap (λ (z : Result). z .answer) (sym e),
-    (ec ∙ ap (λ (z : Result). z .carry) (sym e), (ef ∙ ap (λ (z : Result). z .first) (sym e), (es ∙ ap (λ (z : Result). z .second) (sym e), el ∙ ap (λ (z : Result). z .log) (sym e)))),
+    ea ∙ ap (λ (z : PairResult). z .answer) (sym e),
+    (ec ∙ ap (λ (z : PairResult). z .carry) (sym e), (ef ∙ ap (λ (z : PairResult). z .first) (sym e), (es ∙ ap (λ (z : PairResult). z .second) (sym e), el ∙ ap (λ (z : PairResult). z .log) (sym e)))),
   )
 
   -- ---- 1 and 2
@@ -121,7 +122,7 @@ module _ (carry p q log : List ℕ) (r : Receiver) where
     other : ¬ (n ≡ 11)
     other h = never 11 (stateTests r (length carry)) refl refl (sym en ∙ h)
 
-    early-both : together carry p q log r ≡ unchanged carry p q log r n 0
+    early-both : together carry p q log r ≡ unchangedPair carry p q log r n 0
     unfolding together pairNumber wrongInPair
     early-both =
         let e : pairNumber carry p q log r ≡ n = first-on (stateTests r (length carry)) (drop 2 (pairTests carry p q log r)) none ∙ sym en in
@@ -135,15 +136,15 @@ module _ (carry p q log : List ℕ) (r : Receiver) where
         let e : receiveNumber [] carry l log r ≡ n = first-on (stateTests r (length carry)) (drop 2 (receiveTests [] carry l log r)) none ∙ sym en in
         turned-down [] carry l log r n (refusedAnswer r n 0) e some other refl
 
-    early-by : (s t : Bool) → receivedBy carry p q log r s t ≡ unchanged carry p q log r n 0
+    early-by : (s t : Bool) → receivedBy carry p q log r s t ≡ unchangedPair carry p q log r n 0
     early-by true true = early-both
     early-by true false = let a = alone p in λ i. record { answer = sym (a .0) i; carry = sym (a .1 .0) i; first = sym (a .1 .1 .0) i; second = q; log = sym (a .1 .1 .1) i }
     early-by false true = let a = alone q in λ i. record { answer = sym (a .0) i; carry = sym (a .1 .0) i; first = p; second = sym (a .1 .1 .0) i; log = sym (a .1 .1 .1) i }
-    early-by false false = ap (λ (m : ℕ). unchanged carry p q log r m 0) (first-on (stateTests r (length carry)) ((true, 4) ∷ []) none ∙ sym en)
+    early-by false false = ap (λ (m : ℕ). unchangedPair carry p q log r m 0) (first-on (stateTests r (length carry)) ((true, 4) ∷ []) none ∙ sym en)
 
     pub early-call : (a : Received) → a ≡ refusedAnswer r n 0 → Promised a carry p q log
     unfolding pairReceived
-    early-call a e = given (unchanged carry p q log r n 0) a carry p q log (early-by (correctable (correctionOf p)) (correctable (correctionOf q))) e refl refl refl refl
+    early-call a e = given (unchangedPair carry p q log r n 0) a carry p q log (early-by (correctable (correctionOf p)) (correctable (correctionOf q))) e refl refl refl refl
 
   -- 1, for a mode and stream that the table has not
   pub unlisted-call : (l : Listing) (n : ℕ) (a : Received) → l ≡ listing (r .mode) (r .stream) → l ≡ Unlisted n → a ≡ refusedAnswer r 1 0 → Promised a carry p q log
@@ -191,16 +192,16 @@ module _ {carry p q : List ℕ} {r : Receiver} {m : Mode} {xp xq : Correction} {
     -- both received, by the number that applies
     together-is : together carry p q log r
         ≡ cond (eqb (bothNumber (modeOf r) r carry (correctedPdu p) (correctedPdu q) log) 0) (accepted carry p q log r)
-        (unchanged carry p q log r (bothNumber (modeOf r) r carry (correctedPdu p) (correctedPdu q) log) (wrongInPair (correctedPdu p) (correctedPdu q) (bothNumber (modeOf r) r carry (correctedPdu p) (correctedPdu q) log)))
+        (unchangedPair carry p q log r (bothNumber (modeOf r) r carry (correctedPdu p) (correctedPdu q) log) (wrongInPair (correctedPdu p) (correctedPdu q) (bothNumber (modeOf r) r carry (correctedPdu p) (correctedPdu q) log)))
     unfolding together pairNumber bothNumber
     together-is =
         let e : pairNumber carry p q log r ≡ bothNumber (modeOf r) r carry (correctedPdu p) (correctedPdu q) log = past (stateTests r (length carry)) (drop 2 (pairTests carry p q log r)) refl (k .free) in
-        ap (λ (n : ℕ). cond (eqb n 0) (accepted carry p q log r) (unchanged carry p q log r n (wrongInPair (correctedPdu p) (correctedPdu q) n))) e
+        ap (λ (n : ℕ). cond (eqb n 0) (accepted carry p q log r) (unchangedPair carry p q log r n (wrongInPair (correctedPdu p) (correctedPdu q) n))) e
 
     -- 4
     pub neither-call : (a : Received) → s ≡ false → t ≡ false → a ≡ refusedAnswer r 4 0 → Promised carry p q log r a carry y z log
     neither-call a fs ft e =
-        given carry p q log r (unchanged carry p q log r (firstOf (stateTests r (length carry) ++ (true, 4) ∷ [])) 0) a carry y z log (by-these false false fs ft)
+        given carry p q log r (unchangedPair carry p q log r (firstOf (stateTests r (length carry) ++ (true, 4) ∷ [])) 0) a carry y z log (by-these false false fs ft)
         (e ∙ ap (λ (n : ℕ). refusedAnswer r n 0) (sym (past (stateTests r (length carry)) ((true, 4) ∷ []) refl (k .free)))) refl (stays p xp s (k .answer) (k .is) y fs (k .after)) (stays q xq t (k .answer′) (k .is′) z ft (k .after′)) refl
 
     -- one alone: x, corrected l, whose header was h
@@ -239,5 +240,5 @@ module _ {carry p q : List ℕ} {r : Receiver} {m : Mode} {xp xq : Correction} {
         let h′ : Paired (modeOf r) r carry (correctedPdu p) (correctedPdu q) log a carryEnd logEnd = subst (λ (x : Mode × (List ℕ × List ℕ)). Paired (x .0) r carry (x .1 .0) (x .1 .1) log a carryEnd logEnd) (λ i. (mode i, (ey i, ez i))) h in
         let ef′ : firstEnd ≡ cond (eqb n 0) (correctedPdu p) p = ef ∙ (λ i. cond (eqb (number i) 0) (ey i) (bp i)) in
         let eg′ : secondEnd ≡ cond (eqb n 0) (correctedPdu q) q = eg ∙ (λ i. cond (eqb (number i) 0) (ez i) (bq i)) in
-        let x = result-by (eqb n 0) (accepted carry p q log r) (unchanged carry p q log r n (wrongInPair (correctedPdu p) (correctedPdu q) n)) (together carry p q log r) a carryEnd firstEnd secondEnd logEnd together-is (h′ .answer) (h′ .held) ef′ eg′ (h′ .logged) in
+        let x = result-by (eqb n 0) (accepted carry p q log r) (unchangedPair carry p q log r n (wrongInPair (correctedPdu p) (correctedPdu q) n)) (together carry p q log r) a carryEnd firstEnd secondEnd logEnd together-is (h′ .answer) (h′ .held) ef′ eg′ (h′ .logged) in
         given carry p q log r (together carry p q log r) a carryEnd firstEnd secondEnd logEnd (by-these true true (on .0) (on .1)) (x .0) (x .1 .0) (x .1 .1 .0) (x .1 .1 .1 .0) (x .1 .1 .1 .1)

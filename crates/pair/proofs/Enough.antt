@@ -24,7 +24,7 @@ use Rattle.pdu.proofs.Assembling.{nop-small}
 use Rattle.pdu.proofs.Sizes.{lengthsFrom, sized}
 use Rattle.reassembly.specs.Reassembly.{received}
 use Rattle.reassembly.specs.Rights.{under}
-use Rattle.reassembly.specs.Run.{bytesOf}
+use Rattle.reassembly.specs.Run.{partialBytes}
 use Rattle.reassembly.specs.Tally.{Countable, passesLimit}
 use Rattle.reassembly.proofs.Tallies.{not-passed}
 use Rattle.reassembly.proofs.Bound.{pieceBytes, bound}
@@ -33,8 +33,9 @@ use Rattle.receiver.specs.Steps.{stateTests, streamTests}
 use Rattle.receiver.specs.declared.Receiver.{Receiver}
 use Rattle.receiver.proofs.Enough.{taken-few, held-few, corrected-length}
 use Rattle.receiver.proofs.Rows.{same-listing}
-use Rattle.diversity.specs.Diversity.{correctable, pairPiece, pairPieces, pairSaid, pairCome, copyNumber, differ, Result, said, outcome, pairWords, memoryAfter, keptServices, tallyAfter, keptServices, pairTests, pairNumber, together, receivedBy, pairReceived}
+use Rattle.diversity.specs.Diversity.{correctable, pairPiece, pairPieces, pairSaid, pairCome, copyNumber, differ, PairResult, pairOutcome, pairTests, pairNumber, together, receivedBy, pairReceived}
 use Rattle.diversity.proofs.Alike.{locators-same, pair-bytes}
+use Rattle.diversity.proofs.AfterPair.{pairTold, pairWords, pairMemory, pairServices, pairTally}
 use Rattle.pair.proofs.Calling.{corrected-is}
 
 -- ---- the words of two copies
@@ -88,28 +89,28 @@ module _ (carry p q log : List ℕ) (r : Receiver) where
     pub same : differ (correctedPdu p) (correctedPdu q) ≡ false
 
   -- what is answered and left, both received
-  abbrev pub taken : Result
+  abbrev pub taken : PairResult
   taken = record {
-    answer = record { refusal = 0; wrong = 0; words = length (pairWords carry p q log r); receiver = remembering r (memoryAfter carry p q log r) (keptServices carry p q log r) (tallyAfter carry p q log r) };
-    carry = putAt carry 0 (bytesOf (outcome carry p q log r .partial));
+    answer = record { refusal = 0; wrong = 0; words = length (pairWords carry p q log r); receiver = remembering r (pairMemory carry p q log r) (pairServices carry p q log r) (pairTally carry p q log r) };
+    carry = putAt carry 0 (partialBytes (pairOutcome carry p q log r .partial));
     first = correctedPdu p;
     second = correctedPdu q;
     log = putAt log 0 (pairWords carry p q log r);
   }
 
   module _ (h : Passes) where
-    number-is : pairNumber carry p q log r ≡ cond (ltb (length log) (length (pairWords carry p q log r))) 13 (cond (passesLimit (tallyAfter carry p q log r)) 27 0)
+    number-is : pairNumber carry p q log r ≡ cond (ltb (length log) (length (pairWords carry p q log r))) 13 (cond (passesLimit (pairTally carry p q log r)) 27 0)
     unfolding pairNumber
     number-is =
         let s = h .same in
         past (stateTests r (length carry)) (drop 2 (pairTests carry p q log r)) refl (h .state)
         ∙ rw (h .firstRows, h .secondRows, s)
 
-    pub passes-taken : length (pairWords carry p q log r) ≤ length log → Countable (tallyAfter carry p q log r) → pairReceived carry p q log r ≡ taken
+    pub passes-taken : length (pairWords carry p q log r) ≤ length log → Countable (pairTally carry p q log r) → pairReceived carry p q log r ≡ taken
     unfolding pairReceived together
     passes-taken room few =
         let t : ltb (length log) (length (pairWords carry p q log r)) ≡ false = le-ltb (length log) (length (pairWords carry p q log r)) room in
-        let u : passesLimit (tallyAfter carry p q log r) ≡ false = not-passed (tallyAfter carry p q log r) few in
+        let u : passesLimit (pairTally carry p q log r) ≡ false = not-passed (pairTally carry p q log r) few in
         let z : pairNumber carry p q log r ≡ 0 = number-is ∙ ap₂ (λ (b d : Bool). cond b 13 (cond d 27 0)) t u in
         let e : eqb (pairNumber carry p q log r) 0 ≡ true = eq-eqb (pairNumber carry p q log r) 0 z in
         ap₂ (receivedBy carry p q log r) (h .first) (h .second) ∙ rw e
@@ -136,4 +137,4 @@ module _ (carry p q log : List ℕ) (r : Receiver) where
     -- a log of 8,400 words suffices
     pub passes-most : ((i : ℕ) → getD p i 0 < 256) → length (pairWords carry p q log r) ≤ 8400
     unfolding pairCome
-    passes-most bytes = words-most (said carry p q log r .withheld) (modeOf r .sequences) (modeOf r) r carry (correctedPdu p) (correctedPdu q) held-most (first-long bytes) first-right (h .same)
+    passes-most bytes = words-most (pairTold carry p q log r .withheld) (modeOf r .sequences) (modeOf r) r carry (correctedPdu p) (correctedPdu q) held-most (first-long bytes) first-right (h .same)

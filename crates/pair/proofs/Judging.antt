@@ -19,13 +19,14 @@ use Rattle.pdu.specs.Reading.{readerTests, modeIn, listingOf, widthOf, wrongWit
 use Rattle.pdu.specs.declared.Verdict.{Verdict}
 use Rattle.pdu.proofs.Lowest.{without-eleven}
 use Rattle.pdu.proofs.Sizes.{sized}
-use Rattle.receiver.specs.Receiving.{refusedAnswer}
-use Rattle.receiver.specs.Steps.{lastTests, Answered, Takes, streamTests}
+use Rattle.receiver.specs.Receiving.{refusedAnswer, lastTests}
+use Rattle.receiver.specs.Steps.{Answered, Takes, streamTests}
 use Rattle.receiver.specs.declared.Receiver.{Receiver}
 use Rattle.receiver.specs.declared.Received.{Received}
 use Rattle.receiver.proofs.Answering.{answered-refused, answered-number}
 use Rattle.receiver.proofs.Rows.{first-on, same-listing}
-use Rattle.diversity.specs.Diversity.{sameBytes, copyNumber, lower, wrongInPair, frontOf, differ}
+use Rattle.diversity.specs.Diversity.{copyNumber, lower, wrongInPair, frontOf, differ}
+use Rattle.log.specs.Log.{sameList}
 use Rattle.pair.specs.Steps.{comeAsBoth, bothNumber, Paired}
 
 -- ---- rows 5 to 12, of a copy
@@ -75,12 +76,12 @@ module _ (y z : List ℕ) where
   lengths-differ d = let t : eqb (length y) (length z) ≡ false = ne-eqb (length y) (length z) d in rw t
 
   -- a and e are the places after La
-  pub bytes-differ : (a e : ℕ) (b : Bool) → length y ≡ length z → a ≡ controlAt y .la + 1 → e ≡ controlAt z .la + 1 → b ≡ sameBytes (take (a - 8) (drop 8 y)) (take (e - 8) (drop 8 z)) → not b ≡ differ y z
+  pub bytes-differ : (a e : ℕ) (b : Bool) → length y ≡ length z → a ≡ controlAt y .la + 1 → e ≡ controlAt z .la + 1 → b ≡ sameList (take (a - 8) (drop 8 y)) (take (e - 8) (drop 8 z)) → not b ≡ differ y z
   unfolding differ
   bytes-differ a e b long ea ee eb =
       let t : eqb (length y) (length z) ≡ true = eq-eqb (length y) (length z) long in
-      ap not (eb ∙ ap₂ (λ (i j : ℕ). sameBytes (take (i - 8) (drop 8 y)) (take (j - 8) (drop 8 z))) ea ee)
-      ∙ ap (λ (x : Bool). not (x && sameBytes (frontOf y) (frontOf z))) (sym t)
+      ap not (eb ∙ ap₂ (λ (i j : ℕ). sameList (take (i - 8) (drop 8 y)) (take (j - 8) (drop 8 z))) ea ee)
+      ∙ ap (λ (x : Bool). not (x && sameList (frontOf y) (frontOf z))) (sym t)
 
 -- ---- rows 5 to 12, 20, 13 and 27
 

@@ -8,10 +8,11 @@ use Rattle.modes.specs.declared.Mode.{Mode}
 use Rattle.layout.specs.Control.{controlAt}
 use Rattle.pdu.specs.declared.Verdict.{Verdict}
 use Rattle.reassembly.specs.Holder.{Come}
-use Rattle.receiver.specs.Steps.{lastTests, Answered}
+use Rattle.receiver.specs.Steps.{Answered}
 use Rattle.receiver.specs.declared.Receiver.{Receiver}
 use Rattle.receiver.specs.declared.Received.{Received}
 use Rattle.diversity.specs.Diversity.{pairCome, copyNumber, lower, wrongInPair, differ}
+use Rattle.receiver.specs.Receiving.{lastTests}
 
 -- ---- rows 5 to 12, 20, 13 and 27, of two corrected copies
 

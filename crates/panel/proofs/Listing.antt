@@ -19,7 +19,7 @@ use Rattle.correction.proofs.Answers.{header-put-back}
 use Rattle.layout.specs.Control.{controlAt}
 use Rattle.layout.specs.declared.ControlWord.{ControlWord}
 use Rattle.layout.specs.Locators.{locatorAt}
-use Rattle.pdu.specs.Reading.{startAt, lengthAt, readTests, correctedTests, modeIn, listingOf, entriesFrom as filledFrom, accepted, refused, judged, widthOf, wrongOf, readNumber, readingBy, readingOf, readPdu}
+use Rattle.pdu.specs.Reading.{startAt, lengthAt, readTests, correctedTests, modeIn, listingOf, filledFrom, accepted, refused, judged, widthOf, wrongOf, readNumber, readingBy, readingOf, readPdu}
 use Rattle.pdu.specs.declared.Reading.{Reading}
 use Rattle.pdu.proofs.Assembling.{nop-small}
 use Rattle.pdu.proofs.Sizes.{Sized, sized}

@@ -21,7 +21,7 @@ use Rattle.pdu.specs.declared.Reading.{Reading}
 use Rattle.pdu.specs.PieceRead.{PieceRead}
 use Rattle.pdu.proofs.ReadBack.{read-accepted}
 use Rattle.settings.specs.declared.Settings.{Settings}
-use Rattle.writer.specs.Writing.{placed, piecesOf, controlFor, writeAnswer, writtenPdu}
+use Rattle.writer.specs.Writing.{placedLengths, piecesOf, controlFor, writeAnswer, writtenPdu}
 use Rattle.writer.specs.RoundTrip.{Bytes, Altered, ReadBack, RoundTrip}
 use Rattle.writer.specs.declared.Writer.{Writer}
 use Rattle.writer.proofs.RoundTrip.{round-trip}
@@ -81,7 +81,7 @@ module _ (settings : Settings) (psd lengths bytes : List ℕ) (size : ℕ) (w : 
       (subst (λ (d : ControlWord). PieceRead (w .register) (m .width) d p k (getD ps k [])) (sym control) (back .pieces k h)))
 
   count : controlAt p .nop ≡ length ps
-  count = ap (λ (d : ControlWord). d .nop) control ∙ sym (cut-count (placed settings psd lengths bytes size m w) (drop (w .sent) bytes))
+  count = ap (λ (d : ControlWord). d .nop) control ∙ sym (cut-count (placedLengths settings psd lengths bytes size m w) (drop (w .sent) bytes))
 
   all-right : (l : List Piece) → controlAt p .nop ≤ length l → ListedRight (w .register) p q l
   unfolding listedPdu listAfter

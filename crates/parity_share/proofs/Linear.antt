@@ -16,7 +16,7 @@ use Rattle.header.specs.Packed.{unpacked, timesAll}
 use Rattle.header.proofs.CodeWords.{Bytes}
 use Rattle.header.proofs.Division.{addAll, eight, remainder-bytes, parity-length}
 use Rattle.header.proofs.Lanes.{unpacked-xor}
-use Rattle.parity_share.specs.Shares.{alone, share, added}
+use Rattle.parity_share.specs.Shares.{alone, share, paritySum}
 
 -- ---- sums of words
 
@@ -43,39 +43,39 @@ addAll-drop (suc n) (x ∷ u) [] l = absurd (omega arith)
 addAll-drop (suc n) (x ∷ u) (y ∷ v) l = addAll-drop n u v (omega arith)
 
 -- the sum of two words of eight bytes
-added-eight : (p q : List ℕ) → length p ≡ 8 → length q ≡ 8 → addAll p q ≡ added p q
-unfolding added
+added-eight : (p q : List ℕ) → length p ≡ 8 → length q ≡ 8 → addAll p q ≡ paritySum p q
+unfolding paritySum
 added-eight p q lp lq = eight (addAll p q) (addAll-length p q (lp ∙ sym lq) ∙ lp) ∙ simp (addAll-at p q)
 
 -- ---- the remainder of a sum
 
 -- a coefficient of the register's next value, for the sum of two registers
 module _ (r s : List ℕ) (f g : ℕ) where
-  tap-sum : (k : ℕ) → getD (0 ∷ added r s) k 0 ≡ bitXor (getD (0 ∷ r) k 0) (getD (0 ∷ s) k 0)
-      → tap (added r s) (bitXor f g) k ≡ bitXor (tap r f k) (tap s g k)
+  tap-sum : (k : ℕ) → getD (0 ∷ paritySum r s) k 0 ≡ bitXor (getD (0 ∷ r) k 0) (getD (0 ∷ s) k 0)
+      → tap (paritySum r s) (bitXor f g) k ≡ bitXor (tap r f k) (tap s g k)
   unfolding tap
   tap-sum k e =
       ap₂ bitXor e (mul-add-r (pow (getD exponents k 0)) f g)
       ∙ xor-swap (getD (0 ∷ r) k 0) (getD (0 ∷ s) k 0) (mul (pow (getD exponents k 0)) f) (mul (pow (getD exponents k 0)) g)
 
-  taps-sum : map (tap (added r s) (bitXor f g)) (0 ∷ 1 ∷ 2 ∷ 3 ∷ 4 ∷ 5 ∷ 6 ∷ 7 ∷ [])
+  taps-sum : map (tap (paritySum r s) (bitXor f g)) (0 ∷ 1 ∷ 2 ∷ 3 ∷ 4 ∷ 5 ∷ 6 ∷ 7 ∷ [])
       ≡ map (λ k. bitXor (tap r f k) (tap s g k)) (0 ∷ 1 ∷ 2 ∷ 3 ∷ 4 ∷ 5 ∷ 6 ∷ 7 ∷ [])
-  unfolding added
+  unfolding paritySum
   taps-sum =
       ap₂ _∷_ (tap-sum 0 refl) (ap₂ _∷_ (tap-sum 1 refl) (ap₂ _∷_ (tap-sum 2 refl) (ap₂ _∷_ (tap-sum 3 refl)
       (ap₂ _∷_ (tap-sum 4 refl) (ap₂ _∷_ (tap-sum 5 refl) (ap₂ _∷_ (tap-sum 6 refl) (ap₂ _∷_ (tap-sum 7 refl) refl)))))))
 
-divideStep-sum : (r s : List ℕ) (b c : ℕ) → divideStep (added r s) (bitXor b c) ≡ added (divideStep r b) (divideStep s c)
-unfolding divideStep added
+divideStep-sum : (r s : List ℕ) (b c : ℕ) → divideStep (paritySum r s) (bitXor b c) ≡ paritySum (divideStep r b) (divideStep s c)
+unfolding divideStep paritySum
 divideStep-sum r s b c =
-    ap (λ (f : ℕ). map (tap (added r s) f) (0 ∷ 1 ∷ 2 ∷ 3 ∷ 4 ∷ 5 ∷ 6 ∷ 7 ∷ [])) (xor-swap b c (getD r 7 0) (getD s 7 0))
+    ap (λ (f : ℕ). map (tap (paritySum r s) f) (0 ∷ 1 ∷ 2 ∷ 3 ∷ 4 ∷ 5 ∷ 6 ∷ 7 ∷ [])) (xor-swap b c (getD r 7 0) (getD s 7 0))
     ∙ taps-sum r s (bitXor b (getD r 7 0)) (bitXor c (getD s 7 0))
 
-zeros : replicate 8 0 ≡ added (replicate 8 0) (replicate 8 0)
-unfolding added
+zeros : replicate 8 0 ≡ paritySum (replicate 8 0) (replicate 8 0)
+unfolding paritySum
 zeros = refl
 
-remainder-sum : (u v : List ℕ) → length u ≡ length v → remainder (addAll u v) ≡ added (remainder u) (remainder v)
+remainder-sum : (u v : List ℕ) → length u ≡ length v → remainder (addAll u v) ≡ paritySum (remainder u) (remainder v)
 unfolding remainder addAll
 remainder-sum [] [] l = zeros
 remainder-sum [] (y ∷ v) l = absurd (omega arith)
@@ -88,7 +88,7 @@ pub message : (w : List ℕ) → length w ≡ 96 → slice 8 96 w ≡ drop 8 w
 message w l = ap (drop 8) (take-all 96 w (omega arith))
 
 -- the parity of a sum of two headers is the sum of their parities
-pub parity-sum : (u v : List ℕ) → length u ≡ 96 → length v ≡ 96 → parityOf (addAll u v) ≡ added (parityOf u) (parityOf v)
+pub parity-sum : (u v : List ℕ) → length u ≡ 96 → length v ≡ 96 → parityOf (addAll u v) ≡ paritySum (parityOf u) (parityOf v)
 unfolding parityOf
 parity-sum u v lu lv =
     let l : length u ≡ length v = lu ∙ sym lv in
@@ -215,7 +215,7 @@ module _ (b : ℕ) (hb : b < 256) where
 
   -- a packed parity plus the packed share of 1 times the byte: the parity with the byte's share added
   pub packed-sum : (p : List ℕ) (i x s w : ℕ) → length p ≡ 8 → unpacked x ≡ take 8 (drop 0 p) → unpacked s ≡ share i 1
-      → unpacked w ≡ timesAll b (unpacked s) → unpacked (bitXor x w) ≡ added p (share i b)
+      → unpacked w ≡ timesAll b (unpacked s) → unpacked (bitXor x w) ≡ paritySum p (share i b)
   packed-sum p i x s w l ex es ew =
       unpacked-xor x w
       ∙ ap₂ addAll (ex ∙ take-all 8 p (omega arith)) (ew ∙ ap (timesAll b) es ∙ share-times i)

@@ -6,7 +6,7 @@ use Prim.Native.Nat.{ℕ, _<_, _≤_}
 use native.Mathlib.Omega.{arith}
 use lib.Dec.{leb}
 use borrow.Author.Tests.{le-leb, lt-leb, leb-true, eq-eqb, ne-eqb}
-use Rattle.parity_share.specs.Shares.{inMessage, shareRefusal, share, added, withShare}
+use Rattle.parity_share.specs.Shares.{inMessage, shareRefusal, share, paritySum, withShare}
 
 pub inside : (i : ℕ) → 8 ≤ i → i ≤ 95 → inMessage i ≡ true
 inside i l h = simp (le-leb 8 i l, le-leb i 95 h)
@@ -44,7 +44,7 @@ in-message i z = go (leb 8 i) refl (leb i 95) refl z
 -- ---- the parity
 
 module _ (p : List ℕ) (i b : ℕ) where
-  pub share-added : shareRefusal i ≡ 0 → added p (share i b) ≡ withShare p i b
+  pub share-added : shareRefusal i ≡ 0 → paritySum p (share i b) ≡ withShare p i b
   unfolding withShare
   share-added z = simp (eq-eqb (shareRefusal i) 0 z)
 

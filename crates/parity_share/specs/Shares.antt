@@ -19,8 +19,8 @@ unfoldable pub share : ℕ → ℕ → List ℕ
 share place byte = parityOf (alone place byte)
 
 -- the sum of two parities, byte by byte
-unfoldable pub added : List ℕ → List ℕ → List ℕ
-added p q = map (λ k. bitXor (getD p k 0) (getD q k 0)) (0 ∷ 1 ∷ 2 ∷ 3 ∷ 4 ∷ 5 ∷ 6 ∷ 7 ∷ [])
+unfoldable pub paritySum : List ℕ → List ℕ → List ℕ
+paritySum p q = map (λ k. bitXor (getD p k 0) (getD q k 0)) (0 ∷ 1 ∷ 2 ∷ 3 ∷ 4 ∷ 5 ∷ 6 ∷ 7 ∷ [])
 
 -- whether a place is one of 8 to 95
 abbrev pub inMessage : ℕ → Bool
@@ -32,7 +32,7 @@ shareRefusal place = cond (inMessage place) 0 14
 
 -- the parity so far with the share of the byte at a place added; one that is refused leaves it as it was
 unfoldable pub withShare : List ℕ → ℕ → ℕ → List ℕ
-withShare parity place byte = cond (eqb (shareRefusal place) 0) (added parity (share place byte)) parity
+withShare parity place byte = cond (eqb (shareRefusal place) 0) (paritySum parity (share place byte)) parity
 
 -- the shares of a header's bytes at these places, added one after the other
 unfoldable pub withShares : List ℕ → List ℕ → List ℕ → List ℕ

@@ -9,7 +9,7 @@ use lib.Dec.{eqb, leb, lit<}
 use lib.ListN.{getD, replicate}
 use borrow.Author.Tests.{ne-eqb}
 use Rattle.refusal.specs.Refusal.{firstOf}
-use Rattle.modes.specs.Modes.{listing, numberOf}
+use Rattle.modes.specs.Modes.{listing, listingNumber}
 use Rattle.modes.specs.declared.Mode.{Mode}
 use Rattle.modes.specs.declared.Listing.{Listing}
 use Rattle.modes.specs.declared.Listing.the-variants.{Listed, Refused}
@@ -19,22 +19,22 @@ use Rattle.layout.specs.declared.ControlWord.{ControlWord}
 use Rattle.layout.specs.Locators.{locatorSize}
 use Rattle.expansion.specs.Expansion.{nothing}
 use Rattle.expansion.specs.declared.Interpreted.{Interpreted}
-use Rattle.pdu.specs.Reading.{expansionBytes, fieldsOf, startAt, lengthAt, entries, answered, psdOf, accepted, noControl, refused, wrongLocator, anyBelow, wrongFlags, wrongLa, wrongDisplacement, readerTests, wrongWith, listedReading, modeIn, widthOf, judged, wrongOf, readingBy}
+use Rattle.pdu.specs.Reading.{expansionCount, fieldsOf, startAt, lengthAt, filledTo, answered, psdOf, accepted, noControl, refused, wrongLocator, anyBelow, wrongFlags, wrongLa, wrongDisplacement, readerTests, wrongWith, listedReading, modeIn, widthOf, judged, wrongOf, readingBy}
 use Rattle.pdu.specs.declared.ExpansionFields.{ExpansionFields}
 use Rattle.pdu.specs.declared.Part.{Part}
 use Rattle.pdu.specs.declared.Reading.{Reading}
 
-part-same : (width : ℕ) (c : ControlWord) (y : List ℕ) (p : Part) (s : ℕ) → s ≡ 14 + locatorSize width (c .nop) + expansionBytes width c y
+part-same : (width : ℕ) (c : ControlWord) (y : List ℕ) (p : Part) (s : ℕ) → s ≡ 14 + locatorSize width (c .nop) + expansionCount width c y
     → p .start ≡ s → p .length ≡ c .la + 1 - s → p ≡ psdOf width c y
 part-same width c y p s e es el =
-    let a : p .start ≡ 14 + locatorSize width (c .nop) + expansionBytes width c y = es ∙ e in
-    let b : p .length ≡ c .la + 1 - (14 + locatorSize width (c .nop) + expansionBytes width c y) = el ∙ ap (λ (n : ℕ). c .la + 1 - n) e in
+    let a : p .start ≡ 14 + locatorSize width (c .nop) + expansionCount width c y = es ∙ e in
+    let b : p .length ≡ c .la + 1 - (14 + locatorSize width (c .nop) + expansionCount width c y) = el ∙ ap (λ (n : ℕ). c .la + 1 - n) e in
     λ i. record { start = a i; length = b i }
 
 pub accepted-parts : (width : ℕ) (c : ControlWord) (y : List ℕ) (v : Interpreted) (f : ExpansionFields) (p : Part) (s l : List ℕ) (at n start : ℕ)
     → v ≡ fieldsOf width c y → f ≡ answered v
-    → at ≡ 14 + locatorSize width (c .nop) → n ≡ expansionBytes width c y → start ≡ at + n → p .start ≡ start → p .length ≡ c .la + 1 - start
-    → s ≡ entries (c .nop) (startAt width c y) → l ≡ entries (c .nop) (lengthAt width c y)
+    → at ≡ 14 + locatorSize width (c .nop) → n ≡ expansionCount width c y → start ≡ at + n → p .start ≡ start → p .length ≡ c .la + 1 - start
+    → s ≡ filledTo (c .nop) (startAt width c y) → l ≡ filledTo (c .nop) (lengthAt width c y)
     → record { refusal = 0; wrong = 0; control = c; fields = f; psd = p; starts = s; lengths = l } ≡ accepted width c y
 unfolding accepted
 accepted-parts width c y v f p s l at n start ev ef ea en et ps pl es el =
@@ -83,7 +83,7 @@ nop-small y = mod-lt (getD y 12 0 / 2) (lit< tt)
 module _ (y : List ℕ) where
   number-listed : (m : Mode) → listing (controlAt y .mode) (controlAt y .stream) ≡ Listed m → judged y ≡ firstOf (readerTests m (controlAt y) y)
   unfolding judged
-  number-listed m e = ap (λ (l : Listing). firstOf ((not (eqb (numberOf l) 0), 5) ∷ readerTests (modeIn l) (controlAt y) y)) e
+  number-listed m e = ap (λ (l : Listing). firstOf ((not (eqb (listingNumber l) 0), 5) ∷ readerTests (modeIn l) (controlAt y) y)) e
 
   width-listed : (m : Mode) → listing (controlAt y .mode) (controlAt y .stream) ≡ Listed m → widthOf y ≡ m .width
   unfolding widthOf

@@ -11,7 +11,7 @@ use lib.Seq.{getD-set-same, getD-set-other, ext-getD}
 use borrow.Author.Tests.{lt-ltb, le-ltb, ltb-false}
 use Rattle.layout.specs.Locators.{locatorAt}
 use Rattle.layout.specs.declared.ControlWord.{ControlWord}
-use Rattle.pdu.specs.Reading.{markAt, startAt, wrongLocator, anyBelow, entriesFrom, entries}
+use Rattle.pdu.specs.Reading.{markAt, startAt, wrongLocator, anyBelow, filledFrom, filledTo}
 
 -- the first k entries are f's, the others 0
 pub record Filled (f : ℕ → ℕ) (k : ℕ) (s : List ℕ) : Type 0 where
@@ -38,24 +38,24 @@ filled-next f k v s h e g = record { long = length-set s k v ∙ g .long; entry 
         let u : ltb j k ≡ false = le-ltb j k (omega arith) in
         rw t (getD-set-other s k j v 0 q ∙ g .entry j b ∙ rw u)
 
-entry-from : (m k n j : ℕ) (f : ℕ → ℕ) → j < m → getD (entriesFrom m k n f) j 0 ≡ cond (ltb (k + j) n) (f (k + j)) 0
+entry-from : (m k n j : ℕ) (f : ℕ → ℕ) → j < m → getD (filledFrom m k n f) j 0 ≡ cond (ltb (k + j) n) (f (k + j)) 0
 entry-from zero k n j f h = absurd (omega arith)
 entry-from (suc m) k n zero f h = let e : k + 0 ≡ k = omega arith in rw e
 entry-from (suc m) k n (suc j) f h = let e : k + suc j ≡ suc k + j = omega arith in rw e (entry-from m (suc k) n j f (omega arith))
 
-entries-long : (m k n : ℕ) (f : ℕ → ℕ) → length (entriesFrom m k n f) ≡ m
+entries-long : (m k n : ℕ) (f : ℕ → ℕ) → length (filledFrom m k n f) ≡ m
 entries-long zero k n f = refl
 entries-long (suc m) k n f = ap suc (entries-long m (suc k) n f)
 
-pub filled-end : (f : ℕ → ℕ) (n k : ℕ) (s : List ℕ) → k ≡ n → Filled f k s → s ≡ entries n f
+pub filled-end : (f : ℕ → ℕ) (n k : ℕ) (s : List ℕ) → k ≡ n → Filled f k s → s ≡ filledTo n f
 filled-end f n k s e g =
-    ext-getD 0 s (entries n f) (g .long ∙ sym (entries-long 64 0 n f))
+    ext-getD 0 s (filledTo n f) (g .long ∙ sym (entries-long 64 0 n f))
     (λ j h. (let b : j < 64 = omega (arith, g .long) in
     let z : 0 + j ≡ j = omega arith in
     g .entry j b ∙ ap (λ (m : ℕ). cond (ltb j m) (f j) 0) e ∙ sym (entry-from 64 0 n j f b ∙ ap (λ (i : ℕ). cond (ltb i n) (f i) 0) z)))
 
 -- functions that agree below n
-pub entries-same : (m k n : ℕ) (f g : ℕ → ℕ) → ((j : ℕ) → j < n → f j ≡ g j) → entriesFrom m k n f ≡ entriesFrom m k n g
+pub entries-same : (m k n : ℕ) (f g : ℕ → ℕ) → ((j : ℕ) → j < n → f j ≡ g j) → filledFrom m k n f ≡ filledFrom m k n g
 entries-same zero k n f g h = refl
 entries-same (suc m) k n f g h = ap₂ _∷_ (entry (decLt k n)) (entries-same m (suc k) n f g h)
   where

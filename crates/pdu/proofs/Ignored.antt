@@ -11,7 +11,7 @@ use lib.ListN.{length, getD, take, drop, length-map, length-take, length-drop}
 use lib.Seq.{take-take, getD-take, getD-drop, ext-getD}
 use borrow.Author.Tests.{ltb-false, ne-eqb}
 use Rattle.refusal.specs.Refusal.{firstOf, anyOf}
-use Rattle.modes.specs.Modes.{numberOf}
+use Rattle.modes.specs.Modes.{listingNumber}
 use Rattle.modes.specs.declared.Mode.{Mode}
 use Rattle.layout.specs.Control.{controlOf, controlAt}
 use Rattle.layout.specs.declared.ControlWord.{ControlWord}
@@ -22,7 +22,7 @@ use Rattle.correction.specs.declared.Correction.the-variants.{Corrected}
 use Rattle.expansion.specs.Expansion.{nothing, chainLength, interpretation, expansionLength, septetsAt, expansionAt}
 use Rattle.expansion.specs.declared.Interpreted.{Interpreted}
 use Rattle.expansion.proofs.Chains.{outside, expansion-there}
-use Rattle.pdu.specs.Reading.{afterLocators, expansionBytes, fieldsOf, markAt, startAt, lengthAt, wrongLocator, anyBelow, wrongFlags, wrongLa, wrongDisplacement, readerTests, modeIn, listingOf, correctedTests, entries, answered, accepted, refused, judged, widthOf, readNumber, lowestWrong, wrongOf, readingBy, readingOf}
+use Rattle.pdu.specs.Reading.{afterLocators, expansionCount, fieldsOf, markAt, startAt, lengthAt, wrongLocator, anyBelow, wrongFlags, wrongLa, wrongDisplacement, readerTests, modeIn, listingOf, correctedTests, filledTo, answered, accepted, refused, judged, widthOf, readNumber, lowestWrong, wrongOf, readingBy, readingOf}
 use Rattle.pdu.proofs.Any.{any-same}
 use Rattle.pdu.proofs.Lowest.{lowest-same}
 use Rattle.pdu.proofs.Filling.{entries-same, or-left}
@@ -73,7 +73,7 @@ module _ (m : Mode) (c : ControlWord) (y z : List ℕ) (long : length y ≡ leng
       ap (λ (x : Interpreted). cond (c .flag) x (nothing true))
       (said-by y (afterLocators (m .width) c) (c .la) ∙ ap saidBy middle ∙ sym (said-by z (afterLocators (m .width) c) (c .la)))
 
-  bytes-same : expansionBytes (m .width) c y ≡ expansionBytes (m .width) c z
+  bytes-same : expansionCount (m .width) c y ≡ expansionCount (m .width) c z
   unfolding expansionLength
   bytes-same = ap (λ (w : List ℕ). cond (c .flag) (chainLength (take 16 w)) 0) middle
 
@@ -96,8 +96,8 @@ module _ (m : Mode) (c : ControlWord) (y z : List ℕ) (long : length y ≡ leng
   accepted-same : accepted (m .width) c y ≡ accepted (m .width) c z
   unfolding accepted
   accepted-same =
-      let s : entries (c .nop) (startAt (m .width) c y) ≡ entries (c .nop) (startAt (m .width) c z) = entries-same 64 0 (c .nop) (startAt (m .width) c y) (startAt (m .width) c z) start-same in
-      let l : entries (c .nop) (lengthAt (m .width) c y) ≡ entries (c .nop) (lengthAt (m .width) c z) =
+      let s : filledTo (c .nop) (startAt (m .width) c y) ≡ filledTo (c .nop) (startAt (m .width) c z) = entries-same 64 0 (c .nop) (startAt (m .width) c y) (startAt (m .width) c z) start-same in
+      let l : filledTo (c .nop) (lengthAt (m .width) c y) ≡ filledTo (c .nop) (lengthAt (m .width) c z) =
       entries-same 64 0 (c .nop) (lengthAt (m .width) c y) (lengthAt (m .width) c z) (λ k h. ap₂ (λ (a b : ℕ). a - b) (locators k h) (start-same k h)) in
       λ i. record {
         refusal = 0;
@@ -138,7 +138,7 @@ unfolding judged widthOf
 alike y z a =
     let c = controlAt y in
     let m : Mode = modeIn (listingOf (controlAt y)) in (
-      ap (λ (ts : List (Bool × ℕ)). firstOf ((not (eqb (numberOf (listingOf (controlAt y))) 0), 5) ∷ ts)) (tests-same m c y z (a .long) (a .locators) (a .middle))
+      ap (λ (ts : List (Bool × ℕ)). firstOf ((not (eqb (listingNumber (listingOf (controlAt y))) 0), 5) ∷ ts)) (tests-same m c y z (a .long) (a .locators) (a .middle))
           ∙ ap (λ (d : ControlWord). firstOf (correctedTests d z)) (a .control),
       accepted-same m c y z (a .long) (a .locators) (a .middle)
           ∙ ap (λ (d : ControlWord). accepted (modeIn (listingOf d) .width) d z) (a .control),

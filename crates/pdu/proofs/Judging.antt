@@ -11,7 +11,7 @@ use Rattle.layout.specs.Locators.{locatorSize, locatorAt}
 use Rattle.layout.specs.declared.ControlWord.{ControlWord}
 use Rattle.expansion.specs.Expansion.{nothing, expansionLength, expansionAt}
 use Rattle.expansion.specs.declared.Interpreted.{Interpreted}
-use Rattle.pdu.specs.Reading.{afterLocators, expansionBytes, fieldsOf, markAt, startAt, wrongLocator, wrongFlags, wrongLa, wrongDisplacement}
+use Rattle.pdu.specs.Reading.{afterLocators, expansionCount, fieldsOf, markAt, startAt, wrongLocator, wrongFlags, wrongLa, wrongDisplacement}
 
 size-small : (width n : ℕ) → n < 256 → locatorSize width n ≤ 518
 size-small width n h = go (eqb width 16)
@@ -28,10 +28,10 @@ after-right width n r h e =
 
 module _ (width : ℕ) (c : ControlWord) (y : List ℕ) where
   pub flagged : c .flag ≡ true → (at n : ℕ) (v : Interpreted) → at ≡ 14 + locatorSize width (c .nop) → n ≡ expansionLength y at (c .la) → v ≡ expansionAt y at (c .la)
-      → n ≤ 16 → (n ≡ expansionBytes width c y) × (n ≤ 16) × (v ≡ fieldsOf width c y)
+      → n ≤ 16 → (n ≡ expansionCount width c y) × (n ≤ 16) × (v ≡ fieldsOf width c y)
   flagged f at n v e en ev few = (rw f (en ∙ ap (λ (k : ℕ). expansionLength y k (c .la)) e), few, rw f (ev ∙ ap (λ (k : ℕ). expansionAt y k (c .la)) e))
 
-  pub unflagged : c .flag ≡ false → (v : Interpreted) → v ≡ nothing true → (0 ≡ expansionBytes width c y) × (0 ≤ 16) × (v ≡ fieldsOf width c y)
+  pub unflagged : c .flag ≡ false → (v : Interpreted) → v ≡ nothing true → (0 ≡ expansionCount width c y) × (0 ≤ 16) × (v ≡ fieldsOf width c y)
   unflagged f v e = (rw f, omega arith, rw f e)
 
   pub mark-first : (k : ℕ) → k ≡ 0 → c .la ≡ markAt width c y k

@@ -9,7 +9,7 @@ use lib.Dec.{eqb, ltb, leb, T}
 use borrow.Author.Tests.{lt-ltb, le-ltb, lt-leb, eq-eqb, ne-eqb, ltb-true, ltb-false, eqb-true}
 use lib.ListN.{length, getD, take, drop, length-append}
 use Rattle.refusal.specs.Refusal.{firstOf, anyOf}
-use Rattle.modes.specs.Modes.{listing, numberOf}
+use Rattle.modes.specs.Modes.{listing, listingNumber}
 use Rattle.modes.specs.declared.Mode.{Mode}
 use Rattle.modes.specs.declared.Listing.{Listing}
 use Rattle.modes.specs.declared.Listing.the-variants.{Listed, Refused}
@@ -26,7 +26,7 @@ use Rattle.expansion.proofs.ExpansionLaw.{expansion-law, none-sent}
 use Rattle.correction.specs.Correction.{correctedPdu}
 use Rattle.crc.specs.Crc.{crcFrom}
 use Rattle.contents.specs.Contents.{firstPiece, locatorsOf, contents}
-use Rattle.pdu.specs.Reading.{afterLocators, expansionBytes as expansionCount, fieldsOf, markAt, startAt, lengthAt, wrongLocator, anyBelow, wrongFlags, wrongLa, wrongDisplacement, readerTests, listingOf, modeIn, correctedTests, judged, widthOf, psdOf, answered, accepted, refused, readNumber, wrongOf, readingBy, readingOf, readPdu}
+use Rattle.pdu.specs.Reading.{afterLocators, expansionCount, fieldsOf, markAt, startAt, lengthAt, wrongLocator, anyBelow, wrongFlags, wrongLa, wrongDisplacement, readerTests, listingOf, modeIn, correctedTests, judged, widthOf, psdOf, answered, accepted, refused, readNumber, wrongOf, readingBy, readingOf, readPdu}
 use Rattle.pdu.specs.PieceRead.{PieceRead}
 use Rattle.pdu.specs.declared.Part.{Part}
 use Rattle.pdu.proofs.ContentsLaw.{locators-back, locators-below, written-length, expansion-back, psd-back, pieces-back}
@@ -188,7 +188,7 @@ module _ (register : ℕ) (m : Mode) (c : ControlWord) (x : Fields) (psd : List 
     unfolding judged
     accepted-back =
         let l : listingOf c ≡ Listed m = s .listed in
-        let t : firstOf (correctedTests c y) ≡ 0 = ap (λ (i : Listing). firstOf ((not (eqb (numberOf i) 0), 5) ∷ readerTests (modeIn i) c y)) l ∙ none-applies in
+        let t : firstOf (correctedTests c y) ≡ 0 = ap (λ (i : Listing). firstOf ((not (eqb (listingNumber i) 0), 5) ∷ readerTests (modeIn i) c y)) l ∙ none-applies in
         ap₂ (λ (d : ControlWord) (r : List ℕ). firstOf (correctedTests d r)) control-back same ∙ t
 
     pub fields-back : fieldsOf (m .width) c sent ≡ interpretedOf x

@@ -11,7 +11,7 @@ use lib.ListN.{length, getD, take}
 use borrow.Author.Tests.{ne-eqb, eqb-true}
 use Rattle.refusal.specs.Refusal.{firstOf}
 use Rattle.header.specs.Header.{lengthRefusal, headerOf, frontReplaced}
-use Rattle.correction.specs.Correction.{corrected, answerFor, correctionOf, correctedPdu, numberOf}
+use Rattle.correction.specs.Correction.{corrected, answerFor, correctionOf, correctedPdu, correctionNumber}
 use Rattle.correction.specs.declared.Correction.{Correction}
 use Rattle.correction.specs.declared.Correction.the-variants.{Corrected, Refused}
 use Rattle.correction.proofs.Answers.{refused-unchanged, corrected-allowed, header-put-back}
@@ -59,7 +59,7 @@ abbrev pub Promised : List ℕ → Reading → List ℕ → Type 0
 Promised p r q = (r ≡ readingOf p) × (q ≡ readPdu p)
 
 -- rows 3 and 4 of the table are correction's numbers; the others are asked of a corrected PDU
-pub by-correction : (p : List ℕ) → readNumber p ≡ cond (eqb (numberOf (correctionOf p)) 0) (judged (correctedPdu p)) (numberOf (correctionOf p))
+pub by-correction : (p : List ℕ) → readNumber p ≡ cond (eqb (correctionNumber (correctionOf p)) 0) (judged (correctedPdu p)) (correctionNumber (correctionOf p))
 unfolding readNumber judged correctionOf lengthRefusal
 by-correction p = go (leb 96 (length p) && leb (length p) 20480) (corrected (take 96 p)) (correctedPdu p)
   where
@@ -67,7 +67,7 @@ by-correction p = go (leb 96 (length p) && leb (length p) 20480) (corrected (tak
     answer b o = cond (eqb (cond b 0 3) 0) (answerFor (take 96 p) o) (Refused 3)
 
     go : (b : Bool) (o : Option (List ℕ)) (y : List ℕ)
-        → firstOf ((not b, 3) ∷ (uncorrectable o, 4) ∷ correctedTests (controlAt y) y) ≡ cond (eqb (numberOf (answer b o)) 0) (judged y) (numberOf (answer b o))
+        → firstOf ((not b, 3) ∷ (uncorrectable o, 4) ∷ correctedTests (controlAt y) y) ≡ cond (eqb (correctionNumber (answer b o)) 0) (judged y) (correctionNumber (answer b o))
     go true none y = refl
     go true (some c) y = refl
     go false o y = refl

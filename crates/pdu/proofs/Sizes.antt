@@ -15,7 +15,7 @@ use Rattle.layout.specs.declared.ControlWord.{ControlWord}
 use Rattle.layout.specs.Locators.{locatorSize, locatorAt}
 use Rattle.expansion.specs.Expansion.{chainLength, expansionLength, septetsAt}
 use Rattle.expansion.proofs.Chains.{outside, expansion-there}
-use Rattle.pdu.specs.Reading.{afterLocators, expansionBytes, startAt, lengthAt, wrongLocator, anyBelow, wrongFlags, wrongLa, readerTests}
+use Rattle.pdu.specs.Reading.{afterLocators, expansionCount, startAt, lengthAt, wrongLocator, anyBelow, wrongFlags, wrongLa, readerTests}
 use Rattle.pdu.proofs.Any.{any-found}
 use Rattle.pdu.proofs.Assembling.{none-wrong}
 use Rattle.pdu.proofs.Filling.{or-left, past-start}
@@ -30,7 +30,7 @@ lengthsFrom width c y k (suc n) = lengthAt width c y k + lengthsFrom width c y (
 pub record Sized (width : ℕ) (c : ControlWord) (y : List ℕ) : Type 0 where
   pub la : c .la < length y
   pub after : afterLocators width c ≤ c .la + 1
-  pub psd : afterLocators width c + expansionBytes width c y ≤ c .la + 1  -- where PSD starts
+  pub psd : afterLocators width c + expansionCount width c y ≤ c .la + 1  -- where PSD starts
   pub past : (k : ℕ) → k < c .nop → startAt width c y k + 1 ≤ locatorAt width y k
   pub within : (k : ℕ) → k < c .nop → locatorAt width y k < length y
   pub lengths : (k n : ℕ) → k + n ≤ c .nop → lengthsFrom width c y k n + startAt width c y k ≤ length y
@@ -52,7 +52,7 @@ expansion-ends p at la =
     let o : length q ≤ la + 1 = outside (la + 1) (la + 1) p (omega arith) in
     omega arith
 
-psd-start : (width : ℕ) (c : ControlWord) (y : List ℕ) → afterLocators width c ≤ c .la + 1 → afterLocators width c + expansionBytes width c y ≤ c .la + 1
+psd-start : (width : ℕ) (c : ControlWord) (y : List ℕ) → afterLocators width c ≤ c .la + 1 → afterLocators width c + expansionCount width c y ≤ c .la + 1
 psd-start width c y h =
     let e = expansion-ends y (afterLocators width c) (c .la) in
     go (afterLocators width c) (expansionLength y (afterLocators width c) (c .la)) (c .flag) h e

@@ -7,7 +7,7 @@ use Prim.Native.Nat.{ℕ, zero, suc, _+_, _-_}
 use lib.Dec.{eqb, ltb, leb}
 use lib.ListN.{length, take, replicate}
 use Rattle.refusal.specs.Refusal.{firstOf, anyOf}
-use Rattle.modes.specs.Modes.{listing, numberOf}
+use Rattle.modes.specs.Modes.{listing, listingNumber}
 use Rattle.modes.specs.declared.Mode.{Mode}
 use Rattle.modes.specs.declared.Listing.{Listing}
 use Rattle.modes.specs.declared.Listing.the-variants.{Listed, Refused}
@@ -16,6 +16,7 @@ use Rattle.layout.specs.declared.ControlWord.{ControlWord}
 use Rattle.layout.specs.Locators.{locatorSize, locatorAt}
 use Rattle.expansion.specs.Expansion.{nothing, expansionLength, expansionAt}
 use Rattle.expansion.specs.declared.Interpreted.{Interpreted}
+use Rattle.header.specs.Header.{allowedLength}
 use Rattle.correction.specs.Correction.{corrected, correctedPdu}
 use Rattle.pdu.specs.declared.ExpansionFields.{ExpansionFields}
 use Rattle.pdu.specs.declared.Part.{Part}
@@ -28,8 +29,8 @@ abbrev pub afterLocators : ℕ → ControlWord → ℕ
 afterLocators width c = 14 + locatorSize width (c .nop)
 
 -- how many expansion bytes follow the locators, and what they say
-abbrev pub expansionBytes : ℕ → ControlWord → List ℕ → ℕ
-expansionBytes width c y = cond (c .flag) (expansionLength y (afterLocators width c) (c .la)) 0
+abbrev pub expansionCount : ℕ → ControlWord → List ℕ → ℕ
+expansionCount width c y = cond (c .flag) (expansionLength y (afterLocators width c) (c .la)) 0
 
 abbrev pub fieldsOf : ℕ → ControlWord → List ℕ → Interpreted
 fieldsOf width c y = cond (c .flag) (expansionAt y (afterLocators width c) (c .la)) (nothing true)
@@ -100,7 +101,7 @@ listingOf c = listing (c .mode) (c .stream)
 
 -- rows 5 and 7 to 12, of a corrected PDU y with the control word c
 abbrev pub correctedTests : ControlWord → List ℕ → List (Bool × ℕ)
-correctedTests c y = (not (eqb (numberOf (listingOf c)) 0), 5) ∷ readerTests (modeIn (listingOf c)) c y
+correctedTests c y = (not (eqb (listingNumber (listingOf c)) 0), 5) ∷ readerTests (modeIn (listingOf c)) c y
 
 -- correction found no code word
 abbrev pub uncorrectable : Option (List ℕ) → Bool
@@ -110,7 +111,7 @@ uncorrectable (some c) = false
 -- the rows that reading asks of a PDU, in the table's order
 abbrev pub readTests : List ℕ → List (Bool × ℕ)
 readTests p =
-    (not (leb 96 (length p) && leb (length p) 20480), 3)  -- length not 96 to 20,480
+    (not (allowedLength (length p)), 3)
     ∷ (uncorrectable (corrected (take 96 p)), 4)  -- the paper's beyond mending
     ∷ correctedTests (controlAt (correctedPdu p)) (correctedPdu p)
 
@@ -121,12 +122,12 @@ wrongWith width c y number = cond (eqb number 11) (lowestWrong width c y) 0
 -- ---- the answer
 
 -- 64 entries: f below n, 0 from there on
-abbrev pub entriesFrom : ℕ → ℕ → ℕ → (ℕ → ℕ) → List ℕ
-entriesFrom zero k n f = []
-entriesFrom (suc m) k n f = cond (ltb k n) (f k) 0 ∷ entriesFrom m (suc k) n f
+abbrev pub filledFrom : ℕ → ℕ → ℕ → (ℕ → ℕ) → List ℕ
+filledFrom zero k n f = []
+filledFrom (suc m) k n f = cond (ltb k n) (f k) 0 ∷ filledFrom m (suc k) n f
 
-abbrev pub entries : ℕ → (ℕ → ℕ) → List ℕ
-entries n f = entriesFrom 64 0 n f
+abbrev pub filledTo : ℕ → (ℕ → ℕ) → List ℕ
+filledTo n f = filledFrom 64 0 n f
 
 abbrev pub answered : Interpreted → ExpansionFields
 answered x = record { class = x .class; program = x .program; displacement = x .displacement; access = x .access; ptype = x .ptype; services = x .services; marker = x .marker }
@@ -134,8 +135,8 @@ answered x = record { class = x .class; program = x .program; displacement = x .
 -- PSD runs from the expansion's end to La
 abbrev pub psdOf : ℕ → ControlWord → List ℕ → Part
 psdOf width c y = record {
-  start = afterLocators width c + expansionBytes width c y;
-  length = c .la + 1 - (afterLocators width c + expansionBytes width c y);
+  start = afterLocators width c + expansionCount width c y;
+  length = c .la + 1 - (afterLocators width c + expansionCount width c y);
 }
 
 unfoldable pub accepted : ℕ → ControlWord → List ℕ → Reading
@@ -145,8 +146,8 @@ accepted width c y = record {
   control = c;
   fields = answered (fieldsOf width c y);
   psd = psdOf width c y;
-  starts = entries (c .nop) (startAt width c y);
-  lengths = entries (c .nop) (lengthAt width c y);
+  starts = filledTo (c .nop) (startAt width c y);
+  lengths = filledTo (c .nop) (lengthAt width c y);
 }
 
 abbrev pub noControl : ControlWord

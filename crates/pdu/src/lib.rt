@@ -13,7 +13,7 @@ ghost use Rattle.header.specs.Header.{frontReplaced};
 ghost use Rattle.refusal.specs.Refusal.{firstOf};
 ghost use lib.ListN.{length};
 ghost use Rattle.layout.specs.Locators.{locatorSize};
-ghost use Rattle.pdu.specs.Reading.{afterLocators, expansionBytes, fieldsOf, markAt, wrongLocator, wrongFlags, wrongLa, wrongDisplacement, anyBelow, lowestWrong, readerTests, wrongWith, entries, startAt, lengthAt, answered, accepted, noControl, refused, listedReading, judged, readingBy, readingOf, readPdu};
+ghost use Rattle.pdu.specs.Reading.{afterLocators, expansionCount, fieldsOf, markAt, wrongLocator, wrongFlags, wrongLa, wrongDisplacement, anyBelow, lowestWrong, readerTests, wrongWith, filledTo, startAt, lengthAt, answered, accepted, noControl, refused, listedReading, judged, readingBy, readingOf, readPdu};
 
 // Expansion fields: 0 where not sent or not interpreted.
 #[repr(C)]
@@ -57,7 +57,7 @@ fn after_locators(width: u8, nop: u8) -> u16
 
 // The expansion bytes, if flagged.
 fn expansion_of(y: &[u8], width: u8, c: ControlWord) -> Expansion
-    ensures { λ r. ⌜ (r .length ≡ expansionBytes width c (now (y .entry))) × (r .length ≤ 16) × (r .values ≡ fieldsOf width c (now (y .entry))) ⌝ }
+    ensures { λ r. ⌜ (r .length ≡ expansionCount width c (now (y .entry))) × (r .length ≤ 16) × (r .values ≡ fieldsOf width c (now (y .entry))) ⌝ }
 {
     if c.flag {
         return expansion::read_expansion(y, after_locators(width, c.nop), c.la);
@@ -78,7 +78,7 @@ pub struct Front {
 }
 
 pub fn read_front(y: &[u8], width: u8, c: ControlWord) -> Front
-    ensures { λ r. ⌜ r .psd ≡ afterLocators width c + expansionBytes width c (now (y .entry)) ⌝ }
+    ensures { λ r. ⌜ r .psd ≡ afterLocators width c + expansionCount width c (now (y .entry)) ⌝ }
     ensures { λ r. ⌜ (r .program ≡ fieldsOf width c (now (y .entry)) .program) × (r .services ≡ fieldsOf width c (now (y .entry)) .services) ⌝ }
 {
     let x = expansion_of(y, width, c);
@@ -218,8 +218,8 @@ struct Spans {
 fn piece_spans(y: &[u8], width: u8, c: ControlWord) -> Spans
     requires { ⌜ c .nop < 64 ⌝ }
     requires { ⌜ anyBelow (c .nop) (wrongLocator width c (now y)) ≡ false ⌝ }
-    ensures { λ r. ⌜ r .starts ≡ entries (c .nop) (startAt width c (now (y .entry))) ⌝ }
-    ensures { λ r. ⌜ r .lengths ≡ entries (c .nop) (lengthAt width c (now (y .entry))) ⌝ }
+    ensures { λ r. ⌜ r .starts ≡ filledTo (c .nop) (startAt width c (now (y .entry))) ⌝ }
+    ensures { λ r. ⌜ r .lengths ≡ filledTo (c .nop) (lengthAt width c (now (y .entry))) ⌝ }
 {
     let nop = c.nop;
     let mut starts = [0u16; 64];

@@ -11,9 +11,10 @@ use lib.ListN.{length, getD, length-append}
 use lib.Seq.{length-take-le}
 use Rattle.log.specs.Log.{Entry, packet, psd, note, logWords}
 use Rattle.log.proofs.Words.{entry-length, log-append}
-use Rattle.reassembly.specs.Reassembly.{Piece, Partial, nothing, beginning, Outcome, dropped, kept, psdEntries, finished, joined, pieceStep, piecesStep, numberAt, endsHere, continuingStep, contentsStep, received}
+use Rattle.layout.specs.Control.{pieceNumber}
+use Rattle.reassembly.specs.Reassembly.{Piece, Partial, nothing, beginning, Outcome, dropped, kept, psdEntries, finished, joined, pieceStep, piecesStep, endsHere, continuingStep, contentsStep, received}
 use Rattle.reassembly.specs.Rights.{under}
-use Rattle.reassembly.specs.Run.{bytesOf, partialOf, placeAt, lengthAt, pieceAt, pieceOf, piecesFrom, endsAt, Marked, psdOf, Parsed, saidOf, memoryOf, firstCause, begun}
+use Rattle.reassembly.specs.Run.{partialBytes, partialOf, placeAt, lengthBy, pieceAt, pieceOf, piecesFrom, endsAt, Marked, psdBy, Parsed, saidOf, memoryBy, firstCause, begun}
 use Rattle.reassembly.specs.Tally.{Tally, counted, tallied}
 use Rattle.reassembly.specs.Count.{noted, countFinish, countPiece, withPiece, withWords, countFrom, countPsd, countContinuing, countContents, countAll, Bounded}
 use Rattle.reassembly.specs.declared.Forecast.{Forecast}
@@ -50,7 +51,7 @@ after-note x cause k = rw (one-entry (note cause k), entry-length (note cause k)
 
 -- its count is that of an outcome
 record Comes (n : ℕ) (p : PieceCount) (o : Outcome) : Type 0 where
-  held : p .held ≡ length (bytesOf (o .partial))
+  held : p .held ≡ length (partialBytes (o .partial))
   adds : (x : Forecast) → withPiece x p n ≡ afterEntries x (o .entries)
 
 comes-dropped : (n cause k : ℕ) → Comes n noted (dropped cause k)
@@ -72,8 +73,8 @@ count-finished n k ends b =
     carried : (x : Forecast) → withPiece x (record { words = 0; held = length b; delivers = false }) n ≡ afterEntries x []
     carried x = unfold withPiece afterEntries logWords tallied in refl
 
-count-joined : (n k : ℕ) (cont ends : Bool) (h : Partial) (b : List ℕ) → (length (bytesOf h) ≡ 0 → h ≡ nothing)
-    → Comes n (cond cont (cond (eqb (length (bytesOf h)) 0) noted (countFinish ends (length (bytesOf h) + length b))) (countFinish ends (length b))) (joined n k cont ends h b)
+count-joined : (n k : ℕ) (cont ends : Bool) (h : Partial) (b : List ℕ) → (length (partialBytes h) ≡ 0 → h ≡ nothing)
+    → Comes n (cond cont (cond (eqb (length (partialBytes h)) 0) noted (countFinish ends (length (partialBytes h) + length b))) (countFinish ends (length b))) (joined n k cont ends h b)
 unfolding joined
 count-joined n k false ends h b z = count-finished n k ends b
 count-joined n k true ends nothing b z = comes-dropped n 3 k
@@ -83,8 +84,8 @@ count-joined n k true ends (beginning m []) b z = absurd (never (z refl))
     never e = let q : _≡_ {A = ℕ} 0 1 = cc in omega arith
 count-joined n k true ends (beginning m (x ∷ a)) b z = rw (eqb·suc-zero (length a), ← length-append (x ∷ a) b) (count-finished n k ends ((x ∷ a) ++ b))
 
-count-piece-is : (n k : ℕ) (cont ends : Bool) (h : Partial) (p : Piece) → (length (bytesOf h) ≡ 0 → h ≡ nothing)
-    → Comes n (countPiece (length (bytesOf h)) cont ends (p .cause) (length (p .bytes))) (pieceStep n k cont ends h p)
+count-piece-is : (n k : ℕ) (cont ends : Bool) (h : Partial) (p : Piece) → (length (partialBytes h) ≡ 0 → h ≡ nothing)
+    → Comes n (countPiece (length (partialBytes h)) cont ends (p .cause) (length (p .bytes))) (pieceStep n k cont ends h p)
 unfolding countPiece pieceStep
 count-piece-is n k cont ends h p z =
     comes-cond n (eqb (p .cause) 0) _ noted (joined n k cont ends h (p .bytes)) (dropped (p .cause) k) (count-joined n k cont ends h (p .bytes) z) (comes-dropped n (p .cause) k)
@@ -140,7 +141,7 @@ bounded-more j k x h b = record { words = omega (arith, b .words, h); delivered 
 -- piece k of those of a header, in a turn of the count
 module _ (head : Head) (m g : List ℕ) (k : ℕ) (cont : Bool) (held : ℕ) (x : Forecast) where
   abbrev num : ℕ → ℕ
-  num = numberAt (head .pfirst) (head .start)
+  num = pieceNumber (head .pfirst) (head .start)
 
   -- what is left to count
   abbrev pub left : Forecast
@@ -153,7 +154,7 @@ module _ (head : Head) (m g : List ℕ) (k : ℕ) (cont : Bool) (held : ℕ) (x 
   module _ (more : k < head .nop) (a e : ℕ) (ends : Bool) (p : PieceCount) (la : a ≡ getD m k 0) (le : e ≡ getD m (k + 1) 0) (es : ends ≡ endsAt (head .plast) (head .nop - (k + 1)))
       (ep : p ≡ countPiece held cont ends (getD g k 0) (e - (a + 1))) where
     here : PieceCount
-    here = countPiece held cont (endsAt (head .plast) (head .nop - (k + 1))) (getD g k 0) (lengthAt m k)
+    here = countPiece held cont (endsAt (head .plast) (head .nop - (k + 1))) (getD g k 0) (lengthBy m k)
 
     is-here : p ≡ here
     unfolding here
@@ -185,10 +186,10 @@ module _ (head : Head) (m g : List ℕ) (held : ℕ) (x : Forecast) where
 
     -- from its marks a and e, and its number
     pub piece-counted : (head .nop ≡ 0 → ⊥) → (a e n : ℕ) (ends : Bool) → a ≡ getD m 0 0 → e ≡ getD m 1 0 → ends ≡ endsAt (head .plast) (head .nop - 1) → (p : PieceCount)
-        → p ≡ countPiece held true ends (getD g 0 0) (e - (a + 1)) → n ≡ numberAt (head .pfirst) (head .start) 0 → withPiece x p n ≡ countContinuing head m g held x
+        → p ≡ countPiece held true ends (getD g 0 0) (e - (a + 1)) → n ≡ pieceNumber (head .pfirst) (head .start) 0 → withPiece x p n ≡ countContinuing head m g held x
     unfolding countContinuing
     piece-counted z a e n ends la le es p f en =
-        let y : p ≡ countPiece held true (endsAt (head .plast) (head .nop - 1)) (getD g 0 0) (lengthAt m 0) = f ∙ rw (la, le, es) refl in
+        let y : p ≡ countPiece held true (endsAt (head .plast) (head .nop - 1)) (getD g 0 0) (lengthBy m 0) = f ∙ rw (la, le, es) refl in
         rw (ne-eqb held 0 h, ne-eqb (head .nop) 0 z) (λ i. withPiece x (y i) (en i))
 
 -- steps 3 and 4, withheld or not, after what is counted so far
@@ -199,11 +200,11 @@ module _ (w : Bool) (head : Head) (m g : List ℕ) (held : ℕ) (x y all : Forec
 
   -- from the first mark la
   pub all-shown : (la extra : ℕ) → w ≡ false → la ≡ getD m 0 0 → extra ≡ countPsd (la + 1 - head .psd) → y ≡ withWords x extra
-      → all ≡ countFrom (numberAt (head .pfirst) (head .start)) m g (head .plast) 0 (head .nop) (head .pfirst) held y → all ≡ countContents w head m g held x
+      → all ≡ countFrom (pieceNumber (head .pfirst) (head .start)) m g (head .plast) 0 (head .nop) (head .pfirst) held y → all ≡ countContents w head m g held x
   unfolding countContents
   all-shown la extra e l f q r =
       let s : y ≡ withWords x (countPsd (placeAt m 0 - head .psd)) = q ∙ ap (withWords x) (f ∙ ap (λ (k : ℕ). countPsd (k + 1 - head .psd)) l) in
-      rw e (r ∙ ap (countFrom (numberAt (head .pfirst) (head .start)) m g (head .plast) 0 (head .nop) (head .pfirst) held) s)
+      rw e (r ∙ ap (countFrom (pieceNumber (head .pfirst) (head .start)) m g (head .plast) 0 (head .nop) (head .pfirst) held) s)
 
 -- a whole PDU: no note at its beginning, or one
 module _ (w : Bool) (s : State) (range : ℕ) (head : Head) (m g : List ℕ) (t : Tally) (cause : ℕ) (all : Forecast) (c : cause ≡ firstCause s range head) where
@@ -220,21 +221,21 @@ module _ (w : Bool) (s : State) (range : ℕ) (head : Head) (m g : List ℕ) (t 
 -- ---- all pieces, and a whole PDU
 
 module _ (num : ℕ → ℕ) (plast : Bool) (d m g : List ℕ) (nop : ℕ) (w : Marked d m nop) where
-  count-this : (k left : ℕ) (cont : Bool) (h : Partial) → (length (bytesOf h) ≡ 0 → h ≡ nothing) → k < nop
-      → Comes (num k) (countPiece (length (bytesOf h)) cont (endsAt plast left) (getD g k 0) (lengthAt m k)) (this num plast d m g k left cont h)
+  count-this : (k left : ℕ) (cont : Bool) (h : Partial) → (length (partialBytes h) ≡ 0 → h ≡ nothing) → k < nop
+      → Comes (num k) (countPiece (length (partialBytes h)) cont (endsAt plast left) (getD g k 0) (lengthBy m k)) (this num plast d m g k left cont h)
   unfolding this
   count-this k left cont h z l = rw (← piece-length d m nop k w l) (count-piece-is (num k) k cont (endsAt plast left) h (pieceOf (getD g k 0) (pieceAt d m k)) z)
 
-  pub count-pieces-are : (k n : ℕ) (cont : Bool) (h : Partial) (x : Forecast) → (length (bytesOf h) ≡ 0 → h ≡ nothing) → k + n ≤ nop
-      → countFrom num m g plast k n cont (length (bytesOf h)) x ≡ afterEntries x (piecesStep num k cont plast h (piecesFrom d m g k n) .entries)
+  pub count-pieces-are : (k n : ℕ) (cont : Bool) (h : Partial) (x : Forecast) → (length (partialBytes h) ≡ 0 → h ≡ nothing) → k + n ≤ nop
+      → countFrom num m g plast k n cont (length (partialBytes h)) x ≡ afterEntries x (piecesStep num k cont plast h (piecesFrom d m g k n) .entries)
   unfolding countFrom
   count-pieces-are k zero cont h x z l = rw (all-none num plast d m g k cont h) (sym (after-none x))
   count-pieces-are k (suc n) cont h x z l =
       let o : Outcome = this num plast d m g k n cont h in
-      let p : PieceCount = countPiece (length (bytesOf h)) cont (endsAt plast n) (getD g k 0) (lengthAt m k) in
+      let p : PieceCount = countPiece (length (partialBytes h)) cont (endsAt plast n) (getD g k 0) (lengthBy m k) in
       let e : Comes (num k) p o = count-this k n cont h z (omega arith) in
       let f = fine-this num plast d m g k n cont h (piece-some d m nop k w (omega arith)) in
-      let i : countFrom num m g plast (k + 1) n false (length (bytesOf (o .partial))) (withPiece x p (num k)) ≡ afterEntries (withPiece x p (num k)) (rest num plast d m g k n (o .partial) .entries) =
+      let i : countFrom num m g plast (k + 1) n false (length (partialBytes (o .partial))) (withPiece x p (num k)) ≡ afterEntries (withPiece x p (num k)) (rest num plast d m g k n (o .partial) .entries) =
       count-pieces-are (k + 1) n false (o .partial) (withPiece x p (num k)) (f .1) (omega arith) ∙ ap (λ (u : Outcome). afterEntries (withPiece x p (num k)) (u .entries)) (rest-is num plast d m g k n (o .partial)) in
       ap (λ (b : ℕ). countFrom num m g plast (k + 1) n false b (withPiece x p (num k))) (e .held)
       ∙ i
@@ -248,7 +249,7 @@ unfolding begun
 begun-adds zero h t = sym (after-none (record { words = 0; tally = t }))
 begun-adds (suc n) h t = rw (eqb·suc-zero n) (after-note (record { words = 0; tally = t }) (suc n) 0)
 
-begun-held : (n : ℕ) (h : Partial) → length (bytesOf (begun n h .partial)) ≡ cond (eqb n 0) (length (bytesOf h)) 0
+begun-held : (n : ℕ) (h : Partial) → length (partialBytes (begun n h .partial)) ≡ cond (eqb n 0) (length (partialBytes h)) 0
 unfolding begun
 begun-held zero h = refl
 begun-held (suc n) h = rw (eqb·suc-zero n) refl
@@ -258,16 +259,16 @@ unfolding psdEntries
 psd-adds [] x = unfold afterEntries logWords tallied in refl
 psd-adds (a ∷ b) x = unfold afterEntries tallied in rw (one-entry (psd (a ∷ b)), entry-length (psd (a ∷ b)), eqb·suc-zero (length b)) refl
 
-partial-length : (held number : ℕ) (c : List ℕ) → held ≤ length c → length (bytesOf (partialOf held number c)) ≡ held
+partial-length : (held number : ℕ) (c : List ℕ) → held ≤ length c → length (partialBytes (partialOf held number c)) ≡ held
 partial-length zero number c h = refl
 partial-length (suc x) number c h = length-take-le (suc x) c h
 
 module _ (head : Head) (m g d : List ℕ) (w : Parsed head d m) where
   abbrev number : ℕ → ℕ
-  number = numberAt (head .pfirst) (head .start)
+  number = pieceNumber (head .pfirst) (head .start)
 
-  continuing-adds : (h : Partial) (y : Forecast) → (length (bytesOf h) ≡ 0 → h ≡ nothing)
-      → countContinuing head m g (length (bytesOf h)) y ≡ afterEntries y (continuingStep (number 0) (head .plast) h (piecesFrom d m g 0 (head .nop)) .entries)
+  continuing-adds : (h : Partial) (y : Forecast) → (length (partialBytes h) ≡ 0 → h ≡ nothing)
+      → countContinuing head m g (length (partialBytes h)) y ≡ afterEntries y (continuingStep (number 0) (head .plast) h (piecesFrom d m g 0 (head .nop)) .entries)
   unfolding countContinuing continuingStep piecesFrom
   continuing-adds nothing y z = sym (after-none y)
   continuing-adds (beginning k []) y z = absurd (never (z refl))
@@ -277,22 +278,22 @@ module _ (head : Head) (m g d : List ℕ) (w : Parsed head d m) where
   continuing-adds (beginning k (x ∷ b)) y z = rw (eqb·suc-zero (length b)) (go (head .nop) refl)
     where
       go : (n : ℕ) → n ≡ head .nop
-          → cond (eqb n 0) y (withPiece y (countPiece (suc (length b)) true (endsAt (head .plast) (n - 1)) (getD g 0 0) (lengthAt m 0)) (number 0)) ≡ afterEntries y (continuingStep (number 0) (head .plast) (beginning k (x ∷ b)) (piecesFrom d m g 0 n) .entries)
+          → cond (eqb n 0) y (withPiece y (countPiece (suc (length b)) true (endsAt (head .plast) (n - 1)) (getD g 0 0) (lengthBy m 0)) (number 0)) ≡ afterEntries y (continuingStep (number 0) (head .plast) (beginning k (x ∷ b)) (piecesFrom d m g 0 n) .entries)
       go zero e = sym (after-none y)
       go (suc n) e =
           let left : suc n - 1 ≡ n = omega arith in
-          let long : length (pieceAt d m 0) ≡ lengthAt m 0 = piece-length d m (head .nop) 0 (w .marked) (omega (arith, e)) in
+          let long : length (pieceAt d m 0) ≡ lengthBy m 0 = piece-length d m (head .nop) 0 (w .marked) (omega (arith, e)) in
           let one = count-piece-is (number 0) 0 true (endsAt (head .plast) n) (beginning k (x ∷ b)) (pieceOf (getD g 0 0) (pieceAt d m 0)) z .adds y in
           rw (eqb·suc-zero n, left, ← long, ends-same (head .plast) d m g (0 + 1) n) one
 
   -- what steps 3 and 4 log, with something or nothing held
-  contents-adds : (v : Bool) (h : Partial) (x : Forecast) → (length (bytesOf h) ≡ 0 → h ≡ nothing) → countContents v head m g (length (bytesOf h)) x ≡ afterEntries x (contentsStep v (saidOf head m g d) h .entries)
+  contents-adds : (v : Bool) (h : Partial) (x : Forecast) → (length (partialBytes h) ≡ 0 → h ≡ nothing) → countContents v head m g (length (partialBytes h)) x ≡ afterEntries x (contentsStep v (saidOf head m g d) h .entries)
   unfolding countContents
   contents-adds false h x z =
-      let es : List Entry = psdEntries (psdOf head m d) in
+      let es : List Entry = psdEntries (psdBy head m d) in
       let t : Outcome = piecesStep number 0 (head .pfirst) (head .plast) h (piecesFrom d m g 0 (head .nop)) in
-      let e₁ : withWords x (countPsd (placeAt m 0 - head .psd)) ≡ afterEntries x es = ap (λ (n : ℕ). withWords x (countPsd n)) (sym (psd-length head m d w)) ∙ psd-adds (psdOf head m d) x in
-      ap (countFrom number m g (head .plast) 0 (head .nop) (head .pfirst) (length (bytesOf h))) e₁
+      let e₁ : withWords x (countPsd (placeAt m 0 - head .psd)) ≡ afterEntries x es = ap (λ (n : ℕ). withWords x (countPsd n)) (sym (psd-length head m d w)) ∙ psd-adds (psdBy head m d) x in
+      ap (countFrom number m g (head .plast) 0 (head .nop) (head .pfirst) (length (partialBytes h))) e₁
       ∙ count-pieces-are number (head .plast) d m g (head .nop) (w .marked) 0 (head .nop) (head .pfirst) h (afterEntries x es) z (omega arith)
       ∙ after-append x es (t .entries)
       ∙ ap (λ (o : Outcome). afterEntries x (o .entries)) (sym (contents-is head m g d h))
@@ -311,7 +312,7 @@ noted-or-not false f h t = refl
 
 -- the words and the tally counted for a PDU are those that receiving it logs
 pub count-received : (v : Bool) (s : State) (range : ℕ) (head : Head) (m g d c : List ℕ) (t : Tally) → s .held ≤ 4096 → 4096 ≤ length c → Parsed head d m
-    → countAll v s range head m g t ≡ afterEntries (record { words = 0; tally = t }) (received range (memoryOf s c) (under v (saidOf head m g d)) .entries)
+    → countAll v s range head m g t ≡ afterEntries (record { words = 0; tally = t }) (received range (memoryBy s c) (under v (saidOf head m g d)) .entries)
 unfolding countAll begins
 count-received v s range head m g d c t small big w =
     let n : ℕ = firstCause s range head in
@@ -320,7 +321,7 @@ count-received v s range head m g d c t small big w =
     let u : Outcome = contentsStep v (saidOf head m g d) (b .partial) in
     let x : Forecast = record { words = 0; tally = t } in
     let fine : Fine (b .partial) = fine-begun n h (fine-partial (s .held) (s .number) c small (omega arith)) in
-    let held : length (bytesOf (b .partial)) ≡ cond (eqb n 0) (s .held) 0 = begun-held n h ∙ ap (λ (z : ℕ). cond (eqb n 0) z 0) (partial-length (s .held) (s .number) c (omega arith)) in
+    let held : length (partialBytes (b .partial)) ≡ cond (eqb n 0) (s .held) 0 = begun-held n h ∙ ap (λ (z : ℕ). cond (eqb n 0) z 0) (partial-length (s .held) (s .number) c (omega arith)) in
     let first : record { words = cond (eqb n 0) 0 1; tally = t } ≡ afterEntries x (b .entries) = begun-adds n h t in
     noted-or-not (eqb n 0) (countContents v head m g) (s .held) t
     ∙ (λ i. countContents v head m g (sym held i) (first i))

@@ -9,7 +9,8 @@ use lib.Dec.{ltb, eqb}
 use lib.ListN.{length, length-append}
 use Rattle.log.specs.Log.{Entry}
 use Rattle.log.proofs.Packets.{Bytes, FitAll, fit-append}
-use Rattle.reassembly.specs.Reassembly.{Piece, Said, Partial, nothing, beginning, Memory, Outcome, dropped, kept, inSequence, sequenceStep, beginningStep, psdEntries, finished, joined, pieceStep, numberAt, endsHere, piecesStep, continuingStep, contentsStep, received}
+use Rattle.layout.specs.Control.{pieceNumber}
+use Rattle.reassembly.specs.Reassembly.{Piece, Said, Partial, nothing, beginning, Memory, Outcome, dropped, kept, inSequence, sequenceStep, beginningStep, psdEntries, finished, joined, pieceStep, endsHere, piecesStep, continuingStep, contentsStep, received}
 use Rattle.reassembly.proofs.Laws.{delivered}
 
 -- ---- what is held and what a PDU says, within their bounds
@@ -99,11 +100,11 @@ sane-continuing n plast (beginning m b) (p ∷ ps) l s t = sane-piece n 0 true (
 sane-contents : (w : Bool) (d : Said) (h : Partial) → SanePartial h → SaneSaid d → Sane (contentsStep w d h)
 unfolding contentsStep
 sane-contents false d h s t =
-    let c = piecesStep (numberAt (d .pfirst) (d .start)) 0 (d .pfirst) (d .plast) h (d .pieces) in
-    let v = sane-pieces (numberAt (d .pfirst) (d .start)) 0 (d .pfirst) (d .plast) h (d .pieces) (λ j. omega arith) (omega (arith, t .few)) s (t .pieces) in
+    let c = piecesStep (pieceNumber (d .pfirst) (d .start)) 0 (d .pfirst) (d .plast) h (d .pieces) in
+    let v = sane-pieces (pieceNumber (d .pfirst) (d .start)) 0 (d .pfirst) (d .plast) h (d .pieces) (λ j. omega arith) (omega (arith, t .few)) s (t .pieces) in
     (fit-append (psdEntries (d .psdBytes)) (c .entries) (fit-psd (d .psdBytes) (t .psd .0) (t .psd .1)) (v .0), v .1)
 sane-contents true d h s t =
-    let v = sane-continuing (numberAt (d .pfirst) (d .start) 0) (d .plast) h (d .pieces) (omega arith) s (t .pieces) in
+    let v = sane-continuing (pieceNumber (d .pfirst) (d .start) 0) (d .plast) h (d .pieces) (omega arith) s (t .pieces) in
     (((omega arith, omega arith), v .0), v .1)
 
 -- ---- a call

@@ -15,7 +15,7 @@ use Rattle.buffer.proofs.Laws.{put-nil, put-then, take-put}
 use Rattle.log.specs.Log.{logWords}
 use Rattle.log.proofs.Words.{log-append}
 use Rattle.reassembly.specs.Reassembly.{Piece, Partial, nothing, beginning, Outcome, dropped, kept, finished, joined, pieceStep, piecesStep, endsHere}
-use Rattle.reassembly.specs.Run.{bytesOf, numberOf, partialOf, runAfter, keeps, writes, Did, Room, lengthAt, pieceAt, pieceOf, piecesFrom, endsAt, Marked}
+use Rattle.reassembly.specs.Run.{partialBytes, partialNumber, partialOf, runAfter, keeps, writes, Did, Room, lengthBy, pieceAt, pieceOf, piecesFrom, endsAt, Marked}
 use Rattle.reassembly.specs.declared.Run.{Run}
 use Rattle.reassembly.proofs.Laws.{delivered, did-nothing}
 
@@ -47,7 +47,7 @@ did-both o u at c l c₁ l₁ c₂ l₂ r₁ r₂ room same d f =
 -- ---- what is held after a piece: at most 4,096 bytes, and some where it is not nothing
 
 abbrev pub Fine : Partial → Type 0
-Fine h = (length (bytesOf h) ≤ 4096) × (length (bytesOf h) ≡ 0 → h ≡ nothing)
+Fine h = (length (partialBytes h) ≤ 4096) × (length (partialBytes h) ≡ 0 → h ≡ nothing)
 
 pub fine-nothing : Fine nothing
 fine-nothing = (omega arith, λ e. refl)
@@ -77,13 +77,13 @@ pub fine-partial : (held m : ℕ) (c : List ℕ) → held ≤ 4096 → held ≤ 
 fine-partial zero m c h l = fine-nothing
 fine-partial (suc x) m c h l = rw (length-take-le (suc x) c l) (h, λ z. absurd (omega arith))
 
-pub partial-kept : (h : Partial) (c : List ℕ) → (length (bytesOf h) ≡ 0 → h ≡ nothing) → partialOf (length (bytesOf h)) (numberOf h) (putAt c 0 (bytesOf h)) ≡ h
+pub partial-kept : (h : Partial) (c : List ℕ) → (length (partialBytes h) ≡ 0 → h ≡ nothing) → partialOf (length (partialBytes h)) (partialNumber h) (putAt c 0 (partialBytes h)) ≡ h
 partial-kept nothing c z = refl
 partial-kept (beginning n []) c z = sym (z refl)
 partial-kept (beginning n (x ∷ b)) c z = ap (λ (l : List ℕ). beginning n l) (take-put c (x ∷ b))
 
-pub no-number : (h : Partial) → (length (bytesOf h) ≡ 0 → h ≡ nothing) → length (bytesOf h) ≡ 0 → numberOf h ≡ 0
-no-number h z e = ap numberOf (z e)
+pub no-number : (h : Partial) → (length (partialBytes h) ≡ 0 → h ≡ nothing) → length (partialBytes h) ≡ 0 → partialNumber h ≡ 0
+no-number h z e = ap partialNumber (z e)
 
 -- ---- the carry buffer
 
@@ -112,7 +112,7 @@ keeps-nothing c o u e = rw (e, put-nil c 0)
 pub keeps-same : (c : List ℕ) (o u : Outcome) → u .partial ≡ o .partial → keeps (keeps c o) u ≡ keeps c u
 unfolding keeps putAt
 keeps-same c o u e =
-    let b : List ℕ = bytesOf (o .partial) in
+    let b : List ℕ = partialBytes (o .partial) in
     let z : 0 + length b ≡ length b = omega arith in
     rw (e, z, drop-at b (drop (length b) c) (length b) refl)
 
@@ -168,7 +168,7 @@ unfolding pieceAt
 piece-is d m k cause a e n n′ cont ends ends′ h p q r f = rw (p, q, r, f) refl
 
 -- a piece has a byte or more, and lies within the PDU
-pub piece-length : (d m : List ℕ) (n k : ℕ) → Marked d m n → k < n → length (pieceAt d m k) ≡ lengthAt m k
+pub piece-length : (d m : List ℕ) (n k : ℕ) → Marked d m n → k < n → length (pieceAt d m k) ≡ lengthBy m k
 unfolding pieceAt
 piece-length d m n k w h = rw (length-take, length-drop) (omega (arith, w .rising k h, w .within k h))
 
@@ -213,10 +213,10 @@ module _ (num : ℕ → ℕ) (plast : Bool) (d m g : List ℕ) (nop k at₀ : �
   going-turn hc hl i f =
       let e : piecesStep num k cont plast h (piecesFrom d m g k (nop - k)) ≡ andThen o u = all-next num plast d m g k nop cont h more in
       let fine : Fine (o .partial) = fine-this num plast d m g k (nop - (k + 1)) cont h some in
-      let rh : r₁ .held ≡ length (bytesOf (o .partial)) = unfold runAfter in ap (λ (x : Run). x .held) (f .run) in
-      let rn : r₁ .number ≡ numberOf (o .partial) = unfold runAfter in ap (λ (x : Run). x .number) (f .run) in
+      let rh : r₁ .held ≡ length (partialBytes (o .partial)) = unfold runAfter in ap (λ (x : Run). x .held) (f .run) in
+      let rn : r₁ .number ≡ partialNumber (o .partial) = unfold runAfter in ap (λ (x : Run). x .number) (f .run) in
       let ra : r₁ .at ≡ r .at + length (logWords (o .entries)) = unfold runAfter in ap (λ (x : Run). x .at) (f .run) in
-      let cc : c₁ ≡ putAt c 0 (bytesOf (o .partial)) = unfold keeps in f .carry in
+      let cc : c₁ ≡ putAt c 0 (partialBytes (o .partial)) = unfold keeps in f .carry in
       let v : partialOf (r₁ .held) (r₁ .number) c₁ ≡ o .partial = rw (rh, rn, cc) (partial-kept (o .partial) c (fine .1)) in
       let w : piecesStep num (k + 1) false plast (partialOf (r₁ .held) (r₁ .number) c₁) (piecesFrom d m g (k + 1) (nop - (k + 1))) ≡ u = rest-is num plast d m g k (nop - (k + 1)) (partialOf (r₁ .held) (r₁ .number) c₁) ∙ ap (rest num plast d m g k (nop - (k + 1))) v in
       let room : Room (andThen o u) (r .at) l = rw e at (i .room) in

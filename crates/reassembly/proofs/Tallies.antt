@@ -9,7 +9,8 @@ use lib.Dec.{eqb, ltb}
 use lib.ListN.{length, length-append}
 use Rattle.log.specs.Log.{Entry, packet, psd, note, packetsOf}
 use Rattle.log.proofs.Packets.{FitAll}
-use Rattle.reassembly.specs.Reassembly.{Piece, Said, Partial, nothing, beginning, Memory, Outcome, dropped, kept, inSequence, sequenceStep, beginningStep, psdEntries, finished, joined, pieceStep, numberAt, endsHere, piecesStep, continuingStep, contentsStep, received}
+use Rattle.layout.specs.Control.{pieceNumber}
+use Rattle.reassembly.specs.Reassembly.{Piece, Said, Partial, nothing, beginning, Memory, Outcome, dropped, kept, inSequence, sequenceStep, beginningStep, psdEntries, finished, joined, pieceStep, endsHere, piecesStep, continuingStep, contentsStep, received}
 use Rattle.reassembly.specs.Tally.{Tally, gap, counted, tallied, Grows, Countable, passesLimit}
 use Rattle.reassembly.proofs.Laws.{delivered}
 use Rattle.reassembly.proofs.Withheld.{packets-append, psd-quiet}
@@ -114,10 +115,10 @@ few-continuing n plast (beginning m b) (p ∷ ps) = let s = few-piece n 0 true (
 few-contents : (w : Bool) (d : Said) (h : Partial) → Few (length (d .pieces)) (contentsStep w d h)
 unfolding contentsStep
 few-contents false d h =
-    let c = piecesStep (numberAt (d .pfirst) (d .start)) 0 (d .pfirst) (d .plast) h (d .pieces) in
+    let c = piecesStep (pieceNumber (d .pfirst) (d .start)) 0 (d .pfirst) (d .plast) h (d .pieces) in
     let e = ap length (psd-quiet (d .psdBytes) (c .entries)) in
-    omega (arith, e, few-pieces (numberAt (d .pfirst) (d .start)) 0 (d .pfirst) (d .plast) h (d .pieces))
-few-contents true d h = unfold packetsOf in few-continuing (numberAt (d .pfirst) (d .start) 0) (d .plast) h (d .pieces)
+    omega (arith, e, few-pieces (pieceNumber (d .pfirst) (d .start)) 0 (d .pfirst) (d .plast) h (d .pieces))
+few-contents true d h = unfold packetsOf in few-continuing (pieceNumber (d .pfirst) (d .start) 0) (d .plast) h (d .pieces)
 
 none-first : (range : ℕ) (x : Memory) (q : ℕ) → Few 0 (sequenceStep range (x .last) q (x .partial))
 unfolding sequenceStep packetsOf

@@ -8,9 +8,10 @@ use lib.Dec.{eqb, eqb·suc-zero}
 use lib.ListN.{length, take, drop, getD, length-drop, length-take}
 use Rattle.buffer.specs.Buffer.{putAt}
 use Rattle.log.specs.Log.{Entry, psd, note, entryWords, logWords}
-use Rattle.reassembly.specs.Reassembly.{Said, Partial, nothing, beginning, Outcome, dropped, kept, inSequence, sequenceStep, beginningStep, psdEntries, pieceStep, piecesStep, numberAt, continuingStep, contentsStep, received}
+use Rattle.layout.specs.Control.{pieceNumber}
+use Rattle.reassembly.specs.Reassembly.{Said, Partial, nothing, beginning, Outcome, dropped, kept, inSequence, sequenceStep, beginningStep, psdEntries, pieceStep, piecesStep, continuingStep, contentsStep, received}
 use Rattle.reassembly.specs.Rights.{under}
-use Rattle.reassembly.specs.Run.{bytesOf, numberOf, partialOf, runAfter, keeps, writes, Did, Room, placeAt, pieceAt, pieceOf, piecesFrom, endsAt, psdOf, Parsed, saidOf, lastOf, memoryOf, continuedBy, firstCause, begun}
+use Rattle.reassembly.specs.Run.{partialBytes, partialNumber, partialOf, runAfter, keeps, writes, Did, Room, placeAt, pieceAt, pieceOf, piecesFrom, endsAt, psdBy, Parsed, saidOf, lastOf, memoryBy, continuedBy, firstCause, begun}
 use Rattle.reassembly.specs.declared.Run.{Run}
 use Rattle.reassembly.specs.declared.Head.{Head}
 use Rattle.reassembly.specs.declared.State.{State}
@@ -41,12 +42,12 @@ psd-some [] z = absurd (z refl)
 psd-some (x ∷ b) z = one-entry (psd (x ∷ b))
 
 -- PSD runs up to a, which is La
-pub psd-is : (h : Head) (m d : List ℕ) (a : ℕ) → a ≡ getD m 0 0 → take (a + 1 - h .psd) (drop (h .psd) d) ≡ psdOf h m d
-unfolding psdOf
+pub psd-is : (h : Head) (m d : List ℕ) (a : ℕ) → a ≡ getD m 0 0 → take (a + 1 - h .psd) (drop (h .psd) d) ≡ psdBy h m d
+unfolding psdBy
 psd-is h m d a e = rw e refl
 
-pub psd-length : (h : Head) (m d : List ℕ) → Parsed h d m → length (psdOf h m d) ≡ placeAt m 0 - h .psd
-unfolding psdOf
+pub psd-length : (h : Head) (m d : List ℕ) → Parsed h d m → length (psdBy h m d) ≡ placeAt m 0 - h .psd
+unfolding psdBy
 psd-length h m d w = rw (length-take, length-drop) (omega (arith, w .psd, w .marked .first))
 
 -- ---- steps 1 and 2 together
@@ -114,12 +115,12 @@ module _ (es : List Entry) (u : Outcome) (r : Run) (c l : List ℕ) (small : r .
 
 module _ (head : Head) (m g d : List ℕ) where
   -- PSD and pieces
-  pub contents-is : (h : Partial) → contentsStep false (saidOf head m g d) h ≡ andThen (record { entries = psdEntries (psdOf head m d); partial = h }) (piecesStep (numberAt (head .pfirst) (head .start)) 0 (head .pfirst) (head .plast) h (piecesFrom d m g 0 (head .nop)))
+  pub contents-is : (h : Partial) → contentsStep false (saidOf head m g d) h ≡ andThen (record { entries = psdEntries (psdBy head m d); partial = h }) (piecesStep (pieceNumber (head .pfirst) (head .start)) 0 (head .pfirst) (head .plast) h (piecesFrom d m g 0 (head .nop)))
   unfolding contentsStep saidOf
   contents-is h = refl
 
   -- note 8, and a piece that continues
-  pub withheld-is : (h : Partial) → contentsStep true (saidOf head m g d) h ≡ andThen (record { entries = note 8 0 ∷ []; partial = h }) (continuingStep (numberAt (head .pfirst) (head .start) 0) (head .plast) h (piecesFrom d m g 0 (head .nop)))
+  pub withheld-is : (h : Partial) → contentsStep true (saidOf head m g d) h ≡ andThen (record { entries = note 8 0 ∷ []; partial = h }) (continuingStep (pieceNumber (head .pfirst) (head .start) 0) (head .plast) h (piecesFrom d m g 0 (head .nop)))
   unfolding contentsStep saidOf
   withheld-is h = refl
 
@@ -129,7 +130,7 @@ module _ (head : Head) (m g d : List ℕ) (r : Run) (c l : List ℕ) (small : r 
   held = partialOf (r .held) (r .number) c
 
   abbrev number : ℕ → ℕ
-  number = numberAt (head .pfirst) (head .start)
+  number = pieceNumber (head .pfirst) (head .start)
 
   abbrev pieces : Outcome
   pieces = piecesStep number 0 (head .pfirst) (head .plast) held (piecesFrom d m g 0 (head .nop))
@@ -138,18 +139,18 @@ module _ (head : Head) (m g d : List ℕ) (r : Run) (c l : List ℕ) (small : r 
   continuing = continuingStep (number 0) (head .plast) held (piecesFrom d m g 0 (head .nop))
 
   module _ (room : Room (contentsStep false (saidOf head m g d) held) (r .at) l) where
-    all : Room (andThen (staying (psdEntries (psdOf head m d)) pieces r c l small plain big) pieces) (r .at) l
+    all : Room (andThen (staying (psdEntries (psdBy head m d)) pieces r c l small plain big) pieces) (r .at) l
     all = same-room (r .at) l (contents-is head m g d held) room
 
-    pub psd-room : r .at + length (logWords (psdEntries (psdOf head m d))) ≤ length l
-    psd-room = stay-room (psdEntries (psdOf head m d)) pieces r c l small plain big all
+    pub psd-room : r .at + length (logWords (psdEntries (psdBy head m d))) ≤ length l
+    psd-room = stay-room (psdEntries (psdBy head m d)) pieces r c l small plain big all
 
-    module _ (l₂ : List ℕ) (n : ℕ) (same : length l₂ ≡ length l) (en : n ≡ length (logWords (psdEntries (psdOf head m d)))) (el : l₂ ≡ putAt l (r .at) (logWords (psdEntries (psdOf head m d)))) where
+    module _ (l₂ : List ℕ) (n : ℕ) (same : length l₂ ≡ length l) (en : n ≡ length (logWords (psdEntries (psdBy head m d)))) (el : l₂ ≡ putAt l (r .at) (logWords (psdEntries (psdBy head m d)))) where
       pub pieces-room : Room pieces (r .at + n) l₂
-      pieces-room = then-room (psdEntries (psdOf head m d)) pieces r c l small plain big all l₂ n same en el
+      pieces-room = then-room (psdEntries (psdBy head m d)) pieces r c l small plain big all l₂ n same en el
 
       pub pieces-did : (c₃ l₃ : List ℕ) (last : Run) → Did pieces (r .at + n) c l₂ c₃ l₃ last → Did (contentsStep false (saidOf head m g d) held) (r .at) c l c₃ l₃ last
-      pieces-did c₃ l₃ last f = same-outcome (contents-is head m g d held) (then-did (psdEntries (psdOf head m d)) pieces r c l small plain big all l₂ n same en el c₃ l₃ last f)
+      pieces-did c₃ l₃ last f = same-outcome (contents-is head m g d held) (then-did (psdEntries (psdBy head m d)) pieces r c l small plain big all l₂ n same en el c₃ l₃ last f)
 
   module _ (room : Room (contentsStep true (saidOf head m g d) held) (r .at) l) where
     eight : logWords (note 8 0 ∷ []) ≡ entryWords (note 8 0)
@@ -215,14 +216,14 @@ module _ (s : State) (range : ℕ) (head : Head) (c : List ℕ) where
     abbrev said : Said
     said = saidOf head m g d
 
-    pub total-is : received range (memoryOf s c) (under w said) ≡ andThen begins (contentsStep w said (begins .partial))
-    unfolding received sequenceStep memoryOf saidOf begins firstCause
+    pub total-is : received range (memoryBy s c) (under w said) ≡ andThen begins (contentsStep w said (begins .partial))
+    unfolding received sequenceStep memoryBy saidOf begins firstCause
     total-is =
         let e = first-is (inSequence range (lastOf (s .known) (s .last)) (head .sequence)) (s .held) (s .number) c (head .pfirst) (head .start) in
         rw (← e, append-assoc, ← under-contents w said) refl
 
     -- the parts put down one after another
-    module _ (small : s .held ≤ 4096) (plain : s .held ≡ 0 → s .number ≡ 0) (big : 4096 ≤ length c) (l : List ℕ) (room : Room (received range (memoryOf s c) (under w said)) 0 l) where
+    module _ (small : s .held ≤ 4096) (plain : s .held ≡ 0 → s .number ≡ 0) (big : 4096 ≤ length c) (l : List ℕ) (room : Room (received range (memoryBy s c) (under w said)) 0 l) where
       all-room : Room (andThen begins (contentsStep w said (begins .partial))) 0 l
       all-room = rw total-is at room
 
@@ -240,10 +241,10 @@ module _ (s : State) (range : ℕ) (head : Head) (c : List ℕ) where
         did : Did begins 0 c l c l₁ first
         did = same-outcome begins-is did₀
 
-        rh : first .held ≡ length (bytesOf (begins .partial))
+        rh : first .held ≡ length (partialBytes (begins .partial))
         rh = unfold runAfter in ap (λ (x : Run). x .held) (did .run)
 
-        rn : first .number ≡ numberOf (begins .partial)
+        rn : first .number ≡ partialNumber (begins .partial)
         rn = unfold runAfter in ap (λ (x : Run). x .number) (did .run)
 
         ra : first .at ≡ 0 + length (logWords (begins .entries))
@@ -257,7 +258,7 @@ module _ (s : State) (range : ℕ) (head : Head) (c : List ℕ) where
 
         first-partial : partialOf (first .held) (first .number) c ≡ begins .partial
         first-partial =
-            let e : putAt c 0 (bytesOf (begins .partial)) ≡ c = unfold keeps in sym (did .carry) in
+            let e : putAt c 0 (partialBytes (begins .partial)) ≡ c = unfold keeps in sym (did .carry) in
             rw (rh, rn) (rw e at (partial-kept (begins .partial) c (fine-first .1)))
 
         -- withheld or not, as v says
@@ -265,7 +266,7 @@ module _ (s : State) (range : ℕ) (head : Head) (c : List ℕ) where
         rest-room v t = rw (first-partial, ← t) (room-next begins (contentsStep w said (begins .partial)) 0 (first .at) l l₁ ra same all-room)
 
         pub accept-did : (v : Bool) → w ≡ v → (c₃ l₃ : List ℕ) (last : Run) → Did (contentsStep v said (partialOf (first .held) (first .number) c)) (first .at) c l₁ c₃ l₃ last
-            → Did (received range (memoryOf s c) (under w said)) 0 c l c₃ l₃ last
+            → Did (received range (memoryBy s c) (under w said)) 0 c l c₃ l₃ last
         accept-did v t c₃ l₃ last f =
             let u : Outcome = contentsStep w said (begins .partial) in
             let e : keeps c begins ≡ c = sym (did .carry) in

@@ -6,7 +6,8 @@ use mathlib.Core.List.{List, [], _∷_, _++_, append-nil}
 use native.Mathlib.Omega.{arith}
 use lib.Dec.{eqb}
 use Rattle.log.specs.Log.{Entry, packet, psd, note, packetsOf}
-use Rattle.reassembly.specs.Reassembly.{Piece, Said, Partial, nothing, beginning, Memory, Outcome, dropped, kept, sequenceStep, beginningStep, psdEntries, joined, pieceStep, numberAt, endsHere, piecesStep, continuingStep, contentsStep, received, remembered}
+use Rattle.layout.specs.Control.{pieceNumber}
+use Rattle.reassembly.specs.Reassembly.{Piece, Said, Partial, nothing, beginning, Memory, Outcome, dropped, kept, sequenceStep, beginningStep, psdEntries, joined, pieceStep, endsHere, piecesStep, continuingStep, contentsStep, received, remembered}
 use Rattle.reassembly.proofs.Runs.{ends-drops}
 
 -- ---- the packets of a log
@@ -115,7 +116,7 @@ begun-held pfirst start (beginning n b) e = rw e
 contents-alike : (d : Said) (h : Partial) → (d .pfirst ≡ false → h ≡ nothing) → Alike (contentsStep true d h) (contentsStep false (uncovered d) h)
 unfolding contentsStep packetsOf
 contents-alike d h z =
-    let a = pieces-alike (numberAt (d .pfirst) (d .start)) (d .pfirst) (d .plast) h (d .pieces) z in
+    let a = pieces-alike (pieceNumber (d .pfirst) (d .start)) (d .pfirst) (d .plast) h (d .pieces) z in
     record { packets = a .packets ∙ sym (psd-quiet (d .psdBytes) _); partial = a .partial }
 
 -- whatever a receiver remembers

@@ -4,8 +4,8 @@ use mathlib.Core.List.{List}
 use Prim.Native.Nat.{ℕ, zero, suc, _+_, _-_, _*_, _/_, _≤_}
 use lib.Dec.{eqb, ltb}
 use lib.ListN.{getD}
-use Rattle.reassembly.specs.Reassembly.{numberAt}
-use Rattle.reassembly.specs.Run.{placeAt, lengthAt, endsAt, firstCause}
+use Rattle.layout.specs.Control.{pieceNumber}
+use Rattle.reassembly.specs.Run.{placeAt, lengthBy, endsAt, firstCause}
 use Rattle.reassembly.specs.Tally.{Tally, counted}
 use Rattle.reassembly.specs.declared.Forecast.{Forecast}
 use Rattle.reassembly.specs.declared.Head.{Head}
@@ -37,7 +37,7 @@ withWords x n = record { words = x .words + n; tally = x .tally }
 unfoldable pub countFrom : (ℕ → ℕ) → List ℕ → List ℕ → Bool → ℕ → ℕ → Bool → ℕ → Forecast → Forecast
 countFrom number marks causes plast k zero continues held x = x
 countFrom number marks causes plast k (suc n) continues held x =
-    let p = countPiece held continues (endsAt plast n) (getD causes k 0) (lengthAt marks k) in
+    let p = countPiece held continues (endsAt plast n) (getD causes k 0) (lengthBy marks k) in
     countFrom number marks causes plast (k + 1) n false (p .held) (withPiece x p (number k))
 
 -- PSD of n bytes
@@ -48,12 +48,12 @@ countPsd n = cond (eqb n 0) 0 (1 + (n + 2) / 3)
 unfoldable pub countContinuing : Head → List ℕ → List ℕ → ℕ → Forecast → Forecast
 countContinuing h marks causes held x =
     cond (eqb held 0) x
-    (cond (eqb (h .nop) 0) x (withPiece x (countPiece held true (endsAt (h .plast) (h .nop - 1)) (getD causes 0 0) (lengthAt marks 0)) (numberAt (h .pfirst) (h .start) 0)))
+    (cond (eqb (h .nop) 0) x (withPiece x (countPiece held true (endsAt (h .plast) (h .nop - 1)) (getD causes 0 0) (lengthBy marks 0)) (pieceNumber (h .pfirst) (h .start) 0)))
 
 -- steps 3 and 4, with so many bytes held: a withheld PDU has note 8 in place of PSD
 unfoldable pub countContents : Bool → Head → List ℕ → List ℕ → ℕ → Forecast → Forecast
 countContents false h marks causes held x =
-    countFrom (numberAt (h .pfirst) (h .start)) marks causes (h .plast) 0 (h .nop) (h .pfirst) held (withWords x (countPsd (placeAt marks 0 - h .psd)))
+    countFrom (pieceNumber (h .pfirst) (h .start)) marks causes (h .plast) 0 (h .nop) (h .pfirst) held (withWords x (countPsd (placeAt marks 0 - h .psd)))
 countContents true h marks causes held x = countContinuing h marks causes held (withWords x 1)
 
 -- a whole PDU, withheld or not: the note with which it begins drops what is held

@@ -7,6 +7,7 @@ use Prim.Native.Nat.{ℕ, suc, _+_, _%_}
 use lib.Dec.{eqb, ltb}
 use lib.ListN.{length}
 use Rattle.log.specs.Log.{Entry, packet, psd, note}
+use Rattle.layout.specs.Control.{pieceNumber}
 
 -- ---- what a PDU says, and what a receiver remembers
 
@@ -85,10 +86,6 @@ joined n k false ends h bytes = finished n k ends bytes
 unfoldable pub pieceStep : ℕ → ℕ → Bool → Bool → Partial → Piece → Outcome
 pieceStep n k continues ends h p = cond (eqb (p .cause) 0) (joined n k continues ends h (p .bytes)) (dropped (p .cause) k)
 
--- piece k (from 0) has the starting number plus k, minus 1 if Pfirst, modulo 64
-abbrev pub numberAt : Bool → ℕ → ℕ → ℕ
-numberAt pfirst start k = (start + cond pfirst 63 0 + k) % 64
-
 -- a packet ends with its piece, but for the last piece of a PDU with Plast
 abbrev pub endsHere : Bool → List Piece → Bool
 endsHere plast [] = not plast
@@ -112,10 +109,10 @@ continuingStep n plast (beginning m held) (p ∷ ps) = pieceStep n 0 true (endsH
 -- note 8 in place of step 3
 unfoldable pub contentsStep : Bool → Said → Partial → Outcome
 contentsStep false d h =
-    let c = piecesStep (numberAt (d .pfirst) (d .start)) 0 (d .pfirst) (d .plast) h (d .pieces) in
+    let c = piecesStep (pieceNumber (d .pfirst) (d .start)) 0 (d .pfirst) (d .plast) h (d .pieces) in
     record { entries = psdEntries (d .psdBytes) ++ c .entries; partial = c .partial }
 contentsStep true d h =
-    let c = continuingStep (numberAt (d .pfirst) (d .start) 0) (d .plast) h (d .pieces) in
+    let c = continuingStep (pieceNumber (d .pfirst) (d .start) 0) (d .plast) h (d .pieces) in
     record { entries = note 8 0 ∷ c .entries; partial = c .partial }
 
 -- ---- a call

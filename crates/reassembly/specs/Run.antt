@@ -15,13 +15,13 @@ use Rattle.reassembly.specs.declared.State.{State}
 
 -- ---- a partial packet as a length, a number and the first bytes of a carry buffer; 0, 0 and none where nothing is held
 
-abbrev pub bytesOf : Partial → List ℕ
-bytesOf nothing = []
-bytesOf (beginning n b) = b
+abbrev pub partialBytes : Partial → List ℕ
+partialBytes nothing = []
+partialBytes (beginning n b) = b
 
-abbrev pub numberOf : Partial → ℕ
-numberOf nothing = 0
-numberOf (beginning n b) = n
+abbrev pub partialNumber : Partial → ℕ
+partialNumber nothing = 0
+partialNumber (beginning n b) = n
 
 abbrev pub partialOf : ℕ → ℕ → List ℕ → Partial
 partialOf zero n c = nothing
@@ -30,11 +30,11 @@ partialOf (suc h) n c = beginning n (take (suc h) c)
 -- ---- an outcome put down
 
 unfoldable pub runAfter : ℕ → Outcome → Run
-runAfter at o = record { held = length (bytesOf (o .partial)); number = numberOf (o .partial); at = at + length (logWords (o .entries)) }
+runAfter at o = record { held = length (partialBytes (o .partial)); number = partialNumber (o .partial); at = at + length (logWords (o .entries)) }
 
 -- the carry buffer's other bytes stay
 unfoldable pub keeps : List ℕ → Outcome → List ℕ
-keeps c o = putAt c 0 (bytesOf (o .partial))
+keeps c o = putAt c 0 (partialBytes (o .partial))
 
 unfoldable pub writes : List ℕ → ℕ → Outcome → List ℕ
 writes l at o = putAt l at (logWords (o .entries))
@@ -54,11 +54,11 @@ Room o at l = at + length (logWords (o .entries)) ≤ length l
 abbrev pub placeAt : List ℕ → ℕ → ℕ
 placeAt marks k = getD marks k 0 + 1
 
-abbrev pub lengthAt : List ℕ → ℕ → ℕ
-lengthAt marks k = getD marks (k + 1) 0 - placeAt marks k
+abbrev pub lengthBy : List ℕ → ℕ → ℕ
+lengthBy marks k = getD marks (k + 1) 0 - placeAt marks k
 
 unfoldable pub pieceAt : List ℕ → List ℕ → ℕ → List ℕ
-pieceAt pdu marks k = take (lengthAt marks k) (drop (placeAt marks k) pdu)
+pieceAt pdu marks k = take (lengthBy marks k) (drop (placeAt marks k) pdu)
 
 abbrev pub pieceOf : ℕ → List ℕ → Piece
 pieceOf cause bytes = record { cause = cause; bytes = bytes }
@@ -83,8 +83,8 @@ pub record Marked (pdu marks : List ℕ) (n : ℕ) : Type 0 where
 -- ---- a whole PDU
 
 -- PSD runs up to La
-unfoldable pub psdOf : Head → List ℕ → List ℕ → List ℕ
-psdOf h marks pdu = take (placeAt marks 0 - h .psd) (drop (h .psd) pdu)
+unfoldable pub psdBy : Head → List ℕ → List ℕ → List ℕ
+psdBy h marks pdu = take (placeAt marks 0 - h .psd) (drop (h .psd) pdu)
 
 pub record Parsed (h : Head) (pdu marks : List ℕ) : Type 0 where
   pub marked : Marked pdu marks (h .nop)
@@ -94,13 +94,13 @@ pub record Parsed (h : Head) (pdu marks : List ℕ) : Type 0 where
 -- what it says; whether it is withheld is the receiver's to say
 unfoldable pub saidOf : Head → List ℕ → List ℕ → List ℕ → Said
 saidOf h marks causes pdu =
-    record { sequence = h .sequence; pfirst = h .pfirst; plast = h .plast; start = h .start; psdBytes = psdOf h marks pdu; pieces = piecesFrom pdu marks causes 0 (h .nop); withheld = false }
+    record { sequence = h .sequence; pfirst = h .pfirst; plast = h .plast; start = h .start; psdBytes = psdBy h marks pdu; pieces = piecesFrom pdu marks causes 0 (h .nop); withheld = false }
 
 abbrev pub lastOf : Bool → ℕ → Option ℕ
 lastOf known last = cond known (some last) none
 
-unfoldable pub memoryOf : State → List ℕ → Memory
-memoryOf s c = record { last = lastOf (s .known) (s .last); partial = partialOf (s .held) (s .number) c }
+unfoldable pub memoryBy : State → List ℕ → Memory
+memoryBy s c = record { last = lastOf (s .known) (s .last); partial = partialOf (s .held) (s .number) c }
 
 -- ---- the note with which a PDU begins: the steps 1 and 2 give at most one
 

@@ -7,9 +7,10 @@ ghost use lib.Dec.{eqb};
 ghost use lib.ListN.{length, take, getD};
 ghost use Rattle.buffer.specs.Buffer.{putAt};
 ghost use Rattle.log.specs.Log.{logWords};
-ghost use Rattle.reassembly.specs.Reassembly.{following, inSequence, nothing, dropped, numberAt, finished, pieceStep, piecesStep, psdEntries, continuingStep, contentsStep, received};
+ghost use Rattle.layout.specs.Control.{pieceNumber};
+ghost use Rattle.reassembly.specs.Reassembly.{following, inSequence, nothing, dropped, finished, pieceStep, piecesStep, psdEntries, continuingStep, contentsStep, received};
 ghost use Rattle.reassembly.specs.Rights.{under};
-ghost use Rattle.reassembly.specs.Run.{lastOf, continuedBy, firstCause, endsAt, begun, partialOf, pieceOf, Did, Room, Marked, placeAt, pieceAt, piecesFrom, Parsed, saidOf, memoryOf};
+ghost use Rattle.reassembly.specs.Run.{lastOf, continuedBy, firstCause, endsAt, begun, partialOf, pieceOf, Did, Room, Marked, placeAt, pieceAt, piecesFrom, Parsed, saidOf, memoryBy};
 ghost use Rattle.reassembly.specs.Tally.{gap, counted};
 ghost use Rattle.reassembly.specs.Count.{countFinish, countPiece, withPiece, withWords, countFrom, countPsd, countContinuing, countContents, countAll, Bounded};
 
@@ -121,7 +122,7 @@ fn first_cause(state: State, range: u8, head: Head) -> u8
 // The number of piece k: the starting number plus k, minus 1 if Pfirst, modulo 64.
 fn piece_number(pfirst: bool, start: u8, k: usize) -> u8
     requires { ⌜ k ≤ 63 ⌝ }
-    ensures { λ r. ⌜ r ≡ numberAt pfirst start k ⌝ }
+    ensures { λ r. ⌜ r ≡ pieceNumber pfirst start k ⌝ }
 {
     if pfirst {
         return ((wide(start) + 63 + k) % 64) as u8;
@@ -291,8 +292,8 @@ fn piece_at(
     requires { ⌜ 4096 ≤ length (now carry) ⌝ }
     requires { ⌜ length (now pdu) ≤ 20480 ⌝ }
     requires { ⌜ (k < head .nop) × Marked (now pdu) marks (head .nop) ⌝ }
-    requires { ⌜ Room (pieceStep (numberAt (head .pfirst) (head .start) k) k continues (endsAt (head .plast) (head .nop - (k + 1))) (partialOf (run .held) (run .number) (now carry)) (pieceOf cause (pieceAt (now pdu) marks k))) (run .at) (now log) ⌝ }
-    ensures { λ r. ⌜ Did (pieceStep (numberAt (head .pfirst) (head .start) k) k continues (endsAt (head .plast) (head .nop - (k + 1))) (partialOf (run .held) (run .number) (now (carry .entry))) (pieceOf cause (pieceAt (now (pdu .entry)) marks k))) (run .at) (now (carry .entry)) (now (log .entry)) (now (carry .exit)) (now (log .exit)) r ⌝ }
+    requires { ⌜ Room (pieceStep (pieceNumber (head .pfirst) (head .start) k) k continues (endsAt (head .plast) (head .nop - (k + 1))) (partialOf (run .held) (run .number) (now carry)) (pieceOf cause (pieceAt (now pdu) marks k))) (run .at) (now log) ⌝ }
+    ensures { λ r. ⌜ Did (pieceStep (pieceNumber (head .pfirst) (head .start) k) k continues (endsAt (head .plast) (head .nop - (k + 1))) (partialOf (run .held) (run .number) (now (carry .entry))) (pieceOf cause (pieceAt (now (pdu .entry)) marks k))) (run .at) (now (carry .entry)) (now (log .entry)) (now (carry .exit)) (now (log .exit)) r ⌝ }
 {
     let a = place(marks[k]) + 1;
     let e = place(marks[k + 1]);
@@ -325,8 +326,8 @@ fn pieces(
     requires { ⌜ 4096 ≤ length (now carry) ⌝ }
     requires { ⌜ length (now pdu) ≤ 20480 ⌝ }
     requires { ⌜ Marked (now pdu) marks (head .nop) ⌝ }
-    requires { ⌜ Room (piecesStep (numberAt (head .pfirst) (head .start)) 0 (head .pfirst) (head .plast) (partialOf (run .held) (run .number) (now carry)) (piecesFrom (now pdu) marks causes 0 (head .nop))) (run .at) (now log) ⌝ }
-    ensures { λ r. ⌜ Did (piecesStep (numberAt (head .pfirst) (head .start)) 0 (head .pfirst) (head .plast) (partialOf (run .held) (run .number) (now (carry .entry))) (piecesFrom (now (pdu .entry)) marks causes 0 (head .nop))) (run .at) (now (carry .entry)) (now (log .entry)) (now (carry .exit)) (now (log .exit)) r ⌝ }
+    requires { ⌜ Room (piecesStep (pieceNumber (head .pfirst) (head .start)) 0 (head .pfirst) (head .plast) (partialOf (run .held) (run .number) (now carry)) (piecesFrom (now pdu) marks causes 0 (head .nop))) (run .at) (now log) ⌝ }
+    ensures { λ r. ⌜ Did (piecesStep (pieceNumber (head .pfirst) (head .start)) 0 (head .pfirst) (head .plast) (partialOf (run .held) (run .number) (now (carry .entry))) (piecesFrom (now (pdu .entry)) marks causes 0 (head .nop))) (run .at) (now (carry .entry)) (now (log .entry)) (now (carry .exit)) (now (log .exit)) r ⌝ }
 {
     let mut cur = run;
     let mut continues = head.pfirst;
@@ -422,8 +423,8 @@ fn continuing(
     requires { ⌜ 4096 ≤ length (now carry) ⌝ }
     requires { ⌜ length (now pdu) ≤ 20480 ⌝ }
     requires { ⌜ Marked (now pdu) marks (head .nop) ⌝ }
-    requires { ⌜ Room (continuingStep (numberAt (head .pfirst) (head .start) 0) (head .plast) (partialOf (run .held) (run .number) (now carry)) (piecesFrom (now pdu) marks causes 0 (head .nop))) (run .at) (now log) ⌝ }
-    ensures { λ r. ⌜ Did (continuingStep (numberAt (head .pfirst) (head .start) 0) (head .plast) (partialOf (run .held) (run .number) (now (carry .entry))) (piecesFrom (now (pdu .entry)) marks causes 0 (head .nop))) (run .at) (now (carry .entry)) (now (log .entry)) (now (carry .exit)) (now (log .exit)) r ⌝ }
+    requires { ⌜ Room (continuingStep (pieceNumber (head .pfirst) (head .start) 0) (head .plast) (partialOf (run .held) (run .number) (now carry)) (piecesFrom (now pdu) marks causes 0 (head .nop))) (run .at) (now log) ⌝ }
+    ensures { λ r. ⌜ Did (continuingStep (pieceNumber (head .pfirst) (head .start) 0) (head .plast) (partialOf (run .held) (run .number) (now (carry .entry))) (piecesFrom (now (pdu .entry)) marks causes 0 (head .nop))) (run .at) (now (carry .entry)) (now (log .entry)) (now (carry .exit)) (now (log .exit)) r ⌝ }
 {
     if run.held == 0 {
         return run;
@@ -486,8 +487,8 @@ pub fn accept(
     requires { ⌜ (state .held ≤ 4096) × (state .held ≡ 0 → state .number ≡ 0) ⌝ }
     requires { ⌜ 4096 ≤ length (now carry) ⌝ }
     requires { ⌜ Parsed head (now pdu) marks ⌝ }
-    requires { ⌜ Room (received range (memoryOf state (now carry)) (under withheld (saidOf head marks causes (now pdu)))) 0 (now log) ⌝ }
-    ensures { λ r. ⌜ Did (received range (memoryOf state (now (carry .entry))) (under withheld (saidOf head marks causes (now (pdu .entry))))) 0 (now (carry .entry)) (now (log .entry)) (now (carry .exit)) (now (log .exit)) r ⌝ }
+    requires { ⌜ Room (received range (memoryBy state (now carry)) (under withheld (saidOf head marks causes (now pdu)))) 0 (now log) ⌝ }
+    ensures { λ r. ⌜ Did (received range (memoryBy state (now (carry .entry))) (under withheld (saidOf head marks causes (now (pdu .entry))))) 0 (now (carry .entry)) (now (log .entry)) (now (carry .exit)) (now (log .exit)) r ⌝ }
 {
     let first = begin(state, range, head, &mut *log);
     if withheld {
@@ -561,7 +562,7 @@ fn count_pieces(
 ) -> Forecast
     requires { ⌜ (held ≤ 4096) × (head .nop ≤ 63) × Bounded 0 x ⌝ }
     requires { ⌜ ((k : ℕ) → k < head .nop → placeAt marks k < getD marks (k + 1) 0) ⌝ }
-    ensures { λ r. ⌜ r ≡ countFrom (numberAt (head .pfirst) (head .start)) marks causes (head .plast) 0 (head .nop) (head .pfirst) held x ⌝ }
+    ensures { λ r. ⌜ r ≡ countFrom (pieceNumber (head .pfirst) (head .start)) marks causes (head .plast) 0 (head .nop) (head .pfirst) held x ⌝ }
 {
     let mut continues = head.pfirst;
     let mut kept = held;

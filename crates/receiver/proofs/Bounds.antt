@@ -6,14 +6,15 @@ use Prim.Native.Nat.{ℕ, zero, suc, _+_, _≤_}
 use native.Mathlib.Omega.{arith}
 use lib.ListN.{length, getD, drop, length-take}
 use Rattle.log.specs.Log.{logWords}
-use Rattle.reassembly.specs.Reassembly.{Partial, nothing, beginning, Outcome, received, piecesStep, numberAt, endsHere, continuingStep, contentsStep}
+use Rattle.reassembly.specs.Reassembly.{Partial, nothing, beginning, Outcome, received, piecesStep, endsHere, continuingStep, contentsStep}
 use Rattle.reassembly.specs.Rights.{under}
-use Rattle.reassembly.specs.Run.{bytesOf, partialOf, placeAt, lengthAt, pieceAt, pieceOf, piecesFrom, Marked, psdOf, Parsed, saidOf, memoryOf, firstCause}
+use Rattle.reassembly.specs.Run.{partialBytes, partialOf, placeAt, lengthBy, pieceAt, pieceOf, piecesFrom, Marked, psdBy, Parsed, saidOf, memoryBy, firstCause}
 use Rattle.reassembly.specs.declared.Head.{Head}
 use Rattle.reassembly.specs.declared.State.{State}
 use Rattle.reassembly.proofs.Bound.{pieceBytes, bound}
 use Rattle.reassembly.proofs.Runs.{Fine, fine-nothing, fine-partial, fine-piece, this, rest, all-cons, all-none, rest-is, fine-this, piece-some}
 use Rattle.reassembly.proofs.Whole.{begins, total-is, fine-begun, psd-length}
+use Rattle.layout.specs.Control.{pieceNumber}
 
 module _ (num : ℕ → ℕ) (plast : Bool) (d m g : List ℕ) (nop : ℕ) (w : Marked d m nop) where
   pieces-fine : (k n : ℕ) (cont : Bool) (h : Partial) → Fine h → k + n ≤ nop → Fine (piecesStep num k cont plast h (piecesFrom d m g k n) .partial)
@@ -27,22 +28,22 @@ module _ (num : ℕ → ℕ) (plast : Bool) (d m g : List ℕ) (nop : ℕ) (w : 
 -- after steps 3 and 4, withheld or not
 contents-fine : (w : Bool) (head : Head) (m g d : List ℕ) (h : Partial) → Parsed head d m → Fine h → Fine (contentsStep w (saidOf head m g d) h .partial)
 unfolding contentsStep continuingStep saidOf piecesFrom
-contents-fine false head m g d h p f = pieces-fine (numberAt (head .pfirst) (head .start)) (head .plast) d m g (head .nop) (p .marked) 0 (head .nop) (head .pfirst) h f (omega arith)
+contents-fine false head m g d h p f = pieces-fine (pieceNumber (head .pfirst) (head .start)) (head .plast) d m g (head .nop) (p .marked) 0 (head .nop) (head .pfirst) h f (omega arith)
 contents-fine true head m g d nothing p f = fine-nothing
 contents-fine true head m g d (beginning k b) p f = go (head .nop) refl
   where
-    go : (n : ℕ) → n ≡ head .nop → Fine (continuingStep (numberAt (head .pfirst) (head .start) 0) (head .plast) (beginning k b) (piecesFrom d m g 0 n) .partial)
+    go : (n : ℕ) → n ≡ head .nop → Fine (continuingStep (pieceNumber (head .pfirst) (head .start) 0) (head .plast) (beginning k b) (piecesFrom d m g 0 n) .partial)
     go zero e = f
     go (suc n) e =
-        fine-piece (numberAt (head .pfirst) (head .start) 0) 0 true (endsHere (head .plast) (piecesFrom d m g (0 + 1) n)) (beginning k b) (pieceOf (getD g 0 0) (pieceAt d m 0)) (piece-some d m (head .nop) 0 (p .marked) (omega (arith, e)))
+        fine-piece (pieceNumber (head .pfirst) (head .start) 0) 0 true (endsHere (head .plast) (piecesFrom d m g (0 + 1) n)) (beginning k b) (pieceOf (getD g 0 0) (pieceAt d m 0)) (piece-some d m (head .nop) 0 (p .marked) (omega (arith, e)))
 
 pub held-bounded : (w : Bool) (s : State) (range : ℕ) (head : Head) (m g d c : List ℕ) → s .held ≤ 4096 → 4096 ≤ length c → Parsed head d m
-    → length (bytesOf (received range (memoryOf s c) (under w (saidOf head m g d)) .partial)) ≤ 4096
+    → length (partialBytes (received range (memoryBy s c) (under w (saidOf head m g d)) .partial)) ≤ 4096
 unfolding begins
 held-bounded w s range head m g d c small big p =
     let first : Fine (begins s range head c .partial) = fine-begun (firstCause s range head) (partialOf (s .held) (s .number) c) (fine-partial (s .held) (s .number) c small (omega arith)) in
     let last : Fine (contentsStep w (saidOf head m g d) (begins s range head c .partial) .partial) = contents-fine w head m g d (begins s range head c .partial) p first in
-    subst (λ (o : Outcome). length (bytesOf (o .partial)) ≤ 4096) (sym (total-is s range head c w m g d)) (last .0)
+    subst (λ (o : Outcome). length (partialBytes (o .partial)) ≤ 4096) (sym (total-is s range head c w m g d)) (last .0)
 
 -- ---- words
 
@@ -54,7 +55,7 @@ pieces-within d m g nop w zero k h = let e : k + 0 ≡ k = omega arith in (refl,
 pieces-within d m g nop w (suc n) k h =
     let i = pieces-within d m g nop w n (k + 1) (omega arith) in
     let e : k + 1 + n ≡ k + suc n = omega arith in
-    let t = length-take (lengthAt m k) (drop (placeAt m k) d) in
+    let t = length-take (lengthBy m k) (drop (placeAt m k) d) in
     let r = w .rising k (omega arith) in
     (ap suc (i .0), subst (λ (j : ℕ). pieceBytes (piecesFrom d m g k (suc n)) + getD m k 0 ≤ getD m j 0) e (omega (arith, i .1, t, r)))
 
@@ -64,8 +65,8 @@ last-within d m (suc n) w = let e : n + 1 ≡ 0 + suc n = omega arith in subst (
 
 -- at most 8,400, whatever the causes of its pieces are
 pub words-bounded : (v : Bool) (s : State) (range : ℕ) (head : Head) (m g d c : List ℕ) → s .held ≤ 4096 → 4096 ≤ length c → Parsed head d m
-    → length (logWords (received range (memoryOf s c) (under v (saidOf head m g d)) .entries)) ≤ 8400
-unfolding memoryOf saidOf
+    → length (logWords (received range (memoryBy s c) (under v (saidOf head m g d)) .entries)) ≤ 8400
+unfolding memoryBy saidOf
 words-bounded v s range head m g d c small big w =
     let p = pieces-within d m g (head .nop) (w .marked) (head .nop) 0 (omega arith) in
     let l = last-within d m (head .nop) (w .marked) in

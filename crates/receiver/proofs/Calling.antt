@@ -21,8 +21,8 @@ use Rattle.layout.specs.Control.{controlAt}
 use Rattle.layout.specs.declared.ControlWord.{ControlWord}
 use Rattle.pdu.specs.Reading.{readerTests, modeIn, wrongWith, wrongOf}
 use Rattle.pdu.proofs.Lowest.{without-eleven}
-use Rattle.receiver.specs.Receiving.{comeBy, modeOf, wrongFields, wrongState, refusedAnswer, receiveNumber, receiveAnswer, carryAfter, pduAfter, logAfter}
-use Rattle.receiver.specs.Steps.{lastTests, Takes, streamTests, correctedNumber, Answered}
+use Rattle.receiver.specs.Receiving.{comeBy, modeOf, wrongFields, wrongState, refusedAnswer, receiveNumber, receiveAnswer, carryAfter, pduAfter, logAfter, lastTests}
+use Rattle.receiver.specs.Steps.{Takes, streamTests, correctedNumber, Answered}
 use Rattle.receiver.specs.declared.Receiver.{Receiver}
 use Rattle.receiver.specs.declared.Received.{Received}
 use Rattle.receiver.proofs.Answering.{answered-refused, answered-number}

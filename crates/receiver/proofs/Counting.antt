@@ -14,7 +14,8 @@ use Rattle.log.specs.Log.{packetsOf}
 use Rattle.reassembly.specs.Reassembly.{Memory}
 use Rattle.reassembly.specs.Tally.{Tally, tallied, Grows, Countable, passesLimit}
 use Rattle.reassembly.proofs.Tallies.{not-passed, tally-quiet, tally-grows, FairTally}
-use Rattle.receiver.specs.Receiving.{remembering, tallyOf, wrongCounts, wrongState, outcome, receivedWords, tallyAfter, receiveTests, receiveNumber, receiveAnswer, lostTests, lostNumber, lostAnswer}
+use Rattle.receiver.proofs.AfterReceiving.{receivedWords, tallyAfter}
+use Rattle.receiver.specs.Receiving.{remembering, tallyOf, wrongCounts, wrongState, outcome, receiveTests, receiveNumber, receiveAnswer, lostTests, lostNumber, lostAnswer}
 use Rattle.receiver.specs.declared.Receiver.{Receiver}
 use Rattle.receiver.specs.declared.Received.{Received}
 use Rattle.receiver.proofs.Enough.{firstTwelve}

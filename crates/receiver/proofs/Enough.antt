@@ -10,7 +10,7 @@ use lib.ListN.{length, getD, take, drop, length-append, length-take, length-drop
 use lib.Seq.{length-take-le}
 use Rattle.refusal.specs.Refusal.{firstOf, anyOf}
 use Rattle.refusal.proofs.Rows.{passed, row-off, rest-off, never, row-on, last-on, none-at}
-use Rattle.modes.specs.Modes.{numberOf}
+use Rattle.modes.specs.Modes.{listingNumber}
 use Rattle.modes.specs.declared.Mode.{Mode}
 use Rattle.header.proofs.Unique.{all-take}
 use Rattle.layout.specs.Control.{controlAt}
@@ -25,9 +25,10 @@ use Rattle.pdu.proofs.Assembling.{nop-small}
 use Rattle.pdu.proofs.Sizes.{lengthsFrom, sized}
 use Rattle.reassembly.specs.Reassembly.{received}
 use Rattle.reassembly.specs.Rights.{under}
-use Rattle.reassembly.specs.Run.{bytesOf, partialOf}
+use Rattle.reassembly.specs.Run.{partialBytes, partialOf}
 use Rattle.reassembly.proofs.Bound.{pieceBytes, bound}
-use Rattle.receiver.specs.Receiving.{piecesIn, saidBy, comeBy, said, memoryOf, modeOf, wrongState, receivedWords, receiveTests, receiveNumber, lostNumber}
+use Rattle.receiver.proofs.AfterReceiving.{receivedWords}
+use Rattle.receiver.specs.Receiving.{piecesIn, saidBy, comeBy, said, memoryOf, modeOf, wrongState, receiveTests, receiveNumber, lostNumber}
 use Rattle.receiver.specs.declared.Receiver.{Receiver}
 use Rattle.receiver.proofs.Rows.{both-on, same-listing}
 
@@ -44,7 +45,7 @@ pieces-few register width c y k (suc n) =
     let t = taken-few (lengthAt width c y k) (startAt width c y k) y in
     (ap suc (h .0), omega (arith, h .1, t))
 
-pub held-few : (held number : ℕ) (c : List ℕ) → held ≤ 4096 → length (bytesOf (partialOf held number c)) ≤ 4096
+pub held-few : (held number : ℕ) (c : List ℕ) → held ≤ 4096 → length (partialBytes (partialOf held number c)) ≤ 4096
 held-few zero number c h = omega arith
 held-few (suc x) number c h = let e = length-take (suc x) c in omega (arith, e, h)
 
@@ -85,7 +86,7 @@ module _ (marks carry pdu log : List ℕ) (r : Receiver) where
       ∷ (not (leb 96 (length pdu) && leb (length pdu) 20480), 3)
       ∷ (not (eqb (marksRefusal marks) 0), 19)
       ∷ (uncorrectable (correctedWith marks (take 96 pdu)), 4)
-      ∷ (not (eqb (numberOf (listingOf c)) 0), 5)
+      ∷ (not (eqb (listingNumber (listingOf c)) 0), 5)
       ∷ (not (eqb (c .mode) (r .mode) && eqb (c .stream) (r .stream)), 6)
       ∷ readerTests (modeIn (listingOf c)) c y
 

@@ -10,7 +10,7 @@ use lib.Seq.{getD-take, getD-drop, ext-getD}
 use Rattle.layout.specs.declared.ControlWord.{ControlWord}
 use Rattle.expansion.specs.Expansion.{nothing, oneMore, chainLength, expansionLength, septetsAt, interpretation, expansionAt}
 use Rattle.expansion.specs.declared.Interpreted.{Interpreted}
-use Rattle.pdu.specs.Reading.{afterLocators, expansionBytes, fieldsOf}
+use Rattle.pdu.specs.Reading.{afterLocators, expansionCount, fieldsOf}
 
 -- ---- a chain ends within its list, and is read from its own bytes
 
@@ -100,7 +100,7 @@ module _ (width : ℕ) (c : ControlWord) (y z : List ℕ) (long : length y ≡ l
   unfolding expansionAt
   some-right n e right z = absurd (true≢false (sym right ∙ ap (λ (m : ℕ). cond (eqb m 0) (nothing false) (interpretation (septetsAt y at m)) .right) (e ∙ z)))
 
-  pub fields-same : fieldsOf width c y .right ≡ true → ((i : ℕ) → at ≤ i → i < at + expansionBytes width c y → getD y i 0 ≡ getD z i 0) → fieldsOf width c y ≡ fieldsOf width c z
+  pub fields-same : fieldsOf width c y .right ≡ true → ((i : ℕ) → at ≤ i → i < at + expansionCount width c y → getD y i 0 ≡ getD z i 0) → fieldsOf width c y ≡ fieldsOf width c z
   fields-same right same = go (c .flag) right same
     where
       flagged : (n : ℕ) → expansionLength y at (c .la) ≡ n → expansionAt y at (c .la) .right ≡ true → ((i : ℕ) → at ≤ i → i < at + n → getD y i 0 ≡ getD z i 0) → expansionAt y at (c .la) ≡ expansionAt z at (c .la)

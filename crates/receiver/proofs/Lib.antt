@@ -1,3 +1,4 @@
+pub mod AfterReceiving
 pub mod Answering
 pub mod Bounds
 pub mod Calling

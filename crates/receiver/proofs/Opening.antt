@@ -5,7 +5,7 @@ use mathlib.Core.List.{List, [], _∷_}
 use Prim.Native.Nat.{ℕ}
 use lib.Dec.{eqb}
 use Rattle.refusal.specs.Refusal.{firstOf}
-use Rattle.modes.specs.Modes.{listing, numberOf}
+use Rattle.modes.specs.Modes.{listing, listingNumber}
 use Rattle.modes.specs.declared.Mode.{Mode}
 use Rattle.modes.specs.declared.Listing.{Listing}
 use Rattle.modes.specs.declared.Listing.the-variants.{Listed, Refused}
@@ -15,7 +15,7 @@ use Rattle.receiver.specs.declared.Opened.{Opened}
 use Rattle.receiver.specs.Receiving.{noReceiver, fresh, openingNumber, openedBy, openedFor, receiveNumber, lostNumber}
 
 abbrev rows : Listing → Bool → ℕ
-rows l ok = firstOf ((not (eqb (numberOf l) 0), 5) ∷ (not ok, 22) ∷ [])
+rows l ok = firstOf ((not (eqb (listingNumber l) 0), 5) ∷ (not ok, 22) ∷ [])
 
 module _ (mode stream register : ℕ) (programs : List ℕ) (l : Listing) (e : l ≡ listing mode stream) where
   by-rows : (k : Listing) (ok : Bool) → l ≡ k → allowedPrograms programs ≡ ok → openedBy (rows k ok) (fresh mode stream register (maskOf programs)) ≡ openedFor mode stream register programs

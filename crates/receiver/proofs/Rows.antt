@@ -10,7 +10,7 @@ use lib.ListN.{length, getD, take}
 use borrow.Author.Tests.{eqb-true, leb-false, ltb-false, eq-eqb, lt-ltb, le-ltb}
 use Rattle.refusal.specs.Refusal.{firstOf, anyOf}
 use Rattle.refusal.proofs.Rows.{past, row-off, none-at}
-use Rattle.modes.specs.Modes.{listing, numberOf}
+use Rattle.modes.specs.Modes.{listing, listingNumber}
 use Rattle.modes.specs.declared.Mode.{Mode}
 use Rattle.modes.specs.declared.Listing.{Listing}
 use Rattle.modes.specs.declared.Listing.the-variants.{Listed, Refused}
@@ -24,8 +24,8 @@ use Rattle.correction.specs.declared.Correction.the-variants.{Corrected, Refuse
 use Rattle.layout.specs.Control.{controlAt}
 use Rattle.layout.specs.declared.ControlWord.{ControlWord}
 use Rattle.pdu.specs.Reading.{readerTests, modeIn, listingOf, uncorrectable, widthOf}
-use Rattle.receiver.specs.Receiving.{comeBy, modeOf, wrongFields, wrongState, receiveNumber}
-use Rattle.receiver.specs.Steps.{Usable, lastTests, streamTests, correctedNumber}
+use Rattle.receiver.specs.Receiving.{comeBy, modeOf, wrongFields, wrongState, receiveNumber, lastTests}
+use Rattle.receiver.specs.Steps.{Usable, streamTests, correctedNumber}
 use Rattle.receiver.specs.declared.Receiver.{Receiver}
 
 -- rows of which one applies: later ones are not looked at
@@ -43,7 +43,7 @@ both-on false b e = absurd (true≢false e)
 
 -- what is asked of the listing of a PDU's mode and stream, and of whether these are those opened
 abbrev streamRows : Listing → Bool → ℕ
-streamRows l same = firstOf ((not (eqb (numberOf l) 0), 5) ∷ (not same, 6) ∷ [])
+streamRows l same = firstOf ((not (eqb (listingNumber l) 0), 5) ∷ (not same, 6) ∷ [])
 
 module _ (r : Receiver) (c : ControlWord) where
   pub stream-listed : (l : Listing) (m : Mode) → l ≡ listing (c .mode) (c .stream) → l ≡ Listed m
@@ -137,12 +137,12 @@ three-or false false c d = refl
 
 module _ (r : Receiver) where
   pub state-listed : (m : Mode) → listing (r .mode) (r .stream) ≡ Listed m → anyOf (wrongState r) ≡ anyOf (wrongFields m r)
-  state-listed m e = ap (λ (l : Listing). anyOf (not (eqb (numberOf l) 0) ∷ wrongFields (modeIn l) r)) e
+  state-listed m e = ap (λ (l : Listing). anyOf (not (eqb (listingNumber l) 0) ∷ wrongFields (modeIn l) r)) e
 
   pub state-unlisted : (n : ℕ) → listing (r .mode) (r .stream) ≡ Refused n → anyOf (wrongState r) ≡ true
   state-unlisted n e =
       let f : n ≡ 5 = refusal-five (r .mode) (r .stream) n e in
-      ap (λ (l : Listing). anyOf (not (eqb (numberOf l) 0) ∷ wrongFields (modeIn l) r)) (e ∙ ap Refused f)
+      ap (λ (l : Listing). anyOf (not (eqb (listingNumber l) 0) ∷ wrongFields (modeIn l) r)) (e ∙ ap Refused f)
 
   pub number-held : (held number : ℕ) → (eqb held 0 && not (eqb number 0)) ≡ false → held ≡ 0 → number ≡ 0
   number-held held number e z = eqb-true number 0 (go (eqb number 0) (rw t at e))

@@ -9,8 +9,8 @@ use lib.Dec.{eqb}
 use lib.ListN.{getD, take, drop}
 use Rattle.crc.specs.Crc.{crcFrom}
 use Rattle.layout.specs.declared.ControlWord.{ControlWord}
-use Rattle.pdu.specs.Reading.{afterLocators, expansionBytes, psdOf}
-use Rattle.reassembly.specs.Run.{pieceAt, pieceOf, piecesFrom, psdOf as psdBy, saidOf, memoryOf as memoryBy}
+use Rattle.pdu.specs.Reading.{afterLocators, expansionCount, psdOf}
+use Rattle.reassembly.specs.Run.{pieceAt, pieceOf, piecesFrom, psdBy, saidOf, memoryBy}
 use Rattle.receiver.specs.Receiving.{pieceIn, piecesIn, saidBy, labelIn, comeBy, memoryOf}
 use Rattle.receiver.specs.declared.Receiver.{Receiver}
 use Rattle.receiver.specs.Steps.{MarksOf, causeAt, CausesOf, headOf, comeOf, stateOf}
@@ -40,7 +40,7 @@ module _ (register width : ℕ) (c : ControlWord) (y marks causes : List ℕ) (e
 
   psd-same : psdBy (headOf width c y) marks y ≡ take (psdOf width c y .length) (drop (psdOf width c y .start) y)
   unfolding psdBy
-  psd-same = ap (λ (l : ℕ). take (l + 1 - (afterLocators width c + expansionBytes width c y)) (drop (afterLocators width c + expansionBytes width c y) y)) (em 0 (omega arith))
+  psd-same = ap (λ (l : ℕ). take (l + 1 - (afterLocators width c + expansionCount width c y)) (drop (afterLocators width c + expansionCount width c y) y)) (em 0 (omega arith))
 
   pub same-said : saidOf (headOf width c y) marks causes y ≡ saidBy register width c y
   unfolding saidOf saidBy

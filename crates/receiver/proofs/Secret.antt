@@ -21,11 +21,11 @@ use Rattle.pdu.proofs.Ignored.{control-same}
 use Rattle.reassembly.specs.Reassembly.{Said, Partial, nothing, Outcome, beginningStep, sequenceStep, received, remembered}
 use Rattle.reassembly.specs.Rights.{Label, forgetting, inForce, keptAfter, withheldBy}
 use Rattle.reassembly.specs.Holder.{Come}
-use Rattle.reassembly.specs.Run.{bytesOf}
+use Rattle.reassembly.specs.Run.{partialBytes}
 use Rattle.reassembly.specs.Tally.{tallied}
 use Rattle.reassembly.proofs.Withheld.{begun-held, nothing-shown}
 use Rattle.receiver.specs.Entitling.{entitles}
-use Rattle.receiver.specs.Receiving.{labelIn, comeBy, saidBy, memoryOf, keptOf, tallyOf, keepsServices, valueAt, shown, keptBy, remembering, modeOf, come, said, receiveTests, receiveNumber, receiveAnswer, carryAfter, logAfter}
+use Rattle.receiver.specs.Receiving.{labelIn, comeBy, saidBy, memoryOf, keptOf, tallyOf, keepsServices, inForceAt, shown, keptBy, remembering, modeOf, come, said, receiveTests, receiveNumber, receiveAnswer, carryAfter, logAfter}
 use Rattle.receiver.specs.Secrecy.{Withheld, SameFront, stillHeld, Same, Secrecy}
 use Rattle.receiver.specs.declared.Receiver.{Receiver}
 use Rattle.receiver.specs.declared.Received.{Received}
@@ -37,7 +37,7 @@ use Rattle.receiver.proofs.Rows.{same-listing}
 module _ (range : ℕ) (r : Receiver) (carry : List ℕ) (d e : Come) (q : d .said .sequence ≡ e .said .sequence) (p : d .said .pfirst ≡ e .said .pfirst) (s : d .said .start ≡ e .said .start) (l : d .label ≡ e .label)
     (w : shown range r carry d .withheld ≡ true)
     (n : beginningStep (d .said .pfirst) (d .said .start) (sequenceStep range (memoryOf r carry .last) (d .said .sequence) (memoryOf r carry .partial) .partial) .partial ≡ nothing) where
-  value-same : valueAt range r carry d ≡ valueAt range r carry e
+  value-same : inForceAt range r carry d ≡ inForceAt range r carry e
   value-same = ap₂ (λ (a : ℕ) (b : Label). inForce (keepsServices range r) a (b .services) (forgetting range (memoryOf r carry .last) a (keptOf r))) q l
 
   withheld-too : shown range r carry e .withheld ≡ true
@@ -119,7 +119,7 @@ module _ (carry log : List ℕ) (r : Receiver) where
     unfolding receiveAnswer carryAfter logAfter remembered
     same = record {
       answer = rw (one, two) (answer-same (modeOf r .sequences) r carry first next sequence pfirst start labels-same (a .withheld) n);
-      held = rw (one, two) (ap (λ (o : Outcome). putAt carry 0 (bytesOf (o .partial))) outcomes);
+      held = rw (one, two) (ap (λ (o : Outcome). putAt carry 0 (partialBytes (o .partial))) outcomes);
       logged = rw (one, two) (ap (λ (o : Outcome). putAt log 0 (logWords (o .entries))) outcomes);
     }
 

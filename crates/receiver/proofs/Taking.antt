@@ -11,7 +11,7 @@ use borrow.Author.Tests.{lt-ltb, le-ltb}
 use Rattle.log.specs.Log.{logWords}
 use Rattle.reassembly.specs.Reassembly.{Outcome, received, remembered}
 use Rattle.reassembly.specs.Rights.{forgetting, inForce, keptAfter, withheldBy, under}
-use Rattle.reassembly.specs.Run.{bytesOf, numberOf, runAfter, keeps, writes, Did, Room, placeAt, Parsed, saidOf, lastOf, memoryOf as memoryBy}
+use Rattle.reassembly.specs.Run.{partialBytes, partialNumber, runAfter, keeps, writes, Did, Room, placeAt, Parsed, saidOf, lastOf, memoryBy}
 use Rattle.reassembly.specs.Count.{countAll}
 use Rattle.reassembly.specs.Tally.{Tally, tallied, passesLimit, Countable}
 use Rattle.reassembly.specs.declared.Forecast.{Forecast}
@@ -21,8 +21,8 @@ use Rattle.reassembly.specs.declared.State.{State}
 use Rattle.reassembly.proofs.Counts.{afterEntries, count-received}
 use Rattle.reassembly.proofs.Tallies.{within-limit}
 use Rattle.receiver.specs.Entitling.{entitles}
-use Rattle.receiver.specs.Receiving.{memoryOf, keptOf, tallyOf, isKnown, orZero, keepsServices, valueAt, shown, keptBy, remembering, refusedAnswer}
-use Rattle.receiver.specs.Steps.{stateOf, servicesOf, comeOf, Usable, acceptedAfter, outcomeOf, noRoom, tallyBy, acceptedAnswer, Takes}
+use Rattle.receiver.specs.Receiving.{memoryOf, keptOf, tallyOf, isKnown, orZero, keepsServices, inForceAt, shown, keptBy, remembering, refusedAnswer, outcomeIn, logTooShort, tallyBy, takenAnswer}
+use Rattle.receiver.specs.Steps.{stateOf, servicesOf, comeOf, Usable, acceptedAfter, Takes}
 use Rattle.receiver.specs.declared.Receiver.{Receiver}
 use Rattle.receiver.specs.declared.Received.{Received}
 use Rattle.receiver.specs.declared.Services.{Services}
@@ -44,7 +44,7 @@ kept-services false v = refl
 abbrev pub forceAt : ℕ → Receiver → Head → Option ℕ
 forceAt range r head = inForce (keepsServices range r) (head .sequence) (head .services) (forgetting range (lastOf (r .known) (r .sequence)) (head .sequence) (keptOf r))
 
-value-is : (range : ℕ) (r : Receiver) (head : Head) (marks causes y carry : List ℕ) → forceAt range r head ≡ valueAt range r carry (comeOf head marks causes y)
+value-is : (range : ℕ) (r : Receiver) (head : Head) (marks causes y carry : List ℕ) → forceAt range r head ≡ inForceAt range r carry (comeOf head marks causes y)
 unfolding saidOf memoryOf
 value-is range r head marks causes y carry = refl
 
@@ -102,13 +102,13 @@ module _ {r : Receiver} {head : Head} {y marks carry : List ℕ} {state : State}
     abbrev pub Accepts : Outcome
     Accepts = received range (memoryBy state carry) (under w (saidOf head marks causes y))
 
-    withheld-as : w ≡ withheldBy (entitles (r .entitled)) (head .program) (valueAt range r carry (comeOf head marks causes y))
+    withheld-as : w ≡ withheldBy (entitles (r .entitled)) (head .program) (inForceAt range r carry (comeOf head marks causes y))
     withheld-as = k .withheldHere ∙ ap (λ (s : Services). withheldBy (entitles (r .entitled)) (head .program) (lastOf (s .known) (s .value))) (k .inForceHere) ∙ ap (withheldBy (entitles (r .entitled)) (head .program)) (known-again (forceAt range r head) ∙ value-is range r head marks causes y carry)
 
     said-as : under w (saidOf head marks causes y) ≡ shown range r carry (comeOf head marks causes y)
     said-as = ap (λ (b : Bool). under b (saidOf head marks causes y)) withheld-as
 
-    same : Accepts ≡ outcomeOf range (comeOf head marks causes y) r carry log
+    same : Accepts ≡ outcomeIn range (comeOf head marks causes y) r carry log
     same = λ i. received range ((ap (λ (s : State). memoryBy s carry) (ready .stated) ∙ same-memory r carry) i) (said-as i)
 
     as-logged : count ≡ afterEntries (record { words = 0; tally = k .before }) (Accepts .entries)
@@ -118,7 +118,7 @@ module _ {r : Receiver} {head : Head} {y marks carry : List ℕ} {state : State}
     unfolding afterEntries
     counted = ap (λ (x : Forecast). x .words) as-logged ∙ zero-add (length (logWords (Accepts .entries)))
 
-    counted-here : count .words ≡ length (logWords (outcomeOf range (comeOf head marks causes y) r carry log .entries))
+    counted-here : count .words ≡ length (logWords (outcomeIn range (comeOf head marks causes y) r carry log .entries))
     counted-here = counted ∙ ap (λ (o : Outcome). length (logWords (o .entries))) same
 
     tally-here : count .tally ≡ tallyBy range (comeOf head marks causes y) r carry log
@@ -128,13 +128,13 @@ module _ {r : Receiver} {head : Head} {y marks carry : List ℕ} {state : State}
     -- 13: the log is too short
     pub too-short : (a : Received) → length log < count .words → a ≡ refusedAnswer r 13 0 → Takes range (comeOf head marks causes y) r carry log a carry log
     too-short a h q =
-        let t : noRoom range (comeOf head marks causes y) r carry log ≡ true =
-        lt-ltb (length log) (length (logWords (outcomeOf range (comeOf head marks causes y) r carry log .entries))) (omega (arith, counted-here)) in
+        let t : logTooShort range (comeOf head marks causes y) r carry log ≡ true =
+        lt-ltb (length log) (length (logWords (outcomeIn range (comeOf head marks causes y) r carry log .entries))) (omega (arith, counted-here)) in
         rw t (answered-refused range (comeOf head marks causes y) r carry log 13 0 a (λ z. omega arith) q)
 
     module _ (h : count .words ≤ length log) (over : Bool) (eo : over ≡ passesLimit (count .tally)) where
-      room : noRoom range (comeOf head marks causes y) r carry log ≡ false
-      room = le-ltb (length log) (length (logWords (outcomeOf range (comeOf head marks causes y) r carry log .entries))) (omega (arith, counted-here))
+      room : logTooShort range (comeOf head marks causes y) r carry log ≡ false
+      room = le-ltb (length log) (length (logWords (outcomeIn range (comeOf head marks causes y) r carry log .entries))) (omega (arith, counted-here))
 
       passes : (b : Bool) → over ≡ b → passesLimit (tallyBy range (comeOf head marks causes y) r carry log) ≡ b
       passes b e = ap passesLimit (sym tally-here) ∙ sym eo ∙ e
@@ -152,7 +152,7 @@ module _ {r : Receiver} {head : Head} {y marks carry : List ℕ} {state : State}
         unfolding runAfter
         run-at = ap (λ (x : Run). x .at) (did .run) ∙ zero-add (length (logWords (Accepts .entries))) ∙ sym counted
 
-        run-held : run .held ≡ length (bytesOf (Accepts .partial))
+        run-held : run .held ≡ length (partialBytes (Accepts .partial))
         unfolding runAfter
         run-held = ap (λ (x : Run). x .held) (did .run)
 
@@ -171,12 +171,12 @@ module _ {r : Receiver} {head : Head} {y marks carry : List ℕ} {state : State}
               ek ∙ ap (λ (s : Services). cond (keepsServices range r) s (servicesOf none)) (k .inForceHere) ∙ kept-services (keepsServices range r) (forceAt range r head)
               ∙ ap (λ (v : Option ℕ). servicesOf (keptAfter (keepsServices range r) v)) (value-is range r head marks causes y carry)
 
-          run-answer : acceptedAfter r (head .sequence) kept run (count .tally) ≡ acceptedAnswer range (comeOf head marks causes y) r carry log
+          run-answer : acceptedAfter r (head .sequence) kept run (count .tally) ≡ takenAnswer range (comeOf head marks causes y) r carry log
           unfolding runAfter remembering remembered saidOf
           run-answer =
-              let at : run .at ≡ length (logWords (outcomeOf range (comeOf head marks causes y) r carry log .entries)) = run-at ∙ counted-here in
-              let held : run .held ≡ length (bytesOf (outcomeOf range (comeOf head marks causes y) r carry log .partial)) = run-held ∙ ap (λ (o : Outcome). length (bytesOf (o .partial))) same in
-              let number : run .number ≡ numberOf (outcomeOf range (comeOf head marks causes y) r carry log .partial) = ap (λ (x : Run). x .number) (did .run) ∙ ap (λ (o : Outcome). numberOf (o .partial)) same in
+              let at : run .at ≡ length (logWords (outcomeIn range (comeOf head marks causes y) r carry log .entries)) = run-at ∙ counted-here in
+              let held : run .held ≡ length (partialBytes (outcomeIn range (comeOf head marks causes y) r carry log .partial)) = run-held ∙ ap (λ (o : Outcome). length (partialBytes (o .partial))) same in
+              let number : run .number ≡ partialNumber (outcomeIn range (comeOf head marks causes y) r carry log .partial) = ap (λ (x : Run). x .number) (did .run) ∙ ap (λ (o : Outcome). partialNumber (o .partial)) same in
               λ i. record {
                 refusal = 0;
                 wrong = 0;

@@ -24,12 +24,12 @@ power zero = 1
 power (suc p) = 2 * power p
 
 -- the bits of these programs that pass a test
-abbrev pub bitsOf : (ℕ → Bool) → List ℕ → ℕ
-bitsOf f [] = 0
-bitsOf f (p ∷ programs) = cond (f p) (power p) 0 + bitsOf f programs
+abbrev pub programBits : (ℕ → Bool) → List ℕ → ℕ
+programBits f [] = 0
+programBits f (p ∷ programs) = cond (f p) (power p) 0 + programBits f programs
 
 unfoldable pub maskOf : List ℕ → ℕ
-maskOf programs = bitsOf (isListed programs) allPrograms
+maskOf programs = programBits (isListed programs) allPrograms
 
 unfoldable pub entitles : ℕ → ℕ → Bool
 entitles mask p = leb p 7 && eqb (mask / power p % 2) 1

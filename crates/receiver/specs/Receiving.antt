@@ -6,23 +6,22 @@ use Prim.Native.Nat.{ℕ, zero, suc}
 use lib.Dec.{eqb, ltb, leb}
 use lib.ListN.{length, getD, take, drop}
 use Rattle.refusal.specs.Refusal.{firstOf, anyOf}
-use Rattle.modes.specs.Modes.{listing, numberOf}
+use Rattle.modes.specs.Modes.{listing, listingNumber}
 use Rattle.modes.specs.declared.Mode.{Mode}
-use Rattle.modes.specs.declared.Listing.{Listing}
-use Rattle.modes.specs.declared.Listing.the-variants.{Listed, Refused}
 use Rattle.buffer.specs.Buffer.{putAt}
 use Rattle.crc.specs.Crc.{crcFrom}
 use Rattle.layout.specs.Control.{controlAt}
 use Rattle.layout.specs.declared.ControlWord.{ControlWord}
 use Rattle.layout.specs.Locators.{locatorAt}
 use Rattle.log.specs.Log.{logWords}
+use Rattle.header.specs.Header.{allowedLength}
 use Rattle.correction.specs.Marks.{marksRefusal, correctedWith, correctedPduWith}
 use Rattle.pdu.specs.Reading.{startAt, lengthAt, fieldsOf, psdOf, readerTests, listingOf, modeIn, uncorrectable, wrongOf}
 use Rattle.reassembly.specs.Reassembly.{Piece, Said, Memory, Outcome, received, remembered, lostEntries, forgotten}
 use Rattle.reassembly.specs.Rights.{Rights, Label, keptAfter}
 use Rattle.reassembly.specs.Tally.{Tally, tallied, passesLimit}
 use Rattle.reassembly.specs.Holder.{Come, Holder, valueFor, saidTo}
-use Rattle.reassembly.specs.Run.{bytesOf, numberOf as partialNumber, partialOf, lastOf}
+use Rattle.reassembly.specs.Run.{partialBytes, partialNumber, partialOf, lastOf}
 use Rattle.receiver.specs.Entitling.{allowedPrograms, maskOf, allPrograms, entitles}
 use Rattle.receiver.specs.declared.Receiver.{Receiver}
 use Rattle.receiver.specs.declared.Opened.{Opened}
@@ -41,7 +40,7 @@ fresh mode stream register entitled =
 
 -- 5, mode and stream not in the table; then 22, a program number over 7 or repeated
 abbrev pub openingTests : ℕ → ℕ → List ℕ → List (Bool × ℕ)
-openingTests mode stream programs = (not (eqb (numberOf (listing mode stream)) 0), 5) ∷ (not (allowedPrograms programs), 22) ∷ []
+openingTests mode stream programs = (not (eqb (listingNumber (listing mode stream)) 0), 5) ∷ (not (allowedPrograms programs), 22) ∷ []
 
 unfoldable pub openingNumber : ℕ → ℕ → List ℕ → ℕ
 openingNumber mode stream programs = firstOf (openingTests mode stream programs)
@@ -54,8 +53,8 @@ unfoldable pub openedFor : ℕ → ℕ → ℕ → List ℕ → Opened
 openedFor mode stream register programs = openedBy (openingNumber mode stream programs) (fresh mode stream register (maskOf programs))
 
 -- a receiver that is told no programs is entitled to all
-unfoldable pub opened : ℕ → ℕ → ℕ → Opened
-opened mode stream register = openedFor mode stream register allPrograms
+unfoldable pub receiverOpened : ℕ → ℕ → ℕ → Opened
+receiverOpened mode stream register = openedFor mode stream register allPrograms
 
 -- ---- what a corrected PDU y says, by the register that CRCs start with, its control word c and locators of a width
 
@@ -123,7 +122,7 @@ remembering r x kept tally = record {
   entitled = r .entitled;
   known = isKnown (x .last);
   sequence = orZero (x .last);
-  held = length (bytesOf (x .partial));
+  held = length (partialBytes (x .partial));
   number = partialNumber (x .partial);
   serviced = isKnown kept;
   services = orZero kept;
@@ -143,14 +142,14 @@ abbrev pub rightsOf : ℕ → Receiver → Rights
 rightsOf range r = record { entitled = entitles (r .entitled); keeps = keepsServices range r }
 
 -- the applied services in force at a PDU, what it says to this receiver, and what is kept after it
-abbrev pub valueAt : ℕ → Receiver → List ℕ → Come → Option ℕ
-valueAt range r carry d = valueFor (rightsOf range r) range (holderOf r carry) d
+abbrev pub inForceAt : ℕ → Receiver → List ℕ → Come → Option ℕ
+inForceAt range r carry d = valueFor (rightsOf range r) range (holderOf r carry) d
 
 abbrev pub shown : ℕ → Receiver → List ℕ → Come → Said
 shown range r carry d = saidTo (rightsOf range r) range (holderOf r carry) d
 
 abbrev pub keptBy : ℕ → Receiver → List ℕ → Come → Option ℕ
-keptBy range r carry d = keptAfter (keepsServices range r) (valueAt range r carry d)
+keptBy range r carry d = keptAfter (keepsServices range r) (inForceAt range r carry d)
 
 -- ---- what is turned down
 
@@ -186,17 +185,44 @@ wrongFields m r =
 
 -- 1: mode and stream not in the table, or a field outside its range
 abbrev pub wrongState : Receiver → List Bool
-wrongState r = not (eqb (numberOf (listing (r .mode) (r .stream))) 0) ∷ wrongFields (modeOf r) r
+wrongState r = not (eqb (listingNumber (listing (r .mode) (r .stream))) 0) ∷ wrongFields (modeOf r) r
 
 -- a refusal leaves the receiver as it was; k is 0 but with 11
 abbrev pub refusedAnswer : Receiver → ℕ → ℕ → Received
 refusedAnswer r number k = record { refusal = number; wrong = k; words = 0; receiver = r }
 
+-- ---- a PDU as it comes, of a stream of so many sequences, to a receiver
+
+module _ (range : ℕ) (come : Come) (r : Receiver) (carry log : List ℕ) where
+  -- what is logged and held
+  abbrev pub outcomeIn : Outcome
+  outcomeIn = received range (memoryOf r carry) (shown range r carry come)
+
+  abbrev pub logTooShort : Bool
+  logTooShort = ltb (length log) (length (logWords (outcomeIn .entries)))
+
+  -- delivered, missing and the last delivered number after it
+  abbrev pub tallyBy : Tally
+  tallyBy = tallied (tallyOf r) (outcomeIn .entries)
+
+  -- 13: log shorter than the words; 27: a count would pass 4,294,967,295
+  abbrev pub lastTests : List (Bool × ℕ)
+  lastTests = (logTooShort, 13) ∷ (passesLimit tallyBy, 27) ∷ []
+
+  -- the answer where it is accepted, with what is remembered
+  abbrev pub takenAnswer : Received
+  takenAnswer = record {
+    refusal = 0;
+    wrong = 0;
+    words = length (logWords (outcomeIn .entries));
+    receiver = remembering r (remembered range (memoryOf r carry) (shown range r carry come)) (keptBy range r carry come) tallyBy;
+  }
+
 -- ---- receiving a PDU
 
 -- the PDU's marked places, the lent carry, PDU and log before the call, and the receiver
 module _ (marks carry pdu log : List ℕ) (r : Receiver) where
-  -- the corrected PDU as it comes, what it says to the receiver, what is logged and held, and what is remembered
+  -- the corrected PDU as it comes, what it says to the receiver, and what is logged and held
   abbrev pub come : Come
   come = comeBy (r .register) (modeOf r .width) (controlAt (correctedPduWith marks pdu)) (correctedPduWith marks pdu)
 
@@ -204,20 +230,7 @@ module _ (marks carry pdu log : List ℕ) (r : Receiver) where
   said = shown (modeOf r .sequences) r carry come
 
   abbrev pub outcome : Outcome
-  outcome = received (modeOf r .sequences) (memoryOf r carry) said
-
-  abbrev pub receivedWords : List ℕ
-  receivedWords = logWords (outcome .entries)
-
-  abbrev pub memoryAfter : Memory
-  memoryAfter = remembered (modeOf r .sequences) (memoryOf r carry) said
-
-  abbrev pub keptServices : Option ℕ
-  keptServices = keptBy (modeOf r .sequences) r carry come
-
-  -- delivered, missing and the last delivered number after it
-  abbrev pub tallyAfter : Tally
-  tallyAfter = tallied (tallyOf r) (outcome .entries)
+  outcome = outcomeIn (modeOf r .sequences) come r carry log
 
   -- rows 1 to 13, in the table's order, 19 directly after 3, and 27 after 13
   abbrev pub receiveTests : List (Bool × ℕ)
@@ -226,15 +239,13 @@ module _ (marks carry pdu log : List ℕ) (r : Receiver) where
       let c = controlAt y in
       (anyOf (wrongState r), 1)
       ∷ (ltb (length carry) 4096, 2)  -- carry under 4,096 bytes
-      ∷ (not (leb 96 (length pdu) && leb (length pdu) 20480), 3)  -- length not 96 to 20,480
+      ∷ (not (allowedLength (length pdu)), 3)
       ∷ (not (eqb (marksRefusal marks) 0), 19)  -- more than eight marks, one over 95, or one repeated
       ∷ (uncorrectable (correctedWith marks (take 96 pdu)), 4)  -- the paper's beyond mending
-      ∷ (not (eqb (numberOf (listingOf c)) 0), 5)  -- mode and stream not in the table
+      ∷ (not (eqb (listingNumber (listingOf c)) 0), 5)  -- mode and stream not in the table
       ∷ (not (eqb (c .mode) (r .mode) && eqb (c .stream) (r .stream)), 6)  -- not those opened
       ∷ (readerTests (modeIn (listingOf c)) c y  -- 7 to 12
-      ++ (ltb (length log) (length receivedWords), 13)  -- log shorter than the words
-      ∷ (passesLimit tallyAfter, 27)  -- a count would pass 4,294,967,295
-      ∷ [])
+      ++ lastTests (modeOf r .sequences) come r carry log)  -- 13 and 27
 
   -- the number of the first row that applies, 0 where the PDU is accepted
   unfoldable pub receiveNumber : ℕ
@@ -243,19 +254,19 @@ module _ (marks carry pdu log : List ℕ) (r : Receiver) where
   -- the answer
   unfoldable pub receiveAnswer : Received
   receiveAnswer =
-      cond (eqb receiveNumber 0) (record { refusal = 0; wrong = 0; words = length receivedWords; receiver = remembering r memoryAfter keptServices tallyAfter })
+      cond (eqb receiveNumber 0) (takenAnswer (modeOf r .sequences) come r carry log)
       (refusedAnswer r receiveNumber (wrongOf (correctedPduWith marks pdu) receiveNumber))
 
   -- the buffers after the call: what is held stands first in the carry, the PDU is corrected, the words stand in the log from its first
   -- word on; all other bytes and words are as they were
   unfoldable pub carryAfter : List ℕ
-  carryAfter = cond (eqb receiveNumber 0) (putAt carry 0 (bytesOf (outcome .partial))) carry
+  carryAfter = cond (eqb receiveNumber 0) (putAt carry 0 (partialBytes (outcome .partial))) carry
 
   unfoldable pub pduAfter : List ℕ
   pduAfter = cond (eqb receiveNumber 0) (correctedPduWith marks pdu) pdu
 
   unfoldable pub logAfter : List ℕ
-  logAfter = cond (eqb receiveNumber 0) (putAt log 0 receivedWords) log
+  logAfter = cond (eqb receiveNumber 0) (putAt log 0 (logWords (outcome .entries))) log
 
 -- ---- marking a PDU lost, which takes no PDU and no carry: all that is remembered is forgotten, but the counts and the last delivered number stay
 

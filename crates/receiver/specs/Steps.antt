@@ -9,20 +9,19 @@ use lib.ListN.{length, getD}
 use Rattle.buffer.specs.Buffer.{putAt}
 use Rattle.crc.specs.Crc.{crcFrom}
 use Rattle.refusal.specs.Refusal.{firstOf, anyOf}
-use Rattle.modes.specs.Modes.{numberOf}
+use Rattle.modes.specs.Modes.{listingNumber}
 use Rattle.modes.specs.declared.Mode.{Mode}
 use Rattle.layout.specs.Control.{controlAt}
 use Rattle.layout.specs.declared.ControlWord.{ControlWord}
 use Rattle.log.specs.Log.{logWords}
-use Rattle.pdu.specs.Reading.{afterLocators, expansionBytes, fieldsOf, markAt, modeIn, listingOf, readerTests}
-use Rattle.reassembly.specs.Reassembly.{Outcome, received, remembered}
+use Rattle.pdu.specs.Reading.{afterLocators, expansionCount, fieldsOf, markAt, modeIn, listingOf, readerTests}
 use Rattle.reassembly.specs.Holder.{Come}
-use Rattle.reassembly.specs.Tally.{Tally, tallied, passesLimit}
-use Rattle.reassembly.specs.Run.{bytesOf, pieceAt, saidOf}
+use Rattle.reassembly.specs.Tally.{Tally}
+use Rattle.reassembly.specs.Run.{partialBytes, pieceAt, saidOf}
 use Rattle.reassembly.specs.declared.Head.{Head}
 use Rattle.reassembly.specs.declared.Run.{Run}
 use Rattle.reassembly.specs.declared.State.{State}
-use Rattle.receiver.specs.Receiving.{comeBy, memoryOf, tallyOf, isKnown, orZero, shown, keptBy, remembering, wrongState, refusedAnswer}
+use Rattle.receiver.specs.Receiving.{comeBy, isKnown, orZero, wrongState, refusedAnswer, outcomeIn, lastTests, takenAnswer}
 use Rattle.receiver.specs.declared.Receiver.{Receiver}
 use Rattle.receiver.specs.declared.Received.{Received}
 use Rattle.receiver.specs.declared.Services.{Services}
@@ -41,7 +40,7 @@ abbrev pub CausesOf : ℕ → List ℕ → List ℕ → ℕ → List ℕ → Typ
 CausesOf register y marks nop causes = (k : ℕ) → k < nop → getD causes k 0 ≡ causeAt register y marks k
 
 abbrev pub headOf : ℕ → ControlWord → List ℕ → Head
-headOf width c y = record { sequence = c .sequence; pfirst = c .pfirst; plast = c .plast; start = c .start; psd = afterLocators width c + expansionBytes width c y; nop = c .nop; program = fieldsOf width c y .program; services = fieldsOf width c y .services }
+headOf width c y = record { sequence = c .sequence; pfirst = c .pfirst; plast = c .plast; start = c .start; psd = afterLocators width c + expansionCount width c y; nop = c .nop; program = fieldsOf width c y .program; services = fieldsOf width c y .services }
 
 -- a PDU as it comes, by its header, marks and causes
 abbrev pub comeOf : Head → List ℕ → List ℕ → List ℕ → Come
@@ -116,31 +115,10 @@ forgetful r words = record {
 -- ---- the answer and the buffers after a step, by the lowest number that applies, 0 where there is none, and the k that comes with it
 
 module _ (range : ℕ) (come : Come) (r : Receiver) (carry log : List ℕ) where
-  abbrev pub outcomeOf : Outcome
-  outcomeOf = received range (memoryOf r carry) (shown range r carry come)
-
-  abbrev pub noRoom : Bool
-  noRoom = ltb (length log) (length (logWords (outcomeOf .entries)))
-
-  abbrev pub tallyBy : Tally
-  tallyBy = tallied (tallyOf r) (outcomeOf .entries)
-
-  -- 13: log shorter than the words; 27: a count would pass 4,294,967,295
-  abbrev pub lastTests : List (Bool × ℕ)
-  lastTests = (noRoom, 13) ∷ (passesLimit tallyBy, 27) ∷ []
-
-  abbrev pub acceptedAnswer : Received
-  acceptedAnswer = record {
-    refusal = 0;
-    wrong = 0;
-    words = length (logWords (outcomeOf .entries));
-    receiver = remembering r (remembered range (memoryOf r carry) (shown range r carry come)) (keptBy range r carry come) tallyBy;
-  }
-
   pub record Answered (n k : ℕ) (a : Received) (carryAfter logAfter : List ℕ) : Type 0 where
-    pub answer : a ≡ cond (eqb n 0) acceptedAnswer (refusedAnswer r n k)
-    pub held : carryAfter ≡ cond (eqb n 0) (putAt carry 0 (bytesOf (outcomeOf .partial))) carry
-    pub logged : logAfter ≡ cond (eqb n 0) (putAt log 0 (logWords (outcomeOf .entries))) log
+    pub answer : a ≡ cond (eqb n 0) (takenAnswer range come r carry log) (refusedAnswer r n k)
+    pub held : carryAfter ≡ cond (eqb n 0) (putAt carry 0 (partialBytes (outcomeIn range come r carry log .partial))) carry
+    pub logged : logAfter ≡ cond (eqb n 0) (putAt log 0 (logWords (outcomeIn range come r carry log .entries))) log
 
 -- 13 or 27, or accepted
 abbrev pub Takes : ℕ → Come → Receiver → List ℕ → List ℕ → Received → List ℕ → List ℕ → Type 0
@@ -150,7 +128,7 @@ Takes range come r carry log a carryAfter logAfter = Answered range come r carry
 
 -- mode and stream not in the table, or not those opened
 abbrev pub streamTests : Receiver → ControlWord → List (Bool × ℕ)
-streamTests r c = (not (eqb (numberOf (listingOf c)) 0), 5) ∷ (not (eqb (c .mode) (r .mode) && eqb (c .stream) (r .stream)), 6) ∷ []
+streamTests r c = (not (eqb (listingNumber (listingOf c)) 0), 5) ∷ (not (eqb (c .mode) (r .mode) && eqb (c .stream) (r .stream)), 6) ∷ []
 
 -- the number of the first row from 5 on that applies, for a receiver of a mode
 unfoldable pub correctedNumber : Mode → Receiver → List ℕ → List ℕ → List ℕ → ℕ

@@ -25,7 +25,7 @@ ghost use Rattle.reassembly.specs.Run.{placeAt, Marked, Parsed, lastOf};
 ghost use Rattle.reassembly.specs.Rights.{forgetting, inForce, withheldBy};
 ghost use Rattle.reassembly.specs.Tally.{passesLimit};
 ghost use Rattle.receiver.specs.Entitling.{isListed, allowedPrograms, maskOf, entitles};
-ghost use Rattle.receiver.specs.Receiving.{comeBy, fresh as freshFor, noReceiver, openedFor, opened, keptOf, tallyOf, keepsServices, wrongServices, wrongCounts, wrongFields, refusedAnswer, receiveAnswer, carryAfter, pduAfter, logAfter, lostAnswer, logAfterLost};
+ghost use Rattle.receiver.specs.Receiving.{comeBy, fresh as freshFor, noReceiver, openedFor, receiverOpened, keptOf, tallyOf, keepsServices, wrongServices, wrongCounts, wrongFields, refusedAnswer, receiveAnswer, carryAfter, pduAfter, logAfter, lostAnswer, logAfterLost};
 ghost use Rattle.receiver.specs.Steps.{MarksOf, causeAt, CausesOf, headOf, comeOf, stateOf, servicesOf, stateTests, Usable, acceptedAfter, Answered, Takes, streamTests, correctedNumber, forgetful};
 
 // What a receiver was opened with, and what it remembers. A field not known or not held is 0; held length 0 means nothing held.
@@ -180,7 +180,7 @@ pub fn open_entitled(mode: u8, stream: u8, register: u8, programs: &[u8]) -> Ope
 
 // Opens a receiver that is entitled to all programs, 0 to 7; or refuses with 5.
 pub fn open(mode: u8, stream: u8, register: u8) -> Opened
-    ensures { λ r. ⌜ r ≡ opened mode stream register ⌝ }
+    ensures { λ r. ⌜ r ≡ receiverOpened mode stream register ⌝ }
 {
     let programs = [0u8, 1, 2, 3, 4, 5, 6, 7];
     open_entitled(mode, stream, register, &programs)

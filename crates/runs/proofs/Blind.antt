@@ -6,8 +6,9 @@ use mathlib.Core.Option.{Option, some}
 use Rattle.reassembly.specs.Reassembly.{Said, received, remembered}
 use Rattle.reassembly.specs.Rights.{Rights, Label, forgetting, inForce, keptAfter, withheldBy, under}
 use Rattle.reassembly.specs.Tally.{tallied}
-use Rattle.reassembly.specs.Holder.{Come, came, Holder, valueFor, saidTo, holderFor}
+use Rattle.reassembly.specs.Holder.{Come, Holder, valueFor, saidTo}
 use Rattle.reassembly.proofs.Blind.{blankSaid, received-blind}
+use Rattle.runs.proofs.Events.{came, holderFor}
 
 module _ (rights : Rights) (range : ℕ) (x : Holder) (a b : Come) (said : blankSaid (a .said) ≡ blankSaid (under false (b .said))) (label : a .label ≡ b .label) where
   sequence-same : a .said .sequence ≡ b .said .sequence

@@ -10,7 +10,8 @@ use Rattle.log.specs.Log.{logWords}
 use Rattle.log.proofs.Packets.{FitAll}
 use Rattle.reassembly.specs.Reassembly.{following}
 use Rattle.reassembly.specs.Rights.{Rights, Label, inForce, barred}
-use Rattle.reassembly.specs.Holder.{Event, Holder, entriesFor, holderFor, logged, after}
+use Rattle.reassembly.specs.Holder.{Holder}
+use Rattle.runs.proofs.Events.{Event, entriesFor, holderFor, logged, after}
 use Rattle.runs.specs.Spans.{Fate, lose, read}
 use Rattle.runs.specs.Transmissions.{Way, gone, here}
 use Rattle.runs.proofs.Transmissions.{fateOf, keptOf, plansFrom}

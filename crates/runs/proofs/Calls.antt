@@ -12,7 +12,8 @@ use Rattle.log.proofs.Packets.{FitAll}
 use Rattle.reassembly.specs.Reassembly.{following}
 use Rattle.reassembly.specs.Rights.{Rights, Label}
 use Rattle.reassembly.specs.Tally.{Tally, Grows}
-use Rattle.reassembly.specs.Holder.{Come, Event, lost, came, Holder, logged, after}
+use Rattle.reassembly.specs.Holder.{Come, Holder}
+use Rattle.runs.proofs.Events.{Event, lost, came, logged, after}
 use Rattle.runs.proofs.Model.{cut, Fits, sentAfter, saidOf, bytesIn, fatesOf}
 use Rattle.runs.specs.Spans.{Fate, lose, Span}
 use Rattle.runs.specs.Transmissions.{Way, gone, here}

@@ -4,7 +4,8 @@ use mathlib.Core.Path.{_≡_, refl, sym, subst, _∙_}
 use mathlib.Core.List.{List, []}
 use lib.ListN.{length}
 use Rattle.reassembly.specs.Rights.{Rights}
-use Rattle.reassembly.specs.Holder.{Holder, after}
+use Rattle.reassembly.specs.Holder.{Holder}
+use Rattle.runs.proofs.Events.{after}
 use Rattle.runs.specs.Transmissions.{Way}
 use Rattle.runs.proofs.Calls.{Speech, heard, Matching, Machine, Serves, Bridge}
 use Rattle.runs.proofs.Bridges.{serves-none, nextAll, wordsAll, HandsAll, GoodAll, batched}

@@ -13,7 +13,8 @@ use Rattle.log.specs.Log.{Entry, packet, psd, note, packetsOf}
 use Rattle.reassembly.specs.Rights.{Rights}
 use Rattle.reassembly.specs.Tally.{Tally, noTally, gap, counted, tallied}
 use Rattle.reassembly.proofs.Tallies.{tally-append}
-use Rattle.reassembly.specs.Holder.{Event, lost, came, Holder, opened, entriesFor, holderFor, logged, after}
+use Rattle.reassembly.specs.Holder.{Holder}
+use Rattle.runs.proofs.Events.{Event, lost, came, openedHolder, entriesFor, holderFor, logged, after}
 use Rattle.runs.specs.Spans.{Mark}
 use Rattle.runs.proofs.Model.{isDue, wanted, runMarks, AllFit, Sized}
 use Rattle.runs.proofs.Transmissions.{Transmission, plansFrom, eventsFrom, dueFrom}
@@ -125,7 +126,7 @@ counts-of ps m es e c =
 -- first delivered to the last.
 pub run-counts : (rights : Rights) (range : ℕ) (ps : List (List ℕ)) (cs : List Transmission) → AllFit 0 ps (plansFrom rights range 0 none cs) → Sized ps
     → Close (dueFrom 0 ps (runMarks 0 ps (plansFrom rights range 0 none cs)))
-    → AddsUp (dueFrom 0 ps (runMarks 0 ps (plansFrom rights range 0 none cs))) (after rights range opened (eventsFrom rights range 0 0 0 ps cs) .tally)
+    → AddsUp (dueFrom 0 ps (runMarks 0 ps (plansFrom rights range 0 none cs))) (after rights range openedHolder (eventsFrom rights range 0 0 0 ps cs) .tally)
 run-counts rights range ps cs h z c =
-    rw (run-tally rights range (eventsFrom rights range 0 0 0 ps cs) opened)
-    (counts-of ps (runMarks 0 ps (plansFrom rights range 0 none cs)) (logged rights range opened (eventsFrom rights range 0 0 0 ps cs)) (entitled-run rights range ps cs h z) c)
+    rw (run-tally rights range (eventsFrom rights range 0 0 0 ps cs) openedHolder)
+    (counts-of ps (runMarks 0 ps (plansFrom rights range 0 none cs)) (logged rights range openedHolder (eventsFrom rights range 0 0 0 ps cs)) (entitled-run rights range ps cs h z) c)

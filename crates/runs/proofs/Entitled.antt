@@ -9,7 +9,8 @@ use lib.ListN.{drop}
 use Rattle.log.specs.Log.{Entry, packetsOf}
 use Rattle.reassembly.specs.Reassembly.{following, inSequence, remembered, received}
 use Rattle.reassembly.specs.Rights.{Rights, inForce, withheldBy}
-use Rattle.reassembly.specs.Holder.{Come, lost, came, Holder, opened, entriesFor, holderFor, logged}
+use Rattle.reassembly.specs.Holder.{Come, Holder}
+use Rattle.runs.proofs.Events.{lost, came, openedHolder, entriesFor, holderFor, logged}
 use Rattle.runs.specs.Spans.{lose}
 use Rattle.runs.proofs.Model.{sentAfter, saidOf, eventOf as eventIn, events, runMarks, wanted, AllFit, Sized, logged as loggedOf}
 use Rattle.runs.specs.Transmissions.{Way, gone, here}
@@ -45,5 +46,5 @@ module _ (rights : Rights) (range : ℕ) where
 
 -- A fresh receiver with these rights: the packets logged are those whose bytes were all taken and that begin in a PDU not withheld, in order.
 pub entitled-run : (rights : Rights) (range : ℕ) (ps : List (List ℕ)) (cs : List Transmission) → AllFit 0 ps (plansFrom rights range 0 none cs) → Sized ps
-    → packetsOf (logged rights range opened (eventsFrom rights range 0 0 0 ps cs)) ≡ wanted 0 ps (runMarks 0 ps (plansFrom rights range 0 none cs))
-entitled-run rights range ps cs h z = ap packetsOf (same-log rights range cs opened 0 0 0 ps refl) ∙ run-delivers range ps (plansFrom rights range 0 none cs) h z
+    → packetsOf (logged rights range openedHolder (eventsFrom rights range 0 0 0 ps cs)) ≡ wanted 0 ps (runMarks 0 ps (plansFrom rights range 0 none cs))
+entitled-run rights range ps cs h z = ap packetsOf (same-log rights range cs openedHolder 0 0 0 ps refl) ∙ run-delivers range ps (plansFrom rights range 0 none cs) h z

@@ -15,7 +15,8 @@ use Rattle.reassembly.specs.Reassembly.{following}
 use Rattle.reassembly.specs.Rights.{Rights}
 use Rattle.reassembly.specs.Tally.{Tally, noTally, tallied, Grows, Countable}
 use Rattle.reassembly.proofs.Tallies.{tally-grows}
-use Rattle.reassembly.specs.Holder.{Event, lost, Holder, opened, entriesFor, holderFor, logged, after}
+use Rattle.reassembly.specs.Holder.{Holder}
+use Rattle.runs.proofs.Events.{Event, lost, openedHolder, entriesFor, holderFor, logged, after}
 use Rattle.runs.proofs.Model.{cut, sentAfter, Plan, runMarks, wanted, AllFit, Sized, wholePackets, bytesIn, spansOf, fatesOf}
 use Rattle.runs.specs.Spans.{Mark, verdicts, packetAt, covers, lies, wholeIndices, dueAt}
 use Rattle.runs.specs.Transmissions.{Way, gone, here, Close, AddsUp}
@@ -134,8 +135,8 @@ module _ (rights : Rights) (range : ℕ) where
 
   -- PDUs before the run are as good as lost: a fresh receiver is one after a lost PDU
   record Same (a b : List Event) : Type 0 where
-    packets : packetsOf (logged rights range opened a) ≡ packetsOf (logged rights range opened b)
-    after′ : after rights range opened a ≡ after rights range opened b
+    packets : packetsOf (logged rights range openedHolder a) ≡ packetsOf (logged rights range openedHolder b)
+    after′ : after rights range openedHolder a ≡ after rights range openedHolder b
 
   skip : (first : ℕ) (ws : List Way) (ds : List Speech) → Same (heard ws (drop first ds)) (heard (replicate first gone ++ ws) ds)
   unfolding heard logged after packetsOf tallied
@@ -184,7 +185,7 @@ module _ (rights : Rights) (range : ℕ) (M : Machine) (B : Bridge rights range 
     pub fits : LoadsFit 0 ps loads
     pub says : Matching (B .Says) made (speechesFrom range 0 0 0 ps loads)
     pub run : handed B ss ≡ take count (drop first made)
-    pub fresh : B .Stands x opened
+    pub fresh : B .Stands x openedHolder
     pub through : Through B x ss
     pub countable : B .Within (tallied noTally arrivals)
 
@@ -234,36 +235,36 @@ module _ (rights : Rights) (range : ℕ) (M : Machine) (B : Bridge rights range 
     marks-are : lies ps (spansOf 0 0 ps plans) (fatesOf plans) ≡ byteMarks
     marks-are = fun-ext (λ j. same-lies rights range loads all 0 0 0 none ps ps j)
 
-    packets-are : packetsOf (logged rights range opened vs) ≡ arrivals
+    packets-are : packetsOf (logged rights range openedHolder vs) ≡ arrivals
     packets-are =
         same .packets
         ∙ entitled-run rights range ps (transmissionsOf all loads) fits-all (d .sized)
         ∙ due-whole ps (d .sized) plans fits-all
         ∙ ap (λ (m : ℕ → Mark). wholePackets (dueAt m) 0 0 ps) marks-are
 
-    tally-is : after rights range opened vs .tally ≡ tallied noTally arrivals
-    tally-is = run-tally rights range vs opened ∙ tally-packets (logged rights range opened vs) noTally ∙ ap (tallied noTally) packets-are
+    tally-is : after rights range openedHolder vs .tally ≡ tallied noTally arrivals
+    tally-is = run-tally rights range vs openedHolder ∙ tally-packets (logged rights range openedHolder vs) noTally ∙ ap (tallied noTally) packets-are
 
-    served : Served rights range M B x opened ss vs
+    served : Served rights range M B x openedHolder ss vs
     served =
-        serve rights range M B ss x opened (take count (drop first speeches)) (d .fresh) (d .through)
+        serve rights range M B ss x openedHolder (take count (drop first speeches)) (d .fresh) (d .through)
         (subst (λ (l : List (B .Pdu)). Matching (B .Says) l (take count (drop first speeches))) (sym (d .run)) (matching-take (B .Says) count (drop first made) (drop first speeches) (matching-drop (B .Says) first made speeches (d .says))))
         (subst (B .Within) (sym tally-is) (d .countable))
 
     sum : Close indices → AddsUp indices (tallied noTally arrivals)
     sum c =
         let e : dueFrom 0 ps (runMarks 0 ps plans) ≡ indices = due-indices ps (d .sized) plans fits-all ∙ ap (λ (m : ℕ → Mark). wholeIndices (dueAt m) 0 0 ps) marks-are in
-        let w : packetsOf (logged rights range opened vs) ≡ wanted 0 ps (runMarks 0 ps plans) = same .packets ∙ entitled-run rights range ps (transmissionsOf all loads) fits-all (d .sized) in
-        let t : tallied noTally (logged rights range opened vs) ≡ tallied noTally arrivals = tally-packets (logged rights range opened vs) noTally ∙ ap (tallied noTally) packets-are in
+        let w : packetsOf (logged rights range openedHolder vs) ≡ wanted 0 ps (runMarks 0 ps plans) = same .packets ∙ entitled-run rights range ps (transmissionsOf all loads) fits-all (d .sized) in
+        let t : tallied noTally (logged rights range openedHolder vs) ≡ tallied noTally arrivals = tally-packets (logged rights range openedHolder vs) noTally ∙ ap (tallied noTally) packets-are in
         subst (λ (l : List ℕ). AddsUp l (tallied noTally arrivals)) e
-        (subst (AddsUp (dueFrom 0 ps (runMarks 0 ps plans))) t (counts-of ps (runMarks 0 ps plans) (logged rights range opened vs) w (subst Close (sym e) c)))
+        (subst (AddsUp (dueFrom 0 ps (runMarks 0 ps plans))) t (counts-of ps (runMarks 0 ps plans) (logged rights range openedHolder vs) w (subst Close (sym e) c)))
 
     -- no call for a PDU of the run is refused, the log holds exactly the packets that are due, and the counts add up
     pub general : Delivered
     general = record {
       good = served .good;
-      log = ap packetWords (served .log) ∙ packet-words false (logged rights range opened vs) (served .fit) ∙ ap logWords packets-are;
-      last = after rights range opened vs;
+      log = ap packetWords (served .log) ∙ packet-words false (logged rights range openedHolder vs) (served .fit) ∙ ap logWords packets-are;
+      last = after rights range openedHolder vs;
       stands = served .stands;
       tally = tally-is;
       adds-up = λ c. subst (AddsUp indices) (sym tally-is) (sum c);

@@ -4,6 +4,7 @@ pub mod Calls
 pub mod Complete
 pub mod Counts
 pub mod Entitled
+pub mod Events
 pub mod General
 pub mod Looking
 pub mod Model

@@ -9,7 +9,8 @@ use lib.Dec.{eqb}
 use lib.ListN.{drop}
 use Rattle.reassembly.specs.Reassembly.{following, inSequence, remembered}
 use Rattle.reassembly.specs.Rights.{Rights, Label, inForce, keptAfter, withheldBy}
-use Rattle.reassembly.specs.Holder.{Come, lost, came, Holder, opened, valueFor, holderFor, after}
+use Rattle.reassembly.specs.Holder.{Come, Holder, valueFor}
+use Rattle.runs.proofs.Events.{lost, came, openedHolder, holderFor, after}
 use Rattle.runs.specs.Spans.{Fate, lose, read}
 use Rattle.runs.proofs.Model.{saidOf, sentAfter}
 use Rattle.runs.specs.Transmissions.{Way, gone, here}
@@ -89,5 +90,5 @@ module _ (rights : Rights) (range : ℕ) where
       })
 
   -- from opening on
-  pub kept-told : (cs : List Load) (ws : List Way) (ps : List (List ℕ)) → after rights range opened (heard ws (speechesFrom range 0 0 0 ps cs)) .kept ≡ keptBack (backwards [] (arrivalsFrom range 0 ws (labelsOf cs)))
-  kept-told cs ws ps = kept-on cs ws opened 0 0 0 ps [] (record { next = refl; kept = sym (forgotten-back (rights .keeps)) })
+  pub kept-told : (cs : List Load) (ws : List Way) (ps : List (List ℕ)) → after rights range openedHolder (heard ws (speechesFrom range 0 0 0 ps cs)) .kept ≡ keptBack (backwards [] (arrivalsFrom range 0 ws (labelsOf cs)))
+  kept-told cs ws ps = kept-on cs ws openedHolder 0 0 0 ps [] (record { next = refl; kept = sym (forgotten-back (rights .keeps)) })

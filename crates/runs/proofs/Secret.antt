@@ -6,8 +6,9 @@ use mathlib.Core.Option.{Option, some}
 use Rattle.reassembly.specs.Reassembly.{nothing, Outcome, sequenceStep, beginningStep, received, remembered}
 use Rattle.reassembly.specs.Rights.{Rights, Label, forgetting, inForce, keptAfter, withheldBy}
 use Rattle.reassembly.specs.Tally.{tallied}
-use Rattle.reassembly.specs.Holder.{Come, came, Holder, valueFor, saidTo, entriesFor, holderFor}
+use Rattle.reassembly.specs.Holder.{Come, Holder, valueFor, saidTo}
 use Rattle.reassembly.proofs.Withheld.{nothing-shown}
+use Rattle.runs.proofs.Events.{came, entriesFor, holderFor}
 
 module _ (rights : Rights) (range : ℕ) (x : Holder) (d e : Come) (q : d .said .sequence ≡ e .said .sequence) (p : d .said .pfirst ≡ e .said .pfirst) (s : d .said .start ≡ e .said .start) (l : d .label ≡ e .label)
     (w : withheldBy (rights .entitled) (d .label .program) (valueFor rights range x d) ≡ true)

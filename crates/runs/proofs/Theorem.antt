@@ -10,10 +10,11 @@ use borrow.Author.Tests.{eq-eqb}
 use lib.Dec.{eqb, ltb}
 use lib.ListN.{length, take, drop, replicate, length-append, length-replicate, length-take, length-drop, drop-of-length-le}
 use Rattle.log.specs.Log.{packetsOf}
-use Rattle.reassembly.specs.Reassembly.{Piece, Partial, nothing, beginning, Memory, Outcome, kept, following, sequenceStep, beginningStep, psdEntries, pieceStep, numberAt, endsHere, piecesStep, contentsStep, received, remembered, forgotten}
+use Rattle.reassembly.specs.Reassembly.{Piece, Partial, nothing, beginning, Memory, Outcome, kept, following, sequenceStep, beginningStep, psdEntries, pieceStep, endsHere, piecesStep, contentsStep, received, remembered, forgotten}
 use Rattle.reassembly.proofs.Laws.{delivered}
 use Rattle.reassembly.proofs.Runs.{andThen, ends-drops}
 use Rattle.reassembly.proofs.Withheld.{packets-append, psd-quiet, hidden, Alike, uncovered, withheld-alike}
+use Rattle.layout.specs.Control.{pieceNumber}
 use Rattle.runs.proofs.Model.{entriesFor, memoryFor, logged, cut, Fits, sentAfter, Plan, later, readPieces, saidOf, eventOf, events, marks, runMarks, wanted, AllFit, Sized}
 use Rattle.runs.specs.Spans.{Fate, lose, read, Mark, verdicts}
 use Rattle.runs.proofs.Pieces.{intact, of-few, counts, intact-more, wanted-whole, wanted-none, positive, positive-is, heldOf, held-some, held-broken, judged, onto-ends, onto-part, judged-packet, judged-quiet, judged-held}
@@ -251,7 +252,7 @@ beginning-kept i (x ∷ m) a = go (intact (x ∷ m))
 
 -- the numbers of a PDU's pieces
 abbrev numberFor : List Mark → ℕ → ℕ → ℕ
-numberFor m i = numberAt (positive (length m)) (startOf m i)
+numberFor m i = pieceNumber (positive (length m)) (startOf m i)
 
 numbers : (i : ℕ) (m : List Mark) → Numbers (numberFor m i) 0 i
 numbers i [] j = omega arith

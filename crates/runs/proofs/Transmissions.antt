@@ -7,7 +7,7 @@ use mathlib.Core.Option.{Option, none}
 use lib.ListN.{length, drop}
 use Rattle.reassembly.specs.Reassembly.{following}
 use Rattle.reassembly.specs.Rights.{Rights, Label, inForce, keptAfter, withheldBy}
-use Rattle.reassembly.specs.Holder.{Event, lost, came}
+use Rattle.runs.proofs.Events.{Event, lost, came}
 use Rattle.runs.specs.Spans.{Fate, lose, read, Mark}
 use Rattle.runs.specs.Transmissions.{Way, gone, here}
 use Rattle.runs.proofs.Model.{Plan, saidOf, sentAfter, isDue}

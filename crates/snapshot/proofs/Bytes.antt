@@ -1,5 +1,5 @@
 -- Words of kind 5: their bytes are read back, and they are of no other kind.
-use mathlib.Core.Path.{_≡_, refl, sym, ap, ap₂, _∙_}
+use mathlib.Core.Path.{_≡_, refl, sym, ap, _∙_}
 use mathlib.Core.Bool.{Bool, false, _||_}
 use mathlib.Core.List.{List, [], _∷_, _++_}
 use Prim.Native.Nat.{ℕ, _+_, _*_, _/_, _%_, _<_, _≤_}
@@ -7,34 +7,25 @@ use native.Mathlib.Omega.{arith}
 use lib.Dec.{eqb}
 use lib.ListN.{length, take, length-map}
 use borrow.Author.Tests.{eq-eqb, ne-eqb}
-use Rattle.log.specs.Log.{dataWord, dataWords}
+use Rattle.log.specs.Log.{dataWord, dataWords, dataBytes}
+use Rattle.log.proofs.Data.{bytes-back as word-back}
 use Rattle.log.proofs.Packets.{Bytes}
 use Rattle.log.proofs.Words.{data-length}
-use Rattle.snapshot.specs.Snapshot.{kindOf, byteWords, has, valueOf, bytesOf, bytesIn, fromKind}
+use Rattle.snapshot.specs.Snapshot.{kindIn, byteWords, has, valueOf, bytesIn, fromKind}
 
 -- a word of n bytes
 abbrev pub byteWord : ℕ → ℕ → ℕ → ℕ → ℕ
 byteWord n a b c = dataWord n a b c + 0x10000000
 
 module _ (n a b c : ℕ) (hn : n ≤ 3) (ha : a < 256) (hb : b < 256) (hc : c < 256) where
-  pub byte-kind : kindOf (byteWord n a b c) ≡ 5
+  pub byte-kind : kindIn (byteWord n a b c) ≡ 5
   byte-kind = omega arith
 
-  pub byte-back : bytesOf (byteWord n a b c) ≡ take n (a ∷ b ∷ c ∷ [])
-  unfolding bytesOf
-  byte-back =
-      let p : byteWord n a b c / 0x1000000 ≡ 0x50 + n = omega arith in
-      let q : byteWord n a b c / 0x10000 ≡ (0x50 + n) * 0x100 + a = omega arith in
-      let r : byteWord n a b c / 0x100 ≡ ((0x50 + n) * 0x100 + a) * 0x100 + b = omega arith in
-      let d : (0x50 + n) % 4 ≡ n = omega arith in
-      let e : ((0x50 + n) * 0x100 + a) % 0x100 ≡ a = omega arith in
-      let f : (((0x50 + n) * 0x100 + a) * 0x100 + b) % 0x100 ≡ b = omega arith in
-      let g : byteWord n a b c % 0x100 ≡ c = omega arith in
-      ap₂ take (ap (λ (x : ℕ). x % 4) p ∙ d)
-      (ap₂ _∷_ (ap (λ (x : ℕ). x % 0x100) q ∙ e) (ap₂ _∷_ (ap (λ (x : ℕ). x % 0x100) r ∙ f) (ap₂ _∷_ g refl)))
+  pub byte-back : dataBytes (byteWord n a b c) ≡ take n (a ∷ b ∷ c ∷ [])
+  byte-back = word-back (byteWord n a b c) 20 n a b c (omega arith) hn ha hb hc
 
 -- what passes over each word of kind 5 passes over all of them
-pub past-bytes : {A : Type 0} (f : List ℕ → A) → ((w : ℕ) (ws : List ℕ) → kindOf w ≡ 5 → f (w ∷ ws) ≡ f ws)
+pub past-bytes : {A : Type 0} (f : List ℕ → A) → ((w : ℕ) (ws : List ℕ) → kindIn w ≡ 5 → f (w ∷ ws) ≡ f ws)
     → (bytes ws : List ℕ) → Bytes bytes → f (byteWords bytes ++ ws) ≡ f ws
 unfolding byteWords dataWords
 past-bytes f p [] ws h = refl
@@ -45,14 +36,14 @@ past-bytes f p (a ∷ b ∷ c ∷ rest) ws h =
 
 -- a word of kind n is of no other
 module _ (kind n : ℕ) (other : kind ≡ n → ⊥) where
-  not-kind : (w : ℕ) → kindOf w ≡ n → eqb (kindOf w) kind ≡ false
-  not-kind w e = ne-eqb (kindOf w) kind (λ q. other (sym q ∙ e))
+  not-kind : (w : ℕ) → kindIn w ≡ n → eqb (kindIn w) kind ≡ false
+  not-kind w e = ne-eqb (kindIn w) kind (λ q. other (sym q ∙ e))
 
-  pub has-past : (w : ℕ) (ws : List ℕ) → kindOf w ≡ n → has kind (w ∷ ws) ≡ has kind ws
+  pub has-past : (w : ℕ) (ws : List ℕ) → kindIn w ≡ n → has kind (w ∷ ws) ≡ has kind ws
   unfolding has
   has-past w ws e = ap (λ (t : Bool). t || has kind ws) (not-kind w e)
 
-  pub value-past : (w : ℕ) (ws : List ℕ) → kindOf w ≡ n → valueOf kind (w ∷ ws) ≡ valueOf kind ws
+  pub value-past : (w : ℕ) (ws : List ℕ) → kindIn w ≡ n → valueOf kind (w ∷ ws) ≡ valueOf kind ws
   unfolding valueOf
   value-past w ws e = rw (not-kind w e)
 
@@ -63,17 +54,17 @@ module _ (kind : ℕ) (other : kind ≡ 5 → ⊥) where
   pub value-bytes : (bytes ws : List ℕ) → Bytes bytes → valueOf kind (byteWords bytes ++ ws) ≡ valueOf kind ws
   value-bytes = past-bytes (valueOf kind) (value-past kind 5 other)
 
-pub bytes-more : (w : ℕ) (ws : List ℕ) → kindOf w ≡ 5 → bytesIn (w ∷ ws) ≡ bytesOf w ++ bytesIn ws
+pub bytes-more : (w : ℕ) (ws : List ℕ) → kindIn w ≡ 5 → bytesIn (w ∷ ws) ≡ dataBytes w ++ bytesIn ws
 unfolding bytesIn
-bytes-more w ws e = rw (eq-eqb (kindOf w) 5 e)
+bytes-more w ws e = rw (eq-eqb (kindIn w) 5 e)
 
-pub bytes-past : (w : ℕ) (ws : List ℕ) → (kindOf w ≡ 5 → ⊥) → bytesIn (w ∷ ws) ≡ bytesIn ws
+pub bytes-past : (w : ℕ) (ws : List ℕ) → (kindIn w ≡ 5 → ⊥) → bytesIn (w ∷ ws) ≡ bytesIn ws
 unfolding bytesIn
-bytes-past w ws e = rw (ne-eqb (kindOf w) 5 e)
+bytes-past w ws e = rw (ne-eqb (kindIn w) 5 e)
 
-pub from-past : (kind w : ℕ) (ws : List ℕ) → (kindOf w ≡ kind → ⊥) → fromKind kind (w ∷ ws) ≡ fromKind kind ws
+pub from-past : (kind w : ℕ) (ws : List ℕ) → (kindIn w ≡ kind → ⊥) → fromKind kind (w ∷ ws) ≡ fromKind kind ws
 unfolding fromKind
-from-past kind w ws e = rw (ne-eqb (kindOf w) kind e)
+from-past kind w ws e = rw (ne-eqb (kindIn w) kind e)
 
 -- no word of them is of kind 6
 pub counts-bytes : (bytes ws : List ℕ) → Bytes bytes → fromKind 6 (byteWords bytes ++ ws) ≡ fromKind 6 ws

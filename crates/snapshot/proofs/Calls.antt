@@ -17,9 +17,10 @@ use Rattle.receiver.specs.Steps.{stateTests}
 use Rattle.receiver.specs.declared.Receiver.{Receiver}
 use Rattle.receiver.specs.declared.Opened.{Opened}
 use Rattle.receiver.proofs.Rows.{first-on}
+use Rattle.log.specs.Log.{sameList}
 use Rattle.snapshot.specs.declared.Saved.{Saved}
-use Rattle.snapshot.specs.Snapshot.{Kinds, today, headWords, byteWords, countWords, wordsWith, savedWords, saveNumber, saved, wordsAfter, has, bytesIn, fromKind, kindsIn, receiverIn, sameWords, isForm, wrongWords, loadNumber, loaded, carryLoaded}
-use Rattle.snapshot.specs.Steps.{kinds, beginsWith, isRest, isFront}
+use Rattle.snapshot.specs.Snapshot.{Kinds, today, headWords, byteWords, countWords, wordsWith, savedWords, saveNumber, saved, wordsAfter, has, bytesIn, fromKind, kindsIn, receiverIn, isForm, wrongWords, loadNumber, loaded, carryLoaded}
+use Rattle.snapshot.specs.Steps.{kinds, beginsWith, areBytes, isFront}
 use Rattle.snapshot.proofs.Bytes.{bytes-length}
 use Rattle.snapshot.proofs.Parts.{headParts, head-parts, parts-length}
 use Rattle.snapshot.proofs.Reading.{front, form-steps, form-rest}
@@ -113,18 +114,18 @@ module _ (ws : List ℕ) (k : Kinds) (r : Receiver) (v : List ℕ) (ev : v ≡ h
   unfolding isFront
   front-not z = rw (begins-head ∙ z)
 
-  pub front-yes : (n : ℕ) (y : Bool) → t ≡ true → n ≡ length (headWords k r) → y ≡ isRest (r .held) (drop n ws) → y ≡ isFront k r ws
+  pub front-yes : (n : ℕ) (y : Bool) → t ≡ true → n ≡ length (headWords k r) → y ≡ areBytes (r .held) (drop n ws) → y ≡ isFront k r ws
   unfolding isFront
-  front-yes n y z en ey = rw (begins-head ∙ z) (ey ∙ ap (λ (m : ℕ). isRest (r .held) (drop m ws)) en)
+  front-yes n y z en ey = rw (begins-head ∙ z) (ey ∙ ap (λ (m : ℕ). areBytes (r .held) (drop m ws)) en)
 
 module _ (ws : List ℕ) (r : Receiver) (a b : Bool) (er : r ≡ receiverIn ws) (ea : a ≡ has 3 ws) (eb : b ≡ has 4 ws) where
   same-front : headWords (kinds a b) r ≡ front ws
   same-front = ap₂ headWords (ap₂ kinds ea eb) er
 
   -- the form: from the first word of kind 6 on they are the counts of the receiver that they say, and before it its other words
-  module _ (end : ℕ) (at : drop end ws ≡ fromKind 6 ws) (within : end ≤ length ws) (t : Bool) (et : t ≡ sameWords (countWords r) (drop end ws)) where
-    counts-said : sameWords (countWords (receiverIn ws)) (drop end ws) ≡ t
-    counts-said = ap (λ (q : Receiver). sameWords (countWords q) (drop end ws)) (sym er) ∙ sym et
+  module _ (end : ℕ) (at : drop end ws ≡ fromKind 6 ws) (within : end ≤ length ws) (t : Bool) (et : t ≡ sameList (countWords r) (drop end ws)) where
+    counts-said : sameList (countWords (receiverIn ws)) (drop end ws) ≡ t
+    counts-said = ap (λ (q : Receiver). sameList (countWords q) (drop end ws)) (sym er) ∙ sym et
 
     pub form-not : t ≡ false → false ≡ isForm ws
     form-not z = rw (counts-said ∙ z) at (form-steps ws end at within)
@@ -158,8 +159,8 @@ module _ (ws : List ℕ) (r : Receiver) (a b : Bool) (er : r ≡ receiverIn ws) 
         let h : receiverIn ws .held ≤ 4096 = ltb-false 4096 (receiverIn ws .held) (none-at (wrongState (receiverIn ws)) 3 (right-parts ws carry w .1)) in
         omega (arith, ap (λ (q : Receiver). q .held) er)
 
-    pub load-rest : isRest (r .held) (drop from (take end ws)) ≡ true
-    load-rest = ap₂ (λ (q : Receiver) (k : ℕ). isRest (q .held) (drop k (take end ws))) er at-front ∙ form-rest ws end at within (right-parts ws carry w .0) .1
+    pub load-rest : areBytes (r .held) (drop from (take end ws)) ≡ true
+    load-rest = ap₂ (λ (q : Receiver) (k : ℕ). areBytes (q .held) (drop k (take end ws))) er at-front ∙ form-rest ws end at within (right-parts ws carry w .0) .1
 
     number-none : loadNumber ws carry ≡ 0
     number-none = load-words ws carry (le-ltb (length carry) 4096 long) ∙ ap (λ (t : Bool). cond t 25 0) w

@@ -8,13 +8,13 @@ use lib.Dec.{eqb}
 use lib.ListN.{length, getD}
 use borrow.Author.Tests.{eqb-true, eq-eqb, ne-eqb}
 use Rattle.receiver.specs.declared.Receiver.{Receiver}
-use Rattle.snapshot.specs.Snapshot.{word, kindOf, countWords, has, valueOf, bytesIn, fromKind}
+use Rattle.snapshot.specs.Snapshot.{stateWord, kindIn, countWords, has, valueOf, bytesIn, fromKind}
 use Rattle.snapshot.proofs.Bytes.{has-past, value-past, bytes-past}
 use Rattle.snapshot.proofs.Parts.{word-kind}
 
 -- the five, once a packet was delivered
 abbrev pub five : Receiver → List ℕ
-five r = word 6 (r .delivered / 0x10000) ∷ word 6 (r .delivered % 0x10000) ∷ word 6 (r .missing / 0x10000) ∷ word 6 (r .missing % 0x10000) ∷ word 6 (r .last) ∷ []
+five r = stateWord 6 (r .delivered / 0x10000) ∷ stateWord 6 (r .delivered % 0x10000) ∷ stateWord 6 (r .missing / 0x10000) ∷ stateWord 6 (r .missing % 0x10000) ∷ stateWord 6 (r .last) ∷ []
 
 pub counts-none : (r : Receiver) → r .delivered ≡ 0 → countWords r ≡ []
 unfolding countWords
@@ -47,18 +47,18 @@ pub record Counted (r : Receiver) : Type 0 where
 
 module _ (r : Receiver) (c : Counted r) where
   -- what passes over each word of kind 6 passes over all of them
-  past-counts : {A : Type 0} (f : List ℕ → A) → ((w : ℕ) (ws : List ℕ) → kindOf w ≡ 6 → f (w ∷ ws) ≡ f ws) → f (countWords r) ≡ f []
+  past-counts : {A : Type 0} (f : List ℕ → A) → ((w : ℕ) (ws : List ℕ) → kindIn w ≡ 6 → f (w ∷ ws) ≡ f ws) → f (countWords r) ≡ f []
   unfolding countWords
   past-counts f p = go (eqb (r .delivered) 0)
     where
       go : (t : Bool) → f (cond t [] (five r)) ≡ f []
       go true = refl
       go false =
-          p (word 6 (r .delivered / 0x10000)) (word 6 (r .delivered % 0x10000) ∷ word 6 (r .missing / 0x10000) ∷ word 6 (r .missing % 0x10000) ∷ word 6 (r .last) ∷ []) (word-kind 6 (r .delivered / 0x10000) (omega (arith, c .delivered)))
-          ∙ p (word 6 (r .delivered % 0x10000)) (word 6 (r .missing / 0x10000) ∷ word 6 (r .missing % 0x10000) ∷ word 6 (r .last) ∷ []) (word-kind 6 (r .delivered % 0x10000) (omega arith))
-          ∙ p (word 6 (r .missing / 0x10000)) (word 6 (r .missing % 0x10000) ∷ word 6 (r .last) ∷ []) (word-kind 6 (r .missing / 0x10000) (omega (arith, c .missing)))
-          ∙ p (word 6 (r .missing % 0x10000)) (word 6 (r .last) ∷ []) (word-kind 6 (r .missing % 0x10000) (omega arith))
-          ∙ p (word 6 (r .last)) [] (word-kind 6 (r .last) (omega (arith, c .last)))
+          p (stateWord 6 (r .delivered / 0x10000)) (stateWord 6 (r .delivered % 0x10000) ∷ stateWord 6 (r .missing / 0x10000) ∷ stateWord 6 (r .missing % 0x10000) ∷ stateWord 6 (r .last) ∷ []) (word-kind 6 (r .delivered / 0x10000) (omega (arith, c .delivered)))
+          ∙ p (stateWord 6 (r .delivered % 0x10000)) (stateWord 6 (r .missing / 0x10000) ∷ stateWord 6 (r .missing % 0x10000) ∷ stateWord 6 (r .last) ∷ []) (word-kind 6 (r .delivered % 0x10000) (omega arith))
+          ∙ p (stateWord 6 (r .missing / 0x10000)) (stateWord 6 (r .missing % 0x10000) ∷ stateWord 6 (r .last) ∷ []) (word-kind 6 (r .missing / 0x10000) (omega (arith, c .missing)))
+          ∙ p (stateWord 6 (r .missing % 0x10000)) (stateWord 6 (r .last) ∷ []) (word-kind 6 (r .missing % 0x10000) (omega arith))
+          ∙ p (stateWord 6 (r .last)) [] (word-kind 6 (r .last) (omega (arith, c .last)))
 
   pub has-counts : (kind : ℕ) → (kind ≡ 6 → ⊥) → has kind (countWords r) ≡ false
   has-counts kind other = past-counts (has kind) (has-past kind 6 other) ∙ (unfold has in refl)
@@ -77,18 +77,18 @@ module _ (r : Receiver) (c : Counted r) where
       go : (t : Bool) → fromKind 6 (cond t [] (five r)) ≡ cond t [] (five r)
       go true = refl
       go false =
-          ap (λ (b : Bool). cond b (five r) (fromKind 6 (word 6 (r .delivered % 0x10000) ∷ word 6 (r .missing / 0x10000) ∷ word 6 (r .missing % 0x10000) ∷ word 6 (r .last) ∷ [])))
-          (eq-eqb (kindOf (word 6 (r .delivered / 0x10000))) 6 (word-kind 6 (r .delivered / 0x10000) (omega (arith, c .delivered))))
+          ap (λ (b : Bool). cond b (five r) (fromKind 6 (stateWord 6 (r .delivered % 0x10000) ∷ stateWord 6 (r .missing / 0x10000) ∷ stateWord 6 (r .missing % 0x10000) ∷ stateWord 6 (r .last) ∷ [])))
+          (eq-eqb (kindIn (stateWord 6 (r .delivered / 0x10000))) 6 (word-kind 6 (r .delivered / 0x10000) (omega (arith, c .delivered))))
 
 -- ---- the counts are read back
 
-low : (v : ℕ) → v < 0x10000 → word 6 v % 0x10000 ≡ v
+low : (v : ℕ) → v < 0x10000 → stateWord 6 v % 0x10000 ≡ v
 low v h = omega arith
 
-both-halves : (n : ℕ) → n < 4294967296 → word 6 (n / 0x10000) % 0x10000 * 0x10000 + word 6 (n % 0x10000) % 0x10000 ≡ n
+both-halves : (n : ℕ) → n < 4294967296 → stateWord 6 (n / 0x10000) % 0x10000 * 0x10000 + stateWord 6 (n % 0x10000) % 0x10000 ≡ n
 both-halves n h =
-    let a : word 6 (n / 0x10000) % 0x10000 ≡ n / 0x10000 = low (n / 0x10000) (omega arith) in
-    let b : word 6 (n % 0x10000) % 0x10000 ≡ n % 0x10000 = low (n % 0x10000) (omega arith) in
+    let a : stateWord 6 (n / 0x10000) % 0x10000 ≡ n / 0x10000 = low (n / 0x10000) (omega arith) in
+    let b : stateWord 6 (n % 0x10000) % 0x10000 ≡ n % 0x10000 = low (n % 0x10000) (omega arith) in
     ap₂ (λ (x y : ℕ). x * 0x10000 + y) a b ∙ omega arith
 
 module _ (r : Receiver) (c : Counted r) where

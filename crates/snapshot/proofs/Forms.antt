@@ -9,12 +9,13 @@ use lib.ListN.{length, getD}
 use borrow.Author.Tests.{eqb-true, eq-eqb}
 use Rattle.log.proofs.Packets.{Bytes}
 use Rattle.receiver.specs.declared.Receiver.{Receiver}
+use Rattle.log.proofs.Same.{same-itself}
 use Rattle.snapshot.specs.Snapshot.{Kinds, byteWords, countWords, wordsWith, has, valueOf, bytesIn, fromKind, kindsIn, receiverIn, isForm}
 use Rattle.snapshot.proofs.Bytes.{has-bytes, value-bytes, counts-bytes, bytes-back}
 use Rattle.snapshot.proofs.Parts.{partWords, hasPart, valuePart, has-parts, value-parts, bytes-parts, counts-parts, programsValue, headParts, head-parts}
 use Rattle.snapshot.proofs.Counts.{Counted, has-counts, value-counts, bytes-counts, from-counts, delivered-back, missing-back, last-back}
 use Rattle.snapshot.proofs.Fields.{Laid, in-bits}
-use Rattle.snapshot.proofs.Same.{one-and, same-itself}
+use Rattle.snapshot.proofs.Same.{one-and}
 
 -- an absent kind means zero: register 0; nothing entitled and services unknown
 pub record Absent (k : Kinds) (r : Receiver) : Type 0 where

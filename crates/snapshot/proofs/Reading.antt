@@ -1,26 +1,27 @@
 -- Words gone through one by one: what that finds is what the definitions say.
 use mathlib.Core.Path.{_≡_, refl, sym, ap, ap₂, _∙_}
-use mathlib.Core.Bool.{Bool, true, false, not, _&&_, cond, true≢false}
+use mathlib.Core.Bool.{Bool, true, false, not, _&&_, _||_, cond, true≢false}
 use mathlib.Core.List.{List, [], _∷_, _++_, append-nil, append-assoc}
 use Prim.Native.Nat.{ℕ, zero, suc, _+_, _-_, _*_, _/_, _%_, _<_, _≤_, min}
 use native.Mathlib.Omega.{arith}
 use native.Mathlib.Numerals.{add-one}
-use lib.Dec.{eqb}
+use lib.Dec.{eqb, ltb}
 use lib.ListN.{length, getD, take, drop, set, length-append, length-drop, take-append-drop, drop-of-length-le}
 use lib.Seq.{drop-cons, drop-append-seam, getD-drop, take-at}
 use Rattle.buffer.specs.Buffer.{putAt}
 use Rattle.buffer.proofs.Laws.{put-nil, put-cons}
-use borrow.Author.Tests.{eq-eqb, ne-eqb, eqb-true}
-use Rattle.log.specs.Log.{dataWords}
+use borrow.Author.Tests.{eq-eqb, ne-eqb, eqb-true, lt-ltb, le-ltb}
+use Rattle.log.specs.Log.{dataWords, sameList, dataBytes}
 use Rattle.log.proofs.Packets.{Bytes}
 use Rattle.receiver.specs.declared.Receiver.{Receiver}
-use Rattle.snapshot.specs.Snapshot.{kindOf, valueIn, headWords, byteWords, countWords, wordsWith, has, valueOf, bytesOf, bytesIn, fromKind, kindsIn, receiverIn, sameWords, isForm}
-use Rattle.snapshot.specs.Steps.{beginsWith, unusedZero, byteFits, fits, isRest, isFront, byteIn}
+use Rattle.log.proofs.Same.{same-true, same-itself}
+use Rattle.snapshot.specs.Snapshot.{kindIn, valueIn, headWords, byteWords, countWords, wordsWith, has, valueOf, bytesIn, fromKind, kindsIn, receiverIn, isForm}
+use Rattle.snapshot.specs.Steps.{beginsWith, unusedClear, byteFits, bytesFit, areBytes, isFront, byteIn}
 use Rattle.snapshot.proofs.Bytes.{byteWord, bytes-more, bytes-back, bytes-length, counts-bytes}
 use Rattle.snapshot.proofs.Parts.{InBits, headParts, head-parts, bytes-parts, counts-parts}
 use Rattle.snapshot.proofs.Counts.{Counted, bytes-counts, from-counts}
 use Rattle.snapshot.proofs.Fields.{programs-small}
-use Rattle.snapshot.proofs.Same.{both, one-and, agree, same-itself, same-true}
+use Rattle.snapshot.proofs.Same.{both, one-and, agree}
 
 -- ---- the first word of a kind
 
@@ -29,60 +30,75 @@ module _ (ws : List ℕ) (i : ℕ) (h : i < length ws) where
   split = rw (add-one i) (drop-cons ws i 0 h)
 
   module _ (kind : ℕ) where
-    pub from-here : kindOf (getD ws i 0) ≡ kind → drop i ws ≡ fromKind kind (drop i ws)
+    pub from-here : kindIn (getD ws i 0) ≡ kind → drop i ws ≡ fromKind kind (drop i ws)
     unfolding fromKind
-    from-here e = rw (split, eq-eqb (kindOf (getD ws i 0)) kind e)
+    from-here e = rw (split, eq-eqb (kindIn (getD ws i 0)) kind e)
 
-    pub has-here : kindOf (getD ws i 0) ≡ kind → true ≡ has kind (drop i ws)
-    unfolding has
-    has-here e = rw (split, eq-eqb (kindOf (getD ws i 0)) kind e)
-
-    pub value-here : kindOf (getD ws i 0) ≡ kind → valueIn (getD ws i 0) ≡ valueOf kind (drop i ws)
-    unfolding valueOf
-    value-here e = rw (split, eq-eqb (kindOf (getD ws i 0)) kind e)
-
-    module _ (e : kindOf (getD ws i 0) ≡ kind → ⊥) where
-      pub has-next : has kind (drop (i + 1) ws) ≡ has kind (drop i ws)
-      unfolding has
-      has-next = rw (split, ne-eqb (kindOf (getD ws i 0)) kind e)
-
+    module _ (e : kindIn (getD ws i 0) ≡ kind → ⊥) where
       pub from-next : fromKind kind (drop (i + 1) ws) ≡ fromKind kind (drop i ws)
       unfolding fromKind
-      from-next = rw (split, ne-eqb (kindOf (getD ws i 0)) kind e)
-
-      pub value-next : valueOf kind (drop (i + 1) ws) ≡ valueOf kind (drop i ws)
-      unfolding valueOf
-      value-next = rw (split, ne-eqb (kindOf (getD ws i 0)) kind e)
+      from-next = rw (split, ne-eqb (kindIn (getD ws i 0)) kind e)
 
   -- ---- words of held bytes
 
-  pub rest-stop : (left : ℕ) → fits left (getD ws i 0) ≡ false → false ≡ isRest left (drop i ws)
-  unfolding isRest
+  pub rest-stop : (left : ℕ) → bytesFit left (getD ws i 0) ≡ false → false ≡ areBytes left (drop i ws)
+  unfolding areBytes
   rest-stop left e = rw (split, e)
 
-  pub rest-next : (left : ℕ) → fits left (getD ws i 0) ≡ true → isRest (left - 3) (drop (i + 1) ws) ≡ isRest left (drop i ws)
-  unfolding isRest
+  pub rest-next : (left : ℕ) → bytesFit left (getD ws i 0) ≡ true → areBytes (left - 3) (drop (i + 1) ws) ≡ areBytes left (drop i ws)
+  unfolding areBytes
   rest-next left e = rw (split, e)
 
 module _ (ws : List ℕ) (i : ℕ) (h : length ws ≤ i) where
   gone : drop i ws ≡ []
   gone = drop-of-length-le ws h
 
-  pub has-end : (kind : ℕ) → false ≡ has kind (drop i ws)
-  unfolding has
-  has-end kind = rw gone
-
   pub from-end : (kind : ℕ) → drop i ws ≡ fromKind kind (drop i ws)
   unfolding fromKind
   from-end kind = rw gone
 
-  pub value-end : (kind : ℕ) → 0 ≡ valueOf kind (drop i ws)
-  unfolding valueOf
-  value-end kind = rw gone
-
-  pub rest-end : (left : ℕ) → eqb left 0 ≡ isRest left (drop i ws)
-  unfolding isRest
+  pub rest-end : (left : ℕ) → eqb left 0 ≡ areBytes left (drop i ws)
+  unfolding areBytes
   rest-end left = rw gone
+
+-- ---- whether there is a word of a kind, and its other bits, by the place where the first one stands
+
+has-from : (kind : ℕ) (ws : List ℕ) → has kind ws ≡ ltb 0 (length (fromKind kind ws))
+unfolding has fromKind
+has-from kind [] = refl
+has-from kind (w ∷ ws) = go (eqb (kindIn w) kind) (has-from kind ws)
+  where
+    go : (t : Bool) → has kind ws ≡ ltb 0 (length (fromKind kind ws)) → (t || has kind ws) ≡ ltb 0 (length (cond t (w ∷ ws) (fromKind kind ws)))
+    go true h = sym (lt-ltb 0 (length (w ∷ ws)) (omega arith))
+    go false h = h
+
+value-from : (kind : ℕ) (ws : List ℕ) → valueOf kind ws ≡ valueIn (getD (fromKind kind ws) 0 0)
+unfolding valueOf fromKind
+value-from kind [] = refl
+value-from kind (w ∷ ws) = go (eqb (kindIn w) kind) (value-from kind ws)
+  where
+    go : (t : Bool) → valueOf kind ws ≡ valueIn (getD (fromKind kind ws) 0 0) → cond t (valueIn w) (valueOf kind ws) ≡ valueIn (getD (cond t (w ∷ ws) (fromKind kind ws)) 0 0)
+    go true h = refl
+    go false h = h
+
+module _ (kind p : ℕ) (ws : List ℕ) (e : drop p ws ≡ fromKind kind ws) where
+  by-length : has kind ws ≡ ltb 0 (length (drop p ws))
+  by-length = has-from kind ws ∙ ap (λ (l : List ℕ). ltb 0 (length l)) (sym e)
+
+  by-first : valueOf kind ws ≡ valueIn (getD (drop p ws) 0 0)
+  by-first = value-from kind ws ∙ ap (λ (l : List ℕ). valueIn (getD l 0 0)) (sym e)
+
+  pub has-one : p < length ws → true ≡ has kind ws
+  has-one h = sym (by-length ∙ lt-ltb 0 (length (drop p ws)) (omega (arith, length-drop p ws)))
+
+  pub has-none : length ws ≤ p → false ≡ has kind ws
+  has-none h = sym (by-length ∙ le-ltb 0 (length (drop p ws)) (omega (arith, length-drop p ws)))
+
+  pub value-one : p < length ws → valueIn (getD ws p 0) ≡ valueOf kind ws
+  value-one h = sym (by-first ∙ ap (λ (l : List ℕ). valueIn (getD l 0 0)) (split ws p h))
+
+  pub value-none : length ws ≤ p → 0 ≡ valueOf kind ws
+  value-none h = sym (by-first ∙ ap (λ (l : List ℕ). valueIn (getD l 0 0)) (gone ws p h))
 
 -- ---- words that begin with others
 
@@ -110,17 +126,17 @@ unfolding beginsWith
 begins-end vs ws i h = rw (gone vs i h)
 
 -- others as many as they are
-pub same-begins : (vs ws : List ℕ) → length ws ≡ length vs → beginsWith vs ws ≡ sameWords vs ws
-unfolding beginsWith sameWords
+pub same-begins : (vs ws : List ℕ) → length ws ≡ length vs → beginsWith vs ws ≡ sameList vs ws
+unfolding beginsWith sameList
 same-begins [] [] e = refl
 same-begins [] (w ∷ ws) e = absurd (omega arith)
 same-begins (v ∷ vs) [] e = refl
 same-begins (v ∷ vs) (w ∷ ws) e = ap (λ (t : Bool). eqb v w && t) (same-begins vs ws (omega arith))
 
-pub same-not : (vs ws : List ℕ) → (length ws ≡ length vs → ⊥) → false ≡ sameWords vs ws
-same-not vs ws z = go (sameWords vs ws) refl
+pub same-not : (vs ws : List ℕ) → (length ws ≡ length vs → ⊥) → false ≡ sameList vs ws
+same-not vs ws z = go (sameList vs ws) refl
   where
-    go : (t : Bool) → sameWords vs ws ≡ t → false ≡ t
+    go : (t : Bool) → sameList vs ws ≡ t → false ≡ t
     go true e = absurd (z (ap length (sym (same-true vs ws e))))
     go false e = refl
 
@@ -148,16 +164,16 @@ append-bytes : (l m : List ℕ) → Bytes l → Bytes m → Bytes (l ++ m)
 append-bytes [] m h g = g
 append-bytes (a ∷ l) m h g = (h .0, append-bytes l m (h .1) g)
 
-word-bytes : (w : ℕ) → Bytes (bytesOf w)
-unfolding bytesOf
+word-bytes : (w : ℕ) → Bytes (dataBytes w)
+unfolding dataBytes
 word-bytes w = take-bytes (w / 0x1000000 % 4) (w / 0x10000 % 0x100 ∷ w / 0x100 % 0x100 ∷ w % 0x100 ∷ []) (omega arith, (omega arith, (omega arith, tt)))
 
 pub all-bytes : (ws : List ℕ) → Bytes (bytesIn ws)
 unfolding bytesIn
 all-bytes [] = tt
-all-bytes (w ∷ ws) = append-bytes (cond (eqb (kindOf w) 5) (bytesOf w) []) (bytesIn ws) (go (eqb (kindOf w) 5)) (all-bytes ws)
+all-bytes (w ∷ ws) = append-bytes (cond (eqb (kindIn w) 5) (dataBytes w) []) (bytesIn ws) (go (eqb (kindIn w) 5)) (all-bytes ws)
   where
-    go : (t : Bool) → Bytes (cond t (bytesOf w) [])
+    go : (t : Bool) → Bytes (cond t (dataBytes w) [])
     go true = word-bytes w
     go false = tt
 
@@ -201,22 +217,22 @@ module _ (w : ℕ) where
       let m = middle in
       omega arith
 
-  kind-five : (n : ℕ) → n ≤ 3 → w / 0x1000000 ≡ 0x50 + n → kindOf w ≡ 5
+  kind-five : (n : ℕ) → n ≤ 3 → w / 0x1000000 ≡ 0x50 + n → kindIn w ≡ 5
   kind-five n h e = omega arith
 
   -- the bytes of a word of n
   count-bytes : (n : ℕ) (ws : List ℕ) → n ≤ 3 → w / 0x1000000 ≡ 0x50 + n → bytesIn (w ∷ ws) ≡ take n (a ∷ b ∷ c ∷ []) ++ bytesIn ws
-  unfolding bytesOf
+  unfolding dataBytes
   count-bytes n ws h e =
       let m : (0x50 + n) % 4 ≡ n = omega arith in
       bytes-more w ws (kind-five n h e) ∙ ap (λ (k : ℕ). take k (a ∷ b ∷ c ∷ []) ++ bytesIn ws) (ap (λ (q : ℕ). q % 4) e ∙ m)
 
   -- what a word that fits is made of
-  pub fits-is : (left : ℕ) → fits left w ≡ true → (w / 0x1000000 ≡ 0x50 + min 3 left) × (unusedZero (min 3 left) w ≡ true)
-  unfolding fits byteFits
+  pub fits-is : (left : ℕ) → bytesFit left w ≡ true → (w / 0x1000000 ≡ 0x50 + min 3 left) × (unusedClear (min 3 left) w ≡ true)
+  unfolding bytesFit byteFits
   fits-is left e =
-      let p = both (not (eqb left 0)) (eqb (w / 0x1000000) (0x50 + min 3 left) && unusedZero (min 3 left) w) e in
-      let q = both (eqb (w / 0x1000000) (0x50 + min 3 left)) (unusedZero (min 3 left) w) (p .1) in
+      let p = both (not (eqb left 0)) (eqb (w / 0x1000000) (0x50 + min 3 left) && unusedClear (min 3 left) w) e in
+      let q = both (eqb (w / 0x1000000) (0x50 + min 3 left)) (unusedClear (min 3 left) w) (p .1) in
       (eqb-true (w / 0x1000000) (0x50 + min 3 left) (q .0), q .1)
 
 empty : (l : List ℕ) → length l ≡ 0 → l ≡ []
@@ -224,12 +240,12 @@ empty [] e = refl
 empty (x ∷ l) e = absurd (omega arith)
 
 -- words that are those of so many bytes are those of the bytes that they have
-pub rest-back : (left : ℕ) (ws : List ℕ) → isRest left ws ≡ true → (byteWords (bytesIn ws) ≡ ws) × (length (bytesIn ws) ≡ left)
-unfolding isRest bytesIn byteWords dataWords unusedZero fits
+pub rest-back : (left : ℕ) (ws : List ℕ) → areBytes left ws ≡ true → (byteWords (bytesIn ws) ≡ ws) × (length (bytesIn ws) ≡ left)
+unfolding areBytes bytesIn byteWords dataWords unusedClear bytesFit
 rest-back left [] e = (refl, sym (eqb-true left 0 e))
 rest-back zero (w ∷ ws) e = absurd (true≢false (sym e))
 rest-back (suc zero) (w ∷ ws) e =
-    let p = both (fits 1 w) (isRest (1 - 3) ws) e in
+    let p = both (bytesFit 1 w) (areBytes (1 - 3) ws) e in
     let f = fits-is w 1 (p .0) in
     let q = rest-back (1 - 3) ws (p .1) in
     let n : bytesIn ws ≡ [] = empty (bytesIn ws) (q .1) in
@@ -240,7 +256,7 @@ rest-back (suc zero) (w ∷ ws) e =
       ap length t,
     )
 rest-back (suc (suc zero)) (w ∷ ws) e =
-    let p = both (fits 2 w) (isRest (2 - 3) ws) e in
+    let p = both (bytesFit 2 w) (areBytes (2 - 3) ws) e in
     let f = fits-is w 2 (p .0) in
     let q = rest-back (2 - 3) ws (p .1) in
     let n : bytesIn ws ≡ [] = empty (bytesIn ws) (q .1) in
@@ -253,9 +269,9 @@ rest-back (suc (suc zero)) (w ∷ ws) e =
 rest-back (suc (suc (suc left))) (w ∷ ws) e =
     let m : min 3 (suc (suc (suc left))) ≡ 3 = omega arith in
     let d : suc (suc (suc left)) - 3 ≡ left = omega arith in
-    let p = both (fits (suc (suc (suc left))) w) (isRest (suc (suc (suc left)) - 3) ws) e in
+    let p = both (bytesFit (suc (suc (suc left))) w) (areBytes (suc (suc (suc left)) - 3) ws) e in
     let f : w / 0x1000000 ≡ 0x53 = fits-is w (suc (suc (suc left))) (p .0) .0 ∙ ap (λ (k : ℕ). 0x50 + k) m in
-    let q = rest-back left ws (ap (λ (k : ℕ). isRest k ws) (sym d) ∙ p .1) in
+    let q = rest-back left ws (ap (λ (k : ℕ). areBytes k ws) (sym d) ∙ p .1) in
     let t : bytesIn (w ∷ ws) ≡ w / 0x10000 % 0x100 ∷ w / 0x100 % 0x100 ∷ w % 0x100 ∷ bytesIn ws = count-bytes w 3 ws (omega arith) f in (
       ap byteWords t ∙ ap₂ _∷_ (sym (made-three w f)) (q .0),
       ap length t ∙ ap (λ (k : ℕ). suc (suc (suc k))) (q .1),
@@ -263,38 +279,38 @@ rest-back (suc (suc (suc left))) (w ∷ ws) e =
 
 -- a word of bytes fits where these are still to come
 module _ (left n x y z : ℕ) (hn : n ≤ 3) (some : eqb left 0 ≡ false) (m : min 3 left ≡ n) (hx : x < 256) (hy : y < 256) (hz : z < 256) where
-  one-fits : unusedZero n (byteWord n x y z) ≡ true → fits left (byteWord n x y z) ≡ true
-  unfolding fits byteFits
+  one-fits : unusedClear n (byteWord n x y z) ≡ true → bytesFit left (byteWord n x y z) ≡ true
+  unfolding bytesFit byteFits
   one-fits u =
       let e : byteWord n x y z / 0x1000000 ≡ 0x50 + n = omega arith in
-      rw (some, m) (one-and (eqb (byteWord n x y z / 0x1000000) (0x50 + n)) (unusedZero n (byteWord n x y z)) (eq-eqb (byteWord n x y z / 0x1000000) (0x50 + n) e) u)
+      rw (some, m) (one-and (eqb (byteWord n x y z / 0x1000000) (0x50 + n)) (unusedClear n (byteWord n x y z)) (eq-eqb (byteWord n x y z / 0x1000000) (0x50 + n) e) u)
 
-pub rest-words : (l : List ℕ) → Bytes l → isRest (length l) (byteWords l) ≡ true
-unfolding isRest byteWords dataWords unusedZero
+pub rest-words : (l : List ℕ) → Bytes l → areBytes (length l) (byteWords l) ≡ true
+unfolding areBytes byteWords dataWords unusedClear
 rest-words [] h = refl
 rest-words (x ∷ []) h =
     let u : byteWord 1 x 0 0 % 0x10000 ≡ 0 = omega arith in
-    one-and (fits 1 (byteWord 1 x 0 0)) true (one-fits 1 1 x 0 0 (omega arith) refl refl (h .0) (omega arith) (omega arith) (eq-eqb (byteWord 1 x 0 0 % 0x10000) 0 u)) refl
+    one-and (bytesFit 1 (byteWord 1 x 0 0)) true (one-fits 1 1 x 0 0 (omega arith) refl refl (h .0) (omega arith) (omega arith) (eq-eqb (byteWord 1 x 0 0 % 0x10000) 0 u)) refl
 rest-words (x ∷ y ∷ []) h =
     let u : byteWord 2 x y 0 % 0x100 ≡ 0 = omega arith in
-    one-and (fits 2 (byteWord 2 x y 0)) true (one-fits 2 2 x y 0 (omega arith) refl refl (h .0) (h .1 .0) (omega arith) (eq-eqb (byteWord 2 x y 0 % 0x100) 0 u)) refl
+    one-and (bytesFit 2 (byteWord 2 x y 0)) true (one-fits 2 2 x y 0 (omega arith) refl refl (h .0) (h .1 .0) (omega arith) (eq-eqb (byteWord 2 x y 0 % 0x100) 0 u)) refl
 rest-words (x ∷ y ∷ z ∷ l) h =
     let n : ℕ = length (x ∷ y ∷ z ∷ l) in
     let m : min 3 n ≡ 3 = omega arith in
     let d : n - 3 ≡ length l = omega arith in
-    one-and (fits n (byteWord 3 x y z)) (isRest (n - 3) (byteWords l))
+    one-and (bytesFit n (byteWord 3 x y z)) (areBytes (n - 3) (byteWords l))
     (one-fits n 3 x y z (omega arith) (ne-eqb n 0 (λ q. omega arith)) m (h .0) (h .1 .0) (h .1 .1 .0) refl)
-    (ap (λ (k : ℕ). isRest k (byteWords l)) d ∙ rest-words l (h .1 .1 .1))
+    (ap (λ (k : ℕ). areBytes k (byteWords l)) d ∙ rest-words l (h .1 .1 .1))
 
 -- byte j stands in word j / 3
-pub byte-at : (left : ℕ) (ws : List ℕ) (j : ℕ) → isRest left ws ≡ true → j < left → getD (bytesIn ws) j 0 ≡ byteIn (getD ws (j / 3) 0) (j % 3)
-unfolding isRest
+pub byte-at : (left : ℕ) (ws : List ℕ) (j : ℕ) → areBytes left ws ≡ true → j < left → getD (bytesIn ws) j 0 ≡ byteIn (getD ws (j / 3) 0) (j % 3)
+unfolding areBytes
 byte-at left [] j e h = absurd (let z = eqb-true left 0 e in omega arith)
 byte-at zero (w ∷ ws) j e h = absurd (omega arith)
 byte-at (suc left) (w ∷ ws) j e h = go left j (fits-is w (suc left) (p .0) .0) h (λ k g. byte-at (suc left - 3) ws k (p .1) g)
   where
-    p : (fits (suc left) w ≡ true) × (isRest (suc left - 3) ws ≡ true)
-    p = both (fits (suc left) w) (isRest (suc left - 3) ws) e
+    p : (bytesFit (suc left) w ≡ true) × (areBytes (suc left - 3) ws ≡ true)
+    p = both (bytesFit (suc left) w) (areBytes (suc left - 3) ws) e
 
     go : (left j : ℕ) → w / 0x1000000 ≡ 0x50 + min 3 (suc left) → j < suc left
         → ((k : ℕ) → k < suc left - 3 → getD (bytesIn ws) k 0 ≡ byteIn (getD ws (k / 3) 0) (k % 3))
@@ -322,7 +338,7 @@ byte-at (suc left) (w ∷ ws) j e h = go left j (fits-is w (suc left) (p .0) .0)
         ∙ r j (omega arith) ∙ ap₂ (λ (x y : ℕ). byteIn (getD (w ∷ ws) x 0) y) (sym d) (sym o)
 
 -- the words of so many bytes from a place on
-module _ (left from : ℕ) (ws : List ℕ) (e : isRest left (drop from ws) ≡ true) where
+module _ (left from : ℕ) (ws : List ℕ) (e : areBytes left (drop from ws) ≡ true) where
   pub rest-count : length (bytesIn (drop from ws)) ≡ left
   rest-count = rest-back left (drop from ws) e .1
 
@@ -395,24 +411,24 @@ module _ (ws : List ℕ) where
     rest = drop (length front) before
 
     abbrev byParts : Bool
-    byParts = sameWords counts (drop end ws) && isFront (kindsIn ws) (receiverIn ws) before
+    byParts = sameList counts (drop end ws) && isFront (kindsIn ws) (receiverIn ws) before
 
     forth : isForm ws ≡ true → byParts ≡ true
     unfolding isForm wordsWith isFront
     forth e =
         let w : List ℕ = byteWords (bytesIn ws) in
-        let p = both (eqb (length (bytesIn ws)) (receiverIn ws .held)) (sameWords (front ++ (w ++ counts)) ws) e in
+        let p = both (eqb (length (bytesIn ws)) (receiverIn ws .held)) (sameList (front ++ (w ++ counts)) ws) e in
         let q : front ++ (w ++ counts) ≡ ws = same-true (front ++ (w ++ counts)) ws (p .1) in
         let c : drop end ws ≡ counts = at ∙ ap (fromKind 6) (sym q) ∙ counts-said in
         let b : before ≡ front ++ w = cut-at (front ++ w) counts ws end (append-assoc front w counts ∙ q) c within in
         let d : rest ≡ w = ap (drop (length front)) b ∙ drop-append-seam front w in
-        one-and (sameWords counts (drop end ws)) (beginsWith front before && isRest (receiverIn ws .held) rest)
-        (ap (sameWords counts) c ∙ same-itself counts)
-        (one-and (beginsWith front before) (isRest (receiverIn ws .held) rest)
+        one-and (sameList counts (drop end ws)) (beginsWith front before && areBytes (receiverIn ws .held) rest)
+        (ap (sameList counts) c ∙ same-itself counts)
+        (one-and (beginsWith front before) (areBytes (receiverIn ws .held) rest)
         (ap (beginsWith front) b ∙ begins-itself front w)
-        (ap₂ isRest (sym (eqb-true (length (bytesIn ws)) (receiverIn ws .held) (p .0))) d ∙ rest-words (bytesIn ws) (all-bytes ws)))
+        (ap₂ areBytes (sym (eqb-true (length (bytesIn ws)) (receiverIn ws .held) (p .0))) d ∙ rest-words (bytesIn ws) (all-bytes ws)))
 
-    module _ (c : sameWords counts (drop end ws) ≡ true) (b : beginsWith front before ≡ true) (t : isRest (receiverIn ws .held) rest ≡ true) where
+    module _ (c : sameList counts (drop end ws) ≡ true) (b : beginsWith front before ≡ true) (t : areBytes (receiverIn ws .held) rest ≡ true) where
       whole : front ++ (rest ++ counts) ≡ ws
       whole =
           sym (append-assoc front rest counts)
@@ -432,19 +448,19 @@ module _ (ws : List ℕ) where
           let k = rest-back (receiverIn ws .held) rest t in
           let q : front ++ (byteWords (bytesIn ws) ++ counts) ≡ ws =
           ap (λ (l : List ℕ). front ++ (byteWords l ++ counts)) (sym rest-bytes) ∙ ap (λ (l : List ℕ). front ++ (l ++ counts)) (k .0) ∙ whole in
-          one-and (eqb (length (bytesIn ws)) (receiverIn ws .held)) (sameWords (front ++ (byteWords (bytesIn ws) ++ counts)) ws)
+          one-and (eqb (length (bytesIn ws)) (receiverIn ws .held)) (sameList (front ++ (byteWords (bytesIn ws) ++ counts)) ws)
           (eq-eqb (length (bytesIn ws)) (receiverIn ws .held) (ap length (sym rest-bytes) ∙ k .1))
-          (ap (λ (l : List ℕ). sameWords l ws) q ∙ same-itself ws)
+          (ap (λ (l : List ℕ). sameList l ws) q ∙ same-itself ws)
 
-    parts : byParts ≡ true → (sameWords counts (drop end ws) ≡ true) × (beginsWith front before ≡ true) × (isRest (receiverIn ws .held) rest ≡ true)
+    parts : byParts ≡ true → (sameList counts (drop end ws) ≡ true) × (beginsWith front before ≡ true) × (areBytes (receiverIn ws .held) rest ≡ true)
     unfolding isFront
     parts e =
-        let p = both (sameWords counts (drop end ws)) (beginsWith front before && isRest (receiverIn ws .held) rest) e in
-        let q = both (beginsWith front before) (isRest (receiverIn ws .held) rest) (p .1) in
+        let p = both (sameList counts (drop end ws)) (beginsWith front before && areBytes (receiverIn ws .held) rest) e in
+        let q = both (beginsWith front before) (areBytes (receiverIn ws .held) rest) (p .1) in
         (p .0, q .0, q .1)
 
     pub form-steps : byParts ≡ isForm ws
     form-steps = agree byParts (isForm ws) (λ e. let p = parts e in back (p .0) (p .1) (p .2)) forth
 
-    pub form-rest : isForm ws ≡ true → (bytesIn rest ≡ bytesIn ws) × (isRest (receiverIn ws .held) rest ≡ true)
+    pub form-rest : isForm ws ≡ true → (bytesIn rest ≡ bytesIn ws) × (areBytes (receiverIn ws .held) rest ≡ true)
     form-rest e = let p = parts (forth e) in (rest-bytes (p .0) (p .1) (p .2), p .2)

@@ -15,13 +15,15 @@ use Rattle.refusal.proofs.Rows.{row-off}
 use Rattle.log.proofs.Packets.{Bytes}
 use Rattle.receiver.specs.Receiving.{wrongState, openedBy}
 use Rattle.receiver.specs.declared.Receiver.{Receiver}
-use Rattle.snapshot.specs.Snapshot.{Kinds, today, headWords, byteWords, countWords, wordsWith, savedWords, saveTests, saveNumber, saved, wordsAfter, kindsIn, receiverIn, bytesIn, isForm, sameWords, wrongWords, loadTests, loadNumber, loaded, carryLoaded}
+use Rattle.log.specs.Log.{sameList}
+use Rattle.log.proofs.Same.{same-true}
+use Rattle.snapshot.specs.Snapshot.{Kinds, today, headWords, byteWords, countWords, wordsWith, savedWords, saveTests, saveNumber, saved, wordsAfter, kindsIn, receiverIn, bytesIn, isForm, wrongWords, loadTests, loadNumber, loaded, carryLoaded}
 use Rattle.snapshot.proofs.Bytes.{bytes-length}
 use Rattle.snapshot.proofs.Parts.{headParts, head-parts, parts-length}
 use Rattle.snapshot.proofs.Counts.{counts-few}
 use Rattle.snapshot.proofs.Fields.{laid}
 use Rattle.snapshot.proofs.Forms.{Absent, receiver-in, bytes-in, formed}
-use Rattle.snapshot.proofs.Same.{both, same-true}
+use Rattle.snapshot.proofs.Same.{both}
 
 -- ---- the words of a receiver are accepted, today's and those of older firmware
 
@@ -140,9 +142,9 @@ module _ (ws carry : List ℕ) where
       neither true b f = (refl, f)
       neither false b f = absurd (true≢false f)
 
-  form-parts : isForm ws ≡ true → (eqb (length (bytesIn ws)) (receiverIn ws .held) ≡ true) × (sameWords (wordsWith (kindsIn ws) (receiverIn ws) (bytesIn ws)) ws ≡ true)
+  form-parts : isForm ws ≡ true → (eqb (length (bytesIn ws)) (receiverIn ws .held) ≡ true) × (sameList (wordsWith (kindsIn ws) (receiverIn ws) (bytesIn ws)) ws ≡ true)
   unfolding isForm
-  form-parts e = both (eqb (length (bytesIn ws)) (receiverIn ws .held)) (sameWords (wordsWith (kindsIn ws) (receiverIn ws) (bytesIn ws)) ws) e
+  form-parts e = both (eqb (length (bytesIn ws)) (receiverIn ws .held)) (sameList (wordsWith (kindsIn ws) (receiverIn ws) (bytesIn ws)) ws) e
 
   pub accepted-form : loadNumber ws carry ≡ 0 → Form
   unfolding loadNumber

@@ -1,11 +1,6 @@
--- Equal words, and what two tests together say.
-use mathlib.Core.Path.{_≡_, refl, sym, ap₂}
+-- What two tests together say.
+use mathlib.Core.Path.{_≡_, refl, sym}
 use mathlib.Core.Bool.{Bool, true, false, _&&_, true≢false}
-use mathlib.Core.List.{List, [], _∷_}
-use Prim.Native.Nat.{ℕ}
-use lib.Dec.{eqb}
-use borrow.Author.Tests.{eq-eqb, eqb-true}
-use Rattle.snapshot.specs.Snapshot.{sameWords}
 
 pub both : (a b : Bool) → (a && b) ≡ true → (a ≡ true) × (b ≡ true)
 both true b e = (refl, e)
@@ -20,17 +15,3 @@ pub agree : (a b : Bool) → (a ≡ true → b ≡ true) → (b ≡ true → a �
 agree true b f g = sym (f refl)
 agree false true f g = g refl
 agree false false f g = refl
-
-pub same-itself : (ws : List ℕ) → sameWords ws ws ≡ true
-unfolding sameWords
-same-itself [] = refl
-same-itself (w ∷ ws) = one-and (eqb w w) (sameWords ws ws) (eq-eqb w w refl) (same-itself ws)
-
-pub same-true : (vs ws : List ℕ) → sameWords vs ws ≡ true → vs ≡ ws
-unfolding sameWords
-same-true [] [] e = refl
-same-true [] (w ∷ ws) e = absurd (true≢false (sym e))
-same-true (v ∷ vs) [] e = absurd (true≢false (sym e))
-same-true (v ∷ vs) (w ∷ ws) e =
-    let p = both (eqb v w) (sameWords vs ws) e in
-    ap₂ _∷_ (eqb-true v w (p .0)) (same-true vs ws (p .1))

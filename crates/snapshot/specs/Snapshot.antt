@@ -6,17 +6,17 @@ use lib.Dec.{eqb, ltb}
 use lib.ListN.{length, getD, take}
 use Rattle.refusal.specs.Refusal.{firstOf, anyOf}
 use Rattle.buffer.specs.Buffer.{putAt}
-use Rattle.log.specs.Log.{dataWords}
+use Rattle.log.specs.Log.{dataWords, sameList, dataBytes}
 use Rattle.receiver.specs.Receiving.{wrongState, openedBy}
 use Rattle.receiver.specs.declared.Receiver.{Receiver}
 use Rattle.receiver.specs.declared.Opened.{Opened}
 use Rattle.snapshot.specs.declared.Saved.{Saved}
 
-abbrev pub word : ℕ → ℕ → ℕ
-word kind value = kind * 0x10000000 + value
+abbrev pub stateWord : ℕ → ℕ → ℕ
+stateWord kind value = kind * 0x10000000 + value
 
-abbrev pub kindOf : ℕ → ℕ
-kindOf w = w / 0x10000000
+abbrev pub kindIn : ℕ → ℕ
+kindIn w = w / 0x10000000
 
 -- the other 28 bits
 abbrev pub valueIn : ℕ → ℕ
@@ -30,23 +30,23 @@ optional there w = cond there (w ∷ []) []
 
 -- 0: mode (bits 3-0) and stream (5-4)
 abbrev pub modeWord : Receiver → ℕ
-modeWord r = word 0 (r .stream * 16 + r .mode)
+modeWord r = stateWord 0 (r .stream * 16 + r .mode)
 
 -- 1: last sequence (2-0); absent where it is unknown
 abbrev pub sequenceWord : Receiver → ℕ
-sequenceWord r = word 1 (r .sequence)
+sequenceWord r = stateWord 1 (r .sequence)
 
 -- 2: held number (21-16) and length (15-0); absent where nothing is held
 abbrev pub heldWord : Receiver → ℕ
-heldWord r = word 2 (r .number * 0x10000 + r .held)
+heldWord r = stateWord 2 (r .number * 0x10000 + r .held)
 
 -- 3: starting register (7-0)
 abbrev pub registerWord : Receiver → ℕ
-registerWord r = word 3 (r .register)
+registerWord r = stateWord 3 (r .register)
 
 -- 4: entitled programs (bit p for program p), and the applied services in force (10-8; bit 11 set if known, else all four zero)
 abbrev pub programsWord : Receiver → ℕ
-programsWord r = word 4 (cond (r .serviced) (8 + r .services) 0 * 0x100 + r .entitled)
+programsWord r = stateWord 4 (cond (r .serviced) (8 + r .services) 0 * 0x100 + r .entitled)
 
 -- 5: the held bytes, three a word with their count, only the last word under three: the log's data words, whose top four bits are 4, with 5 there
 unfoldable pub byteWords : List ℕ → List ℕ
@@ -56,7 +56,7 @@ byteWords bytes = map (λ w. w + 0x10000000) (dataWords bytes)
 unfoldable pub countWords : Receiver → List ℕ
 countWords r =
     cond (eqb (r .delivered) 0) []
-    (word 6 (r .delivered / 0x10000) ∷ word 6 (r .delivered % 0x10000) ∷ word 6 (r .missing / 0x10000) ∷ word 6 (r .missing % 0x10000) ∷ word 6 (r .last) ∷ [])
+    (stateWord 6 (r .delivered / 0x10000) ∷ stateWord 6 (r .delivered % 0x10000) ∷ stateWord 6 (r .missing / 0x10000) ∷ stateWord 6 (r .missing % 0x10000) ∷ stateWord 6 (r .last) ∷ [])
 
 -- whether kinds 3 and 4 are there: words of older firmware may lack either or both
 pub record Kinds : Type 0 where
@@ -109,26 +109,22 @@ module _ (carry words : List ℕ) (r : Receiver) where
 -- whether there is one of a kind
 unfoldable pub has : ℕ → List ℕ → Bool
 has kind [] = false
-has kind (w ∷ ws) = eqb (kindOf w) kind || has kind ws
+has kind (w ∷ ws) = eqb (kindIn w) kind || has kind ws
 
 -- the other bits of the first of a kind, 0 where there is none
 unfoldable pub valueOf : ℕ → List ℕ → ℕ
 valueOf kind [] = 0
-valueOf kind (w ∷ ws) = cond (eqb (kindOf w) kind) (valueIn w) (valueOf kind ws)
+valueOf kind (w ∷ ws) = cond (eqb (kindIn w) kind) (valueIn w) (valueOf kind ws)
 
--- the bytes of a word of kind 5: as many as bits 25-24 say, the first in 23-16
-unfoldable pub bytesOf : ℕ → List ℕ
-bytesOf w = take (w / 0x1000000 % 4) (w / 0x10000 % 0x100 ∷ w / 0x100 % 0x100 ∷ w % 0x100 ∷ [])
-
--- the bytes of all of kind 5
+-- the bytes of all of kind 5, which stand as in data words of the log
 unfoldable pub bytesIn : List ℕ → List ℕ
 bytesIn [] = []
-bytesIn (w ∷ ws) = cond (eqb (kindOf w) 5) (bytesOf w) [] ++ bytesIn ws
+bytesIn (w ∷ ws) = cond (eqb (kindIn w) 5) (dataBytes w) [] ++ bytesIn ws
 
 -- the words from the first of a kind on, none where there is none
 unfoldable pub fromKind : ℕ → List ℕ → List ℕ
 fromKind kind [] = []
-fromKind kind (w ∷ ws) = cond (eqb (kindOf w) kind) (w ∷ ws) (fromKind kind ws)
+fromKind kind (w ∷ ws) = cond (eqb (kindIn w) kind) (w ∷ ws) (fromKind kind ws)
 
 -- bits 15-0 of word i of the counts, which begin with the first of kind 6; 0 where there is none
 abbrev pub countIn : List ℕ → ℕ → ℕ
@@ -157,17 +153,11 @@ receiverIn ws = record {
 
 -- ---- number 25
 
-unfoldable pub sameWords : List ℕ → List ℕ → Bool
-sameWords [] [] = true
-sameWords [] (w ∷ ws) = false
-sameWords (v ∷ vs) [] = false
-sameWords (v ∷ vs) (w ∷ ws) = eqb v w && sameWords vs ws
-
 -- Whether words are of this form: the receiver that they say, with as many bytes as it holds, has these very words. It has others where a kind is out of order, repeated
 -- or unknown, where kind 0 is missing, 2 comes without 5 or 5 without 2, where a word of kind 5 is wrongly counted or not filled, where kind 6 has not five words or says
 -- that nothing was delivered, or an unused bit is set.
 unfoldable pub isForm : List ℕ → Bool
-isForm ws = eqb (length (bytesIn ws)) (receiverIn ws .held) && sameWords (wordsWith (kindsIn ws) (receiverIn ws) (bytesIn ws)) ws
+isForm ws = eqb (length (bytesIn ws)) (receiverIn ws .held) && sameList (wordsWith (kindsIn ws) (receiverIn ws) (bytesIn ws)) ws
 
 -- not of this form, or a field outside its range, mode and stream included: one for which number 1 turns a receiver down
 unfoldable pub wrongWords : List ℕ → Bool

@@ -19,25 +19,25 @@ beginsWith (v ∷ vs) [] = false
 beginsWith (v ∷ vs) (w ∷ ws) = eqb v w && beginsWith vs ws
 
 -- whether the bytes that a word of n bytes does not use are zero
-unfoldable pub unusedZero : ℕ → ℕ → Bool
-unusedZero n w = cond (eqb n 1) (eqb (w % 0x10000) 0) (cond (eqb n 2) (eqb (w % 0x100) 0) true)
+unfoldable pub unusedClear : ℕ → ℕ → Bool
+unusedClear n w = cond (eqb n 1) (eqb (w % 0x10000) 0) (cond (eqb n 2) (eqb (w % 0x100) 0) true)
 
 -- whether a word is of kind 5 and has n bytes
 unfoldable pub byteFits : ℕ → ℕ → Bool
-byteFits n w = eqb (w / 0x1000000) (0x50 + n) && unusedZero n w
+byteFits n w = eqb (w / 0x1000000) (0x50 + n) && unusedClear n w
 
 -- whether it may stand where so many bytes are still to come: it has three of them, or all that are left
-unfoldable pub fits : ℕ → ℕ → Bool
-fits left w = not (eqb left 0) && byteFits (min 3 left) w
+unfoldable pub bytesFit : ℕ → ℕ → Bool
+bytesFit left w = not (eqb left 0) && byteFits (min 3 left) w
 
 -- whether words are those of so many bytes
-unfoldable pub isRest : ℕ → List ℕ → Bool
-isRest left [] = eqb left 0
-isRest left (w ∷ ws) = fits left w && isRest (left - 3) ws
+unfoldable pub areBytes : ℕ → List ℕ → Bool
+areBytes left [] = eqb left 0
+areBytes left (w ∷ ws) = bytesFit left w && areBytes (left - 3) ws
 
 -- whether words are those before a receiver's counts
 unfoldable pub isFront : Kinds → Receiver → List ℕ → Bool
-isFront k r ws = beginsWith (headWords k r) ws && isRest (r .held) (drop (length (headWords k r)) ws)
+isFront k r ws = beginsWith (headWords k r) ws && areBytes (r .held) (drop (length (headWords k r)) ws)
 
 -- byte k of a word of kind 5
 abbrev pub byteIn : ℕ → ℕ → ℕ

@@ -6,10 +6,10 @@ ghost use mathlib.Core.Bool.{true, cond};
 ghost use Prim.Native.Nat.{_+_, _-_, _*_, _/_, _%_, _<_, _≤_, min};
 ghost use lib.ListN.{length, getD, drop};
 ghost use Rattle.buffer.specs.Buffer.{putAt};
-ghost use Rattle.log.specs.Log.{dataWordAt};
+ghost use Rattle.log.specs.Log.{dataWordAt, sameList};
 ghost use Rattle.receiver.specs.Receiving.{noReceiver};
-ghost use Rattle.snapshot.specs.Snapshot.{word as wordOf, optional, modeWord, heldWord, registerWord, programsWord, sequenceWord, headWords, byteWords, countWords, savedWords, saveNumber, saved, wordsAfter, kindOf, valueIn, has as hasKind, valueOf, bytesIn, fromKind, receiverIn, sameWords, isForm, wrongWords, loaded, carryLoaded};
-ghost use Rattle.snapshot.specs.Steps.{kinds, beginsWith, unusedZero, byteFits, fits as fitsAt, isRest, isFront, byteIn};
+ghost use Rattle.snapshot.specs.Snapshot.{stateWord, optional, modeWord, heldWord, registerWord, programsWord, sequenceWord, headWords, byteWords, countWords, savedWords, saveNumber, saved, wordsAfter, kindIn, valueIn, has as hasKind, valueOf, bytesIn, fromKind, receiverIn, isForm, wrongWords, loaded, carryLoaded};
+ghost use Rattle.snapshot.specs.Steps.{kinds, beginsWith, unusedClear, byteFits, bytesFit as fitsAt, areBytes, isFront, byteIn};
 
 // The refusal number, 0 where there is none, and how many words were written.
 #[repr(C)]
@@ -151,21 +151,21 @@ fn put_bytes(words: &mut [u32], at: usize, bytes: &[u8])
 
 // Of kind 6: the high bits of a count.
 fn high_word(count: u32) -> u32
-    ensures { λ w. ⌜ w ≡ wordOf 6 (count / 0x10000) ⌝ }
+    ensures { λ w. ⌜ w ≡ stateWord 6 (count / 0x10000) ⌝ }
 {
     0x60000000 + count / 0x10000
 }
 
 // Of kind 6: the low bits of a count.
 fn low_word(count: u32) -> u32
-    ensures { λ w. ⌜ w ≡ wordOf 6 (count % 0x10000) ⌝ }
+    ensures { λ w. ⌜ w ≡ stateWord 6 (count % 0x10000) ⌝ }
 {
     0x60000000 + count % 0x10000
 }
 
 // Of kind 6: the last number.
 fn last_word(last: u8) -> u32
-    ensures { λ w. ⌜ w ≡ wordOf 6 last ⌝ }
+    ensures { λ w. ⌜ w ≡ stateWord 6 last ⌝ }
 {
     0x60000000 + last as u32
 }
@@ -229,34 +229,6 @@ pub fn save(r: Receiver, carry: &[u8], words: &mut [u32]) -> Saved
     }
 }
 
-// Whether there is a word of a kind.
-fn has(words: &[u32], kind: u32) -> bool
-    ensures { λ r. ⌜ r ≡ hasKind kind (now (words .entry)) ⌝ }
-{
-    let mut i: usize = 0;
-    while i < words.len() {
-        if words[i] / 0x10000000 == kind {
-            return true;
-        }
-        i += 1;
-    }
-    false
-}
-
-// The other bits of the first word of a kind, 0 where there is none.
-fn value_of(words: &[u32], kind: u32) -> u32
-    ensures { λ r. ⌜ r ≡ valueOf kind (now (words .entry)) ⌝ }
-{
-    let mut i: usize = 0;
-    while i < words.len() {
-        if words[i] / 0x10000000 == kind {
-            return words[i] % 0x10000000;
-        }
-        i += 1;
-    }
-    0
-}
-
 // Where the first word of a kind stands, the count of words where there is none.
 fn place_of(words: &[u32], kind: u32) -> usize
     ensures { λ r. ⌜ (drop r (now (words .entry)) ≡ fromKind kind (now (words .entry))) × (r ≤ length (now (words .entry))) ⌝ }
@@ -269,6 +241,27 @@ fn place_of(words: &[u32], kind: u32) -> usize
         i += 1;
     }
     i
+}
+
+// Whether there is a word of a kind.
+fn has(words: &[u32], kind: u32) -> bool
+    ensures { λ r. ⌜ r ≡ hasKind kind (now (words .entry)) ⌝ }
+{
+    if words.len() <= place_of(words, kind) {
+        return false;
+    }
+    true
+}
+
+// The other bits of the first word of a kind, 0 where there is none.
+fn value_of(words: &[u32], kind: u32) -> u32
+    ensures { λ r. ⌜ r ≡ valueOf kind (now (words .entry)) ⌝ }
+{
+    let at = place_of(words, kind);
+    if words.len() <= at {
+        return 0;
+    }
+    words[at] % 0x10000000
 }
 
 // Bits 15-0 of word i, 0 past the end.
@@ -335,7 +328,7 @@ fn begins(words: &[u32], front: &[u32]) -> bool
 
 // Whether the bytes that a word of n bytes does not use are zero.
 fn unused_zero(n: u32, w: u32) -> bool
-    ensures { λ r. ⌜ r ≡ unusedZero n w ⌝ }
+    ensures { λ r. ⌜ r ≡ unusedClear n w ⌝ }
 {
     if n == 1 {
         return w % 0x10000 == 0;
@@ -379,7 +372,7 @@ fn left_after(left: usize) -> usize
 
 // Whether the words from a place on are those of so many bytes.
 fn is_rest(words: &[u32], from: usize, held: usize) -> bool
-    ensures { λ r. ⌜ r ≡ isRest held (drop from (now (words .entry))) ⌝ }
+    ensures { λ r. ⌜ r ≡ areBytes held (drop from (now (words .entry))) ⌝ }
 {
     let mut left = held;
     let mut i = from;
@@ -408,7 +401,7 @@ fn is_front(words: &[u32], r: Receiver, register: bool, programs: bool) -> bool
 
 // Whether words are those of a receiver's counts.
 fn is_counts(words: &[u32], r: Receiver) -> bool
-    ensures { λ b. ⌜ b ≡ sameWords (countWords r) (now (words .entry)) ⌝ }
+    ensures { λ b. ⌜ b ≡ sameList (countWords r) (now (words .entry)) ⌝ }
 {
     let mut counts = [0u32; 5];
     put_counts(&mut counts, 0, r);
@@ -458,7 +451,7 @@ fn byte_in(w: u32, k: usize) -> u8
 // Copies the bytes of the words of kind 5 from a place on to the front of the carry.
 fn take_bytes(carry: &mut [u8], words: &[u32], from: usize, held: usize)
     requires { ⌜ held ≤ length (now carry) ⌝ }
-    requires { ⌜ isRest held (drop from (now words)) ≡ true ⌝ }
+    requires { ⌜ areBytes held (drop from (now words)) ≡ true ⌝ }
     ensures { λ _. ⌜ now (carry .exit) ≡ putAt (now (carry .entry)) 0 (bytesIn (drop from (now (words .entry)))) ⌝ }
 {
     let mut j: usize = 0;

@@ -20,7 +20,7 @@ use Rattle.pieces.specs.Pieces.{total}
 use Rattle.packing.specs.Packing.{overhead, mostPieces, wholes, part, ifAny, pieceLengths}
 use Rattle.packing.proofs.Limit.{most-small, la-below}
 use Rattle.packing.proofs.Bounds.{left, Kept, kept}
-use Rattle.writer.specs.Writing.{wrongLengths, wrongUnfinished, wrongState, wrongSize, wrongPackets, wrongExtra, noRoom, expansionOf, extraOf, writerTests, placed, endedOf, partOf}
+use Rattle.writer.specs.Writing.{wrongLengths, wrongUnfinished, wrongWriter, wrongSize, wrongPackets, wrongExtra, noRoom, expansionOf, extraOf, writerTests, placedLengths, endedOf, partOf}
 use Rattle.writer.specs.declared.Writer.{Writer}
 use Rattle.writer.proofs.Judging.{never, first-fails, second-fails, size-right}
 
@@ -66,7 +66,7 @@ module _ (settings : Settings) (psd lengths bytes : List ℕ) (size : ℕ) (m : 
 
   pub fine : firstOf (writerTests settings psd lengths bytes size m w) ≡ 0 → Fine
   fine e =
-      let s1 = anyOf (wrongState m w) in
+      let s1 = anyOf (wrongWriter m w) in
       let s3 = anyOf (wrongSize m size) in
       let s10 = anyOf (brokenRules settings size) in
       let s14 = anyOf (wrongValues (w .stream) settings) in
@@ -132,7 +132,7 @@ module _ (settings : Settings) (psd lengths bytes : List ℕ) (size : ℕ) (m : 
   extra = extraOf settings psd lengths bytes size
 
   abbrev ps : List ℕ
-  ps = placed settings psd lengths bytes size m w
+  ps = placedLengths settings psd lengths bytes size m w
 
   module _ (f : Fine) where
     keeps : Kept (m .width) extra size 0 0 (w .sent) lengths ps

@@ -20,7 +20,7 @@ use Rattle.pieces.specs.Pieces.{total}
 use Rattle.packing.specs.Packing.{overhead, pieceLengths}
 use Rattle.packing.proofs.Limit.{one-piece}
 use Rattle.packing.proofs.Bounds.{AtMost, Positive, sent-after, some-placed}
-use Rattle.writer.specs.Writing.{wrongLengths, wrongState, noRoom, extraOf, placed, nextOf, controlFor, writerTests, acceptedAnswer, refusedAnswer, answerIn, writeAnswer}
+use Rattle.writer.specs.Writing.{wrongLengths, wrongWriter, noRoom, extraOf, placedLengths, nextOf, controlFor, writerTests, acceptedAnswer, refusedWrite, answerIn, writeAnswer}
 use Rattle.writer.specs.declared.Writer.{Writer}
 use Rattle.writer.specs.declared.Written.{Written}
 use Rattle.writer.proofs.Judging.{first-fails, second-fails}
@@ -35,7 +35,7 @@ at-most (n ∷ ns) e =
 
 module _ (settings : Settings) (psd lengths bytes : List ℕ) (size : ℕ) (m : Mode) (w : Writer) (f : Fine settings psd lengths bytes size m w) (l : listing (w .mode) (w .stream) ≡ Listed m) where
   -- the next state is not refused with 1
-  pub next-right : anyOf (wrongState m (nextOf settings psd lengths bytes size m w)) ≡ false
+  pub next-right : anyOf (wrongWriter m (nextOf settings psd lengths bytes size m w)) ≡ false
   next-right =
       let b = listable (w .mode) (w .stream) m l in
       let n = nextOf settings psd lengths bytes size m w in
@@ -47,11 +47,11 @@ module _ (settings : Settings) (psd lengths bytes : List ℕ) (size : ℕ) (m : 
       rw (u, v, x)
 
   -- with packets offered, at least one byte is sent
-  pub sends-a-byte : 0 < length lengths → 0 < total (placed settings psd lengths bytes size m w)
+  pub sends-a-byte : 0 < length lengths → 0 < total (placedLengths settings psd lengths bytes size m w)
   unfolding total
-  sends-a-byte h = go (placed settings psd lengths bytes size m w) (offered lengths refl h) (positive settings psd lengths bytes size m w f l)
+  sends-a-byte h = go (placedLengths settings psd lengths bytes size m w) (offered lengths refl h) (positive settings psd lengths bytes size m w f l)
     where
-      offered : (ns : List ℕ) → lengths ≡ ns → 0 < length ns → 0 < length (placed settings psd lengths bytes size m w)
+      offered : (ns : List ℕ) → lengths ≡ ns → 0 < length ns → 0 < length (placedLengths settings psd lengths bytes size m w)
       offered [] e h = absurd (omega arith)
       offered (n ∷ ns) e h =
           let r : noRoom m (extraOf settings psd lengths bytes size) size (n ∷ ns) ≡ false = subst (λ (k : List ℕ). noRoom m (extraOf settings psd lengths bytes size) size k ≡ false) e (f .room) in
@@ -64,7 +64,7 @@ module _ (settings : Settings) (psd lengths bytes : List ℕ) (size : ℕ) (m : 
 
 -- piece k is of the packet with the writer's number plus k, modulo 64
 pub numbers-run : (settings : Settings) (psd lengths bytes : List ℕ) (size : ℕ) (m : Mode) (w : Writer) (k : ℕ) → w .number ≤ 63
-    → pieceNumber (controlFor settings psd lengths bytes size m w) k ≡ (w .number + k) % 64
+    → let c = controlFor settings psd lengths bytes size m w in pieceNumber (c .pfirst) (c .start) k ≡ (w .number + k) % 64
 numbers-run settings psd lengths bytes size m w k h = go (ltb 0 (w .sent))
   where
     go : (b : Bool) → ((w .number + bit b) % 64 + cond b 63 0 + k) % 64 ≡ (w .number + k) % 64
@@ -78,7 +78,7 @@ module _ (settings : Settings) (psd lengths bytes : List ℕ) (size : ℕ) (w : 
   accepted m h = by (eqb (firstOf (writerTests settings psd lengths bytes size m w)) 0) refl h
     where
       by : (b : Bool) → eqb (firstOf (writerTests settings psd lengths bytes size m w)) 0 ≡ b
-          → cond b (acceptedAnswer settings psd lengths bytes size m w) (refusedAnswer w (firstOf (writerTests settings psd lengths bytes size m w))) .refusal ≡ 0
+          → cond b (acceptedAnswer settings psd lengths bytes size m w) (refusedWrite w (firstOf (writerTests settings psd lengths bytes size m w))) .refusal ≡ 0
           → firstOf (writerTests settings psd lengths bytes size m w) ≡ 0
       by true e h = eqb-true (firstOf (writerTests settings psd lengths bytes size m w)) 0 e
       by false e h = h
@@ -92,13 +92,13 @@ module _ (settings : Settings) (psd lengths bytes : List ℕ) (size : ℕ) (w : 
     tests = accepted m (ap (λ (r : Written). r .refusal) (sym here) ∙ h)
 
     -- the writer that an accepted call hands back is not refused with 1
-    pub next-accepted : anyOf (wrongState m (writeAnswer settings psd lengths bytes size w .writer)) ≡ false
+    pub next-accepted : anyOf (wrongWriter m (writeAnswer settings psd lengths bytes size w .writer)) ≡ false
     next-accepted =
         let t : eqb (firstOf (writerTests settings psd lengths bytes size m w)) 0 ≡ true = eq-eqb (firstOf (writerTests settings psd lengths bytes size m w)) 0 tests in
         let e : writeAnswer settings psd lengths bytes size w .writer ≡ nextOf settings psd lengths bytes size m w =
-        ap (λ (r : Written). r .writer) here ∙ ap (λ (b : Bool). cond b (acceptedAnswer settings psd lengths bytes size m w) (refusedAnswer w (firstOf (writerTests settings psd lengths bytes size m w))) .writer) t in
-        ap (λ (n : Writer). anyOf (wrongState m n)) e ∙ next-right settings psd lengths bytes size m w (fine settings psd lengths bytes size m w tests) l
+        ap (λ (r : Written). r .writer) here ∙ ap (λ (b : Bool). cond b (acceptedAnswer settings psd lengths bytes size m w) (refusedWrite w (firstOf (writerTests settings psd lengths bytes size m w))) .writer) t in
+        ap (λ (n : Writer). anyOf (wrongWriter m n)) e ∙ next-right settings psd lengths bytes size m w (fine settings psd lengths bytes size m w tests) l
 
     -- an accepted call with packets offered sends at least one byte
-    pub byte-sent : 0 < length lengths → 0 < total (placed settings psd lengths bytes size m w)
+    pub byte-sent : 0 < length lengths → 0 < total (placedLengths settings psd lengths bytes size m w)
     byte-sent = sends-a-byte settings psd lengths bytes size m w (fine settings psd lengths bytes size m w tests) l

@@ -16,7 +16,7 @@ use Rattle.layout.specs.Control.{bit, byte8, byte9, byte10, byte11, byte12, con
 use Rattle.layout.specs.declared.ControlWord.{ControlWord}
 use Rattle.layout.specs.Locators.{bytes16, bytes12, locatorBytes}
 use Rattle.expansion.specs.Expansion.{septetsOfAll, chained}
-use Rattle.expansion.specs.Writing.{fieldsOf, expansionBytes}
+use Rattle.expansion.specs.Writing.{sentFields, expansionBytes}
 use Rattle.expansion.specs.declared.Fields.{Fields}
 use Rattle.expansion.proofs.Marks.{Septets, all-septets}
 use Rattle.pieces.specs.Pieces.{cutBy, withCrc, pieceBytes, total}
@@ -64,7 +64,7 @@ all-chained (b ∷ c ∷ l) h = let q = h .0 in (omega arith, all-chained (c ∷
 
 pub all-expansion : (x : Fields) → All Byte (expansionBytes x)
 unfolding expansionBytes
-all-expansion x = all-chained (septetsOfAll (fieldsOf x)) (all-septets (fieldsOf x))
+all-expansion x = all-chained (septetsOfAll (sentFields x)) (all-septets (sentFields x))
 
 all-front : (n : ℕ) (l : List ℕ) → All Byte l → All Byte (take n l)
 all-front zero l h = tt

@@ -11,7 +11,7 @@ use Rattle.modes.specs.declared.Mode.{Mode}
 use Rattle.modes.specs.declared.Listing.{Listing}
 use Rattle.modes.specs.declared.Listing.the-variants.{Listed, Refused}
 use Rattle.settings.specs.declared.Settings.{Settings}
-use Rattle.writer.specs.Writing.{writerTests, acceptedAnswer, refusedAnswer, pduOf, answerIn, pduIn, writeAnswer, writtenPdu}
+use Rattle.writer.specs.Writing.{writerTests, acceptedAnswer, refusedWrite, pduOf, answerIn, pduIn, writeAnswer, writtenPdu}
 use Rattle.writer.specs.declared.Writer.{Writer}
 use Rattle.writer.specs.declared.Written.{Written}
 
@@ -26,10 +26,10 @@ module _ (settings : Settings) (psd lengths bytes : List ℕ) (size : ℕ) (w : 
       let t : eqb (firstOf (writerTests settings psd lengths bytes size m w)) 0 ≡ true = eq-eqb (firstOf (writerTests settings psd lengths bytes size m w)) 0 e in
       (rw t er, rw t ea)
 
-  pub refused-call : (m : Mode) (n : ℕ) (r : Written) → n ≡ firstOf (writerTests settings psd lengths bytes size m w) → ¬ (n ≡ 0) → r ≡ refusedAnswer w n → Right (Listed m) r before
+  pub refused-call : (m : Mode) (n : ℕ) (r : Written) → n ≡ firstOf (writerTests settings psd lengths bytes size m w) → ¬ (n ≡ 0) → r ≡ refusedWrite w n → Right (Listed m) r before
   refused-call m n r e z er =
       let t : eqb (firstOf (writerTests settings psd lengths bytes size m w)) 0 ≡ false = ne-eqb (firstOf (writerTests settings psd lengths bytes size m w)) 0 (λ q. z (e ∙ q)) in
-      (rw t (er ∙ ap (refusedAnswer w) e), rw t)
+      (rw t (er ∙ ap (refusedWrite w) e), rw t)
 
   pub called : (l k : Listing) (r : Written) (after : List ℕ) → l ≡ listing (w .mode) (w .stream) → l ≡ k → Right k r after
       → (r ≡ writeAnswer settings psd lengths bytes size w) × (after ≡ writtenPdu settings psd lengths bytes size w before)

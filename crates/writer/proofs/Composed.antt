@@ -18,7 +18,7 @@ use Rattle.packing.specs.Packing.{overhead}
 use Rattle.contents.specs.Contents.{firstPiece, contents}
 use Rattle.contents.proofs.Putting.{cut-count, length-contents}
 use Rattle.header.specs.Header.{withParity}
-use Rattle.writer.specs.Writing.{expansionOf, extraOf, placed, partOf, piecesOf, controlWith, controlFor, written, pduOf}
+use Rattle.writer.specs.Writing.{expansionOf, extraOf, placedLengths, partOf, piecesOf, controlWith, controlFor, written, pduOf}
 use Rattle.writer.specs.declared.Writer.{Writer}
 use Rattle.writer.proofs.Accepted.{Fine, enough, fits}
 
@@ -27,7 +27,7 @@ module _ (settings : Settings) (psd lengths bytes : List ℕ) (size : ℕ) (m : 
   x = expansionOf settings psd lengths bytes size
 
   abbrev ps : List ℕ
-  ps = placed settings psd lengths bytes size m w
+  ps = placedLengths settings psd lengths bytes size m w
 
   abbrev whole : List ℕ
   whole = written settings psd lengths bytes size m w

@@ -7,12 +7,12 @@ use Rattle.modes.specs.declared.Listing.{Listing}
 use Rattle.modes.specs.declared.Listing.the-variants.{Listed, Refused}
 use mathlib.Core.List.{List}
 use Rattle.settings.specs.declared.Settings.{Settings}
-use Rattle.writer.specs.Writing.{noWriter, openedAs, opened, writeAnswer}
+use Rattle.writer.specs.Writing.{noWriter, openedAs, writerOpened, writeAnswer}
 use Rattle.writer.specs.declared.Writer.{Writer}
 use Rattle.writer.specs.declared.Opened.{Opened}
 
-pub opened-by : (l k : Listing) (mode stream register : ℕ) → l ≡ listing mode stream → l ≡ k → openedAs k mode stream register ≡ opened mode stream register
-unfolding opened
+pub opened-by : (l k : Listing) (mode stream register : ℕ) → l ≡ listing mode stream → l ≡ k → openedAs k mode stream register ≡ writerOpened mode stream register
+unfolding writerOpened
 opened-by l k mode stream register e f = ap (λ (x : Listing). openedAs x mode stream register) (sym f ∙ e)
 
 -- what a refused opening hands back is of no use: every call turns it down with 1, whatever it is lent

@@ -37,7 +37,7 @@ use Rattle.pdu.specs.declared.Reading.{Reading}
 use Rattle.pdu.proofs.Restoring.{corrected-number}
 use Rattle.pdu.specs.PieceRead.{PieceRead}
 use Rattle.pdu.proofs.ReadBack.{Sendable, control-back, accepted-back, width-back, fields-back, psd-place, psd-bytes, pieces-read, read-accepted, answer-fields, answer-psd}
-use Rattle.writer.specs.Writing.{expansionOf, extraOf, writerTests, placed, piecesOf, controlFor, written, pduOf, acceptedAnswer, refusedAnswer, answerIn, pduIn, writeAnswer, writtenPdu}
+use Rattle.writer.specs.Writing.{expansionOf, extraOf, writerTests, placedLengths, piecesOf, controlFor, written, pduOf, acceptedAnswer, refusedWrite, answerIn, pduIn, writeAnswer, writtenPdu}
 use Rattle.writer.specs.RoundTrip.{Bytes, Altered, ReadBack, RoundTrip, Demand2}
 use Rattle.writer.specs.declared.Writer.{Writer}
 use Rattle.writer.proofs.Accepted.{Fine, fine, enough, fits, la-fits}
@@ -80,11 +80,11 @@ module _ (settings : Settings) (psd lengths bytes : List ℕ) (size : ℕ) (m : 
   unfolding base
   base-bytes =
       let a = la-fits settings psd lengths bytes size m w f (listable (w .mode) (w .stream) m l .limit) in
-      let o = overhead (m .width) (extraOf settings psd lengths bytes size) (length (placed settings psd lengths bytes size m w)) in
+      let o = overhead (m .width) (extraOf settings psd lengths bytes size) (length (placedLengths settings psd lengths bytes size m w)) in
       let e : o - 1 ≡ c .la = first-place settings psd lengths bytes size m w f o refl in
       all-join Byte (replicate 8 0) (whole ++ zeros) (all-zeros 8)
       (all-join Byte whole zeros
-      (all-contents (w .register) (m .width) c (fieldsFor settings size) psd (placed settings psd lengths bytes size m w) (drop (w .sent) bytes) (omega (arith, a, e)) (positive settings psd lengths bytes size m w f l) (enough settings psd lengths bytes size m w f) hp (all-drop (w .sent) bytes hb))
+      (all-contents (w .register) (m .width) c (fieldsFor settings size) psd (placedLengths settings psd lengths bytes size m w) (drop (w .sent) bytes) (omega (arith, a, e)) (positive settings psd lengths bytes size m w f l) (enough settings psd lengths bytes size m w f) hp (all-drop (w .sent) bytes hb))
       (all-zeros (size - (8 + length whole))))
 
   -- parity, control word, contents and zeros
@@ -174,7 +174,7 @@ round-trip settings psd lengths bytes size w before hp hb = go (listing (w .mode
     }
 
     by : (m : Mode) → listing (w .mode) (w .stream) ≡ Listed m → (b : Bool) → eqb (firstOf (writerTests settings psd lengths bytes size m w)) 0 ≡ b
-        → cond b (acceptedAnswer settings psd lengths bytes size m w) (refusedAnswer w (firstOf (writerTests settings psd lengths bytes size m w))) .refusal ≡ 0
+        → cond b (acceptedAnswer settings psd lengths bytes size m w) (refusedWrite w (firstOf (writerTests settings psd lengths bytes size m w))) .refusal ≡ 0
         → RoundTrip settings psd lengths bytes size w (cond b (pduOf settings psd lengths bytes size m w) before)
     by m l true e h = listed m l (eqb-true (firstOf (writerTests settings psd lengths bytes size m w)) 0 e)
     by m l false e h = absurd (eqb-false (firstOf (writerTests settings psd lengths bytes size m w)) 0 e h)
@@ -189,7 +189,7 @@ accepts : (settings : Settings) (psd lengths bytes : List ℕ) (size : ℕ) (w :
 unfolding writeAnswer
 accepts settings psd lengths bytes size w m l t =
     ap (λ (k : Listing). answerIn settings psd lengths bytes size k w .refusal) l
-    ∙ ap (λ (n : ℕ). cond (eqb n 0) (acceptedAnswer settings psd lengths bytes size m w) (refusedAnswer w n) .refusal) t
+    ∙ ap (λ (n : ℕ). cond (eqb n 0) (acceptedAnswer settings psd lengths bytes size m w) (refusedWrite w n) .refusal) t
 
 pub demand2 : Demand2
 demand2 = record {

@@ -27,7 +27,7 @@ use Rattle.packing.proofs.Bounds.{Bytes, Positive, Kept, kept, some-placed}
 use Rattle.contents.specs.Contents.{firstPiece}
 use Rattle.contents.proofs.Putting.{cut-count, cut-lengths}
 use Rattle.pdu.proofs.ReadBack.{Sendable}
-use Rattle.writer.specs.Writing.{wrongLengths, wrongUnfinished, noRoom, expansionOf, extraOf, placed, endedOf, partOf, piecesOf, controlFor}
+use Rattle.writer.specs.Writing.{wrongLengths, wrongUnfinished, noRoom, expansionOf, extraOf, placedLengths, endedOf, partOf, piecesOf, controlFor}
 use Rattle.writer.specs.declared.Writer.{Writer}
 use Rattle.writer.proofs.Accepted.{Fine, overhead-fits, enough, few, fits}
 use Rattle.writer.proofs.Judging.{never, none-at, first-fails, second-fails}
@@ -136,7 +136,7 @@ module _ (settings : Settings) (psd lengths bytes : List ℕ) (size : ℕ) (m : 
   x = fieldsFor settings size
 
   abbrev ns : List ℕ
-  ns = placed settings psd lengths bytes size m w
+  ns = placedLengths settings psd lengths bytes size m w
 
   abbrev ps : List (List ℕ)
   ps = piecesOf settings psd lengths bytes size m w

@@ -22,7 +22,7 @@ use Rattle.refusal.specs.Refusal.{firstOf}
 use Rattle.pieces.specs.Pieces.{total}
 use Rattle.pdu.specs.Reading.{readNumber, readingOf, readPdu, accepted, answered}
 use Rattle.pdu.specs.PieceRead.{PieceRead}
-use Rattle.writer.specs.Writing.{expansionOf, piecesOf, placed, controlFor, writerTests, writeAnswer, writtenPdu}
+use Rattle.writer.specs.Writing.{expansionOf, piecesOf, placedLengths, controlFor, writerTests, writeAnswer, writtenPdu}
 use Rattle.writer.specs.declared.Writer.{Writer}
 
 abbrev pub Bytes : List ℕ → Type 0
@@ -68,6 +68,6 @@ pub record Demand2 : Type 0 where
   pub accepts : (settings : Settings) (psd lengths bytes : List ℕ) (size : ℕ) (w : Writer) (m : Mode) → listing (w .mode) (w .stream) ≡ Listed m
       → firstOf (writerTests settings psd lengths bytes size m w) ≡ 0 → writeAnswer settings psd lengths bytes size w .refusal ≡ 0
   pub sends : (settings : Settings) (psd lengths bytes : List ℕ) (size : ℕ) (w : Writer) (m : Mode) → listing (w .mode) (w .stream) ≡ Listed m
-      → writeAnswer settings psd lengths bytes size w .refusal ≡ 0 → 0 < length lengths → 0 < total (placed settings psd lengths bytes size m w)
+      → writeAnswer settings psd lengths bytes size w .refusal ≡ 0 → 0 < length lengths → 0 < total (placedLengths settings psd lengths bytes size m w)
   pub reads : (settings : Settings) (psd lengths bytes : List ℕ) (size : ℕ) (w : Writer) (before : List ℕ) → Bytes psd → Bytes bytes
       → writeAnswer settings psd lengths bytes size w .refusal ≡ 0 → RoundTrip settings psd lengths bytes size w (writtenPdu settings psd lengths bytes size w before)

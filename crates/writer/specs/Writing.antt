@@ -34,8 +34,8 @@ openedAs (Listed m) mode stream register = record { refusal = 0; writer = record
 
 -- for a mode, a stream and the register that CRCs start with (document 02, Ask 2): refusal 5, or a writer that remembers PDU sequence 0, packet number 0
 -- and no byte sent
-unfoldable pub opened : ℕ → ℕ → ℕ → Opened
-opened mode stream register = openedAs (listing mode stream) mode stream register
+unfoldable pub writerOpened : ℕ → ℕ → ℕ → Opened
+writerOpened mode stream register = openedAs (listing mode stream) mode stream register
 
 -- ---- what is turned down
 
@@ -50,8 +50,8 @@ wrongUnfinished s [] = ltb 0 s
 wrongUnfinished s (n ∷ ns) = ltb 0 s && leb n s
 
 -- 1: sequence, number and sent outside their ranges
-abbrev pub wrongState : Mode → Writer → List Bool
-wrongState m w = leb (m .sequences) (w .sequence) ∷ ltb 63 (w .number) ∷ ltb 4095 (w .sent) ∷ []
+abbrev pub wrongWriter : Mode → Writer → List Bool
+wrongWriter m w = leb (m .sequences) (w .sequence) ∷ ltb 63 (w .number) ∷ ltb 4095 (w .sent) ∷ []
 
 -- 3: length not 96 to 20,480; over 4,096 with 12-bit locators
 abbrev pub wrongSize : Mode → ℕ → List Bool
@@ -103,8 +103,8 @@ advanced m w ended part = record {
 }
 
 -- a refusal leaves the writer as it was
-abbrev pub refusedAnswer : Writer → ℕ → Written
-refusedAnswer w number = record { refusal = number; ended = 0; writer = w }
+abbrev pub refusedWrite : Writer → ℕ → Written
+refusedWrite w number = record { refusal = number; ended = 0; writer = w }
 
 -- ---- the call
 
@@ -119,7 +119,7 @@ module _ (settings : Settings) (psd lengths bytes : List ℕ) (size : ℕ) where
 
   abbrev pub writerTests : Mode → Writer → List (Bool × ℕ)
   writerTests m w =
-      (anyOf (wrongState m w), 1)
+      (anyOf (wrongWriter m w), 1)
       ∷ (anyOf (wrongSize m size), 3)
       ∷ (anyOf (brokenRules settings size), 10)
       ∷ (anyOf (wrongValues (w .stream) settings), 14)
@@ -132,8 +132,8 @@ module _ (settings : Settings) (psd lengths bytes : List ℕ) (size : ℕ) where
     -- ---- what is written
 
     -- the lengths of the pieces; how many packets end; how many bytes of the next are placed
-    abbrev pub placed : List ℕ
-    placed = pieceLengths (m .width) extraOf size (w .sent) lengths
+    abbrev pub placedLengths : List ℕ
+    placedLengths = pieceLengths (m .width) extraOf size (w .sent) lengths
 
     abbrev pub endedOf : ℕ
     endedOf = length (wholes (m .width) extraOf size (w .sent) lengths)
@@ -143,10 +143,10 @@ module _ (settings : Settings) (psd lengths bytes : List ℕ) (size : ℕ) where
 
     -- the offered packets' bytes from the first unsent one on, cut into pieces
     abbrev pub piecesOf : List (List ℕ)
-    piecesOf = cutBy placed (drop (w .sent) bytes)
+    piecesOf = cutBy placedLengths (drop (w .sent) bytes)
 
     abbrev pub controlFor : ControlWord
-    controlFor = controlWith w settings partOf (length placed) (ltb 0 (length expansionOf)) (firstPiece (m .width) expansionOf psd piecesOf - 1)
+    controlFor = controlWith w settings partOf (length placedLengths) (ltb 0 (length expansionOf)) (firstPiece (m .width) expansionOf psd piecesOf - 1)
 
     -- from byte 8 to the last piece's CRC
     abbrev pub written : List ℕ
@@ -164,10 +164,10 @@ module _ (settings : Settings) (psd lengths bytes : List ℕ) (size : ℕ) where
 
   -- with what the table says of mode and stream; ones that it has not are a state outside its range
   abbrev pub answerIn : Listing → Writer → Written
-  answerIn (Refused n) w = refusedAnswer w 1
+  answerIn (Refused n) w = refusedWrite w 1
   answerIn (Listed m) w =
       cond (eqb (firstOf (writerTests m w)) 0) (acceptedAnswer m w)
-      (refusedAnswer w (firstOf (writerTests m w)))
+      (refusedWrite w (firstOf (writerTests m w)))
 
   unfoldable pub writeAnswer : Writer → Written
   writeAnswer w = answerIn (listing (w .mode) (w .stream)) w

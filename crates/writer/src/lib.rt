@@ -16,7 +16,7 @@ ghost use Rattle.modes.specs.declared.Listing.the-variants.{Listed};
 ghost use Rattle.refusal.specs.Refusal.{firstOf, anyOf};
 ghost use Rattle.layout.specs.Control.{bit};
 ghost use Rattle.pieces.specs.Pieces.{total};
-ghost use Rattle.writer.specs.Writing.{opened, wrongLengths, wrongUnfinished, wrongState, wrongSize, wrongPackets, wrongExtra, noRoom, controlWith, advanced, writerTests, acceptedAnswer, refusedAnswer, pduOf, answerIn, pduIn, writeAnswer, writtenPdu};
+ghost use Rattle.writer.specs.Writing.{writerOpened, wrongLengths, wrongUnfinished, wrongWriter, wrongSize, wrongPackets, wrongExtra, noRoom, controlWith, advanced, writerTests, acceptedAnswer, refusedWrite, pduOf, answerIn, pduIn, writeAnswer, writtenPdu};
 
 // What a writer was opened with, and what it remembers.
 #[repr(C)]
@@ -52,7 +52,7 @@ const NO_MODE: u8 = 255;
 
 // Opens a writer for a mode and stream, with the register that CRCs start with, any byte; or refuses with 5.
 pub fn open(mode: u8, stream: u8, register: u8) -> Opened
-    ensures { λ r. ⌜ r ≡ opened mode stream register ⌝ }
+    ensures { λ r. ⌜ r ≡ writerOpened mode stream register ⌝ }
 {
     match modes::look_up(mode, stream) {
         Listing::Listed(_) => Opened {
@@ -115,7 +115,7 @@ fn wrong_unfinished(sent: u16, lengths: &[u16]) -> bool
 
 // Sequence, number or sent outside their ranges: refusal 1.
 fn wrong_state(w: Writer, m: Mode) -> bool
-    ensures { λ r. ⌜ r ≡ anyOf (wrongState m w) ⌝ }
+    ensures { λ r. ⌜ r ≡ anyOf (wrongWriter m w) ⌝ }
 {
     (m.sequences <= w.sequence) | ((63 < w.number) | (4095 < w.sent))
 }
@@ -309,7 +309,7 @@ fn write_listed(
 
 // A refusal: nothing is changed.
 fn refused(w: Writer, number: u32) -> Written
-    ensures { λ r. ⌜ r ≡ refusedAnswer w number ⌝ }
+    ensures { λ r. ⌜ r ≡ refusedWrite w number ⌝ }
 {
     Written {
         refusal: number,

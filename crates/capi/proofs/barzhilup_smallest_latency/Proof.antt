@@ -1,6 +1,6 @@
 use mathlib.Core.Path.{ap, _∙_}
 use borrow.Author.Needs.{needs}
-use Rattle.latency.specs.Latency.{numberOf, latencyOf, isFound}
+use Rattle.latency.specs.Latency.{latencyRefusal, latencyOf, isFound}
 use Rattle.capi.proofs.barzhilup_smallest_latency.Statement.{statement}
 use Rattle.capi.proofs.barzhilup_smallest_latency.Tie as tie
 use Rattle.capi.proofs.barzhilup_smallest_latency.Reads as reads
@@ -18,7 +18,7 @@ returns : tie.Need-returns
 returns c =
     let n = c .smallest-in-numbers .ensures in
     let e = c .before .smallest .ensures in
-    (n .0 ∙ ap numberOf e, (n .1 .0 ∙ ap latencyOf e, n .1 .1 ∙ ap isFound e))
+    (n .0 ∙ ap latencyRefusal e, (n .1 .0 ∙ ap latencyOf e, n .1 .1 ∙ ap isFound e))
 
 pub barzhilup-smallest-latency-spec : {M : Type 1} → statement M
 barzhilup-smallest-latency-spec =

@@ -3,7 +3,7 @@ use mathlib.Core.Path.{_≡_, refl, sym, ap, _∙_}
 use Prim.Native.Nat.{ℕ, _+_, _-_, _≤_}
 use native.Mathlib.Omega.{arith}
 use lib.ListN.{length}
-use Rattle.diversity.specs.Steps.{mixed, within}
+use Rattle.diversity.specs.Steps.{mixed, inPlaces}
 use Rattle.diversity.proofs.Mixing.{mixed-long}
 use Rattle.diversity.proofs.Exchanging.{within-none, within-more}
 use borrow.Author.Needs.{needs}
@@ -13,7 +13,7 @@ use Rattle.diversity.proofs.exchange.Reads as reads
 use Rattle.diversity.proofs.exchange.Lts as lts
 
 abbrev Inv-loop : tie.InvT-loop
-Inv-loop first₀ second₀ from to i₀ first second i = ((from ≤ i) × (i ≤ to)) × ((first ≡ mixed (within from i) first₀ second₀) × (second ≡ mixed (within from i) second₀ first₀))
+Inv-loop first₀ second₀ from to i₀ first second i = ((from ≤ i) × (i ≤ to)) × ((first ≡ mixed (inPlaces from i) first₀ second₀) × (second ≡ mixed (inPlaces from i) second₀ first₀))
 
 abbrev μ-loop : tie.MeasureT-loop
 μ-loop first₀ second₀ from to i₀ first second i = to - i
@@ -72,7 +72,7 @@ returns c =
     let a = p .before .args in
     let e : p .loop .i ≡ a .to = omega arith in
     let v = p .loop .inv .1 in
-    (v .0 ∙ ap (λ (n : ℕ). mixed (within (a .from) n) (now (a .first)) (now (a .second))) e, v .1 ∙ ap (λ (n : ℕ). mixed (within (a .from) n) (now (a .second)) (now (a .first))) e)
+    (v .0 ∙ ap (λ (n : ℕ). mixed (inPlaces (a .from) n) (now (a .first)) (now (a .second))) e, v .1 ∙ ap (λ (n : ℕ). mixed (inPlaces (a .from) n) (now (a .second)) (now (a .first))) e)
 
 pub exchange-spec : {M : Type 1} → statement M
 exchange-spec =

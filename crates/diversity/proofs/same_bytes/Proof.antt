@@ -4,7 +4,7 @@ use Prim.Native.Nat.{_-_, _≤_}
 use native.Mathlib.Omega.{arith}
 use lib.Dec.{eqb}
 use lib.ListN.{length, getD, take}
-use Rattle.diversity.specs.Diversity.{sameBytes}
+use Rattle.log.specs.Log.{sameList}
 use Rattle.diversity.proofs.Bytes.{and-comm, same-lengths, same-start, same-turn, same-end}
 use borrow.Author.Needs.{needs}
 use Rattle.diversity.proofs.same_bytes.Statement.{statement}
@@ -13,7 +13,7 @@ use Rattle.diversity.proofs.same_bytes.Reads as reads
 use Rattle.diversity.proofs.same_bytes.Lts as lts
 
 abbrev Inv-loop : tie.InvT-loop
-Inv-loop a b same₀ i₀ same i = ((i ≤ length a) × (length a ≡ length b)) × (same ≡ sameBytes (take i a) (take i b))
+Inv-loop a b same₀ i₀ same i = ((i ≤ length a) × (length a ≡ length b)) × (same ≡ sameList (take i a) (take i b))
 
 abbrev μ-loop : tie.MeasureT-loop
 μ-loop a b same₀ i₀ same i = length a - i

@@ -1,6 +1,6 @@
 use denote.Ref.{now}
 use mathlib.Core.Path.{ap₂, _∙_}
-use Rattle.diversity.specs.Diversity.{sameBytes}
+use Rattle.log.specs.Log.{sameList}
 use Rattle.diversity.proofs.Pairing.{piece-of}
 use borrow.Author.Needs.{needs}
 use Rattle.diversity.proofs.same_piece.Statement.{statement}
@@ -61,7 +61,7 @@ returns c =
     let a = e .before in
     let s = a .before .before .before in
     c .same-bytes .ensures
-    ∙ ap₂ sameBytes (piece-of (now (s .args .first)) (s .args .t3) (s .args .k) (a .place .result) (e .place2 .result) (a .place .ensures .0) (e .place2 .ensures .0)) (piece-of (now (s .args .second)) (s .args .t3) (s .args .k) (a .place .result) (e .place2 .result) (a .place .ensures .0) (e .place2 .ensures .0))
+    ∙ ap₂ sameList (piece-of (now (s .args .first)) (s .args .t3) (s .args .k) (a .place .result) (e .place2 .result) (a .place .ensures .0) (e .place2 .ensures .0)) (piece-of (now (s .args .second)) (s .args .t3) (s .args .k) (a .place .result) (e .place2 .result) (a .place .ensures .0) (e .place2 .ensures .0))
 
 pub same-piece-spec : {M : Type 1} → statement M
 same-piece-spec =

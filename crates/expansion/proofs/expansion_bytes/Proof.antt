@@ -5,7 +5,7 @@ use lib.ListN.{length, take, drop, getD, set, length-set}
 use mathlib.Core.List.{List, [], _∷_, _++_}
 use borrow.Author.Needs.{needs}
 use Rattle.expansion.specs.Expansion.{septetsOfAll}
-use Rattle.expansion.specs.Writing.{classField, programField, typeField, servicesField, fieldsOf, marked, expansionBytes}
+use Rattle.expansion.specs.Writing.{classField, programField, typeField, servicesField, sentFields, marked, expansionBytes}
 use Rattle.expansion.proofs.Marks.{all-septets}
 use Rattle.expansion.proofs.Putting.{soFar, further, four, none-put, some-put}
 use Rattle.expansion.proofs.expansion_bytes.Statement.{statement}
@@ -30,7 +30,7 @@ put-services-requires : tie.Need-put-services-requires
 put-services-requires c κs = search needs
 
 -- bit 7 set in each
-all : (c : tie.After-put-services) → soFar (c .put-services .result) ≡ marked (septetsOfAll (fieldsOf (c .before .before .before .before .args .x)))
+all : (c : tie.After-put-services) → soFar (c .put-services .result) ≡ marked (septetsOfAll (sentFields (c .before .before .before .before .args .x)))
 all c =
     let t = c .before in
     let p = t .before in

@@ -8,7 +8,7 @@ use denote.Ref.{now}
 use mathlib.Core.Path.{subst}
 use Prim.Native.Nat.{_/_}
 use borrow.Author.Tests.{not-true, not-false}
-use Rattle.expansion.specs.Expansion.{septetsAt, outcome, fieldsFrom, moreBytes, fieldOf, absorb}
+use Rattle.expansion.specs.Expansion.{septetsAt, interpretedAs, fieldsFrom, moreBytes, fieldOf, absorb}
 use Rattle.expansion.specs.declared.Interpreted.{Interpreted}
 use Rattle.expansion.proofs.Interpreting.{Left, left-start, left-end, left-order, left-unknown, left-class-zero, left-cut, left-next}
 use Rattle.expansion.proofs.interpret.Statement.{statement}
@@ -38,7 +38,7 @@ nothing-requires c κs = search needs
 
 loop-holds : tie.Need-loop-holds Inv-loop μ-loop
 loop-holds c =
-    (omega arith, ap (λ (v : Interpreted). outcome v (fieldsFrom 0 0 (septets (c .before .before)))) (c .nothing .ensures) ∙ left-start (septets (c .before .before)))
+    (omega arith, ap (λ (v : Interpreted). interpretedAs v (fieldsFrom 0 0 (septets (c .before .before)))) (c .nothing .ensures) ∙ left-start (septets (c .before .before)))
 
 septet-requires : tie.Need-septet-requires Inv-loop μ-loop
 septet-requires c κs = search needs

@@ -2,7 +2,7 @@ use mathlib.Core.Path.{_∙_, ap}
 use lib.Bits.{bitXor}
 use lib.ListN.{getD}
 use Rattle.field.specs.Field.{mul}
-use Rattle.header.specs.Horner.{horner}
+use Rattle.header.specs.Horner.{hornerAt}
 use borrow.Author.Needs.{needs}
 use Rattle.header.proofs.horner.Statement.{statement}
 use Rattle.header.proofs.horner.Tie as tie
@@ -21,7 +21,7 @@ product-by-requires : tie.Need-product-by-requires
 product-by-requires c κs = search needs
 
 returns : tie.Need-returns
-unfolding horner
+unfolding hornerAt
 returns c =
     let a = c .before .before .args in
     ap (bitXor (a .b)) (c .product-by .ensures ∙ ap (mul (getD (a .t3) (a .k) 0)) (c .before .point .ensures))

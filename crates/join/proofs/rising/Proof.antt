@@ -1,5 +1,5 @@
 use Rattle.join.proofs.Order.{rising-none, rising-first, rising-stop, rising-next, rising-end}
-use Rattle.join.specs.Join.{counted, risingAfter, rising}
+use Rattle.join.specs.Join.{countedFrom, risingAfter, rising}
 use Rattle.join.specs.Scan.{isPacket, numbers}
 use mathlib.Core.Bool.{true}
 use borrow.Author.Needs.{needs}
@@ -70,7 +70,7 @@ returns-2 c =
     let a = c .before .before .before .before .before .before .before .before .before .before .before .before .args in
     let f = c .before .before .before .before .before .before .before .number .result in
     let h : l .i < length (a .log .now) = omega arith in
-    rising-stop (a .log .now) (l .i) f (l .last) (c .before .counted .result) h (l .inv .2 h) (c .before .counted .ensures ∙ ap (counted f) (c .before .before .number2 .ensures .0)) (omega arith)
+    rising-stop (a .log .now) (l .i) f (l .last) (c .before .counted .result) h (l .inv .2 h) (c .before .counted .ensures ∙ ap (countedFrom f) (c .before .before .number2 .ensures .0)) (omega arith)
     ∙ l .inv .1
 
 add-next-packet-2 : tie.Need-add-next-packet-2 Inv-loop μ-loop
@@ -89,7 +89,7 @@ loop-again c =
     let f = c .before .before .before .before .before .before .before .before .number .result in
     let h : l .i < length (a .log .now) = omega arith in (
       omega arith,
-      rising-next (a .log .now) (l .i) f (l .last) (c .before .before .counted .result) h (l .inv .2 h) (c .before .before .counted .ensures ∙ ap (counted f) (c .before .before .before .number2 .ensures .0)) (c .next-packet3 .result) (omega arith)
+      rising-next (a .log .now) (l .i) f (l .last) (c .before .before .counted .result) h (l .inv .2 h) (c .before .before .counted .ensures ∙ ap (countedFrom f) (c .before .before .before .number2 .ensures .0)) (c .next-packet3 .result) (omega arith)
           (c .next-packet3 .ensures .1 .0)
           ∙ l .inv .1,
       c .next-packet3 .ensures .1 .1,

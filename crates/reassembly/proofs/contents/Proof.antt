@@ -2,7 +2,7 @@ use denote.Ref.{now}
 use Rattle.buffer.specs.Buffer.{putAt}
 use Rattle.log.specs.Log.{logWords}
 use Rattle.reassembly.specs.Reassembly.{psdEntries}
-use Rattle.reassembly.specs.Run.{psdOf, Parsed}
+use Rattle.reassembly.specs.Run.{psdBy, Parsed}
 use Rattle.reassembly.proofs.Whole.{psd-is, psd-length, psd-room, pieces-room, pieces-did}
 use native.Mathlib.Omega.{arith}
 use mathlib.Core.Path.{_≡_}
@@ -53,7 +53,7 @@ put-extra-requires c κs =
     let a = p .args in
     let w : Parsed (a .head) (now (a .pdu)) (a .t3) = p .pre .1 .1 .0 in
     let la = c .before .before .place in
-    let same : take (la .result + 1 - a .head .psd) (drop (a .head .psd) (now (a .pdu))) ≡ psdOf (a .head) (a .t3) (now (a .pdu)) = psd-is (a .head) (a .t3) (now (a .pdu)) (la .result) (la .ensures .0) in
+    let same : take (la .result + 1 - a .head .psd) (drop (a .head .psd) (now (a .pdu))) ≡ psdBy (a .head) (a .t3) (now (a .pdu)) = psd-is (a .head) (a .t3) (now (a .pdu)) (la .result) (la .ensures .0) in
     let len : length (take (la .result + 1 - a .head .psd) (drop (a .head .psd) (now (a .pdu)))) ≤ 20480 = rw (same, psd-length (a .head) (a .t3) (now (a .pdu)) w) (omega (arith, w .marked .first, w .size)) in
     (len, rw same (psd-room (a .head) (a .t3) (a .causes) (now (a .pdu)) (a .run) (now (a .carry)) (now (a .log)) (p .pre .0 .0) (p .pre .0 .1) (p .pre .1 .0) (p .pre .1 .1 .1)))
 
@@ -62,9 +62,9 @@ add-t14 c =
     let p = c .before .before .before .before .before .before .before .before .before in
     let a = p .args in
     let la = c .before .before .before .before .before .place in
-    let same : take (la .result + 1 - a .head .psd) (drop (a .head .psd) (now (a .pdu))) ≡ psdOf (a .head) (a .t3) (now (a .pdu)) = psd-is (a .head) (a .t3) (now (a .pdu)) (la .result) (la .ensures .0) in
+    let same : take (la .result + 1 - a .head .psd) (drop (a .head .psd) (now (a .pdu))) ≡ psdBy (a .head) (a .t3) (now (a .pdu)) = psd-is (a .head) (a .t3) (now (a .pdu)) (la .result) (la .ensures .0) in
     let x = c .before .before .put-extra in
-    let en : x .result ≡ length (logWords (psdEntries (psdOf (a .head) (a .t3) (now (a .pdu))))) = rw (← same) (x .ensures .0) in
+    let en : x .result ≡ length (logWords (psdEntries (psdBy (a .head) (a .t3) (now (a .pdu))))) = rw (← same) (x .ensures .0) in
     omega (arith, en, psd-room (a .head) (a .t3) (a .causes) (now (a .pdu)) (a .run) (now (a .carry)) (now (a .log)) (p .pre .0 .0) (p .pre .0 .1) (p .pre .1 .0) (p .pre .1 .1 .1))
 
 pieces-requires : tie.Need-pieces-requires
@@ -73,10 +73,10 @@ pieces-requires c κs =
     let a = p .args in
     let w : Parsed (a .head) (now (a .pdu)) (a .t3) = p .pre .1 .1 .0 in
     let la = c .before .before .before .before .before .before .before .place in
-    let same : take (la .result + 1 - a .head .psd) (drop (a .head .psd) (now (a .pdu))) ≡ psdOf (a .head) (a .t3) (now (a .pdu)) = psd-is (a .head) (a .t3) (now (a .pdu)) (la .result) (la .ensures .0) in
+    let same : take (la .result + 1 - a .head .psd) (drop (a .head .psd) (now (a .pdu))) ≡ psdBy (a .head) (a .t3) (now (a .pdu)) = psd-is (a .head) (a .t3) (now (a .pdu)) (la .result) (la .ensures .0) in
     let x = c .before .before .before .before .put-extra in
-    let en : x .result ≡ length (logWords (psdEntries (psdOf (a .head) (a .t3) (now (a .pdu))))) = rw (← same) (x .ensures .0) in
-    let el : x .last .0 ≡ putAt (now (a .log)) (a .run .at) (logWords (psdEntries (psdOf (a .head) (a .t3) (now (a .pdu))))) = rw (← same) (x .ensures .1) in
+    let en : x .result ≡ length (logWords (psdEntries (psdBy (a .head) (a .t3) (now (a .pdu))))) = rw (← same) (x .ensures .0) in
+    let el : x .last .0 ≡ putAt (now (a .log)) (a .run .at) (logWords (psdEntries (psdBy (a .head) (a .t3) (now (a .pdu))))) = rw (← same) (x .ensures .1) in
     (p .pre .0, (p .pre .1 .0, (w .size, (w .marked, pieces-room (a .head) (a .t3) (a .causes) (now (a .pdu)) (a .run) (now (a .carry)) (now (a .log)) (p .pre .0 .0) (p .pre .0 .1) (p .pre .1 .0) (p .pre .1 .1 .1) (x .last .0) (x .result) (x .kept .0) en el))))
 
 same-length : tie.Need-same-length
@@ -90,10 +90,10 @@ returns c =
     let p = c .before .before .before .before .before .before .before .before .before .before .before .before .before .before .before .before in
     let a = p .args in
     let la = c .before .before .before .before .before .before .before .before .before .before .before .before .place in
-    let same : take (la .result + 1 - a .head .psd) (drop (a .head .psd) (now (a .pdu))) ≡ psdOf (a .head) (a .t3) (now (a .pdu)) = psd-is (a .head) (a .t3) (now (a .pdu)) (la .result) (la .ensures .0) in
+    let same : take (la .result + 1 - a .head .psd) (drop (a .head .psd) (now (a .pdu))) ≡ psdBy (a .head) (a .t3) (now (a .pdu)) = psd-is (a .head) (a .t3) (now (a .pdu)) (la .result) (la .ensures .0) in
     let x = c .before .before .before .before .before .before .before .before .before .put-extra in
-    let en : x .result ≡ length (logWords (psdEntries (psdOf (a .head) (a .t3) (now (a .pdu))))) = rw (← same) (x .ensures .0) in
-    let el : x .last .0 ≡ putAt (now (a .log)) (a .run .at) (logWords (psdEntries (psdOf (a .head) (a .t3) (now (a .pdu))))) = rw (← same) (x .ensures .1) in
+    let en : x .result ≡ length (logWords (psdEntries (psdBy (a .head) (a .t3) (now (a .pdu))))) = rw (← same) (x .ensures .0) in
+    let el : x .last .0 ≡ putAt (now (a .log)) (a .run .at) (logWords (psdEntries (psdBy (a .head) (a .t3) (now (a .pdu))))) = rw (← same) (x .ensures .1) in
     let q = c .before .before .before .before .pieces in
     pieces-did (a .head) (a .t3) (a .causes) (now (a .pdu)) (a .run) (now (a .carry)) (now (a .log)) (p .pre .0 .0) (p .pre .0 .1) (p .pre .1 .0) (p .pre .1 .1 .1) (x .last .0) (x .result) (x .kept .0) en el (q .last .1 .1 .1 .1 .1 .0) (q .last .1 .1 .1 .1 .1 .1 .0) (q .result) (q .ensures)
 

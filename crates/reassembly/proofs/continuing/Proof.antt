@@ -1,5 +1,5 @@
 use denote.Ref.{now}
-use Rattle.reassembly.specs.Reassembly.{numberAt}
+use Rattle.layout.specs.Control.{pieceNumber}
 use Rattle.reassembly.specs.Run.{Marked}
 use Rattle.reassembly.proofs.Laws.{did-nothing, same-outcome, same-room}
 use Rattle.reassembly.proofs.Whole.{none-held, no-piece, one-piece}
@@ -15,13 +15,13 @@ returns : tie.Need-returns
 returns c =
     let p = c .before .before .before .before .before in
     let a = p .args in
-    same-outcome (none-held (numberAt (a .head .pfirst) (a .head .start) 0) (a .head .plast) (a .run .held) (a .run .number) (a .head .nop) (now (a .carry)) (now (a .pdu)) (a .marks) (a .t4) (omega (arith, c .if1 .taken))) (did-nothing (a .run) (now (a .carry)) (now (a .log)) (omega (arith, p .pre .0 .0, p .pre .1 .0)) (p .pre .0 .1))
+    same-outcome (none-held (pieceNumber (a .head .pfirst) (a .head .start) 0) (a .head .plast) (a .run .held) (a .run .number) (a .head .nop) (now (a .carry)) (now (a .pdu)) (a .marks) (a .t4) (omega (arith, c .if1 .taken))) (did-nothing (a .run) (now (a .carry)) (now (a .log)) (omega (arith, p .pre .0 .0, p .pre .1 .0)) (p .pre .0 .1))
 
 returns-2 : tie.Need-returns-2
 returns-2 c =
     let p = c .before .before .before .before .before .before .before in
     let a = p .args in
-    same-outcome (no-piece (numberAt (a .head .pfirst) (a .head .start) 0) (a .head .plast) (a .run .held) (a .run .number) (a .head .nop) (now (a .carry)) (now (a .pdu)) (a .marks) (a .t4) (c .if2 .taken)) (did-nothing (a .run) (now (a .carry)) (now (a .log)) (omega (arith, p .pre .0 .0, p .pre .1 .0)) (p .pre .0 .1))
+    same-outcome (no-piece (pieceNumber (a .head .pfirst) (a .head .start) 0) (a .head .plast) (a .run .held) (a .run .number) (a .head .nop) (now (a .carry)) (now (a .pdu)) (a .marks) (a .t4) (c .if2 .taken)) (did-nothing (a .run) (now (a .carry)) (now (a .log)) (omega (arith, p .pre .0 .0, p .pre .1 .0)) (p .pre .0 .1))
 
 array-read-piece-at : tie.Need-array-read-piece-at
 array-read-piece-at c = omega arith
@@ -31,7 +31,7 @@ piece-at-requires c κs =
     let p = c .before .before .before .before .before .before .before .before .before in
     let a = p .args in
     let some = c .before .before .if2 .left in
-    (p .pre .0 .0, (p .pre .1 .0, (p .pre .1 .1 .0, ((omega (arith, some), p .pre .1 .1 .1 .0), same-room (a .run .at) (now (a .log)) (one-piece (numberAt (a .head .pfirst) (a .head .start) 0) (a .head .plast) (a .run .held) (a .run .number) (a .head .nop) (now (a .carry)) (now (a .pdu)) (a .marks) (a .t4) (omega (arith, c .before .before .before .before .if1 .left)) some) (p .pre .1 .1 .1 .1)))))
+    (p .pre .0 .0, (p .pre .1 .0, (p .pre .1 .1 .0, ((omega (arith, some), p .pre .1 .1 .1 .0), same-room (a .run .at) (now (a .log)) (one-piece (pieceNumber (a .head .pfirst) (a .head .start) 0) (a .head .plast) (a .run .held) (a .run .number) (a .head .nop) (now (a .carry)) (now (a .pdu)) (a .marks) (a .t4) (omega (arith, c .before .before .before .before .if1 .left)) some) (p .pre .1 .1 .1 .1)))))
 
 same-length : tie.Need-same-length
 same-length c = search needs
@@ -43,7 +43,7 @@ returns-3 : tie.Need-returns-3
 returns-3 c =
     let p = c .before .before .before .before .before .before .before .before .before .before .before .before .before .before in
     let a = p .args in
-    same-outcome (one-piece (numberAt (a .head .pfirst) (a .head .start) 0) (a .head .plast) (a .run .held) (a .run .number) (a .head .nop) (now (a .carry)) (now (a .pdu)) (a .marks) (a .t4) (omega (arith, c .before .before .before .before .before .before .before .before .before .if1 .left)) (c .before .before .before .before .before .before .before .if2 .left)) (c .before .before .before .before .piece-at .ensures)
+    same-outcome (one-piece (pieceNumber (a .head .pfirst) (a .head .start) 0) (a .head .plast) (a .run .held) (a .run .number) (a .head .nop) (now (a .carry)) (now (a .pdu)) (a .marks) (a .t4) (omega (arith, c .before .before .before .before .before .before .before .before .before .if1 .left)) (c .before .before .before .before .before .before .before .if2 .left)) (c .before .before .before .before .piece-at .ensures)
 
 pub continuing-spec : {M : Type 1} → statement M
 continuing-spec =

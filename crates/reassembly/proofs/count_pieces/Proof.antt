@@ -1,4 +1,4 @@
-use Rattle.reassembly.specs.Reassembly.{numberAt}
+use Rattle.layout.specs.Control.{pieceNumber}
 use Rattle.reassembly.specs.Count.{countFrom, Bounded}
 use Rattle.reassembly.proofs.Counts.{count-none, piece-small, count-next, next-bounded, bounded-more}
 use native.Mathlib.Nat.{sub-zero}
@@ -20,7 +20,7 @@ use Rattle.reassembly.proofs.place.Reads as place-reads
 abbrev Inv-loop : tie.InvT-loop
 Inv-loop held head marks causes continues₀ kept₀ sum₀ k₀ continues kept sum k =
     (k ≤ head .nop) × (kept ≤ 4096) × Bounded k sum
-    × (countFrom (numberAt (head .pfirst) (head .start)) marks causes (head .plast) k (head .nop - k) continues kept sum ≡ countFrom (numberAt (head .pfirst) (head .start)) marks causes (head .plast) 0 (head .nop) continues₀ held sum₀)
+    × (countFrom (pieceNumber (head .pfirst) (head .start)) marks causes (head .plast) k (head .nop - k) continues kept sum ≡ countFrom (pieceNumber (head .pfirst) (head .start)) marks causes (head .plast) 0 (head .nop) continues₀ held sum₀)
 
 abbrev μ-loop : tie.MeasureT-loop
 μ-loop held head marks causes continues₀ kept₀ sum₀ k₀ continues kept sum k = head .nop - k

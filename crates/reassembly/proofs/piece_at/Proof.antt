@@ -1,5 +1,5 @@
 use denote.Ref.{now}
-use Rattle.reassembly.specs.Reassembly.{numberAt}
+use Rattle.layout.specs.Control.{pieceNumber}
 use Rattle.reassembly.specs.Run.{partialOf, endsAt, Marked}
 use Rattle.reassembly.proofs.Laws.{same-outcome, same-room}
 use Rattle.reassembly.proofs.Runs.{piece-is, part-small}
@@ -132,7 +132,7 @@ one-piece-requires c κs =
     let r = c .before .before .before .before .before .before .place2 in
     let n = c .before .before .before .before .before .piece-number in
     let e = c .before .before .before .ends-here in
-    let same = piece-is (now (a .pdu)) m (a .k) (a .cause) (l .result) (r .result) (n .result) (numberAt (a .head .pfirst) (a .head .start) (a .k)) (a .continues) (e .result) (endsAt (a .head .plast) (a .head .nop - (a .k + 1))) (partialOf (a .run .held) (a .run .number) (now (a .carry))) (l .ensures .0) (r .ensures .0) (n .ensures) (e .ensures) in
+    let same = piece-is (now (a .pdu)) m (a .k) (a .cause) (l .result) (r .result) (n .result) (pieceNumber (a .head .pfirst) (a .head .start) (a .k)) (a .continues) (e .result) (endsAt (a .head .plast) (a .head .nop - (a .k + 1))) (partialOf (a .run .held) (a .run .number) (now (a .carry))) (l .ensures .0) (r .ensures .0) (n .ensures) (e .ensures) in
     let len = part-small (now (a .pdu)) m (a .head .nop) (a .k) (l .result) (r .result) w more (l .ensures .0) (r .ensures .0) in
     (p .pre .0, (p .pre .1 .0, (omega (arith, w .few), (omega (arith, len, p .pre .1 .1 .0), same-room (a .run .at) (now (a .log)) (sym same) (p .pre .1 .1 .1 .1)))))
 
@@ -151,7 +151,7 @@ returns c =
     let r = c .before .before .before .before .before .before .before .before .before .before .before .place2 in
     let n = c .before .before .before .before .before .before .before .before .before .before .piece-number in
     let e = c .before .before .before .before .before .before .before .before .ends-here in
-    let same = piece-is (now (a .pdu)) m (a .k) (a .cause) (l .result) (r .result) (n .result) (numberAt (a .head .pfirst) (a .head .start) (a .k)) (a .continues) (e .result) (endsAt (a .head .plast) (a .head .nop - (a .k + 1))) (partialOf (a .run .held) (a .run .number) (now (a .carry))) (l .ensures .0) (r .ensures .0) (n .ensures) (e .ensures) in
+    let same = piece-is (now (a .pdu)) m (a .k) (a .cause) (l .result) (r .result) (n .result) (pieceNumber (a .head .pfirst) (a .head .start) (a .k)) (a .continues) (e .result) (endsAt (a .head .plast) (a .head .nop - (a .k + 1))) (partialOf (a .run .held) (a .run .number) (now (a .carry))) (l .ensures .0) (r .ensures .0) (n .ensures) (e .ensures) in
     same-outcome (sym same) (c .before .before .before .before .one-piece .ensures)
 
 pub piece-at-spec : {M : Type 1} → statement M

@@ -1,5 +1,6 @@
 use denote.Ref.{now}
-use Rattle.reassembly.specs.Reassembly.{Partial, Outcome, piecesStep, numberAt}
+use Rattle.layout.specs.Control.{pieceNumber}
+use Rattle.reassembly.specs.Reassembly.{Partial, Outcome, piecesStep}
 use Rattle.reassembly.specs.Run.{partialOf, pieceAt, piecesFrom, Marked}
 use Rattle.reassembly.proofs.Laws.{same-outcome, same-room}
 use Rattle.reassembly.proofs.Runs.{this-is, piece-some, Going, going-start, going-room, going-turn, going-end}
@@ -16,7 +17,7 @@ use Rattle.reassembly.proofs.piece_at.Reads as piece-at-reads
 
 abbrev Inv-loop : tie.InvT-loop
 Inv-loop head marks pdu carry₀ log₀ causes cur₀ continues₀ k₀ carry log cur continues k =
-    (k ≤ head .nop) × Going (piecesStep (numberAt (head .pfirst) (head .start)) 0 continues₀ (head .plast) (partialOf (cur₀ .held) (cur₀ .number) carry₀) (piecesFrom pdu marks causes 0 (head .nop))) (piecesStep (numberAt (head .pfirst) (head .start)) k continues (head .plast) (partialOf (cur .held) (cur .number) carry) (piecesFrom pdu marks causes k (head .nop - k))) (cur₀ .at) carry₀ log₀ carry log cur
+    (k ≤ head .nop) × Going (piecesStep (pieceNumber (head .pfirst) (head .start)) 0 continues₀ (head .plast) (partialOf (cur₀ .held) (cur₀ .number) carry₀) (piecesFrom pdu marks causes 0 (head .nop))) (piecesStep (pieceNumber (head .pfirst) (head .start)) k continues (head .plast) (partialOf (cur .held) (cur .number) carry) (piecesFrom pdu marks causes k (head .nop - k))) (cur₀ .at) carry₀ log₀ carry log cur
 
 abbrev μ-loop : tie.MeasureT-loop
 μ-loop head marks pdu carry₀ log₀ causes cur₀ continues₀ k₀ carry log cur continues k = head .nop - k
@@ -25,7 +26,7 @@ loop-holds : tie.Need-loop-holds Inv-loop μ-loop
 loop-holds c =
     let s = c .before .before .before in
     let a = s .args in
-    (omega arith, going-start (numberAt (a .head .pfirst) (a .head .start)) (a .head .plast) (a .head .pfirst) (now (a .pdu)) (a .marks) (a .t4) (a .head .nop) (partialOf (a .run .held) (a .run .number) (now (a .carry))) (now (a .carry)) (now (a .log)) (a .run) (s .pre .0 .0) (s .pre .0 .1) (s .pre .1 .1 .1 .1))
+    (omega arith, going-start (pieceNumber (a .head .pfirst) (a .head .start)) (a .head .plast) (a .head .pfirst) (now (a .pdu)) (a .marks) (a .t4) (a .head .nop) (partialOf (a .run .held) (a .run .number) (now (a .carry))) (now (a .carry)) (now (a .log)) (a .run) (s .pre .0 .0) (s .pre .0 .1) (s .pre .1 .1 .1 .1))
 
 array-read-piece-at : tie.Need-array-read-piece-at Inv-loop μ-loop
 array-read-piece-at c =
@@ -47,7 +48,7 @@ piece-at-requires c κs =
     let m : List ℕ = a .marks in
     let g : List ℕ = a .t4 in
     let nop : ℕ = a .head .nop in
-    let num : ℕ → ℕ = numberAt (a .head .pfirst) (a .head .start) in
+    let num : ℕ → ℕ = pieceNumber (a .head .pfirst) (a .head .start) in
     let h : Partial = partialOf (i .loop .cur .held) (i .loop .cur .number) (i .loop .carry) in
     let whole : Outcome = piecesStep num 0 (a .head .pfirst) (a .head .plast) (partialOf (a .run .held) (a .run .number) (now (a .carry))) (piecesFrom d m g 0 nop) in
     let some : 1 ≤ length (pieceAt d m k) = piece-some d m nop k w more in
@@ -83,7 +84,7 @@ loop-again c =
     let m : List ℕ = a .marks in
     let g : List ℕ = a .t4 in
     let nop : ℕ = a .head .nop in
-    let num : ℕ → ℕ = numberAt (a .head .pfirst) (a .head .start) in
+    let num : ℕ → ℕ = pieceNumber (a .head .pfirst) (a .head .start) in
     let h : Partial = partialOf (i .loop .cur .held) (i .loop .cur .number) (i .loop .carry) in
     let whole : Outcome = piecesStep num 0 (a .head .pfirst) (a .head .plast) (partialOf (a .run .held) (a .run .number) (now (a .carry))) (piecesFrom d m g 0 nop) in
     let some : 1 ≤ length (pieceAt d m k) = piece-some d m nop k w more in
@@ -102,7 +103,7 @@ returns c =
     let i = c .before .before in
     let s = i .before .before .before .before in
     let a = s .args in
-    going-end (numberAt (a .head .pfirst) (a .head .start)) (a .head .plast) (i .loop .continues) (now (a .pdu)) (a .marks) (a .t4) (a .head .nop) (i .loop .k) (a .run .at) _ (now (a .carry)) (now (a .log)) (i .loop .carry) (i .loop .log) (i .loop .cur) (c .if1 .left) (s .pre .1 .0) (i .loop .inv .1)
+    going-end (pieceNumber (a .head .pfirst) (a .head .start)) (a .head .plast) (i .loop .continues) (now (a .pdu)) (a .marks) (a .t4) (a .head .nop) (i .loop .k) (a .run .at) _ (now (a .carry)) (now (a .log)) (i .loop .carry) (i .loop .log) (i .loop .cur) (c .if1 .left) (s .pre .1 .0) (i .loop .inv .1)
 
 pub pieces-spec : {M : Type 1} → statement M
 pieces-spec =

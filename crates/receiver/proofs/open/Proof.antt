@@ -1,4 +1,4 @@
-use Rattle.receiver.specs.Receiving.{opened}
+use Rattle.receiver.specs.Receiving.{receiverOpened}
 use borrow.Author.Needs.{needs}
 use Rattle.receiver.proofs.open.Statement.{statement}
 use Rattle.receiver.proofs.open.Tie as tie
@@ -13,7 +13,7 @@ open-entitled-requires : tie.Need-open-entitled-requires
 open-entitled-requires c κs = search needs
 
 returns : tie.Need-returns
-unfolding opened
+unfolding receiverOpened
 returns c = c .open-entitled .ensures
 
 pub open-spec : {M : Type 1} → statement M

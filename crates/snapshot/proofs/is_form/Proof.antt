@@ -7,7 +7,8 @@ use lib.ListN.{length, drop, length-drop}
 use lib.Seq.{take-all, length-take-le}
 use borrow.Author.Needs.{needs}
 use borrow.Author.Tests.{not-true, not-false}
-use Rattle.snapshot.specs.Snapshot.{countWords, sameWords}
+use Rattle.log.specs.Log.{sameList}
+use Rattle.snapshot.specs.Snapshot.{countWords}
 use Rattle.snapshot.proofs.Calls.{form-not, form-yes}
 use Rattle.snapshot.proofs.is_form.Statement.{statement}
 use Rattle.snapshot.proofs.is_form.Tie as tie
@@ -38,12 +39,12 @@ is-counts-requires c κs = search needs
 
 -- the words from the place on
 counts-test : (c : tie.After-is-counts)
-    → c .is-counts .result ≡ sameWords (countWords (c .before .before .before .before .args .r)) (drop (c .before .before .place-of .result) (now (c .before .before .before .before .args .words)))
+    → c .is-counts .result ≡ sameList (countWords (c .before .before .before .before .args .r)) (drop (c .before .before .place-of .result) (now (c .before .before .before .before .args .words)))
 counts-test c =
     let p = c .before .before in
     let a = p .before .before .args in
     let e : List ℕ = drop (p .place-of .result) (now (a .words)) in
-    c .is-counts .ensures ∙ ap (sameWords (countWords (a .r))) (take-all (length (now (a .words)) - p .place-of .result) e (omega (arith, length-drop (p .place-of .result) (now (a .words)))))
+    c .is-counts .ensures ∙ ap (sameList (countWords (a .r))) (take-all (length (now (a .words)) - p .place-of .result) e (omega (arith, length-drop (p .place-of .result) (now (a .words)))))
 
 returns : tie.Need-returns
 returns c =

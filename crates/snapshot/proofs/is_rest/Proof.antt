@@ -6,7 +6,7 @@ use Prim.Native.Nat.{ℕ, _-_}
 use borrow.Author.Needs.{needs}
 use Prim.Native.Nat.{_+_}
 use borrow.Author.Tests.{not-true, not-false}
-use Rattle.snapshot.specs.Steps.{isRest}
+use Rattle.snapshot.specs.Steps.{areBytes}
 use Rattle.snapshot.proofs.Reading.{rest-stop, rest-next, rest-end}
 use Rattle.snapshot.proofs.is_rest.Statement.{statement}
 use Rattle.snapshot.proofs.is_rest.Tie as tie
@@ -16,7 +16,7 @@ use Rattle.snapshot.proofs.fits.Reads as fits-reads
 use Rattle.snapshot.proofs.left_after.Reads as left-after-reads
 
 abbrev Inv-loop : tie.InvT-loop
-Inv-loop words from held left₀ i₀ left i = isRest left (drop i words) ≡ isRest held (drop from words)
+Inv-loop words from held left₀ i₀ left i = areBytes left (drop i words) ≡ areBytes held (drop from words)
 
 abbrev μ-loop : tie.MeasureT-loop
 μ-loop words from held left₀ i₀ left i = length words - i
@@ -52,7 +52,7 @@ loop-again : tie.Need-loop-again Inv-loop μ-loop
 loop-again c =
     let p = c .before .before .before .before .before in
     let a = p .before .before .args in
-    ap (λ (k : ℕ). isRest k (drop (p .loop .i + 1) (now (a .words)))) (c .left-after .ensures)
+    ap (λ (k : ℕ). areBytes k (drop (p .loop .i + 1) (now (a .words)))) (c .left-after .ensures)
     ∙ rest-next (now (a .words)) (p .loop .i) (omega arith) (p .loop .left) (sym (c .before .before .fits2 .ensures) ∙ not-false _ (c .before .if1 .left)) ∙ p .loop .inv
 
 returns-2 : tie.Need-returns-2 Inv-loop μ-loop

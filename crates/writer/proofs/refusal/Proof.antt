@@ -1,5 +1,5 @@
 use Rattle.writer.proofs.Judging.{size-right}
-use Rattle.writer.specs.Writing.{wrongState, wrongSize, wrongPackets, wrongExtra, noRoom, expansionOf, extraOf}
+use Rattle.writer.specs.Writing.{wrongWriter, wrongSize, wrongPackets, wrongExtra, noRoom, expansionOf, extraOf}
 use Rattle.settings.specs.Settings.{brokenRules, wrongValues, fieldsFor}
 use Rattle.expansion.specs.declared.Fields.{Fields}
 use Rattle.expansion.specs.Writing.{expansionBytes}
@@ -27,7 +27,7 @@ use Rattle.writer.proofs.wrong_size.Reads as wrong-size-reads
 use Rattle.writer.proofs.wrong_state.Reads as wrong-state-reads
 
 -- the rows that do not apply
-not1 : (e : tie.Else1) → let a = e .before .before .before .before .before .args in anyOf (wrongState (a .m) (a .w)) ≡ false
+not1 : (e : tie.Else1) → let a = e .before .before .before .before .before .args in anyOf (wrongWriter (a .m) (a .w)) ≡ false
 not1 e = let a = e .before .before .before .before .before .args in sym (e .before .wrong-state .ensures) ∙ e .if1 .left
 
 not2 : (e : tie.Else2) → let a = e .before .before .before .before .before .before .before .args in anyOf (wrongSize (a .m) (a .size)) ≡ false
@@ -54,7 +54,7 @@ wrong-state-requires c κs = search needs
 returns : tie.Need-returns
 returns c =
     let a = c .before .before .before .before .before .args in
-    let t : anyOf (wrongState (a .m) (a .w)) ≡ true = sym (c .before .wrong-state .ensures) ∙ c .if1 .taken in
+    let t : anyOf (wrongWriter (a .m) (a .w)) ≡ true = sym (c .before .wrong-state .ensures) ∙ c .if1 .taken in
     rw (t)
 
 wrong-size-requires : tie.Need-wrong-size-requires

@@ -1,6 +1,6 @@
 use Rattle.writer.proofs.Composed.{composed, prefix-long}
 use Rattle.writer.proofs.Accepted.{Fine, fine, enough, few, fits, la-fits, sent-within, part-small, ended-few}
-use Rattle.writer.specs.Writing.{expansionOf, extraOf, endedOf, partOf, placed, advanced}
+use Rattle.writer.specs.Writing.{expansionOf, extraOf, endedOf, partOf, placedLengths, advanced}
 use Rattle.packing.proofs.Limit.{most-small}
 use Rattle.packing.specs.Packing.{overhead, wholes, part, pieceLengths}
 use Rattle.pieces.specs.Pieces.{total}
@@ -58,14 +58,14 @@ p-ended e = let a = e .before .before .before .before .before .before .before .b
 p-part : (e : tie.After-pack) → let a = e .before .before .before .before .before .before .before .before .args in e .pack .result .part ≡ partOf (a .s) (now (a .psd)) (now (a .lengths)) (now (a .bytes)) (length (now (a .pdu))) (a .m) (a .w)
 p-part e = let a = e .before .before .before .before .before .before .before .before .args in e .pack .ensures .1 .0 ∙ packed-with e (λ k. part (a .m .width) k (length (now (a .pdu))) (a .w .sent) (now (a .lengths)))
 
-p-nop : (e : tie.After-pack) → let a = e .before .before .before .before .before .before .before .before .args in e .pack .result .nop ≡ length (placed (a .s) (now (a .psd)) (now (a .lengths)) (now (a .bytes)) (length (now (a .pdu))) (a .m) (a .w))
+p-nop : (e : tie.After-pack) → let a = e .before .before .before .before .before .before .before .before .args in e .pack .result .nop ≡ length (placedLengths (a .s) (now (a .psd)) (now (a .lengths)) (now (a .bytes)) (length (now (a .pdu))) (a .m) (a .w))
 p-nop e = let a = e .before .before .before .before .before .before .before .before .args in e .pack .ensures .1 .1 .0 ∙ packed-with e (λ k. length (pieceLengths (a .m .width) k (length (now (a .pdu))) (a .w .sent) (now (a .lengths))))
 
-p-lengths : (e : tie.After-pack) → let a = e .before .before .before .before .before .before .before .before .args in take (e .pack .result .nop) (e .pack .result .lengths) ≡ placed (a .s) (now (a .psd)) (now (a .lengths)) (now (a .bytes)) (length (now (a .pdu))) (a .m) (a .w)
+p-lengths : (e : tie.After-pack) → let a = e .before .before .before .before .before .before .before .before .args in take (e .pack .result .nop) (e .pack .result .lengths) ≡ placedLengths (a .s) (now (a .psd)) (now (a .lengths)) (now (a .bytes)) (length (now (a .pdu))) (a .m) (a .w)
 p-lengths e = let a = e .before .before .before .before .before .before .before .before .args in e .pack .ensures .1 .1 .1 ∙ packed-with e (λ k. pieceLengths (a .m .width) k (length (now (a .pdu))) (a .w .sent) (now (a .lengths)))
 
 -- the place of the first piece
-first-at : (e : tie.After-overhead) → let a = e .before .before .before .before .before .before .before .before .before .before .args in e .overhead .result ≡ overhead (a .m .width) (extraOf (a .s) (now (a .psd)) (now (a .lengths)) (now (a .bytes)) (length (now (a .pdu)))) (length (placed (a .s) (now (a .psd)) (now (a .lengths)) (now (a .bytes)) (length (now (a .pdu))) (a .m) (a .w)))
+first-at : (e : tie.After-overhead) → let a = e .before .before .before .before .before .before .before .before .before .before .args in e .overhead .result ≡ overhead (a .m .width) (extraOf (a .s) (now (a .psd)) (now (a .lengths)) (now (a .bytes)) (length (now (a .pdu)))) (length (placedLengths (a .s) (now (a .psd)) (now (a .lengths)) (now (a .bytes)) (length (now (a .pdu))) (a .m) (a .w)))
 first-at e = let a = e .before .before .before .before .before .before .before .before .before .before .args in e .overhead .ensures .0 ∙ ap₂ (λ (i j : ℕ). overhead (a .m .width) (i + length (now (a .psd))) j) (x-length (e .before .before .before .before)) (p-nop (e .before .before))
 
 cast-fields-for : tie.Need-cast-fields-for
@@ -128,7 +128,7 @@ put-contents-requires c κs =
     let f = fine-at (c .before .before .before .before .before .before .before .before .before .before .before .before .before .before .before .before .before .before .before .before) in
     let p = c .before .before .before .before .before .before .before .before .before .before .before .before .pack .result in
     let x = c .before .before .before .before .before .before .before .before .before .before .before .before .before .before .expansion-bytes .result in
-    let pl : take (p .nop) (p .lengths) ≡ placed (a .s) (now (a .psd)) (now (a .lengths)) (now (a .bytes)) (length (now (a .pdu))) (a .m) (a .w) = p-lengths (c .before .before .before .before .before .before .before .before .before .before .before .before) in
+    let pl : take (p .nop) (p .lengths) ≡ placedLengths (a .s) (now (a .psd)) (now (a .lengths)) (now (a .bytes)) (length (now (a .pdu))) (a .m) (a .w) = p-lengths (c .before .before .before .before .before .before .before .before .before .before .before .before) in
     let xb : take (x .length) (x .bytes) ≡ expansionOf (a .s) (now (a .psd)) (now (a .lengths)) (now (a .bytes)) (length (now (a .pdu))) = x-bytes (c .before .before .before .before .before .before .before .before .before .before .before .before .before .before) in
     let r : 14 + locatorSize (a .m .width) (length (take (p .nop) (p .lengths))) + length (take (x .length) (x .bytes)) + length (now (a .psd)) + total (take (p .nop) (p .lengths)) + length (take (p .nop) (p .lengths)) ≤ length (now (a .pdu)) = rw (pl, xb) (fits (a .s) (now (a .psd)) (now (a .lengths)) (now (a .bytes)) (length (now (a .pdu))) (a .m) (a .w) f) in
     let n : length (take (p .nop) (p .lengths)) ≤ 64 = rw pl (omega (arith, few (a .s) (now (a .psd)) (now (a .lengths)) (now (a .bytes)) (length (now (a .pdu))) (a .m) (a .w) f, most-small (a .m .width) (extraOf (a .s) (now (a .psd)) (now (a .lengths)) (now (a .bytes)) (length (now (a .pdu)))))) in
