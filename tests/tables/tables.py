@@ -351,7 +351,7 @@ def compare_words():
     receiver = dict(zip(list(range(14)) + [19, 20, 22, 25, 27], strings("causes", "unknown\\0wrong receiver")))
     del receiver[0]
     writer = {number: words for number, words in enumerate(strings("sending", "\\0the writer's state")) if 14 <= number <= 17}
-    joining = dict(zip((23, 24), strings("joiner", "words that are no log")))
+    joining = dict(zip((23, 24), strings("joining", "words that are no log")))
     for number, words in {**receiver, **writer, **joining}.items():
         same("header and the program's words", str(number), words, refusal_words().get(number, "").split("; or ")[0])
     for number, words in enumerate(strings("causes", "unknown\\0sequence\\0")[:-1]):

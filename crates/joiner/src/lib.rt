@@ -1,14 +1,13 @@
 // Joins the logs of core and enhanced (document 02, Ask 11), frame by frame: from two files of logs to the joined words, or to lines of comma-separated
 // values.
 mod arguments;
-mod frames;
 mod report;
 
 use arguments::Job;
 use arguments::KNOWN;
 use arguments::NAME;
-use frames::Run;
-use frames::Task;
+use joining::Run;
+use joining::Task;
 ghost use Rattle.io.specs.Counts.{Counts};
 
 // The program: answers its exit status. What went wrong is said.
@@ -84,7 +83,7 @@ fn with_logs(job: Job, from: &[u8], core: i32, beside: &[u8], enhanced: i32) -> 
         output: output,
         format: job.format,
     };
-    let run = frames::join_all(task);
+    let run = joining::join_all(task);
     report::ends(run, from, beside, &onto[..n]);
     finish(run, output, &onto[..n])
 }
@@ -93,5 +92,5 @@ fn with_logs(job: Job, from: &[u8], core: i32, beside: &[u8], enhanced: i32) -> 
 fn finish(run: Run, output: i32, onto: &[u8]) -> bool {
     let closed = files::close(output, onto);
     report::summary(run);
-    (run.status == frames::DONE) & closed
+    (run.status == joining::DONE) & closed
 }

@@ -1,11 +1,7 @@
 // What the program says on standard error, a line or more in one write.
 use crate::arguments::NAME;
-use crate::frames;
-use crate::frames::Run;
+use joining::Run;
 use libc::STDERR_FILENO;
-
-// How many refused frames are said, each in a line.
-const SAID: u64 = 5;
 
 // Why a log is not read on, after so many PDUs. PDUs are counted from 0.
 fn unread(reading: u8, label: &[u8], pdus: u64) {
@@ -31,35 +27,11 @@ fn unread(reading: u8, label: &[u8], pdus: u64) {
 pub fn ends(run: Run, from: &[u8], beside: &[u8], onto: &[u8]) {
     let status = run.status;
     match status {
-        frames::DONE => {}
-        frames::CORE => unread(run.reading, from, run.core_pdus),
-        frames::ENHANCED => unread(run.reading, beside, run.enhanced_pdus),
+        joining::DONE => {}
+        joining::CORE => unread(run.reading, from, run.core_pdus),
+        joining::ENHANCED => unread(run.reading, beside, run.enhanced_pdus),
         _ => os::fail(onto),
     }
-}
-
-// A frame, counted from 0, is refused, after so many others that were.
-pub fn refused(frame: u64, refusal: u32, before: u64) {
-    if SAID < before {
-        return;
-    }
-    if before == SAID {
-        files::say(&NAME, b": further refused frames are counted only\n");
-        return;
-    }
-    let mut line = [0u8; 160];
-    let n = text::fill(
-        &mut line,
-        0,
-        b"barzhilup join: frame @: refused with @: ",
-        &[frame, refusal as u64],
-    );
-    let words = text::entry(
-        b"words that are no log\n\0packet numbers that do not rise within a log\n\0",
-        (refusal == 24) as u32,
-    );
-    let end = text::put(&mut line, n, words);
-    io::write_all(STDERR_FILENO, &line[..end]);
 }
 
 // What was joined.

@@ -1,14 +1,13 @@
 // Tries latencies before going on air (document 02, Ask 7): from the counts of packets that end in each PDU, or from packets, to a table of the
 // latencies and a picture of one.
-mod arguments;
-mod input;
 mod report;
-mod table;
 
-use arguments::KNOWN;
-use arguments::NAME;
 use backlog::columns;
 use backlog::drawing;
+use count_source::arguments;
+use count_source::arguments::KNOWN;
+use count_source::arguments::NAME;
+use count_source::input;
 use latency::Answer;
 use latency::Spacing;
 use sending::trial;
@@ -143,7 +142,7 @@ fn write(fd: i32, label: &[u8], block: &[u8]) -> bool {
 
 fn write_table(job: Job, counts: &[u32], answer: Answer, output: i32, onto: &[u8]) -> bool {
     let mut block = io::buffer();
-    let n = table::put(&mut block, job.mode, job.stream, counts, answer);
+    let n = latency_table::put(&mut block, job.mode, job.stream, counts, answer);
     write(output, onto, &block[..n])
 }
 

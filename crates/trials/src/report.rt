@@ -1,6 +1,5 @@
 // What the program says on standard error, a line in one write, and how it is used.
-use crate::arguments::NAME;
-use crate::table;
+use count_source::arguments::NAME;
 use latency::Answer;
 use libc::STDERR_FILENO;
 
@@ -42,9 +41,9 @@ pub fn summary(counts: &[u32], answer: Answer) {
         &mut line,
         n,
         b": PDUs @, packets @; ",
-        &[counts.len() as u64, table::packets_of(counts)],
+        &[counts.len() as u64, latency_table::packets_of(counts)],
     );
-    n = table::put_answer(&mut line, n, answer);
+    n = latency_table::put_answer(&mut line, n, answer);
     io::write_all(STDERR_FILENO, &line[..n]);
 }
 

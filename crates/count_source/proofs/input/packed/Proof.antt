@@ -3,14 +3,14 @@ use native.Mathlib.Omega.{arith}
 use mathlib.Core.Path.{_≡_}
 use Prim.Native.Nat.{_+_, _-_, _*_, _≤_, _<_}
 use lib.ListN.{length}
-use Rattle.trials.proofs.input.packed.Statement.{statement}
-use Rattle.trials.proofs.input.packed.Tie as tie
-use Rattle.trials.proofs.input.packed.Reads as reads
-use Rattle.trials.proofs.input.packed.Lts as lts
+use Rattle.count_source.proofs.input.packed.Statement.{statement}
+use Rattle.count_source.proofs.input.packed.Tie as tie
+use Rattle.count_source.proofs.input.packed.Reads as reads
+use Rattle.count_source.proofs.input.packed.Lts as lts
 use Rattle.sending.proofs.begin.Reads as begin-reads
 use Rattle.sending.proofs.turn.Reads as turn-reads
 use Rattle.std.proofs.num.wrapping_add_usize.Reads as wrapping-add-usize-reads
-use Rattle.trials.proofs.input.note.Reads as note-reads
+use Rattle.count_source.proofs.input.note.Reads as note-reads
 
 abbrev Inv-loop : tie.InvT-loop
 Inv-loop task label psd lengths₀ bytes₀ pdu₀ counts₀ run₀ count₀ left₀ t13 lengths bytes pdu counts run count left = (length lengths ≡ length lengths₀) × (length bytes ≡ length bytes₀) × (length pdu ≡ length pdu₀) × (length counts ≡ length counts₀)

@@ -1,8 +1,8 @@
 use borrow.Author.Needs.{needs}
 use mathlib.Core.Path.{_≡_}
 use lib.ListN.{length}
-use Rattle.joiner.proofs.frames.all_turns.Statement.{statement}
-use Rattle.joiner.proofs.frames.all_turns.Tie as tie
+use Rattle.joining.proofs.all_turns.Statement.{statement}
+use Rattle.joining.proofs.all_turns.Tie as tie
 
 abbrev Inv-loop : tie.InvT-loop
 Inv-loop task core₀ enhanced₀ result₀ block₀ run₀ buf₀ turns₀ core enhanced result block run buf turns =

@@ -1,5 +1,6 @@
-// A run: each turn reads a frame of either log, joins them, and writes what comes of it.
+// Joins two files of logs frame by frame (document 02, Ask 11): each turn reads a frame of either log, joins them, and writes what comes of it.
 use join::Joined;
+use libc::STDERR_FILENO;
 ghost use Rattle.io.specs.Counts.{Counts};
 
 // Where the logs come from, how many PDUs of each a frame has, where the result goes, and in which format.
@@ -320,7 +321,7 @@ fn with_refused(run: Run, refusal: u32) -> Run {
 // The run with one more frame, of its two logs and what was joined.
 fn counted(run: Run, answer: Joined, core: &[u32], enhanced: &[u32], result: &[u32]) -> Run {
     if answer.refusal != 0 {
-        crate::report::refused(run.frames, answer.refusal, more(run.no_logs, run.no_order));
+        say_refused(run.frames, answer.refusal, more(run.no_logs, run.no_order));
         return with_refused(run, answer.refusal);
     }
     let joined = side_by_side::packets_of(result);
@@ -343,4 +344,34 @@ fn unlike(noted: bool, alone: u64, dropped: u64) -> u64 {
         return 0;
     }
     ((alone != 0) & (dropped != 0)) as u64
+}
+
+// How many refused frames are said, each in a line.
+const SAID: u64 = 5;
+
+// A frame, counted from 0, is refused, after so many others that were.
+fn say_refused(frame: u64, refusal: u32, before: u64) {
+    if SAID < before {
+        return;
+    }
+    if before == SAID {
+        files::say(
+            b"barzhilup join",
+            b": further refused frames are counted only\n",
+        );
+        return;
+    }
+    let mut line = [0u8; 160];
+    let n = text::fill(
+        &mut line,
+        0,
+        b"barzhilup join: frame @: refused with @: ",
+        &[frame, refusal as u64],
+    );
+    let words = text::entry(
+        b"words that are no log\n\0packet numbers that do not rise within a log\n\0",
+        (refusal == 24) as u32,
+    );
+    let end = text::put(&mut line, n, words);
+    io::write_all(STDERR_FILENO, &line[..end]);
 }

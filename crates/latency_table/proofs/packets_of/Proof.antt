@@ -3,12 +3,12 @@ use native.Mathlib.Omega.{arith}
 use mathlib.Core.Path.{_≡_}
 use Prim.Native.Nat.{_+_, _-_, _*_, _≤_, _<_}
 use lib.ListN.{length}
-use Rattle.trials.proofs.table.packets_of.Statement.{statement}
-use Rattle.trials.proofs.table.packets_of.Tie as tie
-use Rattle.trials.proofs.table.packets_of.Reads as reads
-use Rattle.trials.proofs.table.packets_of.Lts as lts
+use Rattle.latency_table.proofs.packets_of.Statement.{statement}
+use Rattle.latency_table.proofs.packets_of.Tie as tie
+use Rattle.latency_table.proofs.packets_of.Reads as reads
+use Rattle.latency_table.proofs.packets_of.Lts as lts
 use Rattle.std.proofs.num.wrapping_add_u64.Reads as wrapping-add-u64-reads
-use Rattle.trials.proofs.table.wide.Reads as wide-reads
+use Rattle.latency_table.proofs.wide.Reads as wide-reads
 
 abbrev Inv-loop : tie.InvT-loop
 Inv-loop counts sum₀ i₀ sum i = Unit {0}

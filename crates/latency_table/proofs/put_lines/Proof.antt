@@ -3,12 +3,12 @@ use native.Mathlib.Omega.{arith}
 use mathlib.Core.Path.{_≡_}
 use Prim.Native.Nat.{_+_, _-_, _*_, _≤_, _<_}
 use lib.ListN.{length}
-use Rattle.trials.proofs.table.put_lines.Statement.{statement}
-use Rattle.trials.proofs.table.put_lines.Tie as tie
-use Rattle.trials.proofs.table.put_lines.Reads as reads
-use Rattle.trials.proofs.table.put_lines.Lts as lts
+use Rattle.latency_table.proofs.put_lines.Statement.{statement}
+use Rattle.latency_table.proofs.put_lines.Tie as tie
+use Rattle.latency_table.proofs.put_lines.Reads as reads
+use Rattle.latency_table.proofs.put_lines.Lts as lts
 use Rattle.latency.proofs.try_latency.Reads as try-latency-reads
-use Rattle.trials.proofs.table.put_line.Reads as put-line-reads
+use Rattle.latency_table.proofs.put_line.Reads as put-line-reads
 
 abbrev Inv-loop : tie.InvT-loop
 Inv-loop out₀ at mode stream counts n₀ v₀ out n v = length out ≡ length out₀

@@ -3,10 +3,10 @@ use native.Mathlib.Omega.{arith}
 use mathlib.Core.Path.{_≡_}
 use Prim.Native.Nat.{_+_, _-_, _*_, _≤_, _<_}
 use lib.ListN.{length}
-use Rattle.trials.proofs.table.put_blanks.Statement.{statement}
-use Rattle.trials.proofs.table.put_blanks.Tie as tie
-use Rattle.trials.proofs.table.put_blanks.Reads as reads
-use Rattle.trials.proofs.table.put_blanks.Lts as lts
+use Rattle.latency_table.proofs.put_blanks.Statement.{statement}
+use Rattle.latency_table.proofs.put_blanks.Tie as tie
+use Rattle.latency_table.proofs.put_blanks.Reads as reads
+use Rattle.latency_table.proofs.put_blanks.Lts as lts
 use Rattle.text.proofs.put.Reads as put-reads
 
 abbrev Inv-loop : tie.InvT-loop
