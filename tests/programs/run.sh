@@ -16,7 +16,7 @@ if [ ! -x "$program" ]; then
 fi
 program=$(readlink -f "$program")
 subs=(generate channel log coverage latency join)
-for part in harness usage files generate log marks second registers batches bursts coverage loss entitled resume latency join; do
+for part in harness usage files generate log marks second registers batches bursts coverage loss entitled resume beside latency join; do
     # shellcheck source=/dev/null
     . "$here/$part.sh"
 done
@@ -126,6 +126,18 @@ check_resume_asked
 check_resume_files
 check_resume_long
 check_resume_unsaved
+check_beside_whole
+check_beside_frames
+check_beside_drives
+check_beside_asked
+check_beside_made
+check_beside_output
+check_sent_drives
+check_sent_again
+check_sent_far
+check_sent_never
+check_sent_files
+check_sent_early
 check_latency_table
 check_latency_values
 check_latency_random

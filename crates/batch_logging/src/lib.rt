@@ -2,11 +2,11 @@
 // each. Where the call stops, at a PDU that is refused or at an empty record, this one and those behind it in the frame are received by calls of their own, as in
 // a run without batches. So the log is the same for every count of records in a frame.
 use batch::Batch;
+use logging::Onto;
 use logging::Run;
 use logging::Task;
 use logging::output;
 use outcome::Outcome;
-use output::Sink;
 use receiver::Receiver;
 ghost use mathlib.Core.Path.{_≡_};
 ghost use Prim.Native.Nat.{_≤_};
@@ -124,7 +124,7 @@ fn call(
 
 // Writes what came of a PDU that a call took, with its log, and counts it; stops where it cannot be written.
 fn kept(
-    sink: Sink,
+    onto: Onto,
     run: Run,
     came: &[u8],
     pdu: &[u8],
@@ -145,21 +145,19 @@ fn kept(
         words: log.len(),
         receiver: loss::in_record(receiver, l),
     };
+    let sink = onto.sink;
     if !output::keep(sink, run.pdus, o, log, block) {
         return logging::run_of(logging::UNWRITTEN, receiver, run.pdus);
     }
     let word = layout::control_word(pdu);
     counts::add_received(counts, corrected, word.nop as u64, log, l);
-    logging::run_of(
-        records::WHOLE,
-        receiver,
-        std::num::wrapping_add_u64(run.pdus, 1),
-    )
+    let beside = onto.beside;
+    logging::kept_beside(beside, receiver, log, block, counts, run.pdus)
 }
 
 // The record at a place of a frame: what came of it is written if it is one of so many that the call took, else it is received by a call of its own.
 fn one(
-    sink: Sink,
+    onto: Onto,
     run: Run,
     taken: usize,
     place: usize,
@@ -175,16 +173,16 @@ fn one(
         return run;
     }
     if taken <= place {
-        return logging::received(sink, carry, pdu, b"", log, block, counts, run);
+        return logging::received(onto, carry, pdu, b"", log, block, counts, run);
     }
     let end = start_of(ends, std::num::wrapping_add_usize(place, 1));
     let words = between(log, start_of(ends, place), end);
-    kept(sink, run, came, pdu, words, block, counts)
+    kept(onto, run, came, pdu, words, block, counts)
 }
 
 // All records of a frame, of which a call took so many, until one cannot be written.
 fn each(
-    sink: Sink,
+    onto: Onto,
     start: Run,
     taken: usize,
     carry: &mut [u8],
@@ -202,7 +200,7 @@ fn each(
     while i < lengths.len() {
         let end = at + least(lengths[i], frame.len() - at);
         run = one(
-            sink,
+            onto,
             run,
             taken,
             i,
@@ -222,7 +220,7 @@ fn each(
 
 // Receives a frame, and writes what came of it.
 fn received(
-    sink: Sink,
+    onto: Onto,
     run: Run,
     carry: &mut [u8],
     came: &mut [u8],
@@ -246,7 +244,7 @@ fn received(
     let next = b.receiver;
     let start = logging::run_of(records::WHOLE, next, run.pdus);
     each(
-        sink,
+        onto,
         start,
         b.taken,
         carry,
@@ -285,9 +283,9 @@ fn turn(
     let f = read(task.input, frame, lengths);
     let n = f.bytes;
     let k = f.count;
-    let sink = task.sink;
+    let onto = task.onto;
     let next = received(
-        sink,
+        onto,
         run,
         carry,
         came,
@@ -395,8 +393,8 @@ fn log_frames(
         counts,
         start,
     );
-    let sink = task.sink;
-    logging::ended(sink, &mut block, run)
+    let onto = task.onto;
+    logging::ended(onto, &mut block, run)
 }
 
 // Logs all PDUs: each by a call of its own where no frames are asked for, else by frames of so many records, at most 64.

@@ -3,8 +3,8 @@ use text::Number;
 ghost use Prim.Native.Nat.{_≤_};
 
 // The options that are known.
-pub const KNOWN: [u8; 104] =
-    *b"in=\0out=\0second=\0marks=\0save=\0resume=\0skip\0force\0mode=\0stream=\0crc-start=\0entitled=\0format=\0batch=\0help\0";
+pub const KNOWN: [u8; 150] =
+    *b"in=\0out=\0second=\0marks=\0save=\0resume=\0skip\0force\0mode=\0stream=\0crc-start=\0entitled=\0format=\0batch=\0packets=\0adts=\0psd=\0sent=\0sent-adts\0compared=\0help\0";
 
 // What is asked for; ok where mode, stream, the register that CRCs start with, the entitled programs, format and the records of a frame are given as they can
 // be, and the options go together.
@@ -130,7 +130,8 @@ pub fn asked() -> Job {
             & (format != formats::NO_FORMAT)
             & batch.ok
             & can_batch()
-            & interruption::is_asked(&KNOWN),
+            & interruption::is_asked(&KNOWN)
+            & beside_files::asked::is_asked(&KNOWN),
         mode: mode.value as u8,
         stream: stream.value as u8,
         register: register.value as u8,

@@ -1,22 +1,23 @@
 // The log of a drive that two receivers recorded (document 02, Ask 5).
 use job::Job;
+use logging::Onto;
 use logging::output::Sink;
 use receiver::Receiver;
 use recordings::Run;
 use recordings::Task;
 
 // Opens the second file, after the first with its label.
-pub fn with_first(job: Job, receiver: Receiver, from: &[u8], first: i32) -> bool {
+pub fn with_first(job: Job, receiver: Receiver, from: &[u8], first: i32) -> i32 {
     let mut label = files::label_buffer();
     let other = crate::opened(b"second", &mut label);
     if other.fd < 0 {
-        return false;
+        return files::EARLY;
     }
     let n = other.length;
     with_both(job, receiver, from, first, &label[..n], other.fd)
 }
 
-// Opens the file of the log, and logs.
+// Puts the labels of the files that are written.
 fn with_both(
     job: Job,
     receiver: Receiver,
@@ -24,39 +25,87 @@ fn with_both(
     first: i32,
     other: &[u8],
     second: i32,
-) -> bool {
+) -> i32 {
     let mut onto = files::label_buffer();
     let n = files::put_output_label(&mut onto, b"barzhilup log", &job::KNOWN);
-    let output = files::open_output(&job::KNOWN, b"out", &onto[..n]);
-    if output < 0 {
-        return false;
+    let mut labels = beside_files::label_buffer();
+    let k = beside_files::put_labels(&mut labels, &job::KNOWN);
+    with_labels(
+        job,
+        receiver,
+        from,
+        first,
+        other,
+        second,
+        &onto[..n],
+        &labels[..k],
+    )
+}
+
+// Makes the file of the log and those beside it, and logs.
+fn with_labels(
+    job: Job,
+    receiver: Receiver,
+    from: &[u8],
+    first: i32,
+    other: &[u8],
+    second: i32,
+    onto: &[u8],
+    labels: &[u8],
+) -> i32 {
+    let o = beside_files::open(&job::KNOWN, onto, labels);
+    if !o.ok {
+        return files::EARLY;
     }
+    let beside = o.beside;
     let task = Task {
         first: first,
         second: second,
-        sink: Sink {
-            fd: output,
-            format: job.format,
+        onto: Onto {
+            sink: Sink {
+                fd: o.output,
+                format: job.format,
+            },
+            beside: beside,
         },
     };
-    logged(task, receiver, from, other, &onto[..n])
+    logged(task, receiver, from, other, onto, labels)
 }
 
-// Logs, closes the file of the log, and says what was received.
-fn logged(task: Task, receiver: Receiver, from: &[u8], other: &[u8], onto: &[u8]) -> bool {
+// Logs, and says why it ended and what was received.
+fn logged(
+    task: Task,
+    receiver: Receiver,
+    from: &[u8],
+    other: &[u8],
+    onto: &[u8],
+    labels: &[u8],
+) -> i32 {
     let mut rows = recordings::no_counts();
+    let o = task.onto;
+    let beside = o.beside;
+    comparison::begin(&mut rows, beside.many);
     let run = recordings::log_all(task, receiver, &mut rows);
-    ends(run, from, other, onto, &rows);
-    let sink = task.sink;
+    ends(run, from, other, onto, labels, &rows);
+    finish(run, o, receiver, onto, labels, &rows)
+}
+
+// Closes the files, and says what was received.
+fn finish(run: Run, o: Onto, receiver: Receiver, onto: &[u8], labels: &[u8], rows: &[u64]) -> i32 {
+    let sink = o.sink;
     let closed = files::close(sink.fd, onto);
-    remarks::summary(run.pdus, &rows);
-    remarks::copies(&rows);
-    ask(receiver, &rows);
-    (run.status == records::END) & closed
+    remarks::summary(run.pdus, rows);
+    remarks::copies(rows);
+    let b = o.beside;
+    let whole = run.status == records::END;
+    let written = beside_files::finish(b, whole, rows, labels);
+    ask(receiver, rows);
+    crate::how_ended(whole & closed & written, rows)
 }
 
 // Why no more PDUs are logged, and what is wrong with either file.
-fn ends(run: Run, from: &[u8], other: &[u8], onto: &[u8], rows: &[u64]) {
+fn ends(run: Run, from: &[u8], other: &[u8], onto: &[u8], labels: &[u8], rows: &[u64]) {
+    beside_files::ends(run.status, labels);
     if run.status == logging::UNWRITTEN {
         os::fail(onto);
     }

@@ -2,17 +2,24 @@
 pub mod marks;
 pub mod output;
 
+use beside::Beside;
 use outcome::Outcome;
 use output::Sink;
 use receiver::Receiver;
 use saved_state::State;
 ghost use Rattle.io.specs.Counts.{Counts};
 
+// Where the log goes, and the files beside it.
+pub struct Onto {
+    pub sink: Sink,
+    pub beside: Beside,
+}
+
 // Where PDUs come from, where their marks do, where their log goes, and how many bytes of it were written before this run.
 pub struct Task {
     pub input: i32,
     pub marks: i32,
-    pub sink: Sink,
+    pub onto: Onto,
     pub bytes: u64,
 }
 
@@ -22,7 +29,7 @@ pub const UNWRITTEN: u8 = 5;
 pub const UNSAVED: u8 = 10;
 
 // A run so far: what came of the last reading, with END where all PDUs are read and logged, or UNWRITTEN, UNSAVED, or how it stands by its
-// marks; its receiver, and how many PDUs are logged, with those before this run.
+// marks or by the files beside the log; its receiver, and how many PDUs are logged, with those before this run.
 pub struct Run {
     pub status: u8,
     pub receiver: Receiver,
@@ -42,7 +49,8 @@ pub fn begin(task: Task, block: &mut [u8]) -> bool {
     if task.bytes != 0 {
         return true;
     }
-    let sink = task.sink;
+    let onto = task.onto;
+    let sink = onto.sink;
     output::begin(sink, block)
 }
 
@@ -66,7 +74,8 @@ pub fn saved(task: Task, path: &[u8], carry: &[u8], before: u64, run: Run) -> Ru
         return run;
     }
     let receiver = run.receiver;
-    let sink = task.sink;
+    let onto = task.onto;
+    let sink = onto.sink;
     let state = State {
         receiver: receiver,
         pdus: run.pdus,
@@ -100,15 +109,16 @@ pub fn log_all(task: Task, path: &[u8], carry: &mut [u8], start: Run, counts: &m
         counts,
         start,
     );
-    let sink = task.sink;
-    ended(sink, &mut block, run)
+    let onto = task.onto;
+    ended(onto, &mut block, run)
 }
 
 // Writes what stands after all PDUs, if all are logged.
-pub fn ended(sink: Sink, block: &mut [u8], run: Run) -> Run {
+pub fn ended(onto: Onto, block: &mut [u8], run: Run) -> Run {
     if run.status != records::END {
         return run;
     }
+    let sink = onto.sink;
     if output::end(sink, run.pdus, block) {
         return run;
     }
@@ -194,9 +204,9 @@ fn turn(
     }
     let n = r.length;
     let k = r.marks;
-    let sink = task.sink;
+    let onto = task.onto;
     received(
-        sink,
+        onto,
         carry,
         &mut pdu[..n],
         &places[..k],
@@ -209,7 +219,7 @@ fn turn(
 
 // Receives a PDU with its marked places, and writes what came of it.
 pub fn received(
-    sink: Sink,
+    onto: Onto,
     carry: &mut [u8],
     pdu: &mut [u8],
     places: &[u8],
@@ -222,12 +232,12 @@ pub fn received(
     let refused = counts::refused(counts);
     let others = counts::others(counts);
     let o = reception::receive(receiver, carry, pdu, places, log, run.pdus, refused, others);
-    taken(sink, o, log, block, counts, run.pdus)
+    taken(onto, o, log, block, counts, run.pdus)
 }
 
 // Writes what came of a PDU and counts it; stops where it cannot be written.
 fn taken(
-    sink: Sink,
+    onto: Onto,
     o: Outcome,
     log: &[u32],
     block: &mut [u8],
@@ -235,11 +245,26 @@ fn taken(
     pdu: u64,
 ) -> Run {
     let receiver = o.receiver;
+    let sink = onto.sink;
     let words = words::written(log, o.words);
     if !output::keep(sink, pdu, o, words, block) {
         return run_of(UNWRITTEN, receiver, pdu);
     }
     counts::add_outcome(counts, o);
     counts::add_log(counts, words);
-    run_of(records::WHOLE, receiver, std::num::wrapping_add_u64(pdu, 1))
+    let beside = onto.beside;
+    kept_beside(beside, receiver, words, block, counts, pdu)
+}
+
+// Writes the files beside the log for a PDU that is logged; stops where one cannot be written.
+pub fn kept_beside(
+    b: Beside,
+    receiver: Receiver,
+    log: &[u32],
+    block: &mut [u8],
+    counts: &mut [u64],
+    pdu: u64,
+) -> Run {
+    let status = beside::keep(b, counts, pdu, log, block);
+    run_of(status, receiver, std::num::wrapping_add_u64(pdu, 1))
 }

@@ -2,8 +2,8 @@
 // Ask 5). Each file is also received alone (`apart`).
 use copies::Pieces;
 use copies::Taken;
+use logging::Onto;
 use logging::output;
-use logging::output::Sink;
 use outcome::Outcome;
 use receiver::Receiver;
 use records::Record;
@@ -11,22 +11,22 @@ ghost use mathlib.Core.Path.{_≡_};
 ghost use lib.ListN.{length};
 ghost use Rattle.io.specs.Counts.{Counts};
 
-// Every count 0, and nothing remembered.
-pub fn no_counts() -> [u64; 167]
-    ensures { λ r. ⌜ 167 ≡ length r ⌝ }
+// Every count 0, and nothing remembered: the rows of `apart`, and after them what a comparison with the packets that were sent keeps.
+pub fn no_counts() -> [u64; 183]
+    ensures { λ r. ⌜ 183 ≡ length r ⌝ }
 {
-    [0; 167]
+    [0; 183]
 }
 
 // Where the two copies come from, and where the log goes.
 pub struct Task {
     pub first: i32,
     pub second: i32,
-    pub sink: Sink,
+    pub onto: Onto,
 }
 
 // A run so far. How it stands: END where all copies of both files are read and logged, CUT where all are but one file ends inside a record,
-// `logging::UNWRITTEN`, or FAILED. How many PDUs were logged, the pair's receiver, and for each file what came of its last reading: after an answer other than
+// `logging::UNWRITTEN`, how it stands by the files beside the log, or FAILED. How many PDUs were logged, the pair's receiver, and for each file what came of its last reading: after an answer other than
 // WHOLE it is not read again, and its copies do not come.
 pub struct Run {
     pub status: u8,
@@ -175,30 +175,33 @@ fn add_copies(rows: &mut [u64], first: u8, second: u8, p: Pieces) {
     counts::add(rows, apart::ALIKE, p.alike);
 }
 
-// Writes what came of a PDU and counts it in the first row. Answers whether it is written.
-fn kept(sink: Sink, o: Outcome, log: &[u32], block: &mut [u8], rows: &mut [u64], pdu: u64) -> bool {
+// Writes what came of a PDU and counts it in the first row. Answers how the run stands.
+fn kept(onto: Onto, o: Outcome, log: &[u32], block: &mut [u8], rows: &mut [u64], pdu: u64) -> u8 {
     let words = words::written(log, o.words);
+    let sink = onto.sink;
     if !output::keep(sink, pdu, o, words, block) {
-        return false;
+        return logging::UNWRITTEN;
     }
     counts::add_outcome(rows, o);
     counts::add_log(rows, words);
-    true
+    let b = onto.beside;
+    beside::keep(b, rows, pdu, words, block)
 }
 
 // Writes what came of two copies; stops where it cannot be written.
-fn stored(sink: Sink, t: Taken, log: &[u32], block: &mut [u8], rows: &mut [u64], run: Run) -> Run {
+fn stored(onto: Onto, t: Taken, log: &[u32], block: &mut [u8], rows: &mut [u64], run: Run) -> Run {
     let o = t.outcome;
-    if !kept(sink, o, log, block, rows, run.pdus) {
-        return with_status(run, logging::UNWRITTEN);
+    let status = kept(onto, o, log, block, rows, run.pdus);
+    if status == logging::UNWRITTEN {
+        return with_status(run, status);
     }
     add_copies(rows, run.first, run.second, t.pieces);
-    with_pdu(run, o.receiver)
+    with_status(with_pdu(run, o.receiver), status)
 }
 
 // Receives two copies as a pair, and writes what came of them.
 fn together(
-    sink: Sink,
+    onto: Onto,
     carries: &mut [u8],
     first: &mut [u8],
     second: &mut [u8],
@@ -216,12 +219,12 @@ fn together(
         rows,
         run.pdus,
     );
-    stored(sink, t, log, block, rows, run)
+    stored(onto, t, log, block, rows, run)
 }
 
 // Receives two copies, each alone and then as a pair.
 fn received(
-    sink: Sink,
+    onto: Onto,
     carries: &mut [u8],
     first: &mut [u8],
     second: &mut [u8],
@@ -238,7 +241,7 @@ fn received(
         &mut *log,
         rows,
     );
-    together(sink, carries, first, second, log, block, rows, run)
+    together(onto, carries, first, second, log, block, rows, run)
 }
 
 // Reads two copies and takes them; stops where neither file gives another.
@@ -259,9 +262,9 @@ fn turn(
     }
     let n = r.first;
     let m = r.second;
-    let sink = task.sink;
+    let onto = task.onto;
     received(
-        sink,
+        onto,
         carries,
         &mut first[..n],
         &mut second[..m],
@@ -303,10 +306,11 @@ fn all_turns(
 }
 
 // Writes what stands after all PDUs, if all are logged.
-fn ended(sink: Sink, block: &mut [u8], run: Run) -> Run {
+fn ended(onto: Onto, block: &mut [u8], run: Run) -> Run {
     if run.status != records::END {
         return run;
     }
+    let sink = onto.sink;
     if output::end(sink, run.pdus, block) {
         return run;
     }
@@ -331,7 +335,8 @@ pub fn log_all(task: Task, receiver: Receiver, rows: &mut [u64]) -> Run {
     let mut second = [0u8; 65535];
     let mut log = [0u32; 8400];
     let mut block = io::large_buffer();
-    let sink = task.sink;
+    let onto = task.onto;
+    let sink = onto.sink;
     let start = start_of(receiver);
     if !output::begin(sink, &mut block) {
         return with_status(start, logging::UNWRITTEN);
@@ -346,5 +351,5 @@ pub fn log_all(task: Task, receiver: Receiver, rows: &mut [u64]) -> Run {
         rows,
         start,
     );
-    ended(sink, &mut block, run)
+    ended(onto, &mut block, run)
 }

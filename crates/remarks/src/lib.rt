@@ -10,6 +10,7 @@ fn say(line: &[u8]) {
 pub fn ends(status: u8, from: &[u8], marking: &[u8], onto: &[u8], pdus: u64) {
     match status {
         records::END | logging::UNSAVED => {}
+        beside::PACKETS | beside::ADTS | beside::PSD | beside::LISTED | beside::SENT => {}
         records::CUT => files::say_number(from, b": ends inside the record of PDU ", pdus, b"\n"),
         logging::UNWRITTEN => os::fail(onto),
         marks::MISSING | marks::CUT | marks::UNREAD | marks::LEFT => {
@@ -129,6 +130,13 @@ pub fn crcs_wrong(share: &[u8], register: u8) {
     say(&line[..n]);
 }
 
+// All PDUs are logged, and packets among them were never sent: the last line.
+pub fn never_sent() {
+    say(
+        b"barzhilup log: all PDUs are logged, but packets came that were never sent: is the file of --sent that of this drive?\n",
+    );
+}
+
 // How the program is used, on standard output.
 pub fn usage() -> bool {
     files::print_usage(
@@ -147,7 +155,15 @@ that is marked lost.
   --resume FILE   goes on where the FILE of --save stands
   --skip          with --resume: the input has the PDUs that are logged too,
                   and they are passed over
-  --force         an existing FILE of --out or --save is renamed FILE~ first
+  --packets FILE  the delivered packets, as records (standard output for -)
+  --adts FILE     the delivered packets, in ADTS frames (likewise)
+  --psd FILE      the PSD that came, joined (likewise)
+  --sent FILE     the packets that were sent, as records: tells which of them
+                  are missing, and which delivered ones were never sent
+  --sent-adts     the FILE of --sent has the packets in ADTS frames
+  --compared FILE a line for each packet that was sent, as CSV (standard output
+                  for -)
+  --force         an existing FILE that is to be written is renamed FILE~ first
   --mode N        0, 1, 2, 3, 10 or 13 (0)
   --stream N      0 core, 1 enhanced (0)
   --crc-start N   the register that CRCs start with, 0 to 255 (0; recordings
@@ -176,6 +192,19 @@ Entitled: program numbers from 0 to 7, each once; others are refused with 22. A
 PDU of another program with applied services 1, or unknown ones, is withheld:
 its log has a note in place of the PSD, and no packet but one that began before
 it. Without the option no PDU is withheld.
+
+Packets, adts, psd: written before the next PDU is read. One of them, or the
+list of --compared, may go to standard output, where --out FILE is given. None
+goes with --save or --resume, nor does --sent.
+
+Sent: packets are numbered from the file's first on, modulo 64. A delivered one
+is looked for by its number and bytes: ahead of the last one found, else behind
+it (it came again or out of turn). Those that are passed over are missing, also
+before the first and after the last delivered one. One that was never sent is
+said, and the exit status is then 1, though all PDUs are logged. The list has
+the columns index, number, length, state (delivered, missing, again or never
+sent) and pdu; its last line is \",end,N,,whole\" if it has all N. The file is
+read more than once, so it cannot be a pipe.
 
 Save: the receiver's words and the counts of PDUs and of bytes logged, in two
 records of words. FILE is replaced by a new file, FILE.new, so it is whole at
@@ -211,7 +240,8 @@ A PDU that is refused is marked lost, also one of another mode or stream.
 Standard error has a line for each of the first five and for the first of
 another mode or stream, then the counts, and the last line
 \"barzhilup log: stopped early\" if not all PDUs are logged. The exit status is
-0 if all are logged, 1 if not, 2 if the usage is wrong.
+0 if all are logged, 1 if not or if packets were never sent, 2 if the usage is
+wrong.
 ",
     )
 }
