@@ -27,11 +27,11 @@ use Rattle.header.proofs.CodeWords.{Bytes, syndromes-at, syndromes-length}
 use Rattle.header.proofs.Distances.{all-at}
 use Rattle.header.proofs.Unique.{word, apart, points, syndrome-power, code-word-sound, all-bytes, bytes-all}
 use Rattle.correction.specs.Marks.{unmarkedDistance, Within, CandidateWith, spare}
-use Rattle.correction.specs.Elimination.{Solved, systemRow, systemOf, unknowns, rightSide, besideRow, beside, entry}
+use Rattle.elimination.specs.Elimination.{Solved, systemRow, systemOf, unknowns, rightSide, besideRow, beside, entry}
 use Rattle.correction.specs.ErrorPlaces.{located, Search}
 use Rattle.correction.specs.ErrorValues.{entries, stripped, product, others, unlessSame, pointsOf, valueAt, DistinctPlaces, Repaired, Stripped}
 use Rattle.correction.proofs.Filtering.{others-split}
-use Rattle.correction.proofs.Solving as solving
+use Rattle.elimination.proofs.Solving as solving
 use Rattle.correction.proofs.Locating.{locatorFrom, locator-length, locator-kills, places-zeros, few-weights, strip-el, value-el, error-value-lt}
 
 -- ---- the system of the syndromes

@@ -19,7 +19,7 @@ use Rattle.header.proofs.CodeWords.{Bytes, zero-code-word}
 use Rattle.header.proofs.Unique.{word, apart, points, syndrome-power, all-bytes, bytes-all}
 use Rattle.correction.specs.Marks.{isMarked, allowedMarks, unmarkedDistance, Within}
 use Rattle.correction.proofs.Counting.{keep-add, keep-none, one-cons}
-use Rattle.correction.proofs.Solving.{el-zero-only}
+use Rattle.elimination.proofs.Solving.{el-zero-only}
 use Rattle.correction.proofs.MarkLists.{marks-distinct}
 use Rattle.correction.proofs.Candidates.{syndrome-lt}
 

@@ -1,6 +1,4 @@
 pub mod Counting
-pub mod Steps
-pub mod Solving
 pub mod Searching
 pub mod Filtering
 pub mod Locating

@@ -20,12 +20,12 @@ use Rattle.algebra.proofs.ErrorValues.{strip, factor, factor-off, weigh, weigh-
 use Rattle.algebra.proofs.Erasures.{withMarks, marks-monic}
 use Rattle.algebra.proofs.Codes.{zero?, zero-true, true-zero}
 use Rattle.algebra.proofs.Gf256.{GF, Byte, el, el-byte, el-zero, el-add, el-mul, el-inv, point, point-el, point-apart}
-use Rattle.correction.specs.Elimination.{Solved, entry}
+use Rattle.elimination.specs.Elimination.{Solved, entry}
 use Rattle.correction.specs.Marks.{isMarked, unmarkedDistance}
 use Rattle.correction.specs.ErrorPlaces.{valueFrom, root, located}
 use Rattle.correction.specs.ErrorValues.{stripped, product}
 use Rattle.correction.proofs.Counting.{keep-same, keep-le}
-use Rattle.correction.proofs.Solving.{Bytes, solved, el-zero-only}
+use Rattle.elimination.proofs.Solving.{Bytes, solved, el-zero-only}
 
 infixl 65 _⊕_
 infixl 70 _⊗_

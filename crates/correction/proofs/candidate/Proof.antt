@@ -6,20 +6,20 @@ use mathlib.Core.List.{List, [], _∷_, _++_}
 use borrow.Author.Needs.{needs}
 use Rattle.algebra.specs.Places.{All}
 use Rattle.correction.specs.Marks.{spare}
-use Rattle.correction.specs.Elimination.{Solved, systemOf, beside}
+use Rattle.elimination.specs.Elimination.{Solved, systemOf, beside}
 use Rattle.correction.proofs.MarkLists.{allowed-inside}
 use Rattle.correction.proofs.Candidates.{system-back, few-places, distinct-places, candidate-word}
 use Rattle.correction.proofs.candidate.Statement.{statement}
 use Rattle.correction.proofs.candidate.Tie as tie
 use Rattle.correction.proofs.candidate.Reads as reads
 use Rattle.correction.proofs.candidate.Lts as lts
-use Rattle.correction.proofs.eliminate.Reads as eliminate-reads
+use Rattle.elimination.proofs.eliminate.Reads as eliminate-reads
 use Rattle.correction.proofs.error_places.Reads as error-places-reads
 use Rattle.correction.proofs.repaired.Reads as repaired-reads
 use Rattle.correction.proofs.spare.Reads as spare-reads
 use Rattle.correction.proofs.stripped.Reads as stripped-reads
-use Rattle.correction.proofs.right_side.Reads as right-side-reads
-use Rattle.correction.proofs.system.Reads as system-reads
+use Rattle.elimination.proofs.right_side.Reads as right-side-reads
+use Rattle.elimination.proofs.system.Reads as system-reads
 
 stripped-requires : tie.Need-stripped-requires
 stripped-requires c κs = search needs

@@ -4,12 +4,12 @@ use Prim.Native.Nat.{ℕ, zero, suc, _+_, _-_, _<_, _≤_}
 use native.Mathlib.Omega.{arith}
 use lib.ListN.{length, getD, set, length-set}
 use borrow.Author.Needs.{needs}
-use Rattle.correction.specs.Elimination.{Column}
-use Rattle.correction.proofs.Steps.{column-next, column-end}
-use Rattle.correction.proofs.column.Statement.{statement}
-use Rattle.correction.proofs.column.Tie as tie
-use Rattle.correction.proofs.column.Reads as reads
-use Rattle.correction.proofs.column.Lts as lts
+use Rattle.elimination.specs.Elimination.{Column}
+use Rattle.elimination.proofs.Steps.{column-next, column-end}
+use Rattle.elimination.proofs.column.Statement.{statement}
+use Rattle.elimination.proofs.column.Tie as tie
+use Rattle.elimination.proofs.column.Reads as reads
+use Rattle.elimination.proofs.column.Lts as lts
 
 abbrev Inv-loop : tie.InvT-loop
 Inv-loop k rows out₀ i₀ out i = (i ≤ k) × Column rows k out i

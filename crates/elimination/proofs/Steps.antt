@@ -8,7 +8,7 @@ use lib.ListN.{length, getD, set, length-set}
 use lib.Bits.{bitXor}
 use Rattle.field.specs.Field.{mul, inverse}
 use lib.Seq.{getD-set-same, getD-set-other}
-use Rattle.correction.specs.Elimination.{Row, scaledBy, clearedBy, Pivot, ReduceRows, ReduceRight, Column, besideRow, beside, Reduce}
+use Rattle.elimination.specs.Elimination.{Row, scaledBy, clearedBy, Pivot, ReduceRows, ReduceRight, Column, besideRow, beside, Reduce}
 
 pub begin : (w : ℕ) (f : ℕ → ℕ) (r : List ℕ) → length r ≡ w → Row w f r 0
 begin w f r e = record { long = e; entry = λ i l. absurd (omega arith) }

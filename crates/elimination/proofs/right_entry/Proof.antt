@@ -7,10 +7,10 @@ use borrow.Author.Needs.{needs}
 use mathlib.Core.Bool.{true, false}
 use lib.Dec.{ltb}
 use borrow.Author.Tests.{lt-ltb, le-ltb}
-use Rattle.correction.proofs.right_entry.Statement.{statement}
-use Rattle.correction.proofs.right_entry.Tie as tie
-use Rattle.correction.proofs.right_entry.Reads as reads
-use Rattle.correction.proofs.right_entry.Lts as lts
+use Rattle.elimination.proofs.right_entry.Statement.{statement}
+use Rattle.elimination.proofs.right_entry.Tie as tie
+use Rattle.elimination.proofs.right_entry.Reads as reads
+use Rattle.elimination.proofs.right_entry.Lts as lts
 
 add-result : tie.Need-add-result
 add-result c = search needs

@@ -5,28 +5,26 @@ use lib.ListN.{length, getD, set, length-set}
 use lib.Bits.{bitXor}
 use borrow.Author.Needs.{needs}
 use Rattle.field.specs.Field.{mul, inverse}
-use Rattle.correction.specs.Elimination.{Row, scaledBy, clearedBy}
-use Rattle.correction.proofs.Steps.{begin, grow, finish}
-use Rattle.correction.proofs.cleared.Statement.{statement}
-use Rattle.correction.proofs.cleared.Tie as tie
-use Rattle.correction.proofs.cleared.Reads as reads
-use Rattle.correction.proofs.cleared.Lts as lts
+use Rattle.elimination.specs.Elimination.{Row, scaledBy, clearedBy}
+use Rattle.elimination.proofs.Steps.{begin, grow, finish}
+use Rattle.elimination.proofs.scaled.Statement.{statement}
+use Rattle.elimination.proofs.scaled.Tie as tie
+use Rattle.elimination.proofs.scaled.Reads as reads
+use Rattle.elimination.proofs.scaled.Lts as lts
+use Rattle.field.proofs.inverse_by.Reads as inverse-by-reads
 use Rattle.field.proofs.product_by.Reads as product-by-reads
 
 abbrev Inv-loop : tie.InvT-loop
-Inv-loop powers logarithms k row p b out₀ i₀ out i = (i ≤ 4) × Row 4 (clearedBy row p k) out i
+Inv-loop powers logarithms b row v out₀ i₀ out i = (i ≤ 4) × Row 4 (scaledBy row b) out i
 
 abbrev μ-loop : tie.MeasureT-loop
-μ-loop powers logarithms k row p b out₀ i₀ out i = 4 - i
+μ-loop powers logarithms b row v out₀ i₀ out i = 4 - i
 
-array-read-b : tie.Need-array-read-b Inv-loop μ-loop
-array-read-b c = search needs
+inverse-by-requires : tie.Need-inverse-by-requires Inv-loop μ-loop
+inverse-by-requires c κs = search needs
 
 loop-holds : tie.Need-loop-holds Inv-loop μ-loop
 loop-holds c = (omega arith, begin _ _ _ (search needs))
-
-array-read-out : tie.Need-array-read-out Inv-loop μ-loop
-array-read-out c = search needs
 
 array-read-product-by : tie.Need-array-read-product-by Inv-loop μ-loop
 array-read-product-by c = search needs
@@ -46,23 +44,21 @@ loop-less c = search needs
 loop-again : tie.Need-loop-again Inv-loop μ-loop
 loop-again c = (
   omega arith,
-  grow 4 (clearedBy (c .before .before .before .args .t3) (c .before .before .before .args .t4) (c .before .before .before .args .k)) (c .before .before .loop .out) (c .before .before .loop .i)
-      (bitXor (getD (c .before .before .before .args .t3) (c .before .before .loop .i) 0) (c .product-by .result))
-      (omega arith) (c .before .before .loop .inv .1) (ap (λ (v : ℕ). bitXor (getD (c .before .before .before .args .t3) (c .before .before .loop .i) 0) v) (c .product-by .ensures)),
+  grow 4 (scaledBy (c .before .before .before .before .args .t3) (c .before .before .before .before .args .b)) (c .before .before .loop .out) (c .before .before .loop .i) (c .product-by .result)
+      (omega arith) (c .before .before .loop .inv .1) (c .product-by .ensures ∙ ap (λ (v : ℕ). mul v (getD (c .before .before .before .before .args .t3) (c .before .before .loop .i) 0)) (c .before .before .before .inverse-by .ensures)),
 )
 
 returns : tie.Need-returns Inv-loop μ-loop
 returns c = finish _ _ _ (c .before .loop .i) (omega arith) (c .before .loop .inv .1)
 
-pub cleared-spec : {M : Type 1} → statement M
-cleared-spec =
+pub scaled-spec : {M : Type 1} → statement M
+scaled-spec =
     tie.close
     (tie.spec
     Inv-loop
     μ-loop
-    array-read-b
+    inverse-by-requires
     loop-holds
-    array-read-out
     array-read-product-by
     product-by-requires
     array-write-out

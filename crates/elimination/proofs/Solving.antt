@@ -11,7 +11,7 @@ use lib.Bits.{bitXor, xor-lt, xor-zero-l}
 use lib.Dec.{lit<}
 use Rattle.field.specs.Field.{mul, inverse}
 use Rattle.field.proofs.Laws.{mul-lt, mul-zero-l, inverse-lt}
-use Rattle.correction.specs.Elimination.{Row, scaledBy, clearedBy, Pivot, Reduce, Column, entry, Chain, begun, next, Solved}
+use Rattle.elimination.specs.Elimination.{Row, scaledBy, clearedBy, Pivot, Reduce, Column, entry, Chain, begun, next, Solved}
 use Rattle.algebra.proofs.Field.{Field}
 use Rattle.algebra.proofs.Polynomials.{combine}
 use Rattle.algebra.proofs.Elimination.{Kills, Reduced, Step, start, kills-step, reduced-step, kills-end, column, length-column}

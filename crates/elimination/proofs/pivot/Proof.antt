@@ -6,12 +6,12 @@ use mathlib.Core.List.{List, [], _∷_}
 use lib.Bits.{bitXor}
 use borrow.Author.Needs.{needs}
 use Rattle.field.specs.Field.{mul, inverse}
-use Rattle.correction.specs.Elimination.{Row, scaledBy, clearedBy}
-use Rattle.correction.proofs.Steps.{begin, grow, finish, zeros-again}
-use Rattle.correction.proofs.pivot.Statement.{statement}
-use Rattle.correction.proofs.pivot.Tie as tie
-use Rattle.correction.proofs.pivot.Reads as reads
-use Rattle.correction.proofs.pivot.Lts as lts
+use Rattle.elimination.specs.Elimination.{Row, scaledBy, clearedBy}
+use Rattle.elimination.proofs.Steps.{begin, grow, finish, zeros-again}
+use Rattle.elimination.proofs.pivot.Statement.{statement}
+use Rattle.elimination.proofs.pivot.Tie as tie
+use Rattle.elimination.proofs.pivot.Reads as reads
+use Rattle.elimination.proofs.pivot.Lts as lts
 
 abbrev Inv-loop : tie.InvT-loop
 Inv-loop k m r₀ r = (k ≤ r) × (r ≤ 4) × ((i : ℕ) → k ≤ i → i < r → getD (getD m i []) k 0 ≡ 0)

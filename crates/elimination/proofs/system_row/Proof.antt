@@ -7,10 +7,10 @@ use borrow.Author.Needs.{needs}
 use mathlib.Core.Bool.{true, false}
 use lib.Dec.{ltb}
 use borrow.Author.Tests.{lt-ltb, le-ltb}
-use Rattle.correction.proofs.system_row.Statement.{statement}
-use Rattle.correction.proofs.system_row.Tie as tie
-use Rattle.correction.proofs.system_row.Reads as reads
-use Rattle.correction.proofs.system_row.Lts as lts
+use Rattle.elimination.proofs.system_row.Statement.{statement}
+use Rattle.elimination.proofs.system_row.Tie as tie
+use Rattle.elimination.proofs.system_row.Reads as reads
+use Rattle.elimination.proofs.system_row.Lts as lts
 
 array-read-t8 : tie.Need-array-read-t8
 array-read-t8 c = search needs

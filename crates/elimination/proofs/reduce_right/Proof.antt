@@ -7,11 +7,11 @@ use mathlib.Core.List.{List, [], _∷_, _++_}
 use mathlib.Core.Logic.{⊎-elim}
 use lib.Bits.{bitXor}
 use Rattle.field.specs.Field.{mul, inverse}
-use Rattle.correction.proofs.Steps.{ClearRight, right-begin, right-skip, right-row, right-end}
-use Rattle.correction.proofs.reduce_right.Statement.{statement}
-use Rattle.correction.proofs.reduce_right.Tie as tie
-use Rattle.correction.proofs.reduce_right.Reads as reads
-use Rattle.correction.proofs.reduce_right.Lts as lts
+use Rattle.elimination.proofs.Steps.{ClearRight, right-begin, right-skip, right-row, right-end}
+use Rattle.elimination.proofs.reduce_right.Statement.{statement}
+use Rattle.elimination.proofs.reduce_right.Tie as tie
+use Rattle.elimination.proofs.reduce_right.Reads as reads
+use Rattle.elimination.proofs.reduce_right.Lts as lts
 use Rattle.field.proofs.inverse_by.Reads as inverse-by-reads
 use Rattle.field.proofs.product_by.Reads as product-by-reads
 
