@@ -1,29 +1,26 @@
 use borrow.Author.Needs.{needs}
 use mathlib.Core.Path.{_≡_}
 use lib.ListN.{length}
-use Rattle.channel.proofs.sending.send_all.Statement.{statement}
-use Rattle.channel.proofs.sending.send_all.Tie as tie
+use Rattle.passage.proofs.all_turns.Statement.{statement}
+use Rattle.passage.proofs.all_turns.Tie as tie
 
 abbrev Inv-loop : tie.InvT-loop
-Inv-loop task seed pdu₀ run₀ turns₀ pdu run turns = 65536 ≡ length pdu
+Inv-loop task pdu₀ held₀ run₀ turns₀ pdu held run turns = (length pdu ≡ length pdu₀) × (length held ≡ length held₀)
 
 abbrev μ-loop : tie.MeasureT-loop
-μ-loop task seed pdu₀ run₀ turns₀ pdu run turns = turns
-
-large-buffer-requires : tie.Need-large-buffer-requires Inv-loop μ-loop
-large-buffer-requires c κs = search needs
-
-begin-requires : tie.Need-begin-requires Inv-loop μ-loop
-begin-requires c κs = search needs
+μ-loop task pdu₀ held₀ run₀ turns₀ pdu held run turns = turns
 
 loop-holds : tie.Need-loop-holds Inv-loop μ-loop
 loop-holds c = search needs
 
-slice-aggregate-turn : tie.Need-slice-aggregate-turn Inv-loop μ-loop
-slice-aggregate-turn c = search needs
-
 turn-requires : tie.Need-turn-requires Inv-loop μ-loop
 turn-requires c κs = search needs
+
+same-length : tie.Need-same-length Inv-loop μ-loop
+same-length c = search needs
+
+same-length-2 : tie.Need-same-length-2 Inv-loop μ-loop
+same-length-2 c = search needs
 
 returns : tie.Need-returns Inv-loop μ-loop
 returns c = search needs
@@ -40,23 +37,30 @@ loop-less c = search needs
 loop-again : tie.Need-loop-again Inv-loop μ-loop
 loop-again c = search needs
 
+same-length-3 : tie.Need-same-length-3 Inv-loop μ-loop
+same-length-3 c = search needs
+
+same-length-4 : tie.Need-same-length-4 Inv-loop μ-loop
+same-length-4 c = search needs
+
 returns-2 : tie.Need-returns-2 Inv-loop μ-loop
 returns-2 c = search needs
 
-pub send-all-spec : {M : Type 1} → statement M
-send-all-spec =
+pub all-turns-spec : {M : Type 1} → statement M
+all-turns-spec =
     tie.close
     (tie.spec
     Inv-loop
     μ-loop
-    large-buffer-requires
-    begin-requires
     loop-holds
-    slice-aggregate-turn
     turn-requires
+    same-length
+    same-length-2
     returns
     progress-requires
     sub-turns
     loop-less
     loop-again
+    same-length-3
+    same-length-4
     returns-2)
