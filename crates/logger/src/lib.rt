@@ -13,7 +13,7 @@ ghost use Rattle.io.specs.Counts.{Counts};
 // The program: answers its exit status. What went wrong is said.
 pub fn program() -> i32 {
     if options::given(&job::KNOWN, b"help") {
-        return files::status(b"barzhilup log", remarks::usage());
+        return files::status(b"barzhilup log", remarks::help());
     }
     if !job::check() {
         return files::WRONG;

@@ -129,8 +129,16 @@ pub fn crcs_wrong(share: &[u8], register: u8) {
     say(&line[..n]);
 }
 
+// The help, on standard output: how the program is used, and the mode table.
+pub fn help() -> bool {
+    if !usage() {
+        return false;
+    }
+    mode_table::print(b"barzhilup log")
+}
+
 // How the program is used, on standard output.
-pub fn usage() -> bool {
+fn usage() -> bool {
     files::print_usage(
         b"barzhilup log",
         b"usage: barzhilup log [--in FILE] [--out FILE] [OPTION]...
