@@ -1,20 +1,23 @@
 use borrow.Author.Needs.{needs}
 use mathlib.Core.Path.{_≡_}
 use lib.ListN.{length}
-use Rattle.sending.proofs.all_turns.Statement.{statement}
-use Rattle.sending.proofs.all_turns.Tie as tie
+use Rattle.broadcast.proofs.all_turns.Statement.{statement}
+use Rattle.broadcast.proofs.all_turns.Tie as tie
 
 abbrev Inv-loop : tie.InvT-loop
-Inv-loop task from onto psd lengths₀ bytes₀ pdu₀ run₀ turns₀ lengths bytes pdu run turns = (length lengths ≡ length lengths₀) × (length bytes ≡ length bytes₀) × (length pdu ≡ length pdu₀)
+Inv-loop job from onto text psd₀ lengths₀ bytes₀ pdu₀ now₀ turns₀ psd lengths bytes pdu now turns = (length psd ≡ length psd₀) × (length lengths ≡ length lengths₀) × (length bytes ≡ length bytes₀) × (length pdu ≡ length pdu₀)
 
 abbrev μ-loop : tie.MeasureT-loop
-μ-loop task from onto psd lengths₀ bytes₀ pdu₀ run₀ turns₀ lengths bytes pdu run turns = turns
+μ-loop job from onto text psd₀ lengths₀ bytes₀ pdu₀ now₀ turns₀ psd lengths bytes pdu now turns = turns
 
 loop-holds : tie.Need-loop-holds Inv-loop μ-loop
 loop-holds c = search needs
 
 turn-requires : tie.Need-turn-requires Inv-loop μ-loop
 turn-requires c κs = search needs
+
+is-going-requires : tie.Need-is-going-requires Inv-loop μ-loop
+is-going-requires c κs = search needs
 
 same-length : tie.Need-same-length Inv-loop μ-loop
 same-length c = search needs
@@ -25,11 +28,11 @@ same-length-2 c = search needs
 same-length-3 : tie.Need-same-length-3 Inv-loop μ-loop
 same-length-3 c = search needs
 
+same-length-4 : tie.Need-same-length-4 Inv-loop μ-loop
+same-length-4 c = search needs
+
 returns : tie.Need-returns Inv-loop μ-loop
 returns c = search needs
-
-progress-requires : tie.Need-progress-requires Inv-loop μ-loop
-progress-requires c κs = search needs
 
 sub-turns : tie.Need-sub-turns Inv-loop μ-loop
 sub-turns c = search needs
@@ -40,14 +43,17 @@ loop-less c = search needs
 loop-again : tie.Need-loop-again Inv-loop μ-loop
 loop-again c = search needs
 
-same-length-4 : tie.Need-same-length-4 Inv-loop μ-loop
-same-length-4 c = search needs
-
 same-length-5 : tie.Need-same-length-5 Inv-loop μ-loop
 same-length-5 c = search needs
 
 same-length-6 : tie.Need-same-length-6 Inv-loop μ-loop
 same-length-6 c = search needs
+
+same-length-7 : tie.Need-same-length-7 Inv-loop μ-loop
+same-length-7 c = search needs
+
+same-length-8 : tie.Need-same-length-8 Inv-loop μ-loop
+same-length-8 c = search needs
 
 returns-2 : tie.Need-returns-2 Inv-loop μ-loop
 returns-2 c = search needs
@@ -60,15 +66,17 @@ all-turns-spec =
     μ-loop
     loop-holds
     turn-requires
+    is-going-requires
     same-length
     same-length-2
     same-length-3
+    same-length-4
     returns
-    progress-requires
     sub-turns
     loop-less
     loop-again
-    same-length-4
     same-length-5
     same-length-6
+    same-length-7
+    same-length-8
     returns-2)
