@@ -16,7 +16,7 @@ if [ ! -x "$program" ]; then
 fi
 program=$(readlink -f "$program")
 subs=(generate channel log coverage latency join)
-for part in harness usage files generate log marks second registers batches bursts coverage loss entitled resume beside latency join; do
+for part in harness usage files generate log marks second registers batches bursts road coverage loss entitled resume beside latency join; do
     # shellcheck source=/dev/null
     . "$here/$part.sh"
 done
@@ -92,6 +92,12 @@ check_bursts_seeds
 check_bursts_places
 check_bursts_refused
 check_bursts_drives
+check_road_seeds
+check_road_twice
+check_road_swap
+check_road_cut
+check_road_marks
+check_road_log
 check_stored
 check_lines
 check_line_ends

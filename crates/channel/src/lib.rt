@@ -1,12 +1,12 @@
 // A channel for a file of PDUs: some PDUs are lost, in bursts, and some of those that come through have bytes of the header changed, or bits of pieces
-// flipped.
+// flipped, come twice or out of turn, or are cut.
 mod arguments;
 mod report;
-mod sending;
 
 use arguments::Job;
-use sending::Run;
-use sending::Task;
+use disorder::Outlet;
+use passage::Run;
+use passage::Task;
 ghost use Rattle.io.specs.Counts.{Counts};
 
 // The subcommand `channel`: answers the exit status.
@@ -67,7 +67,7 @@ fn made(option: &[u8], label: &mut [u8]) -> File
 // Makes the file of marks, where one is asked for.
 fn with_input(job: Job, from: &[u8], input: i32) -> bool {
     if !options::given(&arguments::KNOWN, b"marks") {
-        return with_marks(job, from, input, b"", sending::NO_MARKS);
+        return with_marks(job, from, input, b"", disorder::NO_MARKS);
     }
     let mut label = files::label_buffer();
     let marks = made(b"marks", &mut label);
@@ -90,24 +90,30 @@ fn with_marks(job: Job, from: &[u8], input: i32, marking: &[u8], marks: i32) -> 
     let channel = job.channel;
     let task = Task {
         input: input,
-        output: pdus.fd,
-        marks: marks,
+        outlet: Outlet {
+            pdus: pdus.fd,
+            marks: marks,
+        },
         channel: channel,
     };
-    let run = sending::send_all(task, job.seed);
+    let run = passage::send_all(task, job.seed);
     report::ends(run.status, from, &onto[..n], marking, run.pdus);
     finish(run, task, &onto[..n], marking)
 }
 
 // Closes the files that are written, and says what the channel did.
 fn finish(run: Run, task: Task, onto: &[u8], marking: &[u8]) -> bool {
-    let closed = files::close(task.output, onto);
-    let kept = close_marks(task.marks, marking);
+    let outlet = task.outlet;
+    let closed = files::close(outlet.pdus, onto);
+    let kept = close_marks(outlet.marks, marking);
     report::summary(run.pdus, run.missing, run.lost, run.damaged, run.altered);
     let channel = task.channel;
-    if 0 < channel.bursts {
-        report::bursts(run.hit);
-    }
+    let rates = channel.rates;
+    let road = run.road;
+    report::asked_for(report::BURSTS, channel.bursts, run.hit);
+    report::asked_for(report::TWICE, rates.twice, road.twice);
+    report::asked_for(report::SWAPPED, rates.swap, road.swapped);
+    report::asked_for(report::CUT, rates.cut, road.cut);
     (run.status == records::END) & closed & kept
 }
 

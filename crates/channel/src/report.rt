@@ -1,6 +1,5 @@
 // What the program says on standard error, a line in one write.
 use crate::arguments::PROGRAM;
-use crate::sending;
 use libc::STDERR_FILENO;
 
 fn say(line: &[u8]) {
@@ -12,8 +11,8 @@ pub fn ends(status: u8, from: &[u8], onto: &[u8], marking: &[u8], pdus: u64) {
     match status {
         records::END => {}
         records::CUT => files::say_number(from, b": ends inside the record of PDU ", pdus, b"\n"),
-        sending::UNWRITTEN => os::fail(onto),
-        sending::UNMARKED => os::fail(marking),
+        disorder::UNWRITTEN => os::fail(onto),
+        disorder::UNMARKED => os::fail(marking),
         _ => os::fail(from),
     }
 }
@@ -30,21 +29,31 @@ pub fn summary(pdus: u64, missing: u64, lost: u64, damaged: u64, altered: u64) {
     say(&line[..n]);
 }
 
-// How many pieces were hit by bursts.
-pub fn bursts(hit: u64) {
-    let mut line = [0u8; 256];
+// What else is counted where it is asked for, as numbers of the texts that say it.
+pub const BURSTS: u32 = 0;
+
+pub const TWICE: u32 = 1;
+
+pub const SWAPPED: u32 = 2;
+
+pub const CUT: u32 = 3;
+
+// How often a thing happened that was asked for so many times in a thousand; nothing where it was for none.
+pub fn asked_for(thing: u32, in_a_thousand: u64, count: u64) {
+    if in_a_thousand == 0 {
+        return;
+    }
+    let mut line = [0u8; 128];
     let n = text::fill(
         &mut line,
         0,
-        b"barzhilup channel: pieces hit by bursts @\n",
-        &[hit],
+        text::entry(
+            b"barzhilup channel: pieces hit by bursts @\n\0barzhilup channel: PDUs sent twice @\n\0barzhilup channel: PDUs swapped with the next @\n\0barzhilup channel: PDUs cut @\n\0",
+            thing,
+        ),
+        &[count],
     );
     say(&line[..n]);
-}
-
-// How far the work is, where somebody looks on.
-pub fn progress(pdus: u64) {
-    files::progress(&PROGRAM, b": PDUs ", pdus);
 }
 
 // How the program is used, on standard output.
@@ -54,16 +63,16 @@ pub fn usage() -> bool {
         b"usage: barzhilup channel [--in FILE] [--out FILE] [OPTION]...
 
 Damages a file of PDUs: PDUs are lost in bursts, and of those that come through
-some have bytes of the header changed, or bits of pieces flipped. A record of
-either file is its length in two bytes, low byte first, and then its bytes; a
-record of length 0 is a PDU marked lost, and stays so. The same seed gives the
-same damage.
+some have bytes of the header changed, or bits of pieces flipped, come twice or
+out of turn, or are cut. A record of either file is its length in two bytes, low
+byte first, and then its bytes; a record of length 0 is a PDU marked lost, and
+stays so. The same seed gives the same damage.
 
   --in FILE     PDUs (standard input, also for -)
   --out FILE    the PDUs that come through (standard output, also for -)
-  --marks FILE  for each PDU a record of the places that are changed, a byte
-                each, as \"barzhilup log --marks\" takes them (standard output
-                for -)
+  --marks FILE  for each record of --out one of the places that are changed,
+                a byte each, as \"barzhilup log --marks\" takes them (standard
+                output for -)
   --force       an existing FILE of --out or --marks is renamed FILE~ first
   --seed N      0 to 4294967295 (1)
   --loss N      how many PDUs in a thousand begin a burst of lost ones,
@@ -78,6 +87,11 @@ same damage.
                 of those that reach beyond the PDU's first 96 bytes: each 1 to
                 8 of them, inside eight consecutive bits of the piece with its
                 CRC byte, and none in these 96 bytes; for lost PDUs see --burst
+  --twice N     how many PDUs in a thousand come twice, 0 to 1000 (0)
+  --swap N      how many PDUs in a thousand change places with the next record,
+                0 to 1000 (0); one that is before its turn so is not moved again
+  --cut N       how many PDUs in a thousand are cut, 0 to 1000 (0): at least one
+                byte of the record is left, and at least one is missing
   --help        prints this and does nothing else (also -h)
 
 Standard error has the counts, and if not all PDUs are sent the last line

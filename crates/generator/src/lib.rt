@@ -1,95 +1,157 @@
 // Makes a file of PDUs from a file of packets (document 01, "Writer").
 mod report;
 
+use broadcast::Broadcast;
+use broadcast::Job;
+use inputs::NAME;
 use packets::Source;
-use sending::Run;
-use sending::Task;
+use psd_stream::Supply;
 use sending::trial;
+use transmission::KNOWN;
 use transmission::Transmission;
 use writer::Writer;
 
 // The program: answers its exit status.
 pub fn program() -> i32 {
-    if options::given(&transmission::KNOWN, b"help") {
-        return files::status(b"barzhilup generate", report::usage());
+    if options::given(&KNOWN, b"help") {
+        return files::status(&NAME, report::usage());
     }
-    if !transmission::check(b"barzhilup generate", &transmission::KNOWN) {
+    if !inputs::check() {
         return files::WRONG;
     }
-    let asked = transmission::asked(b"barzhilup generate", &transmission::KNOWN);
-    if !asked.ok {
+    let asked = transmission::asked(&NAME, &KNOWN);
+    let most = options::number(
+        &NAME,
+        &KNOWN,
+        b"psd-bytes",
+        psd_stream::MOST,
+        1,
+        psd_stream::MOST,
+    );
+    if !asked.ok | !most.ok {
         return files::WRONG;
     }
-    files::status(b"barzhilup generate", run(asked))
+    files::status(&NAME, run(asked, most.value as usize))
 }
 
-// Makes the PDUs. Answers whether all is done; what went wrong is said.
-fn run(asked: Transmission) -> bool {
+// Makes the PDUs, each with at most so many bytes of PSD that runs across them. Answers whether all is done; what went wrong is said.
+fn run(asked: Transmission, most: usize) -> bool {
     let opened = writer::open(asked.mode, asked.stream, asked.register);
     if opened.refusal != 0 {
-        trial::say_refusal(b"barzhilup generate", opened.refusal);
+        let settings = asked.settings;
+        trial::say_refused(
+            &NAME,
+            opened.refusal,
+            asked.mode,
+            asked.stream,
+            asked.length,
+            settings,
+        );
         return false;
     }
     let writer = opened.writer;
-    with_writer(asked, writer)
+    let mut psd = [0u8; 256];
+    let supply = inputs::supply(most, &mut psd);
+    if supply.status == records::FAILED {
+        return false;
+    }
+    with_supply(asked, writer, supply, &mut psd)
 }
 
-// Reads the PSD, tries the settings, and opens the file of packets.
-fn with_writer(asked: Transmission, writer: Writer) -> bool {
-    let mut psd = [0u8; 256];
-    let read = transmission::psd::read(b"barzhilup generate", &transmission::KNOWN, &mut psd);
+// Tries the settings of the options, and reads their changes.
+fn with_supply(asked: Transmission, writer: Writer, supply: Supply, psd: &mut [u8]) -> bool {
+    let row = asked.row;
+    if !broadcast::is_taken(&NAME, row, supply, psd, asked.length, writer) {
+        return false;
+    }
+    let mut text = io::large_buffer();
+    let mut label = files::label_buffer();
+    let n = inputs::put_label(&mut label, b"settings");
+    let read = inputs::settings(&mut text, &label[..n]);
     if read.status == records::FAILED {
         return false;
     }
-    let settings = asked.settings;
-    if !trial::is_taken(
-        b"barzhilup generate",
-        settings,
-        &psd[..read.length],
-        asked.length,
-        writer,
-    ) {
+    let k = read.length;
+    with_changes(asked, writer, supply, psd, &text[..k], &label[..n])
+}
+
+// Tries the changes, and opens the file of packets.
+fn with_changes(
+    asked: Transmission,
+    writer: Writer,
+    supply: Supply,
+    psd: &mut [u8],
+    text: &[u8],
+    label: &[u8],
+) -> bool {
+    let row = asked.row;
+    if !broadcast::are_taken(label, text, row, supply, psd, asked.length, writer) {
         return false;
     }
     let mut from = files::label_buffer();
-    let n = files::put_input_label(&mut from, b"barzhilup generate", &transmission::KNOWN);
-    let input = files::open_input(&transmission::KNOWN, b"in", &from[..n]);
+    let n = files::put_input_label(&mut from, &NAME, &KNOWN);
+    let input = files::open_input(&KNOWN, b"in", &from[..n]);
     if input < 0 {
         return false;
     }
-    with_input(asked, writer, &psd[..read.length], &from[..n], input)
+    let start = broadcast::begin(writer, text, row, supply);
+    with_input(asked.length, psd, text, label, &from[..n], input, start)
 }
 
 // Where packets come from: records, or ADTS frames.
 fn source_of(input: i32) -> Source {
     Source {
         fd: input,
-        adts: options::given(&transmission::KNOWN, b"adts"),
+        adts: options::given(&KNOWN, b"adts"),
     }
 }
 
-// Opens the file of PDUs, and sends.
-fn with_input(asked: Transmission, writer: Writer, psd: &[u8], from: &[u8], input: i32) -> bool {
+// Opens the file of PDUs.
+fn with_input(
+    length: usize,
+    psd: &mut [u8],
+    text: &[u8],
+    label: &[u8],
+    from: &[u8],
+    input: i32,
+    start: Broadcast,
+) -> bool {
     let mut onto = files::label_buffer();
-    let n = files::put_output_label(&mut onto, b"barzhilup generate", &transmission::KNOWN);
-    let output = files::open_output(&transmission::KNOWN, b"out", &onto[..n]);
+    let n = files::put_output_label(&mut onto, &NAME, &KNOWN);
+    let output = files::open_output(&KNOWN, b"out", &onto[..n]);
     if output < 0 {
         return false;
     }
-    let settings = asked.settings;
     let source = source_of(input);
-    let task = Task {
+    let job = Job {
         source: source,
         output: output,
-        settings: settings,
     };
-    let run = sending::send(task, from, &onto[..n], psd, asked.length, writer);
-    finish(run, output, &onto[..n])
+    with_output(length, psd, text, label, from, &onto[..n], job, start)
 }
 
-// Closes the file of PDUs, and says what is sent.
-fn finish(run: Run, output: i32, onto: &[u8]) -> bool {
-    let closed = files::close(output, onto);
+// Sends, and closes the file of PDUs.
+fn with_output(
+    length: usize,
+    psd: &mut [u8],
+    text: &[u8],
+    label: &[u8],
+    from: &[u8],
+    onto: &[u8],
+    job: Job,
+    start: Broadcast,
+) -> bool {
+    let done = broadcast::send(job, from, onto, text, psd, length, start);
+    report::psd_ends(done);
+    let closed = files::close(job.output, onto);
+    finish(done, label) & closed
+}
+
+// Says what is sent.
+fn finish(done: Broadcast, label: &[u8]) -> bool {
+    let run = done.run;
     report::summary(run.packets, run.octets, run.pdus, run.size);
-    run.ok & closed
+    report::psd(done);
+    report::changes(done, label);
+    run.ok
 }

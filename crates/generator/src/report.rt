@@ -1,5 +1,8 @@
 // What the program says of its work.
+use broadcast::Broadcast;
+use inputs::NAME;
 use libc::STDERR_FILENO;
+use transmission::KNOWN;
 
 // What is sent, on standard error.
 pub fn summary(packets: u64, octets: u64, pdus: u64, size: u64) {
@@ -13,8 +16,59 @@ pub fn summary(packets: u64, octets: u64, pdus: u64, size: u64) {
     io::write_all(STDERR_FILENO, &line[..n]);
 }
 
+// Why PSD that runs across PDUs could not be read, if so.
+pub fn psd_ends(done: Broadcast) {
+    let supply = done.supply;
+    if supply.status != records::FAILED {
+        return;
+    }
+    let mut label = files::label_buffer();
+    let n = inputs::put_label(&mut label, b"psd-stream");
+    os::fail(&label[..n]);
+}
+
+// How much is sent of PSD that runs across PDUs, and whether its file has more.
+pub fn psd(done: Broadcast) {
+    if !options::given(&KNOWN, b"psd-stream") {
+        return;
+    }
+    let supply = done.supply;
+    files::say_number(&NAME, b": bytes of PSD ", supply.sent, b"\n");
+    if !psd_stream::has_more(supply) {
+        return;
+    }
+    let mut label = files::label_buffer();
+    let n = inputs::put_label(&mut label, b"psd-stream");
+    files::say(&label[..n], b": has more PSD than was sent\n");
+}
+
+// How many changes of settings came, and which did not.
+pub fn changes(done: Broadcast, label: &[u8]) {
+    if !options::given(&KNOWN, b"settings") {
+        return;
+    }
+    files::say_number(&NAME, b": changes of settings ", done.changes, b"\n");
+    let next = done.next;
+    if next.pdu == schedule::NEVER {
+        return;
+    }
+    files::say_number(
+        label,
+        b": line ",
+        next.line,
+        b": its PDU did not come, nor any after it\n",
+    );
+}
+
 // How the program is used, on standard output.
 pub fn usage() -> bool {
+    if !print_options() {
+        return false;
+    }
+    mode_table::print(&NAME)
+}
+
+fn print_options() -> bool {
     files::print_usage(
         b"barzhilup generate",
         b"usage: barzhilup generate [--in FILE] [--out FILE] [OPTION]...
@@ -31,8 +85,14 @@ length in two bytes, low byte first, and then its bytes.
   --crc-start N     the register that CRCs start with, 0 to 255 (0; recordings
                     off the air check with 255)
   --length N        the length of each PDU, 96 to 20480 (1024)
-  --psd FILE        PSD of each PDU, at most 128 bytes (none; - is standard
-                    input, if the packets are not)
+  --psd FILE        PSD of each PDU, the same in every one, up to the most of
+                    the mode (none; - is standard input, if the packets are not)
+  --psd-stream FILE PSD that runs across PDUs, in the place of --psd: each has
+                    the next bytes of FILE until it ends, then none
+  --psd-bytes N     with --psd-stream: the most in one PDU, 1 to 128 (as many as
+                    the mode has beside expansion fields)
+  --psd-repeat      with --psd-stream: FILE again from its start at its end
+  --settings FILE   settings that change from PDU to PDU, as below
   --blend N         blend control, 0 to 2 (0)
   --gain N          gain, or in stream 1 the stream delay (0)
   --common-delay N  0 to 63 (0)
@@ -47,6 +107,12 @@ Expansion fields, sent if an option of theirs is given:
   --type N          program type, 0 to 255
   --services N      applied services, 0 or 1
   --marker N        marker, 0 to 2097151
+
+Settings: a text with a line for each PDU at which they change: its number, from
+0, rising from line to line, and what is other from it on, by the names of these
+options, as in \"120 gain=3 program=2 displacement\". A dash takes an expansion
+field away, \"program=-\"; access and type are one field, and so are services and
+marker. What follows a # is a comment. Each line is tried before a PDU is made.
 
 Standard error has what is sent, and if that is not all the last line
 \"barzhilup generate: stopped early\". The exit status is 0 if all is sent,

@@ -35,7 +35,7 @@ fn exit_status(status: i32) -> i32 {
 // The program: answers its exit status. What went wrong is said.
 pub fn program() -> i32 {
     if options::given(&job::KNOWN, b"help") {
-        return files::status(b"barzhilup log", remarks::usage());
+        return files::status(b"barzhilup log", remarks::help());
     }
     if !job::check() {
         return files::WRONG;

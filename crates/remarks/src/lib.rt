@@ -137,8 +137,16 @@ pub fn never_sent() {
     );
 }
 
+// The help, on standard output: how the program is used, and the mode table.
+pub fn help() -> bool {
+    if !usage() {
+        return false;
+    }
+    mode_table::print(b"barzhilup log")
+}
+
 // How the program is used, on standard output.
-pub fn usage() -> bool {
+fn usage() -> bool {
     files::print_usage(
         b"barzhilup log",
         b"usage: barzhilup log [--in FILE] [--out FILE] [OPTION]...

@@ -47,56 +47,6 @@ pub fn begin(writer: Writer) -> Run {
     }
 }
 
-// Sends all packets in PDUs of a length: those over 20,480 are refused.
-pub fn send(
-    task: Task,
-    from: &[u8],
-    onto: &[u8],
-    psd: &[u8],
-    length: usize,
-    writer: Writer,
-) -> Run {
-    let mut lengths = [0u16; 256];
-    let mut bytes = io::large_buffer();
-    let mut pdu = [0u8; trial::OVER];
-    let size = trial::size_for(length);
-    all_turns(
-        task,
-        from,
-        onto,
-        psd,
-        &mut lengths,
-        &mut bytes,
-        &mut pdu[0..size],
-        begin(writer),
-    )
-}
-
-// All turns. They are counted down from a number that no run uses up, since a proved loop has to end, and nothing says that a file does.
-fn all_turns(
-    task: Task,
-    from: &[u8],
-    onto: &[u8],
-    psd: &[u8],
-    lengths: &mut [u16],
-    bytes: &mut [u8],
-    pdu: &mut [u8],
-    start: Run,
-) -> Run {
-    let mut run = start;
-    let mut turns = u64::MAX;
-    while 0 < turns {
-        let next = turn(task, from, onto, psd, lengths, bytes, pdu, run);
-        run = next;
-        if !run.going {
-            return run;
-        }
-        progress(run.pdus);
-        turns -= 1;
-    }
-    run
-}
-
 // Reads ahead and sends a PDU; stops where no packet waits.
 pub fn turn(
     task: Task,
@@ -118,7 +68,7 @@ pub fn turn(
 }
 
 // Sends a PDU from the packets that wait, and drops those that ended; stops at a refusal, or where the PDU cannot be written.
-fn sent(
+pub fn sent(
     task: Task,
     onto: &[u8],
     psd: &[u8],
@@ -133,24 +83,26 @@ fn sent(
     let offered = window::lengths_of(lengths, w.first, w.end);
     let joined = window::bytes_of(bytes, w.from, w.to);
     let r = writer.write(settings, psd, offered, joined, pdu);
-    if !is_kept(r, task.output, onto, pdu) {
+    if r.refusal != 0 {
+        trial::say_refused(
+            onto,
+            r.refusal,
+            writer.mode,
+            writer.stream,
+            pdu.len(),
+            settings,
+        );
+        return stopped(run, false);
+    }
+    if !is_kept(task.output, onto, pdu) {
         return stopped(run, false);
     }
     let next = window::without(w, lengths, r.ended);
     advanced(run, r, w, next, pdu.len())
 }
 
-// How far the work is, where somebody looks on.
-fn progress(pdus: u64) {
-    files::progress(b"barzhilup generate", b": PDUs ", pdus);
-}
-
-// Writes a PDU that was not refused to its file, if it has one. Answers whether it is there; if not, says why.
-fn is_kept(r: Written, output: i32, onto: &[u8], pdu: &[u8]) -> bool {
-    if r.refusal != 0 {
-        trial::say_refusal(onto, r.refusal);
-        return false;
-    }
+// Writes a PDU to its file, if it has one. Answers whether it is there; if not, says why.
+fn is_kept(output: i32, onto: &[u8], pdu: &[u8]) -> bool {
     if output < 0 {
         return true;
     }
@@ -162,7 +114,7 @@ fn is_kept(r: Written, output: i32, onto: &[u8], pdu: &[u8]) -> bool {
 }
 
 // The run at its end, and whether all went well.
-fn stopped(run: Run, ok: bool) -> Run {
+pub fn stopped(run: Run, ok: bool) -> Run {
     let writer = run.writer;
     let window = run.window;
     Run {

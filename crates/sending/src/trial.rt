@@ -1,4 +1,4 @@
-// What the writer says to settings: whether it takes them, and the words for its refusals.
+// What the writer says to settings: whether it takes them, and which limit they are past where not.
 use settings::Settings;
 use writer::Writer;
 ghost use Prim.Native.Nat.{_≤_};
@@ -6,19 +6,18 @@ ghost use Prim.Native.Nat.{_≤_};
 // The longest PDU is of 20,480 bytes: one byte more is refused, and so stands for all lengths over that.
 pub const OVER: usize = 20481;
 
-// Says why the writer refuses, on standard error after a label: the words stand by number.
-pub fn say_refusal(label: &[u8], refusal: u32) {
-    let mut words = [0u8; 160];
-    let n = text::fill(&mut words, 0, b": refused with @: ", &[refusal as u64]);
-    let end = text::put(
-        &mut words,
-        n,
-        text::entry(
-            b"\0the writer's state is wrong\n\0\0PDU length not 96 to 20,480, or over 4,096 with locators of 12 bits\n\0\0mode and stream not in the table\n\0\0\0\0\0expansion fields that do not go together, or a displacement in a PDU over 16,384\n\0\0\0\0a value that may not be sent: blend 3, blend with a program, gain 7 to 23, or past its width\n\0packet length 0 or over 4,096\n\0PSD and expansion past the mode's limit, or PSD where there is none\n\0no room in the PDU for a piece of one byte\n\0",
-            refusal,
-        ),
-    );
-    files::say(label, &words[..end]);
+// Says which limit settings are past that the writer of a mode and stream refuses, on standard error after a label.
+pub fn say_refused(
+    label: &[u8],
+    refusal: u32,
+    mode: u8,
+    stream: u8,
+    length: usize,
+    settings: Settings,
+) {
+    let mut words = [0u8; 256];
+    let n = limits::put(&mut words, 0, refusal, mode, stream, length, settings);
+    files::say(label, &words[..n]);
 }
 
 // The size of a buffer for PDUs of a length.
@@ -45,6 +44,13 @@ pub fn is_taken(
     if r.refusal == 0 {
         return true;
     }
-    say_refusal(label, r.refusal);
+    say_refused(
+        label,
+        r.refusal,
+        writer.mode,
+        writer.stream,
+        length,
+        settings,
+    );
     false
 }

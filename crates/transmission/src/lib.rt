@@ -4,8 +4,8 @@ pub mod psd;
 use settings::Settings;
 
 // The options of `generate`.
-pub const KNOWN: [u8; 160] =
-    *b"in=\0out=\0mode=\0stream=\0crc-start=\0length=\0psd=\0adts\0blend=\0gain=\0common-delay=\0latency=\0class=\0program=\0displacement\0access=\0type=\0services=\0marker=\0force\0help\0";
+pub const KNOWN: [u8; 204] =
+    *b"in=\0out=\0mode=\0stream=\0crc-start=\0length=\0psd=\0psd-stream=\0psd-bytes=\0psd-repeat\0settings=\0adts\0blend=\0gain=\0common-delay=\0latency=\0class=\0program=\0displacement\0access=\0type=\0services=\0marker=\0force\0help\0";
 
 // What is asked for; ok where every number is in its range.
 pub struct Transmission {
@@ -15,18 +15,20 @@ pub struct Transmission {
     pub register: u8,
     pub length: usize,
     pub settings: Settings,
+    // The same settings, by their names.
+    pub row: [u32; 22],
 }
 
-// A setting: whether its option is right, whether it is given, and its value.
+// A number of one byte: whether its option is right, and its value.
 struct Choice {
     ok: bool,
-    given: bool,
     value: u8,
 }
 
-struct Chosen {
+// Settings by their names, and whether their options are right.
+struct Named {
     ok: bool,
-    settings: Settings,
+    row: [u32; 22],
 }
 
 // Whether every option is one that is known, with its value, and packets and PSD are not both on standard input; if not, says what is wrong.
@@ -40,64 +42,63 @@ pub fn check(program: &[u8], known: &[u8]) -> bool {
     )
 }
 
-fn setting(program: &[u8], known: &[u8], name: &[u8]) -> Choice {
+fn octet(program: &[u8], known: &[u8], name: &[u8]) -> Choice {
     let n = options::number(program, known, name, 0, 0, 255);
     Choice {
         ok: n.ok,
-        given: options::given(known, name),
         value: n.value as u8,
     }
 }
 
-// The settings of every PDU: an expansion field is asked for where an option of it is given.
-fn settings_chosen(program: &[u8], known: &[u8]) -> Chosen {
-    let blend = setting(program, known, b"blend");
-    let gain = setting(program, known, b"gain");
-    let common = setting(program, known, b"common-delay");
-    let latency = setting(program, known, b"latency");
-    let class = setting(program, known, b"class");
-    let service = setting(program, known, b"program");
-    let access = setting(program, known, b"access");
-    let ptype = setting(program, known, b"type");
-    let services = setting(program, known, b"services");
-    let marker = options::number(program, known, b"marker", 0, 0, 4294967295);
-    Chosen {
-        ok: (blend.ok & gain.ok & common.ok & latency.ok & class.ok)
-            & (service.ok & access.ok & ptype.ok & services.ok & marker.ok),
-        settings: Settings {
-            blend: blend.value,
-            gain: gain.value,
-            common: common.value,
-            latency: latency.value,
-            classed: class.given,
-            class: class.value,
-            programmed: service.given,
-            program: service.value,
-            displaced: options::given(known, b"displacement"),
-            typed: access.given | ptype.given,
-            access: access.value,
-            ptype: ptype.value,
-            serviced: services.given | options::given(known, b"marker"),
-            services: services.value,
-            marker: marker.value,
-        },
+// The settings with that of one name, by its number, if its option is given.
+fn with_option(program: &[u8], known: &[u8], number: u32, row: [u32; 22]) -> Named {
+    let name = text::entry(&named_settings::NAMES, number);
+    if !options::given(known, name) {
+        return Named { ok: true, row: row };
     }
+    if number == named_settings::DISPLACEMENT {
+        return Named {
+            ok: true,
+            row: named_settings::with(row, number, 1),
+        };
+    }
+    let n = options::number(program, known, name, 0, 0, named_settings::most(number));
+    Named {
+        ok: n.ok,
+        row: named_settings::with(row, number, n.value),
+    }
+}
+
+// The settings of every PDU.
+fn settings_chosen(program: &[u8], known: &[u8]) -> Named {
+    let mut row = named_settings::none();
+    let mut ok = true;
+    let mut k: u32 = 0;
+    while k < named_settings::COUNT {
+        let next = with_option(program, known, k, row);
+        let with = next.row;
+        row = with;
+        ok = next.ok & ok;
+        k += 1;
+    }
+    Named { ok: ok, row: row }
 }
 
 // What a program asks for, by the options that it knows.
 pub fn asked(program: &[u8], known: &[u8]) -> Transmission {
-    let mode = setting(program, known, b"mode");
-    let stream = setting(program, known, b"stream");
-    let register = setting(program, known, b"crc-start");
+    let mode = octet(program, known, b"mode");
+    let stream = octet(program, known, b"stream");
+    let register = octet(program, known, b"crc-start");
     let length = options::number(program, known, b"length", 1024, 0, 65535);
     let chosen = settings_chosen(program, known);
-    let settings = chosen.settings;
+    let row = chosen.row;
     Transmission {
         ok: mode.ok & stream.ok & register.ok & length.ok & chosen.ok,
         mode: mode.value,
         stream: stream.value,
         register: register.value,
         length: length.value as usize,
-        settings: settings,
+        settings: named_settings::of(row),
+        row: row,
     }
 }

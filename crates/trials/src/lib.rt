@@ -43,11 +43,12 @@ pub fn program() -> i32 {
 }
 
 // Whether the table has a mode and stream; if not, says so.
-fn is_listed(mode: u8, stream: u8) -> bool {
-    match latency::spacing_for(mode, stream, &[0u32]) {
+fn is_listed(asked: Transmission) -> bool {
+    match latency::spacing_for(asked.mode, asked.stream, &[0u32]) {
         Spacing::Every(_) => true,
         Spacing::Refused(n) => {
-            trial::say_refusal(&NAME, n);
+            let settings = asked.settings;
+            trial::say_refused(&NAME, n, asked.mode, asked.stream, asked.length, settings);
             false
         }
     }
@@ -55,7 +56,7 @@ fn is_listed(mode: u8, stream: u8) -> bool {
 
 // Reads the counts, unless an option has them. Answers whether all is done; what went wrong is said.
 fn run(asked: Transmission, draw: u8, count: usize, counts: &mut [u32]) -> bool {
-    if !is_listed(asked.mode, asked.stream) {
+    if !is_listed(asked) {
         return false;
     }
     let mut label = files::label_buffer();

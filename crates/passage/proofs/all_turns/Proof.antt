@@ -1,14 +1,14 @@
 use borrow.Author.Needs.{needs}
 use mathlib.Core.Path.{_≡_}
 use lib.ListN.{length}
-use Rattle.sending.proofs.all_turns.Statement.{statement}
-use Rattle.sending.proofs.all_turns.Tie as tie
+use Rattle.passage.proofs.all_turns.Statement.{statement}
+use Rattle.passage.proofs.all_turns.Tie as tie
 
 abbrev Inv-loop : tie.InvT-loop
-Inv-loop task from onto psd lengths₀ bytes₀ pdu₀ run₀ turns₀ lengths bytes pdu run turns = (length lengths ≡ length lengths₀) × (length bytes ≡ length bytes₀) × (length pdu ≡ length pdu₀)
+Inv-loop task pdu₀ held₀ run₀ turns₀ pdu held run turns = (length pdu ≡ length pdu₀) × (length held ≡ length held₀)
 
 abbrev μ-loop : tie.MeasureT-loop
-μ-loop task from onto psd lengths₀ bytes₀ pdu₀ run₀ turns₀ lengths bytes pdu run turns = turns
+μ-loop task pdu₀ held₀ run₀ turns₀ pdu held run turns = turns
 
 loop-holds : tie.Need-loop-holds Inv-loop μ-loop
 loop-holds c = search needs
@@ -21,9 +21,6 @@ same-length c = search needs
 
 same-length-2 : tie.Need-same-length-2 Inv-loop μ-loop
 same-length-2 c = search needs
-
-same-length-3 : tie.Need-same-length-3 Inv-loop μ-loop
-same-length-3 c = search needs
 
 returns : tie.Need-returns Inv-loop μ-loop
 returns c = search needs
@@ -40,14 +37,11 @@ loop-less c = search needs
 loop-again : tie.Need-loop-again Inv-loop μ-loop
 loop-again c = search needs
 
+same-length-3 : tie.Need-same-length-3 Inv-loop μ-loop
+same-length-3 c = search needs
+
 same-length-4 : tie.Need-same-length-4 Inv-loop μ-loop
 same-length-4 c = search needs
-
-same-length-5 : tie.Need-same-length-5 Inv-loop μ-loop
-same-length-5 c = search needs
-
-same-length-6 : tie.Need-same-length-6 Inv-loop μ-loop
-same-length-6 c = search needs
 
 returns-2 : tie.Need-returns-2 Inv-loop μ-loop
 returns-2 c = search needs
@@ -62,13 +56,11 @@ all-turns-spec =
     turn-requires
     same-length
     same-length-2
-    same-length-3
     returns
     progress-requires
     sub-turns
     loop-less
     loop-again
+    same-length-3
     same-length-4
-    same-length-5
-    same-length-6
     returns-2)

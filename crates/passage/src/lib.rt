@@ -1,41 +1,37 @@
-// PDUs sent over a channel.
-use crate::report;
+// PDUs sent over a channel, one after the other: each is lost or comes through, with bytes of its header altered or bits of its pieces flipped.
 use damage::dice;
 use damage::dice::Dice;
+use disorder::Outlet;
+use disorder::Rates;
+use disorder::Road;
 use noise::Noise;
 
 // How bad the channel is: how many PDUs in a thousand begin a burst of lost ones, the longest burst, how many PDUs in a thousand have a damaged
-// header, the most bytes that are altered in one, and how many pieces in a thousand have bits flipped (document 02, Ask 12).
+// header, the most bytes that are altered in one, how many pieces in a thousand have bits flipped (document 02, Ask 12), and how many PDUs in a thousand come
+// twice, out of turn and cut.
 pub struct Channel {
     pub loss: u64,
     pub burst: u64,
     pub damage: u64,
     pub bytes: u64,
     pub bursts: u64,
+    pub rates: Rates,
 }
 
 // Where PDUs come from, where they and the places of their altered bytes go, and the channel between.
 pub struct Task {
     pub input: i32,
-    pub output: i32,
-    pub marks: i32,
+    pub outlet: Outlet,
     pub channel: Channel,
 }
 
-// In place of a file of marks where none is asked for.
-pub const NO_MARKS: i32 = -1;
-
-// How a run stands where a PDU could not be written, or its marks.
-pub const UNWRITTEN: u8 = 5;
-
-pub const UNMARKED: u8 = 6;
-
 // A run so far: what came of the last reading, with END where all PDUs are sent, or of writing; the dice,
-// those of the bits that are flipped, and how many more PDUs the burst takes.
+// those of the bits that are flipped, the road, and how many more PDUs the burst takes.
 pub struct Run {
     pub status: u8,
     pub dice: Dice,
     pub noise: Dice,
+    pub road: Road,
     pub burst: u64,
     // How many PDUs there were, were marked lost before, were lost and were damaged, how many bytes were altered, and how many pieces hit.
     pub pdus: u64,
@@ -70,6 +66,7 @@ fn begin(seed: u32) -> Run {
         status: records::WHOLE,
         dice: dice,
         noise: noise,
+        road: disorder::begin(seed),
         burst: 0,
         pdus: 0,
         missing: 0,
@@ -80,35 +77,56 @@ fn begin(seed: u32) -> Run {
     }
 }
 
-// Sends every PDU over the channel. They are counted down from a number that no run uses up, since a proved loop has to end, and nothing says that
-// a file does.
+// Sends every PDU over the channel.
 pub fn send_all(task: Task, seed: u32) -> Run {
     let mut pdu = io::large_buffer();
-    let mut run = begin(seed);
+    let mut held = disorder::room();
+    all_turns(task, &mut pdu, &mut held, begin(seed))
+}
+
+// All turns. They are counted down from a number that no run uses up, since a proved loop has to end, and nothing says that a file does.
+fn all_turns(task: Task, pdu: &mut [u8], held: &mut [u8], start: Run) -> Run {
+    let mut run = start;
     let mut turns = u64::MAX;
     while 0 < turns {
-        let next = turn(task, &mut pdu, run);
+        let next = turn(task, pdu, held, run);
         run = next;
         if run.status != records::WHOLE {
             return run;
         }
-        report::progress(run.pdus);
+        progress(run.pdus);
         turns -= 1;
     }
     run
 }
 
-// Reads a PDU and sends it; stops where none can be read.
-fn turn(task: Task, buf: &mut [u8], run: Run) -> Run {
+// How far the work is, where somebody looks on.
+fn progress(pdus: u64) {
+    files::progress(b"barzhilup channel", b": PDUs ", pdus);
+}
+
+// Reads a PDU and sends it; stops where none can be read, after the one that is held back.
+fn turn(task: Task, buf: &mut [u8], held: &mut [u8], run: Run) -> Run {
     let r = records::read(task.input, buf);
     if r.status != records::WHOLE {
-        return stopped(run, r.status);
+        return ended(task, held, run, r.status);
     }
-    sent(task, &mut buf[..r.length], run)
+    sent(task, &mut buf[..r.length], held, run)
+}
+
+// The run where no more can be read: the record that is held back is written in its place.
+fn ended(task: Task, held: &[u8], run: Run, status: u8) -> Run {
+    let outlet = task.outlet;
+    let road = run.road;
+    let written = disorder::release(outlet, held, road);
+    if written != disorder::WRITTEN {
+        return stopped(run, written);
+    }
+    stopped(run, status)
 }
 
 // Sends a PDU: it is lost, or comes through.
-fn sent(task: Task, pdu: &mut [u8], run: Run) -> Run {
+fn sent(task: Task, pdu: &mut [u8], held: &mut [u8], run: Run) -> Run {
     let channel = task.channel;
     let before = run.dice;
     let noise = run.noise;
@@ -116,24 +134,32 @@ fn sent(task: Task, pdu: &mut [u8], run: Run) -> Run {
     let dice = fate.dice;
     if pdu.len() == 0 {
         let next = after(run, fate.burst, dice, noise, came(1, 0));
-        return kept(task, b"", b"", run, next);
+        return kept(task, b"", b"", held, run, next);
     }
     if 0 < fate.burst {
         let next = after(run, fate.burst, dice, noise, came(0, 1));
-        return kept(task, b"", b"", run, next);
+        return kept(task, b"", b"", held, run, next);
     }
     let hits = noise::hit_pieces(&mut *pdu, channel.bursts, noise);
-    damaged(task, pdu, run, fate.bytes, dice, hits)
+    damaged(task, pdu, held, run, fate.bytes, dice, hits)
 }
 
 // Sends a PDU whose pieces are hit, or none of them: so many bytes of its header are altered.
-fn damaged(task: Task, pdu: &mut [u8], run: Run, bytes: u64, dice: Dice, hits: Noise) -> Run {
+fn damaged(
+    task: Task,
+    pdu: &mut [u8],
+    held: &mut [u8],
+    run: Run,
+    bytes: u64,
+    dice: Dice,
+    hits: Noise,
+) -> Run {
     let done = damage::damaged(pdu, bytes, dice);
     let last = done.dice;
     let marks = done.marks;
     let places = marks.places;
     let n = marks.count;
-    through(task, pdu, &places[..n], run, last, done.altered, hits)
+    through(task, pdu, &places[..n], held, run, last, done.altered, hits)
 }
 
 // A PDU that comes through, with the places of so many altered bytes.
@@ -141,6 +167,7 @@ fn through(
     task: Task,
     pdu: &[u8],
     marks: &[u8],
+    held: &mut [u8],
     run: Run,
     dice: Dice,
     altered: u64,
@@ -154,7 +181,7 @@ fn through(
         hit: hits.hit,
     };
     let next = after(run, 0, dice, noise, share);
-    kept(task, pdu, marks, run, next)
+    kept(task, pdu, marks, held, run, next)
 }
 
 // Draws a PDU's fate: four draws for each PDU, also where not all of them count.
@@ -218,12 +245,14 @@ fn any(n: u64) -> u64 {
     1
 }
 
-// The run after a PDU in a burst that takes so many from it on.
+// The run after a PDU in a burst that takes so many from it on; the road is as before it.
 fn after(run: Run, burst: u64, dice: Dice, noise: Dice, share: Share) -> Run {
+    let road = run.road;
     Run {
         status: records::WHOLE,
         dice: dice,
         noise: noise,
+        road: road,
         burst: fewer(burst),
         pdus: add(run.pdus, 1),
         missing: add(run.missing, share.missing),
@@ -234,28 +263,49 @@ fn after(run: Run, burst: u64, dice: Dice, noise: Dice, share: Share) -> Run {
     }
 }
 
-// Writes what came of a PDU, with the places of its altered bytes, and answers the run after it; where that fails, the run stops before it.
-fn kept(task: Task, pdu: &[u8], marks: &[u8], before: Run, next: Run) -> Run {
-    if !records::write(task.output, pdu) {
-        return stopped(before, UNWRITTEN);
+// Hands what came of a PDU to the road, with the places of its altered bytes, and answers the run after it; where writing fails, the run stops before it.
+fn kept(task: Task, pdu: &[u8], marks: &[u8], held: &mut [u8], before: Run, next: Run) -> Run {
+    let outlet = task.outlet;
+    let channel = task.channel;
+    let rates = channel.rates;
+    let road = before.road;
+    let passed = disorder::pass(outlet, rates, pdu, marks, held, road);
+    if passed.status != disorder::WRITTEN {
+        return stopped(before, passed.status);
     }
-    if task.marks < 0 {
-        return next;
+    let last = passed.road;
+    on_road(next, last)
+}
+
+// The run with another road.
+fn on_road(run: Run, road: Road) -> Run {
+    let dice = run.dice;
+    let noise = run.noise;
+    Run {
+        status: run.status,
+        dice: dice,
+        noise: noise,
+        road: road,
+        burst: run.burst,
+        pdus: run.pdus,
+        missing: run.missing,
+        lost: run.lost,
+        damaged: run.damaged,
+        altered: run.altered,
+        hit: run.hit,
     }
-    if !records::write(task.marks, marks) {
-        return stopped(before, UNMARKED);
-    }
-    next
 }
 
 // The run at its end, and how it stands.
 fn stopped(run: Run, status: u8) -> Run {
     let dice = run.dice;
     let noise = run.noise;
+    let road = run.road;
     Run {
         status: status,
         dice: dice,
         noise: noise,
+        road: road,
         burst: run.burst,
         pdus: run.pdus,
         missing: run.missing,
