@@ -25,7 +25,7 @@ fn wrong_line(label: &[u8], number: u64, wrong: u8) {
         &mut line,
         n,
         text::entry(
-            b"\0not pdu,kind,number,length,cause,delivered,missing\n\0over 200 bytes\n\0fewer fields than the first line has\n\0kind is none of received, lost, refused, packet, psd, note\n\0pdu, number or length is not a number\n\0packet number over 63\n\0pdu is out of order\n\0not ,end,N,,whole with the fields of the first line\n\0not the count of PDUs\n\0after the last line\n\0delivered and missing are not two numbers for a PDU and empty for others\n\0delivered or missing is less than before\n\0",
+            b"\0not pdu,kind,copy,corrected,refusal,packet,length,piece,note,cause,delivered,missing,crc32,text,pdus\n\0over 600 bytes\n\0fewer than two fields\n\0kind is none of received, lost, refused, packet, psd, note\n\0pdu, or a number of its kind, is not a number\n\0packet number over 63\n\0pdu is out of order\n\0not the last line of a log: no count of PDUs, or cause is not whole\n\0not the count of PDUs\n\0after the last line\n\0delivered and missing are not two numbers for a PDU and empty for others\n\0delivered or missing is less than before\n\0more fields than there are columns\n\0",
             wrong as u32,
         ),
     );

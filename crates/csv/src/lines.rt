@@ -2,10 +2,10 @@
 ghost use Prim.Native.Nat.{_≤_};
 
 // The longest line, without its end.
-const MOST: usize = 200;
+const MOST: usize = 600;
 
 // How many bytes are read ahead, at the least: a longest line, its end and some more.
-const AHEAD: usize = 256;
+const AHEAD: usize = 704;
 
 // What came of reading a line: a line, the file's end, a line that is too long, or an error that errno names.
 pub const GOT: u8 = 0;

@@ -159,16 +159,18 @@ fn ended(task: Task, block: &mut [u8], run: Run, status: u8) -> Run {
     last
 }
 
-// Whether a line may say less than it did: it says nothing, or ends with a number.
-fn is_part(e: Entry) -> bool {
-    (e.wrong != 0) | (e.counted & entry::is_pdu(e.kind))
+// Whether a line may say less than it did: it says nothing, or ends with a number. The last one is whole if that is the count of PDUs.
+fn is_part(d: Drive, e: Entry) -> bool {
+    (e.wrong != 0)
+        | (e.counted & entry::is_pdu(e.kind))
+        | ((e.kind == entry::END) & (e.number < d.count))
 }
 
 // Whether a line is the beginning of one, with which the file is cut: it lacks its end and may say less than it did, the first line is there, and the last
 // is not.
 fn is_cut(run: Run, ended: bool, e: Entry) -> bool {
     let d = run.drive;
-    !ended & is_part(e) & (run.count != 0) & !d.whole
+    !ended & is_part(d, e) & (run.count != 0) & !d.whole
 }
 
 // Reads a line and takes it; one that is cut is left out.

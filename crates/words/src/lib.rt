@@ -1,7 +1,7 @@
 // Words of the packet log, taken apart (document 01, "Receiver").
 ghost use mathlib.Core.Path.{_≡_};
 ghost use Prim.Native.Nat.{_+_, _*_, _<_, _≤_};
-ghost use lib.ListN.{getD};
+ghost use lib.ListN.{length, getD};
 ghost use Rattle.log.specs.Log.{word as wordOf};
 
 // The kinds of words.
@@ -49,6 +49,21 @@ pub fn written(log: &[u32], words: usize) -> &[u32] {
         return &log[0..words];
     }
     log
+}
+
+// The place after an entry whose first word stands at a place: after the data words that follow it.
+pub fn entry_end(log: &[u32], from: usize) -> usize
+    requires { ⌜ from < length (now log) ⌝ }
+    ensures { λ r. ⌜ (from < r) × (r ≤ length (now (log .entry))) ⌝ }
+{
+    let mut i = from + 1;
+    while i < log.len() {
+        if log[i] / 0x40000000 != DATA {
+            return i;
+        }
+        i += 1;
+    }
+    i
 }
 
 // Whether the word at a place of a PDU's log is note 8: the PDU is withheld (document 02, Ask 10).

@@ -1,0 +1,17 @@
+-- CRC-32 of "123456789" is CBF43926, the check value that catalogues of CRCs give; of nothing it is 0; a word of one byte has that byte.
+use mathlib.Core.Path.{_≡_, refl}
+use mathlib.Core.List.{List, [], _∷_}
+use Prim.Native.Nat.{ℕ}
+use Rattle.crc32.specs.Crc32.{shiftOne, shifts, crcByte, crcFrom, crc32, wordBytes, bytesOf}
+
+of-digits : crc32 (49 ∷ 50 ∷ 51 ∷ 52 ∷ 53 ∷ 54 ∷ 55 ∷ 56 ∷ 57 ∷ []) ≡ 0xCBF43926
+unfolding crcFrom crcByte shifts shiftOne
+of-digits = refl
+
+of-nothing : crc32 [] ≡ 0
+unfolding crcFrom
+of-nothing = refl
+
+of-words : bytesOf (0x43010203 ∷ 0x41040000 ∷ []) ≡ 1 ∷ 2 ∷ 3 ∷ 4 ∷ []
+unfolding bytesOf wordBytes
+of-words = refl

@@ -1,0 +1,151 @@
+-- A byte into the register by a look into the tables, and three at once; the bytes of a word after those of others.
+use mathlib.Core.Path.{_≡_, refl, sym, ap, ap₂, _∙_}
+use mathlib.Core.List.{List, [], _∷_, _++_}
+use Prim.Native.Nat.{ℕ, zero, suc, _+_, _*_, _/_, _%_, _^_, _<_, _≤_}
+use native.Mathlib.Nat.{zero-add, suc-add, mod-lt}
+use native.Mathlib.Numerals.{add-one}
+use native.Mathlib.Omega.{arith}
+use lib.Bits.{bitXor, xor-comm, xor-shr, xor-mod, xor-zero-r, xor-shifted}
+use lib.Dec.{lit<}
+use borrow.Author.Tests.{eq-eqb, ne-eqb}
+use lib.ListN.{length, getD, drop, drop-of-length-le}
+use lib.Seq.{drop-cons}
+use Rattle.bits.proofs.Xor.{xor-assoc, xor-swap, bit-times}
+use Rattle.crc32.specs.Crc32.{divisor, shiftOne, shifts, crcByte, crcFrom, wordBytes, bytesOf, Tables}
+
+-- ---- shifts are linear
+
+shiftOne-xor : (x y : ℕ) → shiftOne (bitXor x y) ≡ bitXor (shiftOne x) (shiftOne y)
+unfolding shiftOne
+shiftOne-xor x y = ap₂ bitXor (xor-shr x y 1) (bit-times x y divisor) ∙ xor-swap (x / 2) (y / 2) (x % 2 * divisor) (y % 2 * divisor)
+
+shifts-xor : (n x y : ℕ) → shifts n (bitXor x y) ≡ bitXor (shifts n x) (shifts n y)
+unfolding shifts
+shifts-xor zero x y = refl
+shifts-xor (suc n) x y = ap (shifts n) (shiftOne-xor x y) ∙ shifts-xor n (shiftOne x) (shiftOne y)
+
+-- ---- a number above the bits that leave
+
+shiftOne-twice : (h : ℕ) → shiftOne (h * 2) ≡ h
+unfolding shiftOne
+shiftOne-twice h =
+    let p : h * 2 / 2 ≡ h = omega arith in
+    let q : h * 2 % 2 * divisor ≡ 0 = omega arith in
+    ap₂ bitXor p q ∙ xor-zero-r h
+
+unfoldable ups : ℕ → ℕ → ℕ
+ups zero h = h
+ups (suc n) h = ups n h * 2
+
+shifts-ups : (n h : ℕ) → shifts n (ups n h) ≡ h
+unfolding shifts ups
+shifts-ups zero h = refl
+shifts-ups (suc n) h = ap (shifts n) (shiftOne-twice (ups n h)) ∙ shifts-ups n h
+
+up-eight : (h : ℕ) → ups 8 h ≡ h * 256
+unfolding ups
+up-eight h = omega arith
+
+parts : (r : ℕ) → bitXor (r / 256 * 256) (r % 256) ≡ r
+parts r = (let q : r / 256 * 256 + r % 256 ≡ r = omega arith in xor-shifted (r / 256) 8 (r % 256) (mod-lt r (lit< tt)) ∙ q)
+
+-- eight shifts, by the lowest byte
+pub by-byte : (r : ℕ) → shifts 8 r ≡ bitXor (r / 256) (shifts 8 (r % 256))
+by-byte r =
+    ap (shifts 8) (sym (parts r)) ∙ shifts-xor 8 (r / 256 * 256) (r % 256)
+    ∙ ap (λ (x : ℕ). bitXor x (shifts 8 (r % 256))) (ap (shifts 8) (sym (up-eight (r / 256))) ∙ shifts-ups 8 (r / 256))
+
+-- ---- bytes into the register
+
+pub one-byte : (r b : ℕ) → crcByte r (b % 256) ≡ bitXor (r / 256) (shifts 8 (bitXor r b % 256))
+unfolding crcByte
+one-byte r b =
+    let z : b % 256 / 256 ≡ 0 = omega arith in
+    let m : b % 256 % 256 ≡ b % 256 = omega arith in
+    by-byte (bitXor r (b % 256))
+    ∙ ap₂ (λ (x y : ℕ). bitXor x (shifts 8 y))
+    (xor-shr r (b % 256) 8 ∙ ap (bitXor (r / 256)) z ∙ xor-zero-r (r / 256))
+    (xor-mod r (b % 256) 8 ∙ ap (bitXor (r % 256)) m ∙ sym (xor-mod r b 8))
+
+-- a part of the register is carried on
+carried : (p q b : ℕ) → crcByte (bitXor p q) b ≡ bitXor (crcByte p b) (shifts 8 q)
+unfolding crcByte
+carried p q b =
+    ap (shifts 8) (xor-assoc p q b ∙ ap (bitXor p) (xor-comm q b) ∙ sym (xor-assoc p b q)) ∙ shifts-xor 8 (bitXor p b) q
+
+sixteen : (x : ℕ) → shifts 8 (shifts 8 x) ≡ shifts 16 x
+unfolding shifts
+sixteen x = refl
+
+twentyfour : (x : ℕ) → shifts 8 (shifts 16 x) ≡ shifts 24 x
+unfolding shifts
+twentyfour x = refl
+
+pub three-bytes : (r a b c : ℕ) → crcByte (crcByte (crcByte r (a % 256)) (b % 256)) (c % 256)
+    ≡ bitXor (bitXor (bitXor (r / 16777216) (shifts 8 (bitXor (r / 65536) c % 256))) (shifts 16 (bitXor (r / 256) b % 256))) (shifts 24 (bitXor r a % 256))
+three-bytes r a b c =
+    let u : ℕ = bitXor r a % 256 in
+    let v : ℕ = bitXor (r / 256) b % 256 in
+    let e : r / 256 / 256 ≡ r / 65536 = omega arith in
+    let f : r / 65536 / 256 ≡ r / 16777216 = omega arith in
+    ap (λ (x : ℕ). crcByte (crcByte x (b % 256)) (c % 256)) (one-byte r a)
+    ∙ ap (λ (x : ℕ). crcByte x (c % 256)) (carried (r / 256) (shifts 8 u) (b % 256) ∙ ap₂ bitXor (one-byte (r / 256) b ∙ ap (λ (x : ℕ). bitXor x (shifts 8 v)) e) (sixteen u))
+    ∙ carried (bitXor (r / 65536) (shifts 8 v)) (shifts 16 u) (c % 256)
+    ∙ ap₂ bitXor
+    (carried (r / 65536) (shifts 8 v) (c % 256) ∙ ap₂ bitXor (one-byte (r / 65536) c ∙ ap (λ (x : ℕ). bitXor x (shifts 8 (bitXor (r / 65536) c % 256))) f) (sixteen v))
+    (twentyfour u)
+
+-- ---- words
+
+crc-after : (r : ℕ) (xs ys : List ℕ) → crcFrom r (xs ++ ys) ≡ crcFrom (crcFrom r xs) ys
+unfolding crcFrom
+crc-after r [] ys = refl
+crc-after r (x ∷ xs) ys = crc-after (crcByte r x) xs ys
+
+module _ (l : List ℕ) (r i : ℕ) where
+  pub next-word : i < length l → crcFrom r (bytesOf (drop i l)) ≡ crcFrom (crcFrom r (wordBytes (getD l i 0))) (bytesOf (drop (i + 1) l))
+  unfolding bytesOf
+  next-word h =
+      let e : suc i ≡ i + 1 = omega arith in
+      ap (λ (x : List ℕ). crcFrom r (bytesOf x)) (drop-cons l i 0 h ∙ ap (λ (k : ℕ). getD l i 0 ∷ drop k l) e)
+      ∙ crc-after r (wordBytes (getD l i 0)) (bytesOf (drop (i + 1) l))
+
+  pub no-word : length l ≤ i → crcFrom r (bytesOf (drop i l)) ≡ r
+  unfolding bytesOf crcFrom
+  no-word h = ap (λ (x : List ℕ). crcFrom r (bytesOf x)) (drop-of-length-le l h)
+
+-- ---- by the tables
+
+module _ (t : List ℕ) (h : Tables t) (r : ℕ) where
+  pub looked-up : (b k : ℕ) → k ≡ bitXor r b % 256 → bitXor (r / 256) (getD t k 0) ≡ crcByte r (b % 256)
+  looked-up b k e =
+      let l : bitXor r b % 256 < 256 = mod-lt (bitXor r b) (lit< tt) in
+      ap (bitXor (r / 256)) (ap (λ (x : ℕ). getD t x 0) e ∙ h .eight (bitXor r b % 256) l) ∙ sym (one-byte r b)
+
+  pub three-looked-up : (a b c x y z : ℕ) → x ≡ bitXor r a % 256 → y ≡ bitXor (r / 256) b % 256 → z ≡ bitXor (r / 65536) c % 256
+      → bitXor (bitXor (bitXor (r / 16777216) (getD t z 0)) (getD t (256 + y) 0)) (getD t (512 + x) 0) ≡ crcByte (crcByte (crcByte r (a % 256)) (b % 256)) (c % 256)
+  three-looked-up a b c x y z e f g =
+      let l : bitXor r a % 256 < 256 = mod-lt (bitXor r a) (lit< tt) in
+      let m : bitXor (r / 256) b % 256 < 256 = mod-lt (bitXor (r / 256) b) (lit< tt) in
+      let n : bitXor (r / 65536) c % 256 < 256 = mod-lt (bitXor (r / 65536) c) (lit< tt) in
+      ap₂ bitXor
+      (ap₂ bitXor
+      (ap (bitXor (r / 16777216)) (ap (λ (k : ℕ). getD t k 0) g ∙ h .eight (bitXor (r / 65536) c % 256) n))
+      (ap (λ (k : ℕ). getD t (256 + k) 0) f ∙ h .sixteen (bitXor (r / 256) b % 256) m))
+      (ap (λ (k : ℕ). getD t (512 + k) 0) e ∙ h .twentyfour (bitXor r a % 256) l)
+      ∙ sym (three-bytes r a b c)
+
+-- ---- the bytes of a word, by how many there are
+
+module _ (r w : ℕ) where
+  pub three-in : w / 16777216 % 4 ≡ 3 → crcFrom r (wordBytes w) ≡ crcByte (crcByte (crcByte r (w / 65536 % 256)) (w / 256 % 256)) (w % 256)
+  unfolding wordBytes crcFrom
+  three-in e = rw (eq-eqb (w / 16777216 % 4) 3 e) refl
+
+  pub two-in : (w / 16777216 % 4 ≡ 3 → ⊥) → w / 16777216 % 4 ≡ 2 → crcFrom r (wordBytes w) ≡ crcByte (crcByte r (w / 65536 % 256)) (w / 256 % 256)
+  unfolding wordBytes crcFrom
+  two-in n e = rw (ne-eqb (w / 16777216 % 4) 3 n, eq-eqb (w / 16777216 % 4) 2 e) refl
+
+  pub one-in : (w / 16777216 % 4 ≡ 3 → ⊥) → (w / 16777216 % 4 ≡ 2 → ⊥) → crcFrom r (wordBytes w) ≡ crcByte r (w / 65536 % 256)
+  unfolding wordBytes crcFrom
+  one-in n m = rw (ne-eqb (w / 16777216 % 4) 3 n, ne-eqb (w / 16777216 % 4) 2 m) refl

@@ -1,0 +1,3 @@
+pub mod Entries
+pub mod Examples
+pub mod Laws

@@ -1,0 +1,68 @@
+use borrow.Author.Needs.{needs}
+use native.Mathlib.Omega.{arith}
+use mathlib.Core.Path.{_≡_, refl, ap, sym, _∙_}
+use Prim.Native.Nat.{ℕ, _+_, _-_, _*_, _≤_, _<_}
+use lib.ListN.{length, take, drop, getD, set, length-set}
+use mathlib.Core.List.{List, [], _∷_, _++_}
+use lib.Bits.{bitXor}
+use Rattle.crc32.specs.Crc32.{crcFrom, bytesOf}
+use Rattle.crc32.proofs.Laws.{next-word, no-word}
+use Rattle.crc32.proofs.crc_by.Statement.{statement}
+use Rattle.crc32.proofs.crc_by.Tie as tie
+use Rattle.crc32.proofs.crc_by.Reads as reads
+use Rattle.crc32.proofs.crc_by.Lts as lts
+use Rattle.crc32.proofs.with_word.Reads as with-word-reads
+
+abbrev Inv-loop : tie.InvT-loop
+Inv-loop tables words register₀ i₀ register i = (i ≤ length words) × (crcFrom register (bytesOf (drop i words)) ≡ crcFrom 4294967295 (bytesOf words))
+
+abbrev μ-loop : tie.MeasureT-loop
+μ-loop tables words register₀ i₀ register i = length words - i
+
+loop-holds : tie.Need-loop-holds Inv-loop μ-loop
+loop-holds c = (omega arith, refl)
+
+mul-with-word : tie.Need-mul-with-word Inv-loop μ-loop
+mul-with-word c = search needs
+
+shared-slice-read-with-word : tie.Need-shared-slice-read-with-word Inv-loop μ-loop
+shared-slice-read-with-word c = search needs
+
+with-word-requires : tie.Need-with-word-requires Inv-loop μ-loop
+with-word-requires c κs = search needs
+
+add-i : tie.Need-add-i Inv-loop μ-loop
+add-i c = search needs
+
+loop-less : tie.Need-loop-less Inv-loop μ-loop
+loop-less c = search needs
+
+loop-again : tie.Need-loop-again Inv-loop μ-loop
+loop-again c =
+    let p = c .before .before .before in
+    let t = p .before .before .args .words .now in
+    let h : p .loop .i < length t = omega arith in (
+      omega arith,
+      ap (λ (x : ℕ). crcFrom x (bytesOf (drop (p .loop .i + 1) t))) (c .with-word .ensures) ∙ sym (next-word t (p .loop .register) (p .loop .i) h) ∙ p .loop .inv .1,
+    )
+
+returns : tie.Need-returns Inv-loop μ-loop
+returns c =
+    let p = c .before in
+    let t = p .before .before .args .words .now in
+    ap (λ (x : ℕ). bitXor x 4294967295) (sym (no-word t (p .loop .register) (p .loop .i) (omega arith)) ∙ p .loop .inv .1)
+
+pub crc-by-spec : {M : Type 1} → statement M
+crc-by-spec =
+    tie.close
+    (tie.spec
+    Inv-loop
+    μ-loop
+    loop-holds
+    mul-with-word
+    shared-slice-read-with-word
+    with-word-requires
+    add-i
+    loop-less
+    loop-again
+    returns)

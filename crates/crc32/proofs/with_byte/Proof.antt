@@ -1,0 +1,29 @@
+use native.Mathlib.Omega.{arith}
+use mathlib.Core.Path.{_≡_, refl, ap, sym, _∙_}
+use Prim.Native.Nat.{ℕ, _+_, _-_, _*_, _≤_, _<_}
+use lib.ListN.{length, take, drop, getD, set, length-set}
+use mathlib.Core.List.{List, [], _∷_, _++_}
+use borrow.Author.Needs.{needs}
+use Rattle.crc32.proofs.Laws.{looked-up}
+use Rattle.crc32.proofs.with_byte.Statement.{statement}
+use Rattle.crc32.proofs.with_byte.Tie as tie
+use Rattle.crc32.proofs.with_byte.Reads as reads
+use Rattle.crc32.proofs.with_byte.Lts as lts
+use Rattle.crc32.proofs.place.Reads as place-reads
+
+place-requires : tie.Need-place-requires
+place-requires c κs = search needs
+
+mul-result : tie.Need-mul-result
+mul-result c = search needs
+
+element-copy-out-result : tie.Need-element-copy-out-result
+element-copy-out-result c = search needs
+
+returns : tie.Need-returns
+returns c =
+    let e = c .before .before in
+    looked-up (e .args .tables .now) (e .pre) (e .args .register) (e .args .byte) (c .before .place .result) (c .before .place .ensures .0)
+
+pub with-byte-spec : {M : Type 1} → statement M
+with-byte-spec = tie.close (tie.spec place-requires mul-result element-copy-out-result returns)
