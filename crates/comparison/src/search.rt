@@ -6,7 +6,7 @@ ghost use Rattle.io.specs.Counts.{Counts};
 // So many packets are near.
 pub const NEAR: u64 = 1024;
 
-// So many packets that are never sent are looked for in the whole file; further ones only near the last that was delivered.
+// So many packets that are never sent are looked for in the whole file; further ones only among as many after the last that was delivered.
 const FAR: u64 = 64;
 
 // What came of a search: found ahead of the last packet that was delivered in turn, found behind it, found nowhere, or not to be told since the file cannot be
@@ -123,9 +123,17 @@ fn is_ahead(step: u32) -> bool {
     (step == 0) | (step == 3)
 }
 
+// How far a step near by goes.
+fn reach_of(row: &[u64]) -> u64 {
+    if crate::never_sent(row) < FAR {
+        return NEAR;
+    }
+    FAR
+}
+
 // The index at which a step ends, after one at which it begins.
 fn end_of(row: &[u64], step: u32, from: u64) -> u64 {
-    let near = std::num::wrapping_add_u64(from, NEAR);
+    let near = std::num::wrapping_add_u64(from, reach_of(row));
     let next = crate::index_of(row, crate::NEXT);
     let all = crate::at(row, crate::SENT);
     match step {
@@ -163,12 +171,12 @@ fn step(sent: Sent, row: &[u64], k: u32, number: u64, packet: &[u8]) -> Found {
     )
 }
 
-// How many steps a search has: those through the whole file only for the first packets that were never sent.
+// How many steps a search has: all only for the first packets that were never sent.
 fn steps_of(row: &[u64]) -> u32 {
     if crate::never_sent(row) < FAR {
         return STEPS;
     }
-    3
+    1
 }
 
 // Looks for a packet of a number, step by step.
