@@ -1,15 +1,15 @@
 # Packets to PDUs: settings, PSD and packets that are refused or just not, ADTS frames, and a PDU by hand. Sourced by run.sh.
 
-# The words of a refusal's number.
+# The words of a refusal, by the options that are refused.
 generate_words() {
-    awk -F '|' -v number="$1" '$1 == number { print $2 }' "$data/generate.words"
+    awk -F ' [|] ' -v options="$*" '{ given = $1; sub(/^[0-9]+ /, "", given) } given == options { print $2 }' "$data/generate.settings"
 }
 
 # A refusal: its number and the options. Nothing is made, and what was in its output before is kept, also with --force, and where a packet is wrong
 # too.
 refuses() {
     local line
-    line="barzhilup generate: refused with $1: $(generate_words "$1")"
+    line="barzhilup generate: refused with $1: $(generate_words "${@:2}")"
     shift
     stops "$line" generate --in one "$@" --out new
     there "generate $*" no new
@@ -38,7 +38,7 @@ check_settings() {
         case $number in
             '#') ;;
             0) takes $options ;;
-            *) refuses "$number" $options ;;
+            *) refuses "$number" ${options% | *} ;;
         esac
     done <"$data/generate.settings"
 }

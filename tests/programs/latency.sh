@@ -213,9 +213,9 @@ check_latency_refused() {
     stops "barzhilup latency: some: $words: more than 4,096 counts" latency --mode 1 --in some
     printf ' 64 x' >>some
     stops "barzhilup latency: some: $words: more than 4,096 counts" latency --mode 1 --in some
-    stops "barzhilup latency: refused with 5: mode and stream not in the table" latency --mode 4 --in none --out new
-    stops "barzhilup latency: refused with 5: mode and stream not in the table" latency --mode 13 --stream 1 --counts 64
-    stops "barzhilup latency: refused with 5: mode and stream not in the table" latency --mode 5 --packets --in none
+    stops "barzhilup latency: refused with 5: $(generate_words --mode 4)" latency --mode 4 --in none --out new
+    stops "barzhilup latency: refused with 5: $(generate_words --mode 4)" latency --mode 13 --stream 1 --counts 64
+    stops "barzhilup latency: refused with 5: $(generate_words --mode 4)" latency --mode 5 --packets --in none
     there "a mode that is not there" no new
 }
 
@@ -282,10 +282,10 @@ SETTINGS
 
 # Packets that are refused, or cut; settings that are refused, in the words of `generate`; and more PDUs than counts may be.
 check_latency_packets_refused() {
-    stops "barzhilup latency: refused with 3: $(generate_words 3)" latency --packets --in none --length 95
-    stops "barzhilup latency: refused with 14: $(generate_words 14)" latency --packets --in none --gain 7
+    stops "barzhilup latency: refused with 3: $(generate_words --length 95)" latency --packets --in none --length 95
+    stops "barzhilup latency: refused with 14: $(generate_words --gain 7)" latency --packets --in none --gain 7
     head -c 129 /dev/zero >psd129
-    stops "barzhilup latency: refused with 16: $(generate_words 16)" latency --packets --in none --psd psd129
+    stops "barzhilup latency: refused with 16: $(generate_words --psd psd129)" latency --packets --in none --psd psd129
     stops "barzhilup latency: none: No such file or directory" latency --packets --in none --out new
     stops "barzhilup latency: none: No such file or directory" latency --packets --in packets --psd none
     { record 100; record 0; } >zero

@@ -16,7 +16,7 @@ if [ ! -x "$program" ]; then
 fi
 program=$(readlink -f "$program")
 subs=(generate channel log coverage latency join)
-for part in harness usage files generate log marks second registers batches bursts road coverage loss entitled resume beside latency join; do
+for part in harness usage files generate log marks second registers batches bursts road stream coverage loss entitled resume beside latency join; do
     # shellcheck source=/dev/null
     . "$here/$part.sh"
 done
@@ -98,6 +98,12 @@ check_road_swap
 check_road_cut
 check_road_marks
 check_road_log
+check_stream_tag
+check_stream_repeat
+check_stream_wrong
+check_changes
+check_changes_wrong
+check_changes_stream
 check_stored
 check_lines
 check_line_ends

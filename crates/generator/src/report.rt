@@ -16,7 +16,7 @@ pub fn summary(packets: u64, octets: u64, pdus: u64, size: u64) {
     io::write_all(STDERR_FILENO, &line[..n]);
 }
 
-// Why PSD that runs across PDUs could not be read, if so.
+// Says that PSD that runs across PDUs could not be read, if so.
 pub fn psd_ends(done: Broadcast) {
     let supply = done.supply;
     if supply.status != records::FAILED {
@@ -24,7 +24,7 @@ pub fn psd_ends(done: Broadcast) {
     }
     let mut label = files::label_buffer();
     let n = inputs::put_label(&mut label, b"psd-stream");
-    os::fail(&label[..n]);
+    files::say(&label[..n], b": cannot be read\n");
 }
 
 // How much is sent of PSD that runs across PDUs, and whether its file has more.
