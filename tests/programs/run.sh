@@ -16,7 +16,7 @@ if [ ! -x "$program" ]; then
 fi
 program=$(readlink -f "$program")
 subs=(generate channel log coverage latency join)
-for part in harness usage files generate log marks second registers batches bursts coverage loss entitled resume latency join; do
+for part in harness usage files generate log marks second registers batches bursts coverage loss entitled resume damaged latency join; do
     # shellcheck source=/dev/null
     . "$here/$part.sh"
 done
@@ -126,6 +126,9 @@ check_resume_asked
 check_resume_files
 check_resume_long
 check_resume_unsaved
+check_long_records
+check_resync
+check_mode_auto
 check_latency_table
 check_latency_values
 check_latency_random

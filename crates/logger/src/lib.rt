@@ -1,4 +1,5 @@
 // Turns a file of PDUs into the packet log (document 01, "Receiver").
+mod live;
 mod two;
 
 use job::Job;
@@ -27,6 +28,9 @@ pub fn program() -> i32 {
 
 // Makes the log. Answers whether all is done.
 fn with_job(job: Job) -> bool {
+    if job.auto {
+        return live::with_job(job);
+    }
     let mut carry = io::buffer();
     let start = interruption::begin(&job::KNOWN, job.mode, job.stream, job.register, &mut carry);
     if !start.ok {
@@ -47,6 +51,9 @@ fn with_state(job: Job, state: State, carry: &mut [u8]) -> bool {
     if options::given(&job::KNOWN, b"second") {
         let receiver = state.receiver;
         return two::with_first(job, receiver, &label[..n], pdus.fd);
+    }
+    if !job::is_otherwise() {
+        return live::with_state(job, state, carry, &label[..n], pdus.fd);
     }
     with_input(job, state, carry, &label[..n], pdus.fd)
 }
