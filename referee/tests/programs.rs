@@ -16,7 +16,7 @@ mod samples;
 use calls::{most_psd, some_bytes, some_length, some_packet, some_settings};
 use referee::control::{self, ControlWord};
 use referee::encode::{Field, Parts, Piece};
-use referee::header::{self, LONGEST, PLACES};
+use referee::header::{self, PLACES};
 use referee::locators;
 use referee::log::{self, Entry};
 use referee::modes::{Line, TABLE};
@@ -893,10 +893,9 @@ fn wrongly_displaced(rng: &mut Rng, line: Line) -> Vec<u8> {
     sample.encode(&vec![0; sample.length])
 }
 
-/// A length that no PDU has.
+/// A length that no PDU has, and that a record may have: a longer one than a PDU's stops the log.
 fn wrong_length(rng: &mut Rng) -> usize {
-    let long = [LONGEST + 1, rng.within(LONGEST + 1, 65_535), 65_535];
-    [1, 95, rng.within(1, 95), long[rng.below(3)]][rng.below(4)]
+    [1, 95, rng.within(1, 95)][rng.below(3)]
 }
 
 /// Makes something else of a PDU of at least 96 bytes, often one that is

@@ -30,7 +30,7 @@ check_batches() {
     same_in_batches "refused and lost" drive
     { pdus 0 1; records 4 95; pdus 1 1; records 3 96; pdus 2 1; record 95; } >mixed
     same_in_batches "many refused" mixed
-    { records 2 0; record 95; pdus 0 9; record 0; record 20481; pdus 9 3; records 4 65535; pdus 12 9; record 0; } >mixed
+    { records 2 0; record 95; pdus 0 9; record 0; record 1; pdus 9 3; records 4 20480; pdus 12 9; record 0; } >mixed
     same_in_batches "at the beginning, in the middle and at the end" mixed
     same_in_batches "of another mode" other
     same_in_batches "none" empty

@@ -417,6 +417,17 @@ check_progress() {
     same "$*, progress on a terminal" "$wanted" "$(tr '\r' '\n' <terminal | grep -x "$wanted" | sort -u || true)"
 }
 
+# A log of PDUs that come slowly shows how far it is once a second: here at the first PDU after a pause.
+check_progress_live() {
+    local first
+    if ! command -v script >/dev/null; then
+        return
+    fi
+    first="barzhilup log: PDUs $(($(stat -c %s many) / 302 + 1))"
+    script -qec "{ cat many; sleep 1.1; cat sent; } | $program log 2>&1 >/dev/null" /dev/null >terminal </dev/null
+    same "progress once a second on a terminal" "$first" "$(tr '\r' '\n' <terminal | grep -x "$first" | sort -u || true)"
+}
+
 check_terminals() {
     local copy
     for ((copy = 0; copy < 60; copy += 1)); do
@@ -430,6 +441,7 @@ check_terminals() {
     done >many.packets
     check_progress "barzhilup generate: PDUs 1000" generate --in many.packets --length 96
     check_progress "barzhilup channel: PDUs 1000" channel --in many
-    check_progress "barzhilup log: PDUs 1000" log --in many
+    check_progress "barzhilup log: PDUs 1000" log --in many --batch 1
+    check_progress_live
     check_progress "barzhilup coverage: lines 1000" coverage --in many.csv
 }

@@ -12,7 +12,7 @@ check_unlisted() {
 # The PDUs of a drive, five of them refused: of lengths that no PDU has, of another mode and stream, and of zeros.
 make_drive() {
     "$program" generate --in one --mode 1 --stream 1 --length 96 2>/dev/null >other
-    { pdus 0 1; record 95; pdus 1 1; record 0; record 20481; cat other; record 96; pdus 2 1; } >drive
+    { pdus 0 1; record 95; pdus 1 1; record 0; record 1; cat other; record 96; pdus 2 1; } >drive
 }
 
 # Lost and refused PDUs in a drive that goes on.
@@ -24,7 +24,7 @@ check_drive() {
         "$(sed -n 's/^\([0-9]*\),\(received\|lost\|refused\),.*/\1 \2/p' out | tr '\n' ' ' | sed 's/ $//')"
     has_entry "a PDU of 95 bytes" "1,refused,3,95,length not 96 to 20480" out
     has_entry "it is marked lost" "1,note,0,,lost" out
-    has_entry "a PDU of 20,481 bytes" "4,refused,3,20481,length not 96 to 20480" out
+    has_entry "a PDU of one byte" "4,refused,3,1,length not 96 to 20480" out
     has_entry "it is marked lost, too" "4,note,0,,lost" out
     has_entry "a PDU of another mode is marked lost" "5,note,0,,lost" out
     has_entry "and so is the second" "6,note,0,,lost" out

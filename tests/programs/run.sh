@@ -16,7 +16,7 @@ if [ ! -x "$program" ]; then
 fi
 program=$(readlink -f "$program")
 subs=(generate channel log coverage latency join)
-for part in harness usage files generate log marks second registers batches bursts road stream coverage loss entitled resume beside latency join; do
+for part in harness usage files generate log marks second registers batches bursts road stream coverage loss entitled resume beside damaged latency join; do
     # shellcheck source=/dev/null
     . "$here/$part.sh"
 done
@@ -150,6 +150,9 @@ check_sent_far
 check_sent_never
 check_sent_files
 check_sent_early
+check_long_records
+check_resync
+check_mode_auto
 check_latency_table
 check_latency_values
 check_latency_random

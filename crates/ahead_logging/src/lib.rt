@@ -1,9 +1,9 @@
 // A run that reads ahead: each turn takes the next record from a lent buffer, gives its PDU to the receiver, and writes its log. Where bytes are passed over at
 // which no record begins, a PDU is logged as lost, so that nothing is joined across them.
 use ahead::Ahead;
+use logging::Onto;
 use logging::Run;
 use logging::Task;
-use logging::output::Sink;
 use receiver::Receiver;
 use resync::Next;
 use resync::Wanted;
@@ -101,7 +101,7 @@ fn say_reading(from: &[u8], n: Next, places: u64) {
 
 // Receives the PDU between two places of a buffer, none where there is no such part, and writes what came of it.
 fn received(
-    sink: Sink,
+    onto: Onto,
     start: usize,
     end: usize,
     carry: &mut [u8],
@@ -118,7 +118,7 @@ fn received(
         return run;
     }
     logging::received(
-        sink,
+        onto,
         carry,
         &mut buf[start..end],
         b"",
@@ -131,7 +131,7 @@ fn received(
 
 // What comes of a reading: a record is received, bytes that are passed over are a lost PDU, and others stop the run.
 fn taken(
-    sink: Sink,
+    onto: Onto,
     n: Next,
     carry: &mut [u8],
     buf: &mut [u8],
@@ -145,7 +145,7 @@ fn taken(
         return logging::run_of(n.status, receiver, run.pdus);
     }
     received(
-        sink,
+        onto,
         n.from,
         std::num::wrapping_add_usize(n.from, n.length),
         carry,
@@ -170,7 +170,7 @@ fn kept(
     live: Live,
 ) -> Live {
     let run = live.run;
-    let next = taken(task.sink, n, &mut *carry, buf, log, block, counts, run);
+    let next = taken(task.onto, n, &mut *carry, buf, log, block, counts, run);
     with_run(live, logging::saved(task, path, carry, run.pdus, next))
 }
 
@@ -287,8 +287,8 @@ fn all_turns(
 // The run after all turns: what stands after all PDUs is written, if all are logged.
 fn ended(task: Task, block: &mut [u8], live: Live) -> Live {
     let run = live.run;
-    let sink = task.sink;
-    with_run(live, logging::ended(sink, block, run))
+    let onto = task.onto;
+    with_run(live, logging::ended(onto, block, run))
 }
 
 // The run where the log could not be written.

@@ -3,13 +3,17 @@ use text::Number;
 ghost use Prim.Native.Nat.{_≤_};
 
 // The options that are known.
-pub const KNOWN: [u8; 150] =
-    *b"in=\0out=\0second=\0marks=\0save=\0resume=\0skip\0force\0mode=\0stream=\0crc-start=\0entitled=\0format=\0batch=\0packets=\0adts=\0psd=\0sent=\0sent-adts\0compared=\0help\0";
+pub const KNOWN: [u8; 157] =
+    *b"in=\0out=\0second=\0marks=\0save=\0resume=\0skip\0resync\0force\0mode=\0stream=\0crc-start=\0entitled=\0format=\0batch=\0packets=\0adts=\0psd=\0sent=\0sent-adts\0compared=\0help\0";
 
 // What is asked for; ok where mode, stream, the register that CRCs start with, the entitled programs, format and the records of a frame are given as they can
 // be, and the options go together.
 pub struct Job {
     pub ok: bool,
+    // Whether mode and stream are those of the first PDU that can be read.
+    pub auto: bool,
+    // Whether bytes at which no record begins are passed over.
+    pub resync: bool,
     pub mode: u8,
     pub stream: u8,
     pub register: u8,
@@ -23,6 +27,45 @@ fn number(name: &[u8]) -> Number
     ensures { λ r. ⌜ r .value ≤ 255 ⌝ }
 {
     options::number(b"barzhilup log", &KNOWN, name, 0, 0, 255)
+}
+
+// Whether mode and stream are to be those of the first PDU that can be read.
+fn is_auto() -> bool {
+    if !options::given(&KNOWN, b"mode") {
+        return false;
+    }
+    let mut value = [0u8; 8];
+    let n = options::value(&KNOWN, b"mode", &mut value);
+    check::same(&value[..n], b"auto")
+}
+
+// The mode, 0 where it is not given as a number.
+fn mode_asked(auto: bool) -> Number
+    ensures { λ r. ⌜ r .value ≤ 255 ⌝ }
+{
+    if auto {
+        return Number { ok: true, value: 0 };
+    }
+    number(b"mode")
+}
+
+// Whether an option by which PDUs are not read one by one from one file is given.
+pub fn is_otherwise() -> bool {
+    options::given(&KNOWN, b"batch")
+        | options::given(&KNOWN, b"marks")
+        | options::given(&KNOWN, b"second")
+}
+
+// Whether records can be read ahead, if an option asks for it; if not, says so in words.
+fn can_read_ahead(asked: bool, words: &[u8]) -> bool {
+    if !asked {
+        return true;
+    }
+    if is_otherwise() {
+        files::say(b"barzhilup log", words);
+        return false;
+    }
+    true
 }
 
 fn format_named(name: &[u8]) -> u8 {
@@ -116,7 +159,9 @@ pub fn check() -> bool {
 }
 
 pub fn asked() -> Job {
-    let mode = number(b"mode");
+    let auto = is_auto();
+    let resync = options::given(&KNOWN, b"resync");
+    let mode = mode_asked(auto);
     let stream = number(b"stream");
     let register = number(b"crc-start");
     let programs = opening::is_asked(b"barzhilup log", &KNOWN);
@@ -130,8 +175,18 @@ pub fn asked() -> Job {
             & (format != formats::NO_FORMAT)
             & batch.ok
             & can_batch()
+            & can_read_ahead(
+                resync,
+                b": --resync: not with --batch, --marks or --second\n",
+            )
+            & can_read_ahead(
+                auto,
+                b": --mode auto: not with --batch, --marks or --second\n",
+            )
             & interruption::is_asked(&KNOWN)
             & beside_files::asked::is_asked(&KNOWN),
+        auto: auto,
+        resync: resync,
         mode: mode.value as u8,
         stream: stream.value as u8,
         register: register.value as u8,

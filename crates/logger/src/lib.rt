@@ -1,4 +1,5 @@
 // Turns a file of PDUs into the packet log (document 01, "Receiver").
+mod live;
 mod two;
 
 use beside::Beside;
@@ -49,6 +50,9 @@ pub fn program() -> i32 {
 
 // Makes the log. Answers how it ended: DONE, EARLY or NEVER_SENT.
 fn with_job(job: Job) -> i32 {
+    if job.auto {
+        return live::with_job(job);
+    }
     let mut carry = io::buffer();
     let start = interruption::begin(&job::KNOWN, job.mode, job.stream, job.register, &mut carry);
     if !start.ok {
@@ -69,6 +73,9 @@ fn with_state(job: Job, state: State, carry: &mut [u8]) -> i32 {
     if options::given(&job::KNOWN, b"second") {
         let receiver = state.receiver;
         return two::with_first(job, receiver, &label[..n], pdus.fd);
+    }
+    if !job::is_otherwise() {
+        return live::with_state(job, state, carry, &label[..n], pdus.fd);
     }
     with_input(job, state, carry, &label[..n], pdus.fd)
 }

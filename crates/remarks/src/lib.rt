@@ -20,6 +20,38 @@ pub fn ends(status: u8, from: &[u8], marking: &[u8], onto: &[u8], pdus: u64) {
     }
 }
 
+// Why no more PDUs are logged of a file without marks, after so many, whose next record is at a byte.
+pub fn stops(status: u8, from: &[u8], onto: &[u8], pdus: u64, place: u64) {
+    if status != records::LONG {
+        ends(status, from, b"", onto, pdus);
+        return;
+    }
+    let mut line = [0u8; 4800];
+    let n = text::put(&mut line, 0, from);
+    let k = text::fill(
+        &mut line,
+        n,
+        b": the record of PDU @, at byte @, has a length over 20480, which no PDU has\n",
+        &[pdus, place],
+    );
+    say(&line[..k]);
+}
+
+// At how many places bytes were passed over, and how many bytes, if there were any.
+pub fn passed(places: u64, bytes: u64) {
+    if places == 0 {
+        return;
+    }
+    let mut line = [0u8; 128];
+    let n = text::fill(
+        &mut line,
+        0,
+        b"barzhilup log: places passed over @ (bytes @), each logged as a lost PDU\n",
+        &[places, bytes],
+    );
+    say(&line[..n]);
+}
+
 // What is wrong with the file of marks, after so many PDUs.
 fn marks_end(status: u8, marking: &[u8], pdus: u64) {
     match status {
@@ -172,7 +204,9 @@ that is marked lost.
   --compared FILE a line for each packet that was sent, as CSV (standard output
                   for -)
   --force         an existing FILE that is to be written is renamed FILE~ first
-  --mode N        0, 1, 2, 3, 10 or 13 (0)
+  --resync        passes over bytes at which no record begins
+  --mode N        0, 1, 2, 3, 10 or 13 (0), or auto: mode and stream of the
+                  first PDU that can be read
   --stream N      0 core, 1 enhanced (0)
   --crc-start N   the register that CRCs start with, 0 to 255 (0; recordings
                   off the air check with 255)
@@ -224,6 +258,19 @@ there as records of length 0: else a packet may be joined from parts that do not
 belong together. PDUs are counted on. The log goes on after the count of bytes
 that is said: those bytes of the log before, and then this one, are the log of
 the whole drive. Other words are refused with 25.
+
+Resync: a length over 20480 is that of no PDU, and stops the log at its record.
+With --resync the next place is looked for at which a record begins whose PDU
+can be read, in the mode and stream asked for, and records follow that lead to
+another such or to the end. The bytes before it are passed over, which is said,
+and logged as one lost PDU. So is a record that was cut, with others written
+behind it. What is logged of a record waits for the next PDU that can be read.
+
+Mode auto: a PDU that can be read is one whose header can be corrected and that
+is not refused; with --stream only those of that stream count. PDUs before it
+are logged as lost or refused, in the mode that was found. Neither this nor
+--resync goes with --batch, --marks or --second, and with these three a length
+over 20480 is refused with 3 as any wrong length is.
 
 Formats:
   words           the log's words, each in four bytes, low byte first

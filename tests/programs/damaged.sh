@@ -1,0 +1,219 @@
+# Files of PDUs that are damaged: lengths that no PDU has, records that were cut with others written behind them, and bytes that are no records; and files whose
+# mode and stream are not known. Sourced by run.sh.
+
+# Lengths over 20,480 stop the log at their record, which is named with its place in the file; what is before it is logged.
+check_long_records() {
+    local length
+    pdus 0 3 >before
+    run log --in before --format csv
+    head -n -1 out >wanted
+    for length in 20481 32768 65535; do
+        { pdus 0 3; record "$length"; pdus 3 3; } >broken
+        run log --in broken --format csv
+        ended "a record of $length bytes" 1 log
+        same_file "a record of $length bytes, what is before it" wanted out
+        same "a record of $length bytes, what is said" "barzhilup log: broken: the record of PDU 3, at byte 906, has a length over 20480, which no PDU has" "$(head -n 1 err)"
+    done
+    check_long_pipes
+    check_longest
+}
+
+# The same where the file has no places.
+check_long_pipes() {
+    status=0
+    cat broken | "$program" log >out 2>err || status=$?
+    ended "a long record from a pipe" 1 log
+    same "a long record from a pipe" "barzhilup log: standard input: the record of PDU 3, at byte 906, has a length over 20480, which no PDU has" "$(head -n 1 err)"
+}
+
+# The longest PDU is none of them, and the shortest records are refused.
+check_longest() {
+    run generate --in packets --length 20480
+    { cat out; record 1; record 95; } >broken
+    run log --in broken --format csv
+    ended "PDUs of the greatest length" 0 log
+    same "PDUs of the greatest length, what is refused" 2 "$(grep -c ',refused,' out)"
+}
+
+# What is passed over, and the log of it: the file's bytes as given, which PDUs are lost, how many bytes are passed over, and from where to where.
+resynced() { # ABOUT LOST BYTES FROM TO
+    run log --in broken --resync --format csv
+    ended "$1" 0 log
+    same "$1, what is said" "barzhilup log: broken: passed over $3 bytes, from byte $4 to byte $5: no record begins there" "$(head -n 1 err)"
+    same "$1, lost PDUs" "$2" "$(sed -n 's/^\([0-9]*\),lost,.*/\1/p' out | tr '\n' ' ' | sed 's/ $//')"
+    same "$1, none is refused" 0 "$(grep -c ',refused,' out || true)"
+    has_line "$1, the summary" "barzhilup log: places passed over 1 (bytes $3), each logged as a lost PDU" err
+    same "$1, the CSV is whole" 1 "$(grep -c ',end,' out)"
+    cp out resynced
+}
+
+# So many PDUs of 300 bytes that are full of the sample packets, from one on.
+busy_pdus() {
+    head -c $((302 * ($1 + $2))) busy | tail -c $((302 * $2))
+}
+
+# Damage of all kinds in one place: the PDUs before and after it are logged as if one were lost there.
+check_resync() {
+    run generate --in "$here/../../samples/packets" --psd "$here/../../samples/psd" --length 300
+    cp out busy
+    run log --in busy --resync --format csv
+    cp out wanted
+    run log --in busy --format csv
+    same_file "a file that is whole" wanted out
+    { busy_pdus 0 3; printf '\377\377'; head -c 300 /dev/zero; busy_pdus 4 9; } >broken
+    resynced "a wrong length" 3 302 906 1208
+    { busy_pdus 0 3; record 0; busy_pdus 4 9; } >plain
+    run log --in plain --format csv
+    cp out plain.csv
+    same_file "a wrong length, the log" plain.csv resynced
+    { busy_pdus 0 3; busy_pdus 3 1 | head -c 200; busy_pdus 4 9; } >broken
+    resynced "a record that was cut, with others behind it" 3 200 906 1106
+    same_file "a record that was cut, the log" plain.csv resynced
+    { busy_pdus 0 3; busy_pdus 3 1 | head -c 50; busy_pdus 4 9; } >broken
+    resynced "a record that was cut inside its header" 3 50 906 956
+    same_file "a record that was cut inside its header, the log" plain.csv resynced
+    { busy_pdus 0 3; busy_pdus 3 1 | head -c 1; busy_pdus 4 9; } >broken
+    resynced "a record that was cut inside its length" 3 1 906 907
+    same_file "a record that was cut inside its length, the log" plain.csv resynced
+    { busy_pdus 0 3; head -c 70001 /dev/zero | tr '\0' '\252'; busy_pdus 4 9; } >broken
+    resynced "other bytes among the records" 3 70001 906 70907
+    same_file "other bytes among the records, the log" plain.csv resynced
+    check_resync_ends
+    check_resync_pipes
+    check_resync_many
+    check_resync_resumed
+    check_resync_asked
+}
+
+# Damage at the beginning and at the end, and nothing but damage.
+check_resync_ends() {
+    { head -c 77 /dev/zero | tr '\0' '\252'; busy_pdus 0 5; } >broken
+    resynced "damage at the beginning" 0 77 0 77
+    { busy_pdus 0 5; busy_pdus 5 1 | head -c 111; } >broken
+    resynced "a file that is cut" 5 111 1510 1621
+    head -c 3893 /dev/zero | tr '\0' '\252' >broken
+    resynced "no records at all" 0 3893 0 3893
+}
+
+# PDUs that are lost, refused or damaged beside such places are what they are; and a pipe has the same log.
+check_resync_pipes() {
+    { cat damaged; record 0; record 95; busy_pdus 0 2; printf '\001\377\377'; cat damaged; records 3 0; } >broken
+    run log --in broken --resync --format csv
+    cp out wanted
+    same "refused, lost and passed over" "$(grep -c ',received,' <(run log --in damaged --format csv && cat out out))" "$(($(grep -c ',received,' wanted) - 2))"
+    status=0
+    { head -c 1000 broken; sleep 0.1; tail -c +1001 broken; } | "$program" log --resync --format csv >out 2>err || status=$?
+    ended "damage in a pipe" 0 log
+    same_file "damage in a pipe" wanted out
+    same "damage in a pipe, what is said" 1 "$(grep -c 'standard input: passed over 3 bytes' err)"
+}
+
+# The first five places are said.
+check_resync_many() {
+    local turn
+    for turn in {0..6}; do
+        busy_pdus "$turn" 2
+        printf '\377\377\377'
+    done >broken
+    run log --in broken --resync --format csv
+    same "seven places, how many are said" 5 "$(grep -c 'passed over 3 bytes' err)"
+    has_line "seven places, the others" "barzhilup log: further places passed over are counted only" err
+    has_line "seven places, the summary" "barzhilup log: places passed over 7 (bytes 21), each logged as a lost PDU" err
+    same "seven places, lost PDUs" 7 "$(grep -c ',lost,,,,' out)"
+}
+
+# A run over a damaged file that is killed goes on: the places passed over are counted as the PDUs are.
+check_resync_resumed() {
+    { busy_pdus 0 3; head -c 700 /dev/zero | tr '\0' '\252'; busy_pdus 4 9; } >broken
+    run log --in broken --resync --format csv
+    cp out wanted
+    { busy_pdus 0 3; head -c 700 /dev/zero | tr '\0' '\252'; busy_pdus 4 2; } >part
+    rm -f state first.csv second.csv
+    run log --in part --resync --format csv --out first.csv --save state
+    ended "a damaged drive that is saved" 0 log
+    run log --in broken --resume state --skip --resync --format csv --out second.csv
+    ended "a damaged drive that is resumed" 0 log
+    head -c "$(sed -n 's/.*goes on after [0-9]* PDUs and \([0-9]*\) bytes.*/\1/p' err)" first.csv >joined
+    cat second.csv >>joined
+    same_file "a damaged drive that is resumed" wanted joined
+    run log --in part --resume state --skip --resync
+    busy_pdus 0 3 >before
+    run log --in before --resume state --skip --resync
+    same "a file with fewer PDUs" "barzhilup log: before: has fewer than the 6 PDUs that are logged" "$(sed -n 2p err)"
+    rm -f state first.csv second.csv
+}
+
+check_resync_asked() {
+    local option
+    for option in "--batch 2" "--marks marks" "--second sent"; do
+        # shellcheck disable=SC2086
+        wrong "barzhilup log: --resync: not with --batch, --marks or --second" log --in sent --resync $option
+        # shellcheck disable=SC2086
+        wrong "barzhilup log: --mode auto: not with --batch, --marks or --second" log --in sent --mode auto $option
+    done
+}
+
+# Mode and stream of the first PDU that can be read.
+check_mode_auto() {
+    local mode stream
+    for mode in "0 0" "1 0" "2 1" "3 1" "10 0" "10 1" "13 0"; do
+        stream=${mode#* }
+        mode=${mode% *}
+        run generate --in packets --length 400 --mode "$mode" --stream "$stream"
+        cp out auto
+        run log --in auto --mode "$mode" --stream "$stream" --format csv
+        cp out wanted
+        run log --in auto --mode auto --format csv
+        ended "mode $mode, stream $stream by itself" 0 log
+        same "mode $mode, stream $stream by itself, what is said" "barzhilup log: auto: mode $mode, stream $stream, by the first PDU that can be read" "$(head -n 1 err)"
+        same_file "mode $mode, stream $stream by itself" wanted out
+    done
+    check_auto_later
+    check_auto_stream
+    check_auto_none
+}
+
+# Lost and refused PDUs before the first that can be read, in a file and in a pipe; the PDUs before it are logged too.
+check_auto_later() {
+    { records 3 0; record 95; record 96; steps 0 1 2 3; pdus 0 1; } >auto
+    run log --in auto --mode 1 --format csv
+    cp out wanted
+    run log --in auto --mode auto --format csv
+    ended "lost and refused PDUs first" 0 log
+    same_file "lost and refused PDUs first" wanted out
+    status=0
+    cat auto | "$program" log --mode=auto --format csv >out 2>err || status=$?
+    ended "lost and refused PDUs first, from a pipe" 0 log
+    same_file "lost and refused PDUs first, from a pipe" wanted out
+    { printf '\377\377\377'; cat auto; } >broken
+    run log --in broken --mode auto --resync --format csv
+    ended "damage first" 0 log
+    same "damage first, what is said" "barzhilup log: broken: mode 1, stream 0, by the first PDU that can be read" "$(head -n 1 err)"
+    run log --in broken --mode auto
+    ended "damage first, without --resync" 1 log
+    same "damage first, without --resync" "barzhilup log: broken: no PDU can be read in 2 bytes: mode and stream are not known" "$(head -n 1 err)"
+}
+
+# Only PDUs of the stream that is given count.
+check_auto_stream() {
+    { steps 0 1 2; cat other; cat other; } >auto
+    run log --in auto --mode auto --stream 1 --format csv
+    ended "a stream that is given" 0 log
+    same "a stream that is given" "barzhilup log: auto: mode 1, stream 1, by the first PDU that can be read" "$(head -n 1 err)"
+    same "a stream that is given, PDUs of the other" 3 "$(grep -c ',refused,6,' out)"
+}
+
+# No PDU that can be read: nothing is made.
+check_auto_none() {
+    { records 4 0; records 2 95; } >auto
+    rm -f new
+    run log --in auto --mode auto --out new
+    ended "no PDU that can be read" 1 log
+    same "no PDU that can be read" "barzhilup log: auto: no PDU can be read in 202 bytes: mode and stream are not known" "$(head -n 1 err)"
+    there "no PDU that can be read" no new
+    run log --in empty --mode auto
+    ended "an empty file" 1 log
+    same "an empty file" "barzhilup log: empty: no PDU can be read in 0 bytes: mode and stream are not known" "$(head -n 1 err)"
+    run log --in auto --mode auto --stream 0 --resume auto
+    ended "a mode with a state" 2 log
+}
