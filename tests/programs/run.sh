@@ -16,7 +16,7 @@ if [ ! -x "$program" ]; then
 fi
 program=$(readlink -f "$program")
 subs=(generate channel log coverage latency join)
-for part in harness usage files generate log marks second registers batches bursts coverage loss entitled resume latency join; do
+for part in harness usage files generate log marks second registers batches bursts coverage columns loss entitled resume latency join; do
     # shellcheck source=/dev/null
     . "$here/$part.sh"
 done
@@ -101,6 +101,9 @@ check_totals drive.csv
 check_wrong_crcs
 check_no_pdus
 check_picture
+check_columns_same
+check_columns_text
+check_columns_saved
 check_loss_drives
 check_loss_far
 check_loss_withheld
@@ -151,6 +154,7 @@ check_pipes
 check_twice
 check_killed text
 check_killed words
+check_killed json
 check_killed_picture
 check_terminals
 echo "programs: $checks checks, $failed failed"
