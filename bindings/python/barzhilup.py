@@ -1447,15 +1447,29 @@ class Line(NamedTuple):
     pdu: int
     #: "received", "lost", "refused", "packet", "psd" or "note".
     kind: str
-    #: Header bytes corrected, the refusal's number, the packet's number, or the note's piece.
-    number: Optional[int]
+    #: Of a received PDU that came as two copies, where its pieces are from: "first", "second", "both" or "either".
+    copy: Optional[str] = None
+    #: Header bytes corrected, of a received PDU.
+    corrected: Optional[int] = None
+    #: The number of a refusal.
+    refusal: Optional[int] = None
+    #: The number of a packet, 0 to 63.
+    packet: Optional[int] = None
     #: Bytes of the PDU, the packet or the PSD.
-    length: Optional[int]
-    #: In words.
-    cause: Optional[str]
+    length: Optional[int] = None
+    #: The piece of a note that is on one.
+    piece: Optional[int] = None
+    #: The number of a note, 1 to 8.
+    note: Optional[int] = None
+    #: The cause of a refusal or a note, in words.
+    cause: Optional[str] = None
     #: The counts of the receiver, on the lines of PDUs.
-    delivered: Optional[int]
-    missing: Optional[int]
+    delivered: Optional[int] = None
+    missing: Optional[int] = None
+    #: The CRC-32 of a packet's or PSD's bytes, in 8 hexadecimal digits.
+    crc32: Optional[str] = None
+    #: What of PSD is text.
+    text: Optional[str] = None
 
 
 class Csv(NamedTuple):
@@ -1466,13 +1480,17 @@ class Csv(NamedTuple):
     whole: bool
 
 
-_CSV_COLUMNS = "pdu,kind,number,length,cause,delivered,missing"
-#: The first line of logs without the loss column, as older ones are.
-_CSV_UNCOUNTED = "pdu,kind,number,length,cause"
+_CSV_COLUMNS = "pdu,kind,copy,corrected,refusal,packet,length,piece,note,cause,delivered,missing,crc32,text,pdus".split(",")
+#: The columns of older logs; the last two are the loss column, which yet older ones lack.
+_CSV_OLDER = "pdu,kind,number,length,cause,delivered,missing".split(",")
 _CSV_PDUS = ("received", "lost", "refused")
 _CSV_KINDS = _CSV_PDUS + ("packet", "psd", "note")
+#: What the column ``number`` of older logs is, by the line's kind.
+_CSV_NUMBERS = {"received": "corrected", "refused": "refusal", "packet": "packet", "note": "piece"}
+#: The notes that are on a piece.
+_CSV_ON_PIECE = (2, 3, 5, 7)
 #: The longest line, in bytes, without its end.
-_CSV_LINE_MAX = 200
+_CSV_LINE_MAX = 600
 
 
 def _csv_number(text: str) -> int:
@@ -1482,34 +1500,95 @@ def _csv_number(text: str) -> int:
     return int(text)
 
 
-def _csv_line(text: str, counted: bool) -> Line:
-    """A line of a PDU, or of an entry of its log, from its columns. Where there is no loss column, the cause is the rest of the line."""
-    row = text.split(",") if counted else text.split(",", 4)
-    if len(row) != (7 if counted else 5):
-        raise MalformedFile("{} columns".format(len(row)))
-    kind, cause = row[1], row[4]
+def _csv_optional(text: str) -> Optional[int]:
+    return _csv_number(text) if text else None
+
+
+def _csv_parts(line: str) -> List[str]:
+    """What of a line stands between commas, semicolons or tabs, whichever comes first. Between two quotes they are characters as any other."""
+    separator, quoted, parts = None, False, [""]
+    for letter in line:
+        quoted ^= letter == '"'
+        if separator is None and not quoted and letter in ",;\t":
+            separator = letter
+        if letter == separator and not quoted:
+            parts.append("")
+        else:
+            parts[-1] += letter
+    return parts
+
+
+def _csv_fields(line: str) -> List[str]:
+    """The fields of a line, without empty ones at its end."""
+    if '"' in line or ";" in line or "\t" in line:
+        fields = _csv_parts(line)
+    else:
+        fields = line.split(",")
+    while fields and fields[-1] in ("", '""'):
+        fields.pop()
+    return [field[1:-1].replace('""', '"') if len(field) > 1 and field[0] == field[-1] == '"' else field for field in fields]
+
+
+def _csv_older(fields: List[str], kind: str) -> Dict[str, Any]:
+    """The columns of a line of an older log, by their names."""
+    columns: Dict[str, Any] = {"length": _csv_optional(fields[3])}
+    number, cause = _csv_optional(fields[2]), fields[4]
+    if kind in _CSV_NUMBERS:
+        columns[_CSV_NUMBERS[kind]] = number
+    if kind == "received":
+        words = cause.split(" ")
+        columns["copy"] = words[0] if len(words) == 2 and words[1] in ("copy", "copies") else None
+    else:
+        columns["cause"] = cause or None
+    if kind == "note":
+        columns["note"] = next((note for note in range(1, 9) if note_text(note) == cause), None)
+        if columns["note"] not in _CSV_ON_PIECE:
+            columns["piece"] = None
+    return columns
+
+
+def _csv_full(fields: List[str], kind: str) -> Dict[str, Any]:
+    """The columns of a line, by their names; those of other kinds are left out."""
+    columns: Dict[str, Any] = {name: fields[_CSV_COLUMNS.index(name)] or None for name in ("copy", "cause", "crc32", "text")}
+    for name in {"length", _CSV_NUMBERS.get(kind, "length")}:
+        columns[name] = _csv_optional(fields[_CSV_COLUMNS.index(name)])
+    if kind == "note":
+        columns["note"] = _csv_number(fields[_CSV_COLUMNS.index("note")])
+    return columns
+
+
+def _csv_line(fields: List[str], counted: bool) -> Line:
+    """A line of a PDU, or of an entry of its log, from its fields. One of an older log has nothing after the seventh, and every other has something there."""
+    if not 2 <= len(fields) <= len(_CSV_COLUMNS):
+        raise MalformedFile("{} columns".format(len(fields)))
+    older = not counted or len(fields) <= len(_CSV_OLDER)
+    if not counted:
+        fields = fields[:4] + [",".join(fields[4:])]
+    fields = fields + [""] * (len(_CSV_COLUMNS) - len(fields))
+    kind = fields[1]
     if kind not in _CSV_KINDS:
         raise MalformedFile("no kind {!r}".format(kind))
-    number = _csv_number(row[2]) if row[2] or kind in ("received", "packet") else None
-    length = _csv_number(row[3]) if row[3] else None
-    if kind == "packet" and number is not None and number > 63:
+    columns = (_csv_older if older else _csv_full)(fields, kind)
+    if kind in ("received", "packet") and columns[_CSV_NUMBERS[kind]] is None:
+        raise MalformedFile("no number")
+    if kind == "packet" and columns["packet"] > 63:
         raise MalformedFile("a packet's number is over 63")
-    if kind in _CSV_PDUS:
-        delivered, missing = [_csv_number(count) for count in row[5:]] or [None, None]
-    elif any(row[5:]):
+    counts = fields[5:7] if older else fields[10:12]
+    if kind not in _CSV_PDUS and any(counts):
         raise MalformedFile("counts that are not on the line of a PDU")
-    else:
-        delivered, missing = None, None
-    return Line(_csv_number(row[0]), kind, number, length, cause or None, delivered, missing)
+    delivered, missing = [_csv_number(count) for count in counts] if counted and kind in _CSV_PDUS else [None, None]
+    columns.update(pdu=_csv_number(fields[0]), kind=kind, delivered=delivered, missing=missing)
+    return Line(**columns)
 
 
 class _Drive:
     """The CSV of a log, line by line."""
 
     def __init__(self, first: str) -> None:
-        if first not in (_CSV_COLUMNS, _CSV_UNCOUNTED):
-            raise MalformedFile("the first line is not {}".format(_CSV_COLUMNS))
-        self.counted = first == _CSV_COLUMNS
+        columns = _csv_fields(first[1:] if first.startswith("\ufeff") else first)
+        if columns not in (_CSV_COLUMNS, _CSV_OLDER, _CSV_OLDER[:5]):
+            raise MalformedFile("the first line is not {}".format(",".join(_CSV_COLUMNS)))
+        self.counted = len(columns) > 5
         self.lines: List[Line] = []
         self.whole = False
         self.pdus, self.delivered, self.missing = 0, 0, 0
@@ -1517,13 +1596,14 @@ class _Drive:
     def take(self, text: str, ended: bool) -> None:
         """Takes a line. One that lacks its end, with which the file is cut, is left out if it may say less than it did."""
         try:
-            pdus = self._last(text)
-            line = _csv_line(text, self.counted) if pdus is None else None
+            fields = _csv_fields(text)
+            pdus = self._last(fields)
+            line = _csv_line(fields, self.counted) if pdus is None else None
         except MalformedFile:
             if ended or self.whole:
                 raise
             return
-        if not ended and not self.whole and self.counted and line is not None and line.kind in _CSV_PDUS:
+        if not ended and not self.whole and (pdus < self.pdus if pdus is not None else self.counted and line is not None and line.kind in _CSV_PDUS):
             return
         if self.whole:
             raise MalformedFile("there is more after the last line")
@@ -1534,14 +1614,15 @@ class _Drive:
         else:
             self.whole = True
 
-    def _last(self, text: str) -> Optional[int]:
+    def _last(self, fields: List[str]) -> Optional[int]:
         """How many PDUs the last line tells; None of other lines."""
-        if not text.startswith(",end,"):
+        if fields[:2] != ["", "end"]:
             return None
-        number, _, rest = text[5:].partition(",")
-        if rest != (",whole,," if self.counted else ",whole"):
+        older = not self.counted or len(fields) <= len(_CSV_OLDER)
+        length, count, cause = (5, 2, 4) if older else (15, 14, 9)
+        if len(fields) != length or fields[cause] != "whole":
             raise MalformedFile("not as the last line is")
-        return _csv_number(number)
+        return _csv_number(fields[count])
 
     def _take(self, line: Line) -> None:
         """Takes the line of the next PDU, or one of an entry of the last PDU's log."""
@@ -1563,12 +1644,13 @@ def read_csv(source: Source) -> Csv:
     """Reads the CSV that ``barzhilup log --format csv`` writes.
 
     A log that was cut, by a kill or a full disk, is read as far as it goes, and is not whole; the line that it ends in, if that is cut, is left out. Anything
-    else that ``barzhilup coverage`` does not take raises :class:`MalformedFile`: another first line; a line of over 200 bytes, of a kind that there is none
-    of, or with columns missing or left over; a number that is not decimal or does not fit 32 bits, or is missing on a line of a received PDU or a packet; a
-    packet's number over 63; PDUs that do not count from 0, or entries of another than the last; counts that are missing on the line of a PDU, stand on
+    else that ``barzhilup coverage`` does not take raises :class:`MalformedFile`: another first line; a line of over 600 bytes, of a kind that there is none
+    of, or with more columns than there are; a number that is not decimal or does not fit 32 bits, or is missing on a line of a received PDU, a packet or a
+    note; a packet's number over 63; PDUs that do not count from 0, or entries of another than the last; counts that are missing on the line of a PDU, stand on
     others, or fall; a last line with another count of PDUs, and anything after it. Lengths and causes are not held to anything else.
 
-    Older logs, without the columns ``delivered`` and ``missing``, have None there.
+    A log that a spreadsheet saved is taken too: with a mark of UTF-8, semicolons or tabs, fields in quotes, and empty fields at a line's end or without them.
+    Lines of older logs, with the column ``number``, are told by the columns that the others have; logs without ``delivered`` and ``missing`` have None there.
     """
     with _opened(source, "rb") as file:
         data = file.read()

@@ -1132,7 +1132,7 @@ fn refused_line(beginning: &str, came: &Came) -> String {
 fn lines(logged: &[Logged], csv: bool, whole: bool) -> Vec<String> {
     let mut lines = Vec::new();
     if csv {
-        lines.push("pdu,kind,number,length,cause,delivered,missing".to_string());
+        lines.push(COLUMNS.to_string());
     }
     for (pdu, one) in logged.iter().enumerate() {
         lines.push(if csv {
@@ -1149,30 +1149,80 @@ fn lines(logged: &[Logged], csv: bool, whole: bool) -> Vec<String> {
         }
     }
     if csv && whole {
-        lines.push(format!(",end,{},,whole,,", logged.len()));
+        lines.push(format!(",end,,,,,,,,whole,,,,,{}", logged.len()));
     }
     lines
 }
 
+/// The first line of the CSV.
+const COLUMNS: &str = "pdu,kind,copy,corrected,refusal,packet,length,piece,note,cause,delivered,missing,crc32,text,pdus";
+
 fn columns(pdu: usize, one: &Logged) -> String {
     let length = one.length;
     let line = match &one.came {
-        Came::Received(mended) => format!("{pdu},received,{mended},{length},"),
-        Came::Lost => format!("{pdu},lost,,,"),
-        came => refused_line(&format!("{pdu},refused,{},{length},", came.refusal()), came),
+        Came::Received(mended) => format!("{pdu},received,,{mended},,,{length},,,"),
+        Came::Lost => format!("{pdu},lost,,,,,,,,"),
+        came => refused_line(
+            &format!("{pdu},refused,,,{},,{length},,,", came.refusal()),
+            came,
+        ),
     };
-    format!("{line},{},{}", one.loss.delivered, one.loss.missing)
+    format!("{line},{},{},,,", one.loss.delivered, one.loss.missing)
 }
 
 fn entry_columns(pdu: usize, entry: &Entry) -> String {
     match entry {
-        Entry::Packet(number, bytes) => format!("{pdu},packet,{number},{},,,", bytes.len()),
-        Entry::Psd(bytes) => format!("{pdu},psd,,{},,,", bytes.len()),
+        Entry::Packet(number, bytes) => {
+            let crc = crc32(bytes);
+            format!("{pdu},packet,,,,{number},{},,,,,,{crc:08x},,", bytes.len())
+        }
+        Entry::Psd(bytes) => {
+            let (crc, text) = (crc32(bytes), psd_text(bytes));
+            format!("{pdu},psd,,,,,{},,,,,,{crc:08x},{text},", bytes.len())
+        }
         Entry::Note(note) => {
             let words = note_words(note.cause());
-            format!("{pdu},note,{},,{words},,", note.piece())
+            let piece = match note.cause() {
+                2 | 3 | 5 | 7 => note.piece().to_string(),
+                _ => String::new(),
+            };
+            format!("{pdu},note,,,,,,{piece},{},{words},,,,,", note.cause())
         }
     }
+}
+
+/// CRC-32, bit by bit.
+fn crc32(bytes: &[u8]) -> u32 {
+    let mut register = u32::MAX;
+    for byte in bytes {
+        register ^= u32::from(*byte);
+        for _ in 0..8 {
+            let leaves = register & 1;
+            register = (register >> 1) ^ (leaves * 0xEDB8_8320);
+        }
+    }
+    !register
+}
+
+/// What of PSD is text, as a field of the CSV: runs of three printable
+/// characters or more, or all that there is, at most 200 characters.
+fn psd_text(bytes: &[u8]) -> String {
+    let bytes = &bytes[..bytes.len().min(1024)];
+    let runs: Vec<String> = bytes
+        .split(|byte| !(32..=126).contains(byte))
+        .filter(|run| run.len() >= 3 || (run.len() == bytes.len() && !run.is_empty()))
+        .map(|run| String::from_utf8_lossy(run).into_owned())
+        .collect();
+    let text: String = runs.join(" ").chars().take(200).collect();
+    if text.is_empty() {
+        return text;
+    }
+    let blank = if text.starts_with(['=', '+', '-', '@']) {
+        " "
+    } else {
+        ""
+    };
+    format!("\"{blank}{}\"", text.replace('"', "\"\""))
 }
 
 /// A number of things.

@@ -37,7 +37,7 @@ drawn() {
             sub(/\|.*/, "", line)
             if (line !~ /^ /) layer++
             line = substr(line, 16)
-            gsub(/[^a-z_ ]|PDUs/, " ", line)
+            gsub(/[^a-z_0-9 ]|PDUs/, " ", line)
             n = split(line, name, " ")
             for (k = 1; k <= n; k++) print layer, name[k]
         }' docs/ARCHITECTURE.md
@@ -67,7 +67,7 @@ check_house() {
 # The table under it names each crate; each crate is a folder with a first comment of a sentence.
 check_crates() {
     local crate count=0
-    for crate in $(sed -n 's/^\([a-z_]*\):.*/\1/p' crates.txt); do
+    for crate in $(sed -n 's/^\([a-z_0-9]*\):.*/\1/p' crates.txt); do
         count=$((count + 1))
         grep -q "^|.*\`$crate\`" docs/ARCHITECTURE.md || fail "docs/ARCHITECTURE.md: no row names $crate"
         awk '!/^\/\/ / { exit 1 } /[.](  *|$)/ { exit 0 }' "$(ls crates/"$crate"/src/{lib,main}.rt 2>/dev/null | head -n 1)" ||
@@ -104,7 +104,7 @@ audited() {
             for (k = 2; k <= n; k += 2) {
                 if (part[k - 1] ~ /\|/) file = ""
                 if (part[k] ~ /^docs\//) { file = ""; print part[k] }
-                else if (part[k] ~ /^[a-z_]+\/([A-Za-z_\/]+\.(antt|rt)|must-fail)$/) { file = "crates/" part[k]; print file }
+                else if (part[k] ~ /^[a-z_0-9]+\/([A-Za-z_\/]+\.(antt|rt)|must-fail)$/) { file = "crates/" part[k]; print file }
                 else if (file != "") print file, part[k]
             }
         }' docs/AUDIT.md
@@ -115,7 +115,7 @@ defines() { # FILE NAME
     case $1 in
     *.antt) grep -qE "^ *((abbrev|unfoldable|pub|record|data) )*$2( |\$)" "$1" ;;
     *.rt) grep -qE "(fn|struct|enum|const) $2\\b" "$1" ;;
-    *) grep -qE "^# [a-z_]*::$2 " "$1"/*.edit ;;
+    *) grep -qE "^# [a-z_0-9]*::$2 " "$1"/*.edit ;;
     esac
 }
 

@@ -8,7 +8,7 @@ batch_counts=(1 2 3 8 64)
 same_in_batches() {
     local about=$1 file=$2 format before many
     shift 2
-    for format in words text csv records; do
+    for format in words text csv json records; do
         run log --in "$file" --format "$format" "$@"
         cp out wanted
         cp err wanted.err

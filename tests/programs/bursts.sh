@@ -48,7 +48,7 @@ $(hit_line "$many")" "$(cat err)"
     same "at most two bytes of a piece are flipped" yes \
         "$([ "$(flipped_bytes came | wc -l)" -le $((2 * many)) ] && [ "$(flipped_bytes came | wc -l)" -ge "$many" ] && echo yes || echo no)"
     run log --in came --format csv
-    same "a log of them, the notes" "$many" "$(grep -c ',note,[0-9]*,,wrong CRC,,$' out || true)"
+    same "a log of them, the notes" "$many" "$(grep -c ',note,.*,2,wrong CRC,,,,,$' out || true)"
     has_line "a log of them, the summary" "barzhilup log:   note wrong CRC: $many" err
 }
 

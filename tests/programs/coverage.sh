@@ -4,18 +4,18 @@
 check_lines() {
     local number line words
     while IFS='|' read -r number line words; do
-        printf '%s\n0,received,0,96,,0,0\n%b\n' "$title" "$line" >wrong.csv
+        printf '%s\n0,received,,0,,,96,,,,0,0,,,\n%b\n' "$title" "$line" >wrong.csv
         stops "barzhilup coverage: wrong.csv: line $number: $words" coverage --in wrong.csv --out new
         there "a wrong log" no new
     done < <(grep -v '^#' "$data/coverage.lines")
-    printf '0,received,0,96,,0,0\n' >wrong.csv
+    printf '0,received,,0,,,96,,,,0,0,,,\n' >wrong.csv
     stops "barzhilup coverage: wrong.csv: line 1: not $title" coverage --in wrong.csv
-    { echo "$title"; head -c 201 /dev/zero | tr '\0' 0; } >wrong.csv
-    stops "barzhilup coverage: wrong.csv: line 2: over 200 bytes" coverage --in wrong.csv
-    stops "barzhilup coverage: sent: line 1: over 200 bytes" coverage --in sent
+    { echo "$title"; head -c 601 /dev/zero | tr '\0' 0; } >wrong.csv
+    stops "barzhilup coverage: wrong.csv: line 2: over 600 bytes" coverage --in wrong.csv
+    stops "barzhilup coverage: sent: line 1: over 600 bytes" coverage --in sent
     echo old >kept
     run coverage --in wrong.csv --out kept --force
-    said "a wrong log, with a picture that is there" 1 coverage "barzhilup coverage: wrong.csv: line 2: over 200 bytes"
+    said "a wrong log, with a picture that is there" 1 coverage "barzhilup coverage: wrong.csv: line 2: over 600 bytes"
     same "a wrong log leaves the picture as it was" old "$(cat kept)"
     there "a wrong log" no kept~
     rm kept
@@ -67,24 +67,25 @@ check_cut() { # WHAT WHOLE-LINES
 # that leaves it not whole; and in its first.
 check_cut_lines() {
     local line length
-    printf '%s\n0,received,0,96,,1,0\n0,packet,5,40,,,\n' "$title" >start.csv
-    for line in 1,received,0,96,,12,34 0,packet,63,4096,, 0,psd,,14,, 0,note,0,,lost, '1,refused,9,96,La out of place,1,20' 1,lost,,,,1,0 ,end,1,,whole,; do
+    printf '%s\n0,received,,0,,,96,,,,1,0,,,\n0,packet,,,,5,40,,,,,,0badf00d,,\n' "$title" >start.csv
+    for line in 1,received,first,0,,,96,,,,12,34,,, 0,packet,,,,63,4096,,,,,, 0,psd,,,,,14,,,,,, 0,note,,,,,,0, '1,refused,,,9,,96,,,La out of place,1,20,,,' \
+        1,lost,,,,,,,,,1,0,,, ,end,,,,,,,,whole,,,,,0; do
         for ((length = 1; length <= ${#line}; length += 1)); do
             { cat start.csv; printf '%s' "${line:0:length}"; } >cut.csv
             check_cut "a log cut after '${line:0:length}'" start.csv
         done
     done
-    { cat start.csv; printf '0,packet,6,40,,,'; } >cut.csv
-    { cat start.csv; printf '0,packet,6,40,,,\n'; } >whole.csv
+    { cat start.csv; printf '0,packet,,,,6,40,,,,,,0badf00d,,'; } >cut.csv
+    { cat start.csv; printf '0,packet,,,,6,40,,,,,,0badf00d,,\n'; } >whole.csv
     check_cut "a log cut before a line's end" whole.csv
-    for line in 5,packet,6,40,,, ,end,2,,whole,,; do
+    for line in 5,packet,,,,6,40,,,,,,0badf00d,, "$(end_line 2)"; do
         { cat start.csv; printf '%s' "$line"; } >cut.csv
         run coverage --in cut.csv
         ended "a line that is whole but for its end, and wrong: $line" 1 coverage
     done
-    { cat start.csv; printf ',end,1,,whole,,\n1,lo'; } >cut.csv
-    stops "barzhilup coverage: cut.csv: line 5: fewer fields than the first line has" coverage --in cut.csv
-    printf 'pdu,kind,number' >cut.csv
+    { cat start.csv; end_line 1; printf '1,lo'; } >cut.csv
+    stops "barzhilup coverage: cut.csv: line 5: kind is none of received, lost, refused, packet, psd, note" coverage --in cut.csv
+    printf 'pdu,kind,copy' >cut.csv
     stops "barzhilup coverage: cut.csv: line 1: not $title" coverage --in cut.csv
 }
 
@@ -110,19 +111,19 @@ many() {
 totals_of() {
     local received corrected lost refused all
     received=$(many ',received,' "$1")
-    corrected=$(many ',received,[1-8],' "$1")
-    lost=$(many ',lost,,,,' "$1")
+    corrected=$(many ',received,[a-z]*,[1-8],' "$1")
+    lost=$(many ',lost,,,,,,,,' "$1")
     refused=$(many ',refused,' "$1")
     all=$((received + lost + refused))
     printf 'barzhilup coverage: PDUs %s: received %s (%s of PDUs), ' "$all" "$received" "$(share "$received" "$all")"
     printf 'of these corrected %s (%s of the received), ' "$corrected" "$(share "$corrected" "$received")"
-    printf 'lost %s, refused %s; wrong CRCs %s; ' "$lost" "$refused" "$(many ',wrong CRC,,$' "$1")"
+    printf 'lost %s, refused %s; wrong CRCs %s; ' "$lost" "$refused" "$(many ',wrong CRC,,,,,$' "$1")"
     loss_said "$(counted_loss "$1")"
 }
 
 # Delivered and missing of a log, counted here from the numbers of its packets: each after the first adds its number minus the last minus 1, modulo 64.
 counted_loss() {
-    awk -F , '$2 == "packet" { if (n) missing += ($3 + 63 - last) % 64; last = $3; n += 1 } END { print n + 0, missing + 0 }' "$1"
+    awk -F , '$2 == "packet" { if (n) missing += ($6 + 63 - last) % 64; last = $6; n += 1 } END { print n + 0, missing + 0 }' "$1"
 }
 
 # What is said of delivered and missing in the line of totals.
@@ -147,19 +148,19 @@ check_wrong_crcs() {
     { pdus 0 1; pdus 1 1 | head -c 250; printf '\xa5'; pdus 1 1 | tail -c +252; pdus 2 9; } >bad
     run log --in bad --format csv
     cp out bad.csv
-    same "a damaged piece" 1 "$(many ',wrong CRC,,$' bad.csv)"
+    same "a damaged piece" 1 "$(many ',wrong CRC,,,,,$' bad.csv)"
     check_totals bad.csv
     same "a damaged piece in the picture, and two in the legend" 3 "$(grep -c '<circle' out || true)"
 }
 
 # A drive of no PDUs has no shares.
 check_no_pdus() {
-    printf '%s\n,end,0,,whole,,\n' "$title" >none.csv
+    printf '%s\n%s\n' "$title" "$(end_line 0)" >none.csv
     run coverage --in none.csv
     same "no shares of no PDUs" 0 "$(cat out err | grep -c '%' || true)"
     same "a picture of no PDUs is whole" "</svg>" "$(tail -n 1 out)"
     ended "a picture of no PDUs" 0 coverage
-    printf '%s\n0,lost,,,,0,0\n,end,1,,whole,,\n' "$title" >none.csv
+    printf '%s\n0,lost,,,,,,,,,0,0,,,\n%s\n' "$title" "$(end_line 1)" >none.csv
     run coverage --in none.csv
     same "no share of no received PDUs" 0 "$(grep -c 'of the received' err || true)"
     ended "a picture of no received PDUs" 0 coverage
@@ -174,6 +175,6 @@ check_picture() {
     run coverage --in log.csv --title '<&> "x" é' --columns 20
     same "a picture is XML" "" "$(xmllint --noout out 2>&1)"
     same "its title" '<&> "x" é' "$(xmllint --xpath 'string(/*/*[local-name()="title"])' out)"
-    same "its cells, with seven in the legend" $((7 + $(many ',received,\|,lost,,,,\|,refused,' log.csv))) \
+    same "its cells, with seven in the legend" $((7 + $(many ',received,\|,lost,,,,,,,,\|,refused,' log.csv))) \
         "$(xmllint --xpath 'count(//*[local-name()="rect"][contains(" r c1 c2 c3 c4 l f ", concat(" ", @class, " "))])' out)"
 }

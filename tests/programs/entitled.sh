@@ -45,7 +45,7 @@ chosen() { # LETTERS
 
 # The PDUs that a CSV has as withheld, in a line.
 withheld_in() {
-    sed -n 's/^\([0-9]*\),note,0,,withheld,,$/\1/p' "$1" | tr '\n' ' ' | sed 's/ $//'
+    sed -n 's/^\([0-9]*\),note,,,,,,,8,withheld,,,,,$/\1/p' "$1" | tr '\n' ' ' | sed 's/ $//'
 }
 
 # How many PDUs the summary of a log, or the line of a picture, has as withheld.
@@ -62,7 +62,7 @@ check_entitled_values() {
     wrong "barzhilup log: --entitled: not none, nor numbers with commas between them: " log --entitled=
     wrong "barzhilup log: --mode: not a number from 0 to 255: x
 barzhilup log: --entitled: not none, nor numbers with commas between them: y
-barzhilup log: --format: not words, text, csv or records: z" log --format z --entitled y --mode x
+barzhilup log: --format: not words, text, csv, json or records: z" log --format z --entitled y --mode x
     for list in 8 0,8 7,7 1,2,1 0,1,2,3,4,5,6,7,0 0,1,2,3,4,5,6,7,8 255 256 300 4294967295 1,1,1,1,1,1,1,1,1,1,1,1; do
         stops "barzhilup log: refused with 22: program number over 7 or repeated" log --in sent --entitled "$list" --out new
         there "a list that is refused" no new
@@ -105,7 +105,7 @@ check_entitled_none() {
     printf '\0\0\10\300' >word
     for list in none 0,1,2,4,5,6,7; do
         run log --in paid --format csv --entitled "$list"
-        same "entitled to $list, the CSV" "$(awk -v many="$programmed" -v title="$title" 'BEGIN { print title; for (k = 0; k < many; k += 1) print k ",received,0,300,,0,0\n" k ",note,0,,withheld,,"; print ",end," many ",,whole,," }')" "$(cat out)"
+        same "entitled to $list, the CSV" "$(awk -v many="$programmed" -v title="$older_title" 'BEGIN { print title; for (k = 0; k < many; k += 1) print k ",received,0,300,,0,0\n" k ",note,0,,withheld,,"; print ",end," many ",,whole,," }')" "$(older out)"
         said "entitled to $list" 0 log "barzhilup log: PDUs $programmed: received $programmed, of these withheld $programmed, lost 0, refused 0
 barzhilup log: headers corrected 0, bytes corrected 0
 barzhilup log: packets 0, PSD entries 0, notes $programmed
@@ -219,15 +219,15 @@ check_entitled_drives() {
     run log --in free --format csv
     cp out all.csv
     begins free all.csv >begun
-    same "each packet has its beginning" "$(grep -c ',packet,' all.csv)" "$(wc -l <begun)"
+    same "each packet has its beginning" "$(grep -c '[0-9],packet,' all.csv)" "$(wc -l <begun)"
     for letters in fp ffppp pppffffp fffffffffp pf ppppppppppppppppppppf; do
         letters=$(awk -v many="$programmed" -v some="$letters" 'BEGIN { while (length(all) < many) all = all some; print substr(all, 1, many) }')
         chosen "$letters" >mixed
-        grep ',packet,' all.csv | paste -d ' ' begun - | awk -v letters="$letters" 'substr(letters, $1 + 1, 1) == "f" { print $2 }' >wanted
+        grep '[0-9],packet,' all.csv | paste -d ' ' begun - | awk -v letters="$letters" 'substr(letters, $1 + 1, 1) == "f" { print $2 }' >wanted
         run log --in mixed --format csv --entitled 0,7
         ended "a drive ${letters:0:24}" 0 log
         cp out mixed.csv
-        same_file "a drive ${letters:0:24}, its packets" wanted <(grep ',packet,' mixed.csv)
+        same_file "a drive ${letters:0:24}, its packets" wanted <(grep '[0-9],packet,' mixed.csv)
         same "a drive ${letters:0:24}, the withheld PDUs" "$(awk -v letters="$letters" 'BEGIN { for (k = 1; k <= length(letters); k += 1) if (substr(letters, k, 1) == "p") print k - 1 }' | tr '\n' ' ' | sed 's/ $//')" "$(withheld_in mixed.csv)"
         same "a drive ${letters:0:24}, PSD" "$(tr -cd f <<<"$letters" | wc -c)" "$(grep -c ',psd,' mixed.csv || true)"
         same "a drive ${letters:0:24}, how many it says" "$(tr -cd p <<<"$letters" | wc -c)" "$(withheld_said)"
@@ -236,7 +236,7 @@ check_entitled_drives() {
         run log --in mixed --marks none.marks --format csv --entitled 0,7
         same_file "a drive ${letters:0:24}, with marks" mixed.csv out
         run log --in mixed --second mixed --format csv --entitled 0,7
-        same_file "a drive ${letters:0:24}, with itself" mixed.csv <(sed 's/,either copy,/,,/' out)
+        same_file "a drive ${letters:0:24}, with itself" mixed.csv <(sed 's/,either,/,,/' out)
     done
     same_in_batches "a drive of two kinds" mixed --entitled 0,7
     same_in_batches "a drive of two kinds by another register" mixed --entitled 0,7 --crc-start 9
@@ -256,10 +256,10 @@ check_entitled_two() {
     letters=$(awk -v many="$programmed" 'BEGIN { while (length(all) < many) all = all "fFpPfPPpFpp"; print substr(all, 1, many) }')
     chosen "$letters" >mixed
     while read -r list barred; do
-        grep ',packet,' all.csv | paste -d ' ' begun - | awk -v letters="$letters" -v barred="$barred" '!index(barred, substr(letters, $1 + 1, 1)) { print $2 }' >wanted
+        grep '[0-9],packet,' all.csv | paste -d ' ' begun - | awk -v letters="$letters" -v barred="$barred" '!index(barred, substr(letters, $1 + 1, 1)) { print $2 }' >wanted
         run log --in mixed --format csv --entitled "$list"
         ended "two programs, entitled to $list" 0 log
-        same_file "two programs, entitled to $list, the packets" wanted <(grep ',packet,' out)
+        same_file "two programs, entitled to $list, the packets" wanted <(grep '[0-9],packet,' out)
         same "two programs, entitled to $list, the withheld PDUs" "$(awk -v letters="$letters" -v barred="$barred" 'BEGIN { for (k = 1; k <= length(letters); k += 1) if (index(barred, substr(letters, k, 1))) print k - 1 }' | tr '\n' ' ' | sed 's/ $//')" "$(withheld_in out)"
         same_in_batches "two programs, entitled to $list" mixed --entitled "$list"
     done <<'LISTS'
@@ -277,7 +277,7 @@ LISTS
 # The picture of a log, and the line of its totals: a hollow cell for each withheld PDU. What is withheld counts as missing.
 check_entitled_picture() { # WHAT
     local many
-    many=$(grep -c ',withheld,,$' mixed.csv)
+    many=$(grep -c ',withheld,,,,,$' mixed.csv)
     same "a drive $1, delivered and missing" "$(counted_loss mixed.csv)" "$(last_loss mixed.csv)"
     run coverage --in mixed.csv
     ended "the picture of a drive $1" 0 coverage

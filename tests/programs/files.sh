@@ -279,7 +279,7 @@ wanted_of_cut() {
     awk -F , -v whole="$whole" 'NR == 1 || $1 != "" && $1 < whole' two.csv >wanted
     : >wanted.err
     if [ $(($1 % 98)) = 0 ]; then
-        echo ",end,$whole,,whole,," >>wanted
+        end_line "$whole" >>wanted
     else
         echo "barzhilup log: part: ends inside the record of PDU $whole" >wanted.err
     fi
@@ -321,7 +321,7 @@ check_full_devices() {
     check_full "PDUs to a full device" "$(nothing_of generate)" generate --in packets
     check_full "long PDUs to a full device" "$(nothing_of generate)" generate --in packets --length 20480
     check_full "damaged PDUs to a full device" "$(nothing_of channel)" channel --in sent
-    for format in words text csv records; do
+    for format in words text csv json records; do
         check_full "$format to a full device" "$(nothing_of log)" log --in sent --format "$format"
     done
     run coverage --in log.csv
@@ -335,7 +335,7 @@ check_pipes() {
     all=$("$program" generate --length 300 --psd psd <packets 2>/dev/null | "$program" channel --seed 3 --loss 200 2>/dev/null \
         | "$program" log --format csv 2>err)
     same "three subcommands in pipes" "$(cat log.csv)" "$all"
-    same "the last one counts" "barzhilup log: PDUs $(grep -c ',received,\|,lost,,,,' log.csv)" "$(head -n 1 err | cut -d : -f 1,2)"
+    same "the last one counts" "barzhilup log: PDUs $(grep -c ',received,\|,lost,,,,,,,,' log.csv)" "$(head -n 1 err | cut -d : -f 1,2)"
     run coverage <log.csv
     same_file "a picture from standard input" picture.svg out
     "$program" coverage <"$work/log.csv" 2>err | cat >out
@@ -381,7 +381,7 @@ check_killed() {
     mkfifo fifo
     pdus 0 7 >seven
     run log --in seven --format "$format"
-    sed '/^,end,/d' out >wanted
+    sed '/^,end,\|"kind":"end"/d' out >wanted
     "$program" log --in fifo --format "$format" --out killed 2>err &
     process=$!
     exec 9>fifo
@@ -435,7 +435,7 @@ check_terminals() {
     done >many
     for ((copy = 0; copy < 1100; copy += 1)); do
         echo "$copy,lost,,,,0,0"
-    done | sed "1i $title" >many.csv
+    done | sed "1i $older_title" >many.csv
     for ((copy = 0; copy < 15; copy += 1)); do
         cat packets
     done >many.packets

@@ -115,7 +115,7 @@ check_many_pieces() {
             cp out many
             run log --in many --mode "$mode" --format csv
             ended "64 packets of a byte, mode $mode, PSD of $psd, logged" 0 log
-            same "64 packets of a byte, mode $mode, PSD of $psd, logged" 64 "$(grep -c '^[01],packet,[0-9]*,1,,,$' out)"
+            same "64 packets of a byte, mode $mode, PSD of $psd, logged" 64 "$(grep -c '^[01],packet,,,,[0-9]*,1,' out)"
         done
     done
 }

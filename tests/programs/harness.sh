@@ -27,12 +27,29 @@ has_line() {
     same "$1" "a line: $2" "$(grep -qxF -- "$2" "$3" && echo "a line: $2" || cat "$3")"
 }
 
-# The lines of a CSV without the loss column, delivered and missing.
-bare() {
-    cut -d , -f 1-5 "$1"
+# A CSV in the columns of older logs. In these the number is that of header bytes corrected, of the refusal, of the packet, or of the piece of a note, 0 if
+# there is none; and the copy of a received PDU stands in words in place of the cause.
+older() {
+    awk -F , -v OFS=, -v title="$older_title" '
+        NR == 1 { print title; next }
+        $2 == "end" { print "", "end", $15, "", $10, "", ""; next }
+        { number = $4 $5 $6; cause = $10 }
+        $2 == "note" { number = $8 == "" ? 0 : $8 }
+        $2 == "received" && $3 != "" { cause = $3 ($3 == "both" ? " copies" : " copy") }
+        { print $1, $2, number, $7, cause, $11, $12 }' "$1"
 }
 
-# A check that a line stands somewhere in a CSV, whatever its loss column has.
+# The same without the loss column, delivered and missing.
+bare() {
+    older "$1" | cut -d , -f 1-5
+}
+
+# The last line of a CSV of so many PDUs.
+end_line() {
+    echo ",end,,,,,,,,whole,,,,,$1"
+}
+
+# A check that a line stands somewhere in a CSV, in the first five columns of older logs.
 has_entry() {
     same "$1" "a line: $2" "$(grep -qxF -- "$2" <(bare "$3") && echo "a line: $2" || cat "$3")"
 }
@@ -148,8 +165,9 @@ said_loss() {
     sed -n 's/.*; \(packets delivered [^;]*\).*/\1/p' err
 }
 
-# The first line of a CSV.
-title=pdu,kind,number,length,cause,delivered,missing
+# The first line of a CSV, and that of older ones.
+title=pdu,kind,copy,corrected,refusal,packet,length,piece,note,cause,delivered,missing,crc32,text,pdus
+older_title=pdu,kind,number,length,cause,delivered,missing
 
 # A record: its length in two bytes, low byte first, and bytes of zero.
 record() {

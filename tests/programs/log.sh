@@ -129,20 +129,20 @@ check_hole() {
     { head -c 196 long; cat other; tail -c +393 long; } >holed
     run log --in holed --format csv
     same "PDUs with a hole" 8 "$(grep -c ',received,\|,refused,' out)"
-    same "no packet is joined across PDUs of another mode" 0 "$(grep -c ',packet,' out || true)"
+    same "no packet is joined across PDUs of another mode" 0 "$(grep -c '[0-9],packet,' out || true)"
 }
 
 # The CSV's last line counts the PDUs, and stands only where all is logged.
 check_last_line() {
     local many
-    many=$(grep -c ',received,\|,lost,,,,\|,refused,' log.csv)
-    same "the CSV's last line" ",end,$many,,whole,," "$(tail -n 1 log.csv)"
+    many=$(grep -c ',received,\|,lost,,,,,,,,\|,refused,' log.csv)
+    same "the CSV's last line" "$(end_line "$many")" "$(tail -n 1 log.csv)"
     same "it stands once" 1 "$(grep -c ',end,' log.csv)"
     run log --in empty --format csv
     same "the CSV of no PDUs" "$title
-,end,0,,whole,," "$(cat out)"
+$(end_line 0)" "$(cat out)"
     run log --in drive --format csv
-    same "the CSV's last line with refused PDUs" ",end,5,,whole,," "$(tail -n 1 out)"
+    same "the CSV's last line with refused PDUs" "$(end_line 5)" "$(tail -n 1 out)"
     head -c -1 damaged >part
     run log --in part --format csv
     same "no last line in the CSV of a cut file" 0 "$(grep -c ',end,' out || true)"
@@ -153,7 +153,7 @@ check_last_line() {
 draws() { # FILE MODE NUMBER...
     local file=$1 mode=$2 wanted
     shift 2
-    wanted=$(counted_loss <(printf '0,packet,%s\n' "$@"))
+    wanted=$(counted_loss <(printf '0,packet,,,,%s\n' "$@"))
     run log --in "$file" --mode "$mode" --format csv
     ended "the log of $file" 0 log
     # shellcheck disable=SC2086
@@ -206,6 +206,8 @@ check_stored() {
     same_file "stored log" "$data/log.csv" out
     run coverage --in "$data/drive.csv" --columns 20 --title 'Up & down the hill <test>'
     same_file "stored picture" "$data/drive.svg" out
+    run coverage --in "$data/counted.csv" --columns 20 --title 'Up & down the hill <test>'
+    same_file "the same picture, from the columns of older logs" "$data/drive.svg" out
     run coverage --in "$data/older.csv" --columns 20 --title 'Up & down the hill <test>'
     same_file "stored picture of a log without a loss column" "$data/older.svg" out
 }

@@ -31,14 +31,14 @@ loss_by_places() {
 
 # The loss column of a CSV's last PDU.
 last_loss() {
-    awk -F , '$2 == "received" || $2 == "lost" || $2 == "refused" { loss = $6 " " $7 } END { print loss }' "$1"
+    awk -F , '$2 == "received" || $2 == "lost" || $2 == "refused" { loss = $11 " " $12 } END { print loss }' "$1"
 }
 
 # The lines of a CSV with a loss column that is counted here, PDU by PDU, from the numbers of the packets.
 recounted() {
     awk -F , -v OFS=, '
-        NR == FNR { if ($2 == "packet") { if (n) missing += ($3 + 63 - last) % 64; last = $3; n += 1 } if ($1 != "") { delivered[$1] = n + 0; lost[$1] = missing + 0 }; next }
-        $2 == "received" || $2 == "lost" || $2 == "refused" { print $1, $2, $3, $4, $5, delivered[$1], lost[$1]; next }
+        NR == FNR { if ($2 == "packet") { if (n) missing += ($6 + 63 - last) % 64; last = $6; n += 1 } if ($1 != "") { delivered[$1] = n + 0; lost[$1] = missing + 0 }; next }
+        $2 == "received" || $2 == "lost" || $2 == "refused" { $11 = delivered[$1]; $12 = lost[$1] }
         { print }' "$1" "$1"
 }
 
@@ -67,7 +67,7 @@ figure() {
 
 # Where missing grows in a CSV, and by how much.
 growth() {
-    awk -F , '$2 == "received" || $2 == "lost" || $2 == "refused" { if ($7 > before) print $7 - before; before = $7 }' "$1" | tr '\n' ' '
+    awk -F , '$2 == "received" || $2 == "lost" || $2 == "refused" { if ($12 > before) print $12 - before; before = $12 }' "$1" | tr '\n' ' '
 }
 
 # The numbers at the picture's ticks; the last tick is that of the legend.
@@ -168,7 +168,7 @@ check_loss_second() {
 
 # Draws lines of a log.
 draws_lines() { # LINE...
-    { echo "$title"; printf '%s\n' "$@"; } >lines.csv
+    { echo "$older_title"; printf '%s\n' "$@"; } >lines.csv
     run coverage --in lines.csv
     ended "a log of $# lines" 0 coverage
 }
@@ -207,10 +207,13 @@ $(totals_of log.csv | sed 's/; packets delivered.*//')" "$(cat err)"
     same "a log without a loss column, cells and bars" "$(grep '<rect\|<circle' picture.svg)" "$(grep '<rect\|<circle' out)"
     run coverage --in log.csv
     same "a log with one" 0 "$(cat out err | grep -c 'no loss column' || true)"
-    sed 's/,,$//' log.csv >mixed.csv
+    older log.csv >counted.csv
+    run coverage --in counted.csv
+    same_file "a log in the columns of older ones" picture.svg out
+    { echo "$older_title"; bare log.csv | sed 1d; } >mixed.csv
     run coverage --in mixed.csv
-    ended "lines without the columns of the first line" 1 coverage
-    sed "1s/.*/pdu,kind,number,length,cause/" log.csv | grep -v ,end, >mixed.csv
+    ended "lines without the counts that the first line names" 1 coverage
+    older log.csv | sed "1s/.*/pdu,kind,number,length,cause/" | grep -v ,end, >mixed.csv
     run coverage --in mixed.csv
     same "anything may stand in the cause of a log without a loss column" "barzhilup coverage: mixed.csv: has no loss column: no packets are counted" "$(sed -n 2p err)"
     ended "anything may stand in the cause of a log without a loss column" 0 coverage

@@ -66,7 +66,7 @@ check_marks_of_lost() {
 
 # Without the numbers of corrected bytes: what a log says of PDUs that are all received.
 without_counts() {
-    sed 's/,received,[0-9],/,received,,/' "$1"
+    sed 's/,received,,[0-9],/,received,,,/' "$1"
 }
 
 # PDUs with up to eight altered header bytes: those with more than four are refused without marks; with them all are received, each with as many bytes
@@ -78,7 +78,7 @@ check_marks_worth() {
     far=$(places_of places | awk 'NF > 4' | wc -l)
     same "some PDUs have more than four altered bytes" yes "$([ "$far" -gt 5 ] && echo yes || echo no)"
     run log --in came --format csv
-    same "without marks they are refused" "$far" "$(grep -c ',refused,4,300,header beyond correction,' out || true)"
+    same "without marks they are refused" "$far" "$(grep -c ',refused,,,4,,300,,,header beyond correction,' out || true)"
     same "without marks the others are received" $(($(sent_pdus) - far)) "$(grep -c ',received,' out || true)"
     run log --in came --marks places --format csv
     ended "with marks" 0 log
@@ -227,7 +227,7 @@ $(nothing_of log)"
     ended "a cut recording with marks for more" 1 log
     run log --in empty --marks empty --format csv
     same "no PDUs and no marks" "$title
-,end,0,,whole,," "$(cat out)"
+$(end_line 0)" "$(cat out)"
     ended "no PDUs and no marks" 0 log
 }
 

@@ -62,7 +62,7 @@ barzhilup generate: --crc-start: not a number from 0 to 255: 256
 barzhilup generate: --length: not a number from 0 to 65535: 70000" generate --length 70000 --crc-start 256 --stream x
     wrong "barzhilup log: --stream: not a number from 0 to 255: x
 barzhilup log: --crc-start: not a number from 0 to 255: -1
-barzhilup log: --format: not words, text, csv or records: xml" log --format xml --crc-start -1 --stream x
+barzhilup log: --format: not words, text, csv, json or records: xml" log --format xml --crc-start -1 --stream x
     for sub in generate log; do
         run "$sub" --help
         same "$sub --help says why" yes "$(tr -s '\n ' ' ' <out | grep -q 'recordings off the air check with 255' && echo yes || echo no)"
@@ -93,7 +93,7 @@ check_register_all() {
         same_file "written and logged with $n, what is said" wanted.err err
         run log --in every --crc-start $((255 - n)) --format csv
         same "written with $n and logged with $((255 - n))" "$pieces notes, 0 packets, 0" \
-            "$(grep -c '^[0-9]*,note,[0-9]*,,wrong CRC,,$' out || true) notes, $(grep -c ',packet,' out || true) packets, $status"
+            "$(grep -c '^[0-9]*,note,.*,2,wrong CRC,,,,,$' out || true) notes, $(grep -c '[0-9],packet,' out || true) packets, $status"
         same "written with $n and logged with $((255 - n)), the last line" "$(all_wrong_line $((255 - n)))" "$(tail -n 1 err)"
     done
 }
@@ -111,7 +111,7 @@ check_register_drive() {
     done
     run log --in started.damaged --format csv
     ended "a drive at 255 logged at 0" 0 log
-    same "a drive at 255 logged at 0, packets" 0 "$(grep -c ',packet,' out || true)"
+    same "a drive at 255 logged at 0, packets" 0 "$(grep -c '[0-9],packet,' out || true)"
     same "a drive at 255 logged at 0, PDUs" "$(grep -c ',received,' log.csv)" "$(grep -c ',received,' out)"
     same "a drive at 255 logged at 0, the last line" "$(all_wrong_line 0)" "$(tail -n 1 err)"
 }

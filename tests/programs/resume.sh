@@ -99,7 +99,7 @@ check_resume_cuts() {
     cp out many
     parted many 12
     cp first.part small
-    in_two_everywhere "damaged and lost" small "words text csv" --
+    in_two_everywhere "damaged and lost" small "words text csv json" --
     { pdus 0 2; record 95; pdus 2 1; record 0; record 96; pdus 3 1; } >small
     in_two_everywhere "refused" small csv --
     steps 0 1 3 3 4 4 5 7 2 >small
@@ -177,11 +177,11 @@ check_resume_chain() {
     ended "the picture of a drive in $from runs" 0 coverage
     many=$(record_places damaged | wc -l)
     run log --in empty --format csv --resume "state.$((from - 1))"
-    same "a run of no PDU after all" ",end,$many,,whole,," "$(cat out)"
+    same "a run of no PDU after all" "$(end_line "$many")" "$(cat out)"
     said "a run of no PDU after all" 0 log "barzhilup log: state.$((from - 1)): goes on after $many PDUs and $(head -n -1 wanted | wc -c) bytes of their log
 $(nothing_of log | head -n -1)
 $loss"
-    same "its loss column is the drive's" "$(loss_line "$(awk -F , '$2 == "packet"' wanted | wc -l)" "$(awk -F , '$7 != "" { n = $7 } END { print n }' wanted)")" "$loss"
+    same "its loss column is the drive's" "$(loss_line "$(awk -F , '$2 == "packet"' wanted | wc -l)" "$(awk -F , '$12 ~ /^[0-9]/ { n = $12 } END { print n }' wanted)")" "$loss"
 }
 
 # The summary, but for its line of the loss column, and what is asked after it, are of this run alone; its mode, stream and register are those that were saved.

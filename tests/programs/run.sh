@@ -16,7 +16,7 @@ if [ ! -x "$program" ]; then
 fi
 program=$(readlink -f "$program")
 subs=(generate channel log coverage latency join)
-for part in harness usage files generate log marks second registers batches bursts road stream coverage loss entitled resume beside damaged latency join; do
+for part in harness usage files generate log marks second registers batches bursts road stream coverage columns loss entitled resume beside damaged latency join; do
     # shellcheck source=/dev/null
     . "$here/$part.sh"
 done
@@ -113,6 +113,9 @@ check_totals drive.csv
 check_wrong_crcs
 check_no_pdus
 check_picture
+check_columns_same
+check_columns_text
+check_columns_saved
 check_loss_drives
 check_loss_far
 check_loss_withheld
@@ -178,6 +181,7 @@ check_pipes
 check_twice
 check_killed text
 check_killed words
+check_killed json
 check_killed_picture
 check_terminals
 echo "programs: $checks checks, $failed failed"

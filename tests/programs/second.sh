@@ -18,7 +18,7 @@ altered() { # FILE PDU PLACE
 
 # The lines of packets of a CSV, sorted.
 packets_of() {
-    { grep ',packet,' "$1" || true; } | sort
+    { grep '[0-9],packet,' "$1" || true; } | sort
 }
 
 # The line of the summary for what a file gives alone, from what its own log says: first or second, and the summary of that log.
@@ -40,7 +40,7 @@ check_second_same() {
     same_file "a file with itself, the words" wanted out
     ended "a file with itself" 0 log
     run log --in sent --format csv
-    sed 's/^\([0-9]*,received,[0-9]*,[0-9]*,\)/\1either copy/' out >wanted
+    sed 's/^\([0-9]*,received,\),/\1either,/' out >wanted
     run log --in sent --second sent --format csv
     same_file "a file with itself, the CSV" wanted out
     run log --in sent
@@ -72,7 +72,7 @@ check_second_turns() {
     run log --in even --second even --format csv
     cp out wanted
     run log --in even --format csv
-    same_file "lost in both" <(sed 's/,first copy,\|,either copy,/,,/' wanted) out
+    same_file "lost in both" <(sed 's/,first,\|,either,/,,/' wanted) out
 }
 
 # Two drives over a bad channel: the pair's log has every packet that either has alone, and tells what each gives.
@@ -101,9 +101,9 @@ check_second_drives() {
 
 # The header bytes corrected of a pair are those of the better copy, and its pieces are counted: checked against the copies as they were sent.
 check_second_counted() {
-    same "a pair of drives, seed $1: bytes corrected" "$(awk -F , '$2 == "received" { n += $3 } END { print n + 0 }' out)" \
+    same "a pair of drives, seed $1: bytes corrected" "$(awk -F , '$2 == "received" { n += $4 } END { print n + 0 }' out)" \
         "$(sed -n 's/.*bytes corrected \([0-9]*\)$/\1/p' err | head -n 1)"
-    same "a pair of drives, seed $1: each received PDU has a copy" "$(grep -c ',received,' out)" "$(grep -c ',\(first\|second\|either\) copy,' out)"
+    same "a pair of drives, seed $1: each received PDU has a copy" "$(grep -c ',received,' out)" "$(grep -c ',received,\(first\|second\|either\),' out)"
 }
 
 # Damaged pieces: each is taken from the copy in which its CRC is right. Places 120 and 220 lie in two pieces of PDU 0.
@@ -202,14 +202,14 @@ check_second_lengths() {
     ended "a shorter first file" 0 log
     run log --in sent --second three --format csv
     same "a shorter second file, what is said" "barzhilup log: three: has 3 of $many PDUs: the others count as not come" "$(head -n 1 err)"
-    same "a shorter second file, the last line" ",end,$many,,whole,," "$(tail -n 1 out)"
+    same "a shorter second file, the last line" "$(end_line "$many")" "$(tail -n 1 out)"
     has_entry "a shorter second file, a PDU after its end" "3,received,0,300,first copy" out
     ended "a shorter second file" 0 log
     run log --in empty --second sent --format words
     same_file "an empty first file, the words" wanted out
     run log --in empty --second empty --format csv
     same "two empty files" "$title
-,end,0,,whole,," "$(cat out)"
+$(end_line 0)" "$(cat out)"
     ended "two empty files" 0 log
     check_second_cut "$many"
 }
@@ -260,10 +260,10 @@ check_second_picture() {
     local first second both either
     run log --in even --second sent --format csv
     cp out pair.csv
-    first=$(grep -c ',first copy,' pair.csv || true)
-    second=$(grep -c ',second copy,' pair.csv || true)
-    both=$(grep -c ',both copies,' pair.csv || true)
-    either=$(grep -c ',either copy,' pair.csv || true)
+    first=$(grep -c ',first,' pair.csv || true)
+    second=$(grep -c ',second,' pair.csv || true)
+    both=$(grep -c ',both,' pair.csv || true)
+    either=$(grep -c ',either,' pair.csv || true)
     run coverage --in pair.csv
     ended "the picture of a pair" 0 coverage
     same "the picture of a pair, what is said" "taken from the first copy $first, the second $second, both $both, either $either" \

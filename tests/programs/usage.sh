@@ -200,10 +200,10 @@ check_values() {
     wrong "barzhilup generate: --mode: not a number from 0 to 255: x
 barzhilup generate: --length: not a number from 0 to 65535: 70000
 barzhilup generate: --marker: not a number from 0 to 4294967295: -1" generate --marker -1 --length 70000 --mode x
-    wrong "barzhilup log: --format: not words, text, csv or records: xml" log --format xml
-    wrong "barzhilup log: --format: not words, text, csv or records: CSV" log --format=CSV
+    wrong "barzhilup log: --format: not words, text, csv, json or records: xml" log --format xml
+    wrong "barzhilup log: --format: not words, text, csv, json or records: CSV" log --format=CSV
     wrong "barzhilup log: --stream: not a number from 0 to 255: 256
-barzhilup log: --format: not words, text, csv or records: " log --format '' --stream 256
+barzhilup log: --format: not words, text, csv, json or records: " log --format '' --stream 256
     wrong "barzhilup coverage: --title: over 200 bytes, or not UTF-8" coverage --in log.csv --title "$(head -c 201 /dev/zero | tr '\0' x)"
     wrong "barzhilup coverage: --title: over 200 bytes, or not UTF-8" coverage --in log.csv --title "$(printf 'a\xff')"
     run coverage --in log.csv --title "$(head -c 200 /dev/zero | tr '\0' x)"

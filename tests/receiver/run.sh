@@ -61,7 +61,7 @@ wait "$player" || status=$?
 same "the receiver's status" 0 "$status"
 wait "$logger" || status=$?
 same "the log's status" 0 "$status"
-same "the last line" ",end,$pdus,,whole,," "$(tail -n 1 live.csv)"
+same "the last line" ",end,,,,,,,,whole,,,,,$pdus" "$(tail -n 1 live.csv)"
 
 # It is the log of the same records in a file.
 cat asked rest | ./player sent file

@@ -5,6 +5,7 @@ Needs the built program: in target/bin under the project's root, or in the direc
 
 import array
 import copy
+import csv
 import doctest
 import io
 import os
@@ -15,6 +16,7 @@ import subprocess
 import sys
 import tempfile
 import unittest
+import zlib
 
 HERE = os.path.dirname(os.path.abspath(__file__))
 ROOT = os.path.normpath(os.path.join(HERE, "..", "..", ".."))
@@ -469,9 +471,9 @@ class Programs(Case):
             lines.append((logged.place, logged.kind, number, receiver.delivered, receiver.missing))
             for entry in logged.log:
                 if isinstance(entry, b.Packet):
-                    lines.append((logged.place, "packet", entry.number, len(entry.data)))
+                    lines.append((logged.place, "packet", entry.number, len(entry.data), "{:08x}".format(zlib.crc32(entry.data))))
                 elif isinstance(entry, b.Psd):
-                    lines.append((logged.place, "psd", None, len(entry.data)))
+                    lines.append((logged.place, "psd", None, len(entry.data), "{:08x}".format(zlib.crc32(entry.data))))
                 else:
                     lines.append((logged.place, "note", entry.piece or 0, entry.cause.text))
             pdus += 1
@@ -481,11 +483,11 @@ class Programs(Case):
         told = []
         for line in table.lines:
             if line.kind in ("received", "lost", "refused"):
-                told.append((line.pdu, line.kind, line.number if line.kind == "refused" else None, line.delivered, line.missing))
+                told.append((line.pdu, line.kind, line.refusal, line.delivered, line.missing))
             elif line.kind == "note":
-                told.append((line.pdu, line.kind, line.number, line.cause))
+                told.append((line.pdu, line.kind, line.piece or 0, line.cause))
             else:
-                told.append((line.pdu, line.kind, line.number, line.length))
+                told.append((line.pdu, line.kind, line.packet, line.length, line.crc32))
         self.assertEqual(told, lines)
         self.assertGreater(pdus, 100)
         return words
@@ -630,41 +632,69 @@ class Files(Case):
         self.assertEqual(list(b.read_records(io.BytesIO(b""))), [])
         self.assertRaises(b.MalformedFile, b.read_words, io.BytesIO(b"\1\2\3"))
 
+    HEAD = "pdu,kind,copy,corrected,refusal,packet,length,piece,note,cause,delivered,missing,crc32,text,pdus\n"
+    ROWS = ("0,received,first,1,,,96,,,,1,0,,,\n0,packet,,,,5,4,,,,,,0badf00d,,\n0,psd,,,,,14,,,,,,8c736521,\"Song, by \"\"me\"\"\",\n"
+            "1,refused,,,11,,96,,,locator out of place (k 1),1,0,,,\n1,note,,,,,,,6,lost,,,,,\n1,note,,,,,,0,2,wrong CRC,,,,,\n2,lost,,,,,,,,,1,0,,,\n")
+    END = ",end,,,,,,,,whole,,,,,3\n"
+    #: Lines of an older log that say the same but for what it has no columns for.
+    OLDER = ("pdu,kind,number,length,cause,delivered,missing\n0,received,1,96,first copy,1,0\n0,packet,5,4,,,\n0,psd,,14,,,\n"
+             "1,refused,11,96,locator out of place (k 1),1,0\n1,note,0,,lost,,\n1,note,0,,wrong CRC,,\n2,lost,,,,1,0\n,end,3,,whole,,\n")
+
     def test_csv(self):
-        head = "pdu,kind,number,length,cause,delivered,missing\n"
-        rows = "0,received,1,96,,1,0\n0,packet,5,4,,,\n1,refused,11,96,locator out of place (k 1),1,0\n1,note,0,,lost,,\n2,lost,,,,1,0\n"
-        table = b.read_csv(io.StringIO(head + rows + ",end,3,,whole,,\n"))
+        head, rows = self.HEAD, self.ROWS
+        table = b.read_csv(io.StringIO(head + rows + self.END))
         self.assertTrue(table.whole)
-        self.assertEqual(table.lines[0], b.Line(0, "received", 1, 96, None, 1, 0))
-        self.assertEqual(table.lines[2], b.Line(1, "refused", 11, 96, "locator out of place (k 1)", 1, 0))
-        self.assertEqual(len(table.lines), 5)
+        self.assertEqual(table.lines, [
+            b.Line(0, "received", copy="first", corrected=1, length=96, delivered=1, missing=0),
+            b.Line(0, "packet", packet=5, length=4, crc32="0badf00d"),
+            b.Line(0, "psd", length=14, crc32="8c736521", text='Song, by "me"'),
+            b.Line(1, "refused", refusal=11, length=96, cause="locator out of place (k 1)", delivered=1, missing=0),
+            b.Line(1, "note", note=6, cause="lost"),
+            b.Line(1, "note", piece=0, note=2, cause="wrong CRC"),
+            b.Line(2, "lost", delivered=1, missing=0)])
         self.assertEqual(b.read_csv(io.StringIO(head + rows)), b.Csv(table.lines, False))
         self.assertEqual(b.read_csv(io.StringIO(head + rows + "3,rece")), b.Csv(table.lines, False))
-        for wrong in ("", "pdu,kind\n", head + "0,other,,,,,\n", head + "0,lost\n", head + "x,lost,,,,1,0\n", head + rows + ",end,2,,whole,,\n",
-                      head + ",end,0,,whole,,\n0,lost,,,,0,0\n", head + "0,lost,,,,2,0\n1,lost,,,,1,0\n", head + "5,lost,,,,0,0\n3,lost,,,,0,0\n",
-                      head + "0,received,0,96,,1,0\n0,packet,99,99999,,,\n", head + "0,received,-5,96,,1,0\n", head + "0,received,1_000,96,,1,0\n",
-                      head + "0,received,0,{},,1,0\n".format("9" * 200000), head + "0,lost,,,,1,0\0\n", head + '0,lost,,,"' + "x" * 200000 + "\n",
-                      head + "0,received,\u0663,96,,1,0\n", head + "0,lost,,,,,\n", head + "0,lost,,,,0,0\n0,note,0,,lost,1,0\n", head + "\n"):
+        older = b.read_csv(io.StringIO(self.OLDER))
+        self.assertEqual(older, b.Csv([line._replace(crc32=None, text=None) for line in table.lines], True))
+        lost = "{},lost,,,,,,,,,{},{},,,\n".format
+        for wrong in ("", "pdu,kind\n", head + "0,other,,,,,,,,,0,0,,,\n", head + "0\n", head + lost("x", 1, 0), head + rows + ",end,,,,,,,,whole,,,,,2\n",
+                      head + ",end,,,,,,,,whole,,,,,0\n" + lost(0, 0, 0), head + lost(0, 2, 0) + lost(1, 1, 0), head + lost(5, 0, 0) + lost(3, 0, 0),
+                      head + rows + "2,packet,,,,99,99999,,,,,,0badf00d,,\n", head + "0,received,,-5,,,96,,,,1,0,,,\n", head + "0,received,,1_000,,,96,,,,1,0,,,\n",
+                      head + "0,received,,0,,,{},,,,1,0,,,\n".format("9" * 200000), head + lost(0, 1, "0\0"), head + '0,lost,,,"' + "x" * 200000 + "\n",
+                      head + "0,received,,\u0663,,,96,,,,1,0,,,\n", head + lost(0, "", ""), head + lost(0, 0, 0) + "0,note,,,,,,,6,lost,1,0,,,\n",
+                      head + lost(0, 0, 0) + "0,note,,,,,,0,,lost,,,,,\n", head + lost(0, 0, 0)[:-1] + ",,x\n", head + "\n"):
             with self.assertRaises(b.MalformedFile) as caught:
                 b.read_csv(io.StringIO(wrong))
             self.assertTrue(str(caught.exception))
         older = "pdu,kind,number,length,cause\n0,refused,11,96,one, two\n0,note,0,,lost\n,end,1,,whole\n"
-        lines = [b.Line(0, "refused", 11, 96, "one, two", None, None), b.Line(0, "note", 0, None, "lost", None, None)]
+        lines = [b.Line(0, "refused", refusal=11, length=96, cause="one, two"), b.Line(0, "note", note=6, cause="lost")]
         self.assertEqual(b.read_csv(io.StringIO(older)), b.Csv(lines, True))
         self.assertEqual(b.read_csv(io.BytesIO(older.replace("\n", "\r\n").encode())), b.Csv(lines, True))
 
+    def test_csv_that_a_spreadsheet_saved(self):
+        text = self.HEAD + self.ROWS + self.END
+        wanted, rows = b.read_csv(io.StringIO(text)), list(csv.reader(io.StringIO(text)))
+        for separator in ",;\t":
+            for quoting in (csv.QUOTE_ALL, csv.QUOTE_MINIMAL, csv.QUOTE_NONNUMERIC):
+                for more in (-1, 0, 4):
+                    saved = io.StringIO(newline="")
+                    for row in rows:
+                        row = row + [""] * max(more, 0)
+                        while more < 0 and not row[-1]:
+                            row.pop()
+                        csv.writer(saved, delimiter=separator, quoting=quoting, lineterminator="\r\n").writerow(row)
+                    self.assertEqual(b.read_csv(io.BytesIO(saved.getvalue().encode("utf-8-sig"))), wanted)
+
     def test_csv_as_coverage_takes_it(self):
-        head = "pdu,kind,number,length,cause,delivered,missing\n"
-        rows = "0,received,1,96,,1,0\n0,packet,5,4,,,\n0,psd,,3,,,\n1,refused,11,96,locator out of place (k 1),1,0\n1,note,0,,lost,,\n2,lost,,,,1,7\n"
         older = "pdu,kind,number,length,cause\n0,received,1,96,\n0,packet,5,4,\n1,lost,,,\n,end,2,,whole\n"
-        texts = [head + rows + ",end,3,,whole,,\n", head + rows, older]
+        texts = [self.HEAD + self.ROWS + self.END, self.HEAD + self.ROWS, self.OLDER, older, (self.HEAD + self.ROWS + self.END).replace(",", ";")]
         name, taken, wholes = self.file("log.csv"), 0, 0
         for _ in range(800):
             text = bytearray(self.dice.choice(texts).encode())
             for _ in range(self.dice.randint(0, 2)):
                 at = self.dice.randrange(len(text))
                 at = self.dice.choice([at, max(text.rfind(b"\n", 0, at), 0)])
-                other = self.dice.choice([b"", b"0", b"2", b"64", b",", b"\n", b"\r", b"\0", b"-", b"_", b" ", b'"', b"\xff", b"x" * 150])
+                other = self.dice.choice([b"", b"0", b"2", b"64", b",", b";", b"\t", b"\n", b"\r", b"\0", b"-", b"_", b" ", b'"', b"\xff", b"x" * 500])
                 text[at:at + self.dice.randint(0, 2)] = other
             if not self.dice.randint(0, 3):
                 del text[self.dice.randrange(len(text)):]

@@ -1,9 +1,8 @@
-// The formats of the packet log: its words, text for people, comma-separated values, or records of each PDU's words.
-mod columns;
+// The formats of the packet log: its words, text for people, comma-separated values, JSON lines, or records of each PDU's words.
 mod people;
+mod rows;
 
 use outcome::Outcome;
-use words::Word;
 ghost use Rattle.io.specs.Counts.{Counts};
 
 pub const WORDS: u8 = 0;
@@ -14,17 +13,19 @@ pub const CSV: u8 = 2;
 
 pub const RECORDS: u8 = 3;
 
-pub const NO_FORMAT: u8 = 4;
+pub const JSON: u8 = 4;
 
-// No word of a log takes more bytes in any format.
-pub const MOST: usize = 128;
+pub const NO_FORMAT: u8 = 5;
 
-// The number that stands first in an entry's line: a packet's number, the length of PSD, or the piece of a note.
-fn leading(w: Word) -> u64 {
-    if w.kind == words::PACKET {
-        return w.high as u64;
+// No entry of a log takes more bytes in any format: the longest is PSD whose text has nothing but quotes.
+pub const MOST: usize = 600;
+
+// 1 for a note that is on a piece, else 0.
+fn is_on_piece(cause: u32) -> u32 {
+    if (cause == 2) | (cause == 3) | (cause == 5) | (cause == 7) {
+        return 1;
     }
-    w.low as u64
+    0
 }
 
 // What stands before all PDUs.
@@ -35,7 +36,7 @@ pub fn put_title(out: &mut [u8], format: u8) -> usize
         out,
         0,
         text::entry(
-            b"\0\0pdu,kind,number,length,cause,delivered,missing\n\0",
+            b"\0\0pdu,kind,copy,corrected,refusal,packet,length,piece,note,cause,delivered,missing,crc32,text,pdus\n\0",
             format as u32,
         ),
     )
@@ -48,7 +49,10 @@ pub fn put_end(out: &mut [u8], format: u8, pdus: u64) -> usize
     text::fill(
         out,
         0,
-        text::entry(b"\0\0,end,@,,whole,,\n\0", format as u32),
+        text::entry(
+            b"\0\0,end,,,,,,,,whole,,,,,@\n\0\0{\"kind\":\"end\",\"pdus\":@}\n\0",
+            format as u32,
+        ),
         &[pdus],
     )
 }
@@ -60,26 +64,41 @@ fn put_length(out: &mut [u8], words: usize) -> usize
     text::put(out, 0, &[(words % 64 * 4) as u8, (words / 64 % 256) as u8])
 }
 
-// What stands for a PDU, counted from 0, before the words of its log.
+// Whether a format has the words of a log as they are, and not a line for each entry.
+pub fn has_words(format: u8) -> bool {
+    (format == WORDS) | (format == RECORDS)
+}
+
+// What stands for a PDU, counted from 0, before its log.
 pub fn put_pdu(out: &mut [u8], format: u8, pdu: u64, o: Outcome) -> usize
     ensures { λ r. ⌜ Counts r (now (out .exit)) ⌝ }
 {
     match format {
         TEXT => people::put_pdu(out, pdu, o),
-        CSV => columns::put_pdu(out, pdu, o),
+        CSV => rows::put_pdu(out, false, pdu, o),
+        JSON => rows::put_pdu(out, true, pdu, o),
         RECORDS => put_length(out, o.words),
         _ => text::put(out, 0, b""),
     }
 }
 
-// What stands for a word of a PDU's log.
-pub fn put_word(out: &mut [u8], at: usize, format: u8, pdu: u64, word: u32) -> usize
+// A word of a log as it is.
+pub fn put_word(out: &mut [u8], at: usize, word: u32) -> usize
     ensures { λ r. ⌜ Counts r (now (out .exit)) ⌝ }
 {
-    let w = words::split(word);
-    match format {
-        TEXT => people::put_word(out, at, w),
-        CSV => columns::put_word(out, at, pdu, w),
-        _ => text::put(out, at, &words::bytes_of(word)),
+    text::put(out, at, &words::bytes_of(word))
+}
+
+// The line of an entry of a PDU's log, from its first word and its data words.
+pub fn put_entry(out: &mut [u8], at: usize, format: u8, pdu: u64, entry: &[u32]) -> usize
+    ensures { λ r. ⌜ Counts r (now (out .exit)) ⌝ }
+{
+    if entry.len() == 0 {
+        return text::put(out, at, b"");
     }
+    let w = words::split(entry[0]);
+    if format == TEXT {
+        return people::put_entry(out, at, w);
+    }
+    rows::put_entry(out, at, format == JSON, pdu, w, &entry[1..])
 }

@@ -48,12 +48,12 @@ fn line_of_entry(kind: u32, length: u32) -> u32 {
     kind
 }
 
-// 1 for a note that is on a piece, else 0.
-fn is_on_piece(cause: u32) -> u32 {
-    if (cause == 2) | (cause == 3) | (cause == 5) | (cause == 7) {
-        return 1;
+// The number that stands first in an entry's line: a packet's number, the length of PSD, or the piece of a note.
+fn leading(w: Word) -> u64 {
+    if w.kind == words::PACKET {
+        return w.high as u64;
     }
-    0
+    w.low as u64
 }
 
 // The cause of a note at the end of a line, with the piece that it is on.
@@ -64,20 +64,20 @@ fn put_cause(out: &mut [u8], at: usize, cause: u32, piece: u32) -> usize
     text::fill(
         out,
         n,
-        text::entry(b"\n\0, piece @\n\0", is_on_piece(cause)),
+        text::entry(b"\n\0, piece @\n\0", crate::is_on_piece(cause)),
         &[piece as u64],
     )
 }
 
 // An entry, by its first word; nothing for a data word.
-pub fn put_word(out: &mut [u8], at: usize, w: Word) -> usize
+pub fn put_entry(out: &mut [u8], at: usize, w: Word) -> usize
     ensures { λ r. ⌜ Counts r (now (out .exit)) ⌝ }
 {
     let n = text::fill(
         out,
         at,
         text::entry(&ENTRIES, line_of_entry(w.kind, w.low)),
-        &[crate::leading(w), w.low as u64],
+        &[leading(w), w.low as u64],
     );
     if w.kind != words::NOTE {
         return n;

@@ -78,6 +78,9 @@ fn format_named(name: &[u8]) -> u8 {
     if check::same(name, b"csv") {
         return formats::CSV;
     }
+    if check::same(name, b"json") {
+        return formats::JSON;
+    }
     if check::same(name, b"records") {
         return formats::RECORDS;
     }
@@ -95,7 +98,7 @@ fn format_asked() -> u8 {
     if format == formats::NO_FORMAT {
         files::say_line(
             b"barzhilup log",
-            b": --format: not words, text, csv or records: ",
+            b": --format: not words, text, csv, json or records: ",
             &name[..n],
         );
     }

@@ -14,7 +14,7 @@ struct Kept {
     pub at: usize,
 }
 
-// Writes what stands in the block if it has no room for another line, so that no line is cut.
+// Writes what stands in the block if it has no room for another entry, so that no line is cut.
 fn with_room(fd: i32, block: &[u8], at: usize) -> Kept
     requires { ⌜ Counts at (now block) ⌝ }
     ensures { λ r. ⌜ Counts (r .at) (now (block .entry)) ⌝ }
@@ -29,17 +29,17 @@ fn with_room(fd: i32, block: &[u8], at: usize) -> Kept
 }
 
 // Puts a word of a PDU's log.
-fn put_word(sink: Sink, pdu: u64, word: u32, block: &mut [u8], at: usize) -> Kept
+fn put_word(fd: i32, word: u32, block: &mut [u8], at: usize) -> Kept
     requires { ⌜ Counts at (now block) ⌝ }
     ensures { λ r. ⌜ Counts (r .at) (now (block .exit)) ⌝ }
 {
-    let room = with_room(sink.fd, block, at);
-    let n = formats::put_word(block, room.at, sink.format, pdu, word);
+    let room = with_room(fd, block, at);
+    let n = formats::put_word(block, room.at, word);
     Kept { ok: room.ok, at: n }
 }
 
 // Puts the words of a PDU's log, until a write fails.
-fn put_words(sink: Sink, pdu: u64, log: &[u32], block: &mut [u8], start: usize) -> Kept
+fn put_words(fd: i32, log: &[u32], block: &mut [u8], start: usize) -> Kept
     requires { ⌜ Counts start (now block) ⌝ }
     ensures { λ r. ⌜ Counts (r .at) (now (block .exit)) ⌝ }
 {
@@ -47,7 +47,7 @@ fn put_words(sink: Sink, pdu: u64, log: &[u32], block: &mut [u8], start: usize) 
     let mut at = start;
     let mut i: usize = 0;
     while i < log.len() {
-        let kept = put_word(sink, pdu, log[i], block, at);
+        let kept = put_word(fd, log[i], block, at);
         at = kept.at;
         ok = kept.ok;
         if !ok {
@@ -56,6 +56,48 @@ fn put_words(sink: Sink, pdu: u64, log: &[u32], block: &mut [u8], start: usize) 
         i += 1;
     }
     Kept { ok: ok, at: at }
+}
+
+// Puts an entry of a PDU's log, its first word with its data words.
+fn put_entry(sink: Sink, pdu: u64, entry: &[u32], block: &mut [u8], at: usize) -> Kept
+    requires { ⌜ Counts at (now block) ⌝ }
+    ensures { λ r. ⌜ Counts (r .at) (now (block .exit)) ⌝ }
+{
+    let room = with_room(sink.fd, block, at);
+    let n = formats::put_entry(block, room.at, sink.format, pdu, entry);
+    Kept { ok: room.ok, at: n }
+}
+
+// Puts the entries of a PDU's log, until a write fails.
+fn put_entries(sink: Sink, pdu: u64, log: &[u32], block: &mut [u8], start: usize) -> Kept
+    requires { ⌜ Counts start (now block) ⌝ }
+    ensures { λ r. ⌜ Counts (r .at) (now (block .exit)) ⌝ }
+{
+    let mut ok = true;
+    let mut at = start;
+    let mut i: usize = 0;
+    while i < log.len() {
+        let end = words::entry_end(log, i);
+        let kept = put_entry(sink, pdu, &log[i..end], block, at);
+        at = kept.at;
+        ok = kept.ok;
+        if !ok {
+            break;
+        }
+        i = end;
+    }
+    Kept { ok: ok, at: at }
+}
+
+// Puts a PDU's log in the format that is asked for, until a write fails.
+fn put_log(sink: Sink, pdu: u64, log: &[u32], block: &mut [u8], start: usize) -> Kept
+    requires { ⌜ Counts start (now block) ⌝ }
+    ensures { λ r. ⌜ Counts (r .at) (now (block .exit)) ⌝ }
+{
+    if formats::has_words(sink.format) {
+        return put_words(sink.fd, log, block, start);
+    }
+    put_entries(sink, pdu, log, block, start)
 }
 
 // Writes what stands before all PDUs. Answers whether it is written.
@@ -73,7 +115,7 @@ pub fn end(sink: Sink, pdus: u64, block: &mut [u8]) -> bool {
 // Writes what came of a PDU, counted from 0, with its log. Answers whether it is written.
 pub fn keep(sink: Sink, pdu: u64, o: Outcome, log: &[u32], block: &mut [u8]) -> bool {
     let n = formats::put_pdu(block, sink.format, pdu, o);
-    let kept = put_words(sink, pdu, log, block, n);
+    let kept = put_log(sink, pdu, log, block, n);
     if !kept.ok {
         return false;
     }

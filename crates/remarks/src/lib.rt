@@ -212,7 +212,7 @@ that is marked lost.
                   off the air check with 255)
   --entitled LIST the programs that the receiver is entitled to, as 0,3, or
                   none (all)
-  --format F      words, text, csv or records (text)
+  --format F      words, text, csv, json or records (text)
   --batch N       receives frames of N records, 1 to 64, in one call each; the
                   log is the same for every N, and without it; no marks, and
                   no second recording
@@ -275,21 +275,25 @@ over 20480 is refused with 3 as any wrong length is.
 Formats:
   words           the log's words, each in four bytes, low byte first
   text            a line for each PDU, and one for each packet, PSD and note
-  csv             the same, in the columns pdu, kind, number, length, cause,
-                  delivered and missing; the last line is \",end,N,,whole,,\" if
-                  all N PDUs are logged; with --second the cause of a received
-                  PDU is the copy that it is taken from: first, second, both or
-                  either
+  csv             the same, in the columns pdu, kind, copy, corrected, refusal,
+                  packet, length, piece, note, cause, delivered, missing,
+                  crc32, text and pdus; crc32 is that of a packet's or PSD's
+                  bytes, text what of PSD is printable; the last line has the
+                  kind end, the cause whole and the count of PDUs, if all are
+                  logged; with --second a received PDU has the copy that it is
+                  taken from: first, second, both or either
+  json            the same, an object in each line, with the columns that are
+                  not empty
   records         for each PDU a record, as in the file of PDUs, with its log's
                   words as above: what \"barzhilup join\" reads
 
 Delivered and missing are counts of packets, as the receiver's record has them
-after each PDU: the CSV has them on the line of each, and the counts on standard
-error have those after the last. Packets of lost and refused PDUs, those with a
-damaged piece and withheld ones are missing; what is missing before the first
-packet delivered, or after the last, is not counted. Missing is exact where each
-PDU comes or is marked lost once, in turn, and fewer than 64 packets are missing
-between two delivered.
+after each PDU: csv and json have them on the line of each, and the counts on
+standard error have those after the last. Packets of lost and refused PDUs,
+those with a damaged piece and withheld ones are missing; what is missing before
+the first packet delivered, or after the last, is not counted. Missing is exact
+where each PDU comes or is marked lost once, in turn, and fewer than 64 packets
+are missing between two delivered.
 
 A PDU that is refused is marked lost, also one of another mode or stream.
 Standard error has a line for each of the first five and for the first of

@@ -7,10 +7,10 @@ use Rattle.logging.proofs.output.put_words.Statement.{statement}
 use Rattle.logging.proofs.output.put_words.Tie as tie
 
 abbrev Inv-loop : tie.InvT-loop
-Inv-loop sink pdu log block₀ start ok₀ at₀ i₀ block ok at i = (Counts at block) × (length block ≡ length block₀) × (i ≤ length log)
+Inv-loop fd log block₀ start ok₀ at₀ i₀ block ok at i = (Counts at block) × (length block ≡ length block₀) × (i ≤ length log)
 
 abbrev μ-loop : tie.MeasureT-loop
-μ-loop sink pdu log block₀ start ok₀ at₀ i₀ block ok at i = length log - i
+μ-loop fd log block₀ start ok₀ at₀ i₀ block ok at i = length log - i
 
 loop-holds : tie.Need-loop-holds Inv-loop μ-loop
 loop-holds c = search needs
