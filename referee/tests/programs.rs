@@ -1554,6 +1554,8 @@ struct Shown {
     /// end in ten PDUs, by which it is known.
     hidden: usize,
     pace: usize,
+    /// PDUs that look as if they came twice.
+    twice: usize,
 }
 
 /// What a PDU says of the gap that it lies in.
@@ -1609,14 +1611,15 @@ fn ended_in(pdus: usize, clean: usize, packets: usize) -> usize {
     ((pdus << 20) + slow / 2).checked_div(slow).unwrap_or(0)
 }
 
-/// What is likely missing beyond what numbers tell, and the packets in ten
-/// PDUs.
-fn estimate(logged: &[Logged]) -> (usize, usize) {
+/// What is likely missing beyond what numbers tell, the packets in ten PDUs,
+/// and the PDUs that look as if they came twice.
+fn estimate(logged: &[Logged]) -> (usize, usize, usize) {
     let all: Vec<Beside> = logged.iter().map(Beside::of).collect();
     let clean = all.iter().filter(|one| one.clean).count();
     let packets = all.iter().filter(|one| one.clean);
     let packets = packets.map(|one| one.packets.len()).sum();
-    let (mut last, mut absent, mut notes, mut hidden) = (None, 0, 0, 0);
+    let (mut last, mut absent, mut notes) = (None, 0, 0);
+    let (mut hidden, mut doubles) = (0, 0);
     for one in &all {
         let (Some(&first), Some(&end)) = (one.packets.first(), one.packets.last()) else {
             absent += usize::from(one.absent);
@@ -1627,6 +1630,7 @@ fn estimate(logged: &[Logged]) -> (usize, usize) {
             let told = (first + 127 - before) % 64;
             let wanted = ended_in(absent, clean, packets) + notes + one.before;
             let twice = one.broken && absent == 0 && end == before;
+            doubles += usize::from(twice);
             let fits = (0..).map(|k| told + 64 * k);
             let near = fits.take_while(|&fit| fit <= wanted.max(told) + 64);
             let near = near.min_by_key(|&fit| (fit.abs_diff(wanted), usize::MAX - fit));
@@ -1638,7 +1642,7 @@ fn estimate(logged: &[Logged]) -> (usize, usize) {
         }
         (last, absent, notes) = (Some(end), 0, one.after);
     }
-    (hidden, ended_in(10, clean, packets))
+    (hidden, ended_in(10, clean, packets), doubles)
 }
 
 /// How many of a whole in per cent with one decimal; nothing of nothing.
@@ -1664,7 +1668,7 @@ impl Shown {
             shown.missing.push(one.loss.missing - before.missing);
             shown.loss = one.loss;
         }
-        (shown.hidden, shown.pace) = estimate(logged);
+        (shown.hidden, shown.pace, shown.twice) = estimate(logged);
         shown
     }
 
@@ -1745,7 +1749,7 @@ impl Shown {
     }
 
     /// What is said on standard error.
-    fn said(&self) -> [String; 2] {
+    fn said(&self) -> Vec<String> {
         let [all, received, corrected, lost, refused, crcs, delivered, _] = self.counts();
         let [missing, meaning] = self.said_missing();
         let of = |part, whole, words| {
@@ -1753,7 +1757,7 @@ impl Shown {
         };
         let received_share = of(received, all, "of PDUs");
         let corrected_share = of(corrected, received, "of the received");
-        [
+        let mut lines = vec![
             format!(
                 "barzhilup coverage: PDUs {all}: received {received}{received_share}, \
                  of these corrected {corrected}{corrected_share}, lost {lost}, refused {refused}; \
@@ -1763,7 +1767,15 @@ impl Shown {
                 "barzhilup coverage: withheld packets and those with a damaged piece \
                  count as missing; {meaning}"
             ),
-        ]
+        ];
+        if self.twice > 0 {
+            lines.push(format!(
+                "barzhilup coverage: PDUs that look as if they came twice: {}; each may add up \
+                 to 63 to missing, so that figure is not certain",
+                self.twice
+            ));
+        }
+        lines
     }
 
     /// What is written at a PDU's tick: by how much missing grew.
