@@ -1612,6 +1612,99 @@ struct Shown {
     missing: Vec<usize>,
     /// After the last one.
     loss: Loss,
+    /// What is likely missing beyond what numbers tell, and the packets that
+    /// end in ten PDUs, by which it is known.
+    hidden: usize,
+    pace: usize,
+    /// PDUs that look as if they came twice.
+    twice: usize,
+}
+
+/// What a PDU says of the gap that it lies in.
+struct Beside {
+    absent: bool,
+    clean: bool,
+    packets: Vec<usize>,
+    /// Notes that tell of a packet that was not delivered, before the first
+    /// that was, and after the last.
+    before: usize,
+    after: usize,
+    /// Whether its sequence does not follow.
+    broken: bool,
+}
+
+impl Beside {
+    fn of(one: &Logged) -> Beside {
+        let mut beside = Beside {
+            absent: !matches!(one.came, Came::Received(_)),
+            clean: matches!(one.came, Came::Received(_)),
+            packets: Vec::new(),
+            before: 0,
+            after: 0,
+            broken: false,
+        };
+        for entry in &one.entries {
+            match entry {
+                Entry::Packet(number, _) => {
+                    beside.packets.push(usize::from(*number));
+                    beside.after = 0;
+                }
+                Entry::Psd(_) => {}
+                Entry::Note(note) => beside.take_note(note.cause()),
+            }
+        }
+        beside
+    }
+
+    fn take_note(&mut self, cause: u32) {
+        self.clean = false;
+        self.broken |= cause == 1;
+        self.absent |= cause == 8;
+        if [2, 3, 5, 7].contains(&cause) {
+            self.before += usize::from(self.packets.is_empty());
+            self.after += 1;
+        }
+    }
+}
+
+/// How many packets end in so many PDUs, where so many end in others.
+fn ended_in(pdus: usize, clean: usize, packets: usize) -> usize {
+    let slow = (clean << 20).checked_div(packets).unwrap_or(0);
+    ((pdus << 20) + slow / 2).checked_div(slow).unwrap_or(0)
+}
+
+/// What is likely missing beyond what numbers tell, the packets in ten PDUs,
+/// and the PDUs that look as if they came twice.
+fn estimate(logged: &[Logged]) -> (usize, usize, usize) {
+    let all: Vec<Beside> = logged.iter().map(Beside::of).collect();
+    let clean = all.iter().filter(|one| one.clean).count();
+    let packets = all.iter().filter(|one| one.clean);
+    let packets = packets.map(|one| one.packets.len()).sum();
+    let (mut last, mut absent, mut notes) = (None, 0, 0);
+    let (mut hidden, mut doubles) = (0, 0);
+    for one in &all {
+        let (Some(&first), Some(&end)) = (one.packets.first(), one.packets.last()) else {
+            absent += usize::from(one.absent);
+            notes += if one.absent { 0 } else { one.after };
+            continue;
+        };
+        if let Some(before) = last {
+            let told = (first + 127 - before) % 64;
+            let wanted = ended_in(absent, clean, packets) + notes + one.before;
+            let twice = one.broken && absent == 0 && end == before;
+            doubles += usize::from(twice);
+            let fits = (0..).map(|k| told + 64 * k);
+            let near = fits.take_while(|&fit| fit <= wanted.max(told) + 64);
+            let near = near.min_by_key(|&fit| (fit.abs_diff(wanted), usize::MAX - fit));
+            hidden += if twice {
+                0
+            } else {
+                near.unwrap_or(told) - told
+            };
+        }
+        (last, absent, notes) = (Some(end), 0, one.after);
+    }
+    (hidden, ended_in(10, clean, packets), doubles)
 }
 
 /// How many of a whole in per cent with one decimal; nothing of nothing.
@@ -1637,6 +1730,7 @@ impl Shown {
             shown.missing.push(one.loss.missing - before.missing);
             shown.loss = one.loss;
         }
+        (shown.hidden, shown.pace, shown.twice) = estimate(logged);
         shown
     }
 
@@ -1683,29 +1777,67 @@ impl Shown {
             ("packets delivered", (0, "")),
             ("missing", both),
         ];
-        words.into_iter().zip(counts).map(total).collect()
+        let mut rows: Vec<Vec<String>> = words.into_iter().zip(counts).map(total).collect();
+        if self.hidden > 0 {
+            let about = counts[7] + self.hidden;
+            rows[7] = total((("missing, about", (both.0 + self.hidden, both.1)), about));
+            rows.push(total((("missing, at least", both), counts[7])));
+        }
+        rows
+    }
+
+    /// What is said of missing, and what that is.
+    fn said_missing(&self) -> [String; 2] {
+        let (missing, both) = (self.loss.missing, self.loss.delivered + self.loss.missing);
+        let of = |part, whole| {
+            share(part, whole).map_or(String::new(), |share| format!(" ({share} of both)"))
+        };
+        let certain = format!("{missing}{}", of(missing, both));
+        if self.hidden == 0 {
+            return [certain, EXACT.to_string()];
+        }
+        let about = missing + self.hidden;
+        let share = of(about, both + self.hidden);
+        [
+            format!("about {about}{share}, at least {certain}"),
+            format!(
+                "at least is what packet numbers tell, which repeat after 64; about takes, \
+                 between each two packets delivered, the count that fits the numbers and is \
+                 nearest to {}.{} packets for each PDU lost, refused or withheld there",
+                self.pace / 10,
+                self.pace % 10
+            ),
+        ]
     }
 
     /// What is said on standard error.
-    fn said(&self) -> [String; 2] {
-        let [all, received, corrected, lost, refused, crcs, delivered, missing] = self.counts();
+    fn said(&self) -> Vec<String> {
+        let [all, received, corrected, lost, refused, crcs, delivered, _] = self.counts();
+        let [missing, meaning] = self.said_missing();
         let of = |part, whole, words| {
             share(part, whole).map_or(String::new(), |share| format!(" ({share} {words})"))
         };
         let received_share = of(received, all, "of PDUs");
         let corrected_share = of(corrected, received, "of the received");
-        let missing_share = of(missing, delivered + missing, "of both");
-        [
+        let mut lines = vec![
             format!(
                 "barzhilup coverage: PDUs {all}: received {received}{received_share}, \
                  of these corrected {corrected}{corrected_share}, lost {lost}, refused {refused}; \
-                 wrong CRCs {crcs}; packets delivered {delivered}, missing {missing}{missing_share}"
+                 wrong CRCs {crcs}; packets delivered {delivered}, missing {missing}"
             ),
             format!(
                 "barzhilup coverage: withheld packets and those with a damaged piece \
-                 count as missing; {EXACT}"
+                 count as missing; {meaning}"
             ),
-        ]
+        ];
+        if self.twice > 0 {
+            lines.push(format!(
+                "barzhilup coverage: PDUs that look as if they came twice: {}; each may add up \
+                 to 63 to missing, so that figure is not certain",
+                self.twice
+            ));
+        }
+        lines
     }
 
     /// What is written at a PDU's tick: by how much missing grew.
@@ -1780,7 +1912,10 @@ impl Shown {
 /// Titles, and how they stand in the picture.
 const TITLES: [(&str, &str); 4] = [
     ("Sample drive", "Sample drive"),
-    ("A & B <c> \"d\" 'e'", "A &amp; B &lt;c&gt; \"d\" 'e'"),
+    (
+        "A & B <c> \"d\" 'e'",
+        "A &amp; B &lt;c&gt; &quot;d&quot; &#39;e&#39;",
+    ),
     ("Straße 5 — 日本", "Straße 5 — 日本"),
     ("tab\there", "tab here"),
 ];

@@ -54,10 +54,24 @@ loses() { # WHAT LOSS FILE OPTION...
     same_file "$about, PDU by PDU" <(recounted loss.csv) loss.csv
     run coverage --in loss.csv
     ended "$about, the picture" 0 coverage
-    same "$about, the line of totals" "$(loss_said "$wanted")" "$(said_loss)"
-    same "$about, when it is exact" "$(exact_line)" "$(tail -n 1 err)"
-    same "$about, the picture's figures" "${wanted% *} ${wanted#* }" "$(figure 'packets delivered') $(figure missing)"
+    same "$about, the line of totals" "$(loss_said "$wanted")" "$(said_least)"
+    if said_loss | grep -q 'missing about'; then
+        same "$about, the picture's figures" "${wanted% *} ${wanted#* }" "$(figure 'packets delivered') $(figure 'missing, at least')"
+    else
+        same "$about, when it is exact" "$(exact_line)" "$(tail -n 1 err)"
+        same "$about, the picture's figures" "${wanted% *} ${wanted#* }" "$(figure 'packets delivered') $(figure missing)"
+    fi
     same "$about, ticks" "$(growth loss.csv)" "$(ticks)"
+}
+
+# What the line of totals says of delivered and missing, without an estimate.
+said_least() {
+    said_loss | sed 's/missing about [^,]*, at least /missing /'
+}
+
+# What is missing by the line of totals: the estimate, where there is one.
+said_about() {
+    said_loss | sed -n 's/.* missing \(about \)\?\([0-9]*\).*/\2/p'
 }
 
 # A figure of the picture, by its words.
@@ -114,7 +128,8 @@ check_loss_ends() {
     loses "all PDUs lost" "0 0" came
 }
 
-# So many packets missing in a row, by PDUs that are lost, for every count of PDUs up to some: below 64 all are counted, from there on those over 64 or 128.
+# So many packets missing in a row, by PDUs that are lost, for every count of PDUs up to some: below 64 all are counted, from there on those over 64 or 128,
+# and the estimate has all.
 check_loss_far() {
     local many size=202 gap wanted far=0
     make_numbered 300
@@ -126,6 +141,7 @@ check_loss_far() {
         if [ "$gap" -gt 63 ]; then far=$((far + 1)); fi
         wanted="$(wc -l <places.logged) $((gap % 64))"
         loses "$gap packets missing in a row" "$wanted" came
+        same "$gap packets missing in a row, the estimate" "$gap" "$(said_about)"
     done
     same "more than 63 were missing in a row" yes "$([ "$far" -ge 3 ] && [ "$far" -le 9 ] && echo yes || echo no)"
 }

@@ -16,7 +16,7 @@ if [ ! -x "$program" ]; then
 fi
 program=$(readlink -f "$program")
 subs=(generate channel log coverage latency join)
-for part in harness usage files generate log marks second registers batches bursts road stream coverage columns loss entitled resume beside damaged latency join; do
+for part in harness usage files generate log marks second registers batches bursts road stream coverage columns loss page entitled resume beside damaged latency join; do
     # shellcheck source=/dev/null
     . "$here/$part.sh"
 done
@@ -122,6 +122,14 @@ check_loss_withheld
 check_loss_second
 check_loss_ticks
 check_loss_older
+check_page_estimate
+check_page_twice
+check_page_asked
+check_page_texts
+check_page_times
+check_page_rows
+check_page_strip
+check_page_longest
 check_entitled_values
 check_entitled_all
 check_entitled_none

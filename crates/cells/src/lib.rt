@@ -1,4 +1,5 @@
 // A PDU in the picture: its cell, which is hollow where it was withheld, the copies that it is taken from, its bar, and the tick where packets are missing.
+use clock::Clock;
 use csv::entry;
 use drive::Pdu;
 use page::Shape;
@@ -58,8 +59,23 @@ fn put_hollow(out: &mut [u8], at: usize, withheld: bool, x: u64, y: u64) -> usiz
     text::fill(
         out,
         at,
-        b"<rect class=\"i\" fill=\"#fff\" x=\"@\" y=\"@\" width=\"5\" height=\"8\"/>\n",
-        &[x + 2, y + 3],
+        b"<rect class=\"i\" x=\"@.5\" y=\"@.5\" width=\"6\" height=\"9\"/>\n",
+        &[x + 1, y + 2],
+    )
+}
+
+// The mark of a PDU that looks as if it came twice: a 2.
+fn put_twice(out: &mut [u8], at: usize, twice: bool, x: u64, y: u64) -> usize
+    requires { ⌜ (x < 1000000000000) × (y < 1000000000000) ⌝ }
+{
+    if !twice {
+        return at;
+    }
+    text::fill(
+        out,
+        at,
+        b"<text class=\"d\" x=\"@.5\" y=\"@\">2</text>\n",
+        &[x + 4, y + 11],
     )
 }
 
@@ -150,17 +166,30 @@ fn put_tick(out: &mut [u8], at: usize, missing: u32, x: u64, y: u64) -> usize
     )
 }
 
+// The time at which a row begins, where it is known.
+fn put_time(out: &mut [u8], at: usize, c: Clock, number: u32, y: u64) -> usize
+    requires { ⌜ y < 1000000000000 ⌝ }
+{
+    if !clock::is_known(c) {
+        return at;
+    }
+    let mut n = text::fill(out, at, b"<text class=\"q u\" x=\"56\" y=\"@\">", &[y + 27]);
+    n = clock::put(out, n, clock::ms(c, number) / 1000);
+    text::put(out, n, b"</text>\n")
+}
+
 // The beginning of a row, before its first PDU: that one's number, and the strip's ground.
-fn put_row(out: &mut [u8], at: usize, shape: Shape, number: u32, x: u64, y: u64) -> usize
+fn put_row(out: &mut [u8], at: usize, shape: Shape, c: Clock, number: u32, x: u64, y: u64) -> usize
     requires { ⌜ (x < 1000000000000) × (y < 1000000000000) ⌝ }
 {
     if !page::is_first(shape, number) {
         return at;
     }
+    let timed = put_time(out, at, c, number, y);
     let count = page::in_row(shape, number) as u64;
     text::fill(
         out,
-        at,
+        timed,
         b"<text class=\"q\" x=\"56\" y=\"@\">@</text>\n<rect class=\"s\" x=\"@\" y=\"@\" width=\"@\" height=\"20\"/>\n",
         &[
             y + 11,
@@ -173,20 +202,29 @@ fn put_row(out: &mut [u8], at: usize, shape: Shape, number: u32, x: u64, y: u64)
 }
 
 // A PDU's cell, with what stands in it.
-fn put_face(out: &mut [u8], at: usize, pdu: Pdu, x: u64, y: u64) -> usize
+fn put_face(out: &mut [u8], at: usize, pdu: Pdu, twice: bool, x: u64, y: u64) -> usize
     requires { ⌜ (x < 1000000000000) × (y < 1000000000000) ⌝ }
 {
     let mut n = put_cell(out, at, pdu, x, y);
     n = put_hollow(out, n, pdu.withheld, x, y);
     n = put_copy(out, n, pdu.copy, x, y);
+    n = put_twice(out, n, twice, x, y);
     put_wrong(out, n, pdu.crcs, x, y)
 }
 
-// A PDU, after the beginning of its row where it is the first there.
-pub fn put_pdu(out: &mut [u8], at: usize, shape: Shape, number: u32, pdu: Pdu) -> usize {
+// A PDU, which may look as if it came twice, after the beginning of its row where it is the first there.
+pub fn put_pdu(
+    out: &mut [u8],
+    at: usize,
+    shape: Shape,
+    c: Clock,
+    number: u32,
+    pdu: Pdu,
+    twice: bool,
+) -> usize {
     let p = page::place_of(shape, number);
-    let mut n = put_row(out, at, shape, number, p.x, p.y);
-    n = put_face(out, n, pdu, p.x, p.y);
+    let mut n = put_row(out, at, shape, c, number, p.x, p.y);
+    n = put_face(out, n, pdu, twice, p.x, p.y);
     n = put_bar(out, n, shape, pdu.packets, p.x, p.y);
     put_tick(out, n, pdu.missing, p.x, p.y)
 }

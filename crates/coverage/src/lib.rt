@@ -1,14 +1,16 @@
-// Draws a drive: from the CSV of its log to a strip of its PDUs, as SVG.
+// Draws a drive: from the CSV of its log to a strip of its PDUs, as an SVG picture or an HTML page.
 //
-// The file is read twice. The first time counts: the picture's height stands in its first tag. The second time draws.
+// The file is read more than once. The first time counts: the picture's height stands in its first tag. The last time draws.
 mod arguments;
 mod report;
 
+use arguments::Asked;
 use arguments::KNOWN;
 use arguments::NAME;
-use drawing::Run;
 use drawing::Task;
-use page::Shape;
+use page::leaf;
+use page::leaf::Book;
+use readings::Run;
 
 // The program: answers its exit status.
 pub fn program() -> i32 {
@@ -18,17 +20,22 @@ pub fn program() -> i32 {
     if !arguments::check() {
         return files::WRONG;
     }
-    let columns = arguments::columns();
-    let mut title = io::buffer();
-    let n = arguments::title(&mut title);
-    if !report::is_fit(&title[..n]) | !columns.ok {
+    let asked = arguments::asked_for();
+    if !asked.ok {
         return files::WRONG;
     }
-    files::status(&NAME, with_title(columns.value, &title[..n]))
+    files::status(&NAME, with_options(asked))
 }
 
 // Opens the CSV. Answers whether all is done; what went wrong is said.
-fn with_title(columns: u32, title: &[u8]) -> bool {
+fn with_options(asked: Asked) -> bool {
+    if arguments::is_unlisted() {
+        files::say(
+            &NAME,
+            b": refused with 5: mode and stream not in the table\n",
+        );
+        return false;
+    }
     let mut from = files::label_buffer();
     let n = files::put_input_label(&mut from, &NAME, &KNOWN);
     let input = files::open_input(&KNOWN, b"in", &from[..n]);
@@ -43,69 +50,110 @@ fn with_title(columns: u32, title: &[u8]) -> bool {
         );
         return false;
     }
-    with_input(columns, title, &from[..n], input, start)
+    with_input(asked, &from[..n], input, start)
 }
 
-// Counts, and goes back to the file's start.
-fn with_input(columns: u32, title: &[u8], from: &[u8], input: i32, start: i64) -> bool {
+// The pages, for so many PDUs with so many packets at the most.
+fn book_of(asked: Asked, pdus: u32, most: u32) -> Book {
+    Book {
+        columns: asked.columns,
+        pdus: pdus,
+        on_page: (clock::times(asked.rows, asked.columns) % 4294967296) as u32,
+        most: most,
+    }
+}
+
+// A reading that counts.
+fn counting(asked: Asked, input: i32, start: i64) -> Task {
+    let c = asked.clock;
+    Task {
+        input: input,
+        start: start,
+        output: -1,
+        html: asked.html,
+        draws: drawing::COUNTS,
+        only: asked.page,
+        first: 0,
+        book: book_of(asked, 0, 0),
+        clock: c,
+        pace: gaps::pace_of(0, 0),
+        scale: overview::scale_of(c, 0, 0),
+    }
+}
+
+// The task of drawing, after a reading that counted.
+fn drawing_after(task: Task, asked: Asked, first: Run) -> Task {
+    let d = first.drive;
+    let t = d.totals;
+    let g = first.gaps;
+    let pace = g.pace;
+    let c = task.clock;
+    let book = book_of(asked, d.count, t.most);
+    let before = std::num::wrapping_sub_u32(asked.page, 1);
+    let mut next = task;
+    next.first = (clock::times(before, book.on_page) % 4294967296) as u32;
+    next.book = book;
+    next.pace = pace;
+    next.scale = overview::scale_of(c, d.count, 0);
+    next
+}
+
+// Counts.
+fn with_input(asked: Asked, from: &[u8], input: i32, start: i64) -> bool {
     let mut buf = io::large_buffer();
-    let first = drawing::count(input, columns, &mut buf);
+    let mut block = [0u8; 1];
+    let task = counting(asked, input, start);
+    let first = readings::read_all(task, &mut buf, &mut block, 0);
     if !report::is_read(first, from, from) {
         return false;
     }
-    if !files::go_back(input, start) {
-        os::fail(from);
+    let next = drawing_after(task, asked, first);
+    let book = next.book;
+    if leaf::count(book) < asked.page {
+        report::say_pages(leaf::count(book));
         return false;
     }
-    let d = first.drive;
-    let t = d.totals;
-    let shape = Shape {
-        columns: columns,
-        pdus: d.count,
-        most: t.most,
-    };
-    with_shape(shape, title, from, input, &mut buf)
+    with_task(next, from, &mut buf)
 }
 
 // Makes the picture's file.
-fn with_shape(shape: Shape, title: &[u8], from: &[u8], input: i32, buf: &mut [u8]) -> bool {
+fn with_task(task: Task, from: &[u8], buf: &mut [u8]) -> bool {
     let mut onto = files::label_buffer();
     let n = files::put_output_label(&mut onto, &NAME, &KNOWN);
     let output = files::open_output(&KNOWN, b"out", &onto[..n]);
     if output < 0 {
         return false;
     }
-    with_output(
-        Task {
-            input: input,
-            drawing: true,
-            output: output,
-            shape: shape,
-        },
-        title,
-        from,
-        &onto[..n],
-        buf,
-    )
+    let mut next = task;
+    next.output = output;
+    with_output(next, from, &onto[..n], buf)
+}
+
+fn drawn(task: Task, buf: &mut [u8]) -> Run {
+    if task.html {
+        return printing::html(task, &KNOWN, buf);
+    }
+    printing::svg(task, &KNOWN, buf)
 }
 
 // Draws, and closes the picture's file.
-fn with_output(task: Task, title: &[u8], from: &[u8], onto: &[u8], buf: &mut [u8]) -> bool {
-    let run = drawing::draw(task, title, buf);
+fn with_output(task: Task, from: &[u8], onto: &[u8], buf: &mut [u8]) -> bool {
+    let run = drawn(task, buf);
     let done = report::is_read(run, from, onto);
     let closed = files::close(task.output, onto);
-    let shape = task.shape;
-    said(run, shape.pdus, from) & done & closed
+    let book = task.book;
+    said(run, book.pdus, from) & done & closed
 }
 
-// Says what the picture shows. Answers whether the CSV was the same in both readings.
+// Says what the picture shows. Answers whether the CSV was the same in all readings.
 fn said(run: Run, counted: u32, from: &[u8]) -> bool {
     let d = run.drive;
+    let g = run.gaps;
     let same = d.count == counted;
-    if run.state == drawing::READ {
+    if run.state == readings::READ {
         said_of_log(d.whole, d.counted, same, from);
     }
-    picture::tally::say(d);
+    picture::tally::say(d, g);
     same
 }
 

@@ -1,19 +1,20 @@
 // What the program says on standard error, a line in one write.
 use crate::arguments;
-use drawing::Run;
 use libc::STDERR_FILENO;
+use readings::Run;
 
 fn say(line: &[u8]) {
     io::write_all(STDERR_FILENO, line);
 }
 
-// Whether a text may be the picture's title; says so where it may not.
-pub fn is_fit(text: &[u8]) -> bool {
-    if page::title::is_fit(text) {
-        return true;
-    }
-    say(b"barzhilup coverage: --title: over 200 bytes, or not UTF-8\n");
-    false
+// How many pages there are, where another one is asked for.
+pub fn say_pages(pages: u32) {
+    files::say_number(
+        &arguments::NAME,
+        b": --page: there are only so many pages: ",
+        pages as u64,
+        b"\n",
+    );
 }
 
 // What is wrong with a line of a file, counted from 1.
@@ -36,12 +37,12 @@ fn wrong_line(label: &[u8], number: u64, wrong: u8) {
 pub fn is_read(run: Run, from: &[u8], onto: &[u8]) -> bool {
     let state = run.state;
     match state {
-        drawing::WRONG => wrong_line(from, std::num::wrapping_add_u64(run.count, 1), run.wrong),
-        drawing::NOT_READ => os::fail(from),
-        drawing::NOT_WRITTEN => os::fail(onto),
+        readings::WRONG => wrong_line(from, std::num::wrapping_add_u64(run.count, 1), run.wrong),
+        readings::NOT_READ => os::fail(from),
+        readings::NOT_WRITTEN => os::fail(onto),
         _ => {}
     }
-    state == drawing::READ
+    state == readings::READ
 }
 
 // How the program is used, on standard output.
@@ -50,28 +51,41 @@ pub fn usage() -> bool {
         &arguments::NAME,
         b"usage: barzhilup coverage [--in FILE] [--out FILE] [OPTION]...
 
-Draws a drive as SVG from the CSV of barzhilup log: a cell for each PDU,
+Draws a drive as SVG or HTML from the CSV of barzhilup log: a cell for each PDU,
 received, received with a corrected header, lost or refused, with a mark where
 a CRC is wrong; under it a bar for the packets that it delivered, and a tick
 where packets are missing before those; and totals. A withheld PDU (log
---entitled) has a hollow cell. In the log of two recordings (log --second) a
-stroke at a cell's upper edge tells that pieces are taken from the first copy,
-one at its lower edge that they are from the second.
+--entitled) has a hollow cell, one that looks as if it came twice a 2. In the
+log of two recordings (log --second) a stroke at a cell's upper edge tells that
+pieces are taken from the first copy, one at its lower edge that they are from
+the second. An HTML page has a head, an overview of the share of PDUs lost or
+refused, the totals, and then pages of rows; it prints on paper laid across.
 
 Delivered and missing are those of the receiver's record, as the CSV has them;
 a tick stands where missing grew. Withheld packets and those with a damaged
 piece count as missing; what is missing before the first one delivered, or
 after the last, does not. Missing is exact where each PDU comes or is marked
 lost once, in turn, and fewer than 64 packets are missing between two
-delivered. A CSV without these two columns is drawn without them.
+delivered. Where more may be missing, it is given twice: at least, which is the
+record's, and about. A CSV without these two columns is drawn without them.
 
-  --in FILE     the CSV (standard input, also for -); it is read twice, so no
-                pipe
-  --out FILE    the picture (standard output, also for -)
-  --force       an existing FILE of --out is renamed FILE~ first
-  --title TEXT  its title, at most 200 bytes (Coverage)
-  --columns N   how many PDUs stand in a row, 20 to 200 (100)
-  --help        prints this and does nothing else (also -h)
+  --in FILE       the CSV (standard input, also for -); it is read more than
+                  once, so no pipe
+  --out FILE      the picture or page (standard output, also for -)
+  --force         an existing FILE of --out is renamed FILE~ first
+  --format NAME   svg, a picture, or html, a page to print (svg)
+  --title TEXT    its title, at most 200 bytes (Coverage)
+  --station TEXT  lines of an HTML page's head: the station, when and with what
+  --date TEXT     it was received; at most 200 bytes each
+  --source TEXT
+  --note TEXT     a paragraph of that head, at most 4000 bytes
+  --mode N        mode and stream, 0 to 255 (0 each): if one is given, times
+  --stream N      stand beside the numbers of PDUs, by the PDU time of the mode
+  --pdu-ms N      the time of a PDU in ms instead, 1 to 60000
+  --columns N     how many PDUs stand in a row, 20 to 200 (100)
+  --rows N        how many rows stand on a page, 1 to 1000 (svg all, html 12)
+  --page N        the page that is drawn, 1 to 1000000 (svg 1, html all)
+  --help          prints this and does nothing else (also -h)
 
 Where the CSV has no last line, its log is not whole: standard error and the
 picture say so. A line that the file's end cuts is left out. Standard error has

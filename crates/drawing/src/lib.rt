@@ -1,252 +1,131 @@
-// The two readings of a packet log's CSV: one counts, one draws.
-use csv::entry;
-use csv::entry::Entry;
+// What a PDU adds to the overview strip and to the rows, as a reading of the CSV goes over it.
+use clock::Clock;
 use csv::lines;
-use csv::lines::Lines;
-use drive::Drive;
-use page::Shape;
+use drive::Pdu;
+use gaps::Pace;
+use overview::Scale;
+use overview::Stretch;
+use page::leaf;
+use page::leaf::Book;
 
 // How full a block may be before it is written: what one PDU takes fits behind.
-const FULL: usize = 60000;
+const FULL: usize = 58000;
 
-// How a reading stands: it goes on; all lines are read; a line is wrong; a line cannot be read, or the picture cannot be written, and errno
-// names why.
-pub const GOING: u8 = 0;
+// What a reading draws: nothing, the bars of the overview strip, or the rows.
+pub const COUNTS: u8 = 0;
 
-pub const READ: u8 = 1;
+pub const STRIP: u8 = 1;
 
-pub const WRONG: u8 = 2;
+pub const ROWS: u8 = 2;
 
-pub const NOT_READ: u8 = 3;
-
-pub const NOT_WRITTEN: u8 = 4;
-
-// The CSV, whether a picture is drawn and where it goes, and its shape.
+// The CSV and where it begins, where the picture goes, and whether that is HTML; what a reading draws; the page that is asked for, 0 for all, and its first PDU; the pages, how
+// long a PDU is, how many packets end in one, and the overview's stretches.
 pub struct Task {
     pub input: i32,
-    pub drawing: bool,
+    pub start: i64,
     pub output: i32,
-    pub shape: Shape,
-}
-
-// A reading so far: how it stands, what is wrong with the next line, how many lines were read, what is read ahead, the drive, and how many bytes
-// of the picture wait in the block.
-pub struct Run {
-    pub state: u8,
-    pub wrong: u8,
-    pub count: u64,
-    pub ahead: Lines,
-    pub drive: Drive,
-    pub waiting: usize,
-}
-
-fn begin(input: i32, waiting: usize) -> Run {
-    Run {
-        state: GOING,
-        wrong: 0,
-        count: 0,
-        ahead: lines::begin(input),
-        drive: drive::begin(),
-        waiting: waiting,
-    }
-}
-
-// The reading at its end.
-fn stopped(run: Run, state: u8, wrong: u8) -> Run {
-    let ahead = run.ahead;
-    let d = run.drive;
-    Run {
-        state: state,
-        wrong: wrong,
-        count: run.count,
-        ahead: ahead,
-        drive: d,
-        waiting: run.waiting,
-    }
+    pub html: bool,
+    pub draws: u8,
+    pub only: u32,
+    pub first: u32,
+    pub book: Book,
+    pub clock: Clock,
+    pub pace: Pace,
+    pub scale: Scale,
 }
 
 // What waits in the block, and whether all before it is written.
-struct Waiting {
-    ok: bool,
-    at: usize,
+pub struct Waiting {
+    pub ok: bool,
+    pub at: usize,
 }
 
 // Writes what stands in the block up to a place.
-fn written(output: i32, block: &[u8], at: usize) -> Waiting {
+pub fn written(output: i32, block: &[u8], at: usize) -> Waiting {
     Waiting {
         ok: io::write_all(output, lines::part(block, 0, at)),
         at: 0,
     }
 }
 
-// Draws the drive's last PDU, if there is one and a picture is drawn.
-fn drawn(task: Task, block: &mut [u8], d: Drive, at: usize) -> Waiting {
-    if !task.drawing | (d.count == 0) {
+// Writes it where the block is full.
+fn written_if_full(output: i32, block: &[u8], at: usize) -> Waiting {
+    if at < FULL {
         return Waiting { ok: true, at: at };
     }
-    let shape = task.shape;
-    let pdu = drive::last(d);
-    let n = cells::put_pdu(
+    written(output, block, at)
+}
+
+// The beginning of a page in HTML, before its first PDU.
+fn opened(task: Task, block: &mut [u8], at: usize, number: u32) -> usize {
+    let book = task.book;
+    let c = task.clock;
+    if !task.html | !leaf::is_first(book, number) {
+        return at;
+    }
+    picture::frame::put_page_head(
         block,
         at,
-        shape,
-        std::num::wrapping_sub_u32(d.count, 1),
-        pdu,
-    );
-    if n < FULL {
-        return Waiting { ok: true, at: n };
-    }
-    written(task.output, block, n)
+        leaf::shape(book, number),
+        c,
+        leaf::number_of(book, number),
+        leaf::count(book),
+    )
 }
 
-fn state_of(ok: bool, state: u8) -> u8 {
-    if ok {
-        return state;
+// The end of a page in HTML, after its last PDU.
+fn closed(task: Task, block: &mut [u8], at: usize, number: u32) -> usize {
+    let book = task.book;
+    if !task.html | (page::last(leaf::shape(book, number)) != number as u64) {
+        return at;
     }
-    NOT_WRITTEN
+    sheet::put_page_end(block, at)
 }
 
-// The reading after a line with which nothing is wrong.
-fn onward(run: Run, ahead: Lines, next: Drive, w: Waiting) -> Run {
-    Run {
-        state: state_of(w.ok, GOING),
-        wrong: 0,
-        count: std::num::wrapping_add_u64(run.count, 1),
-        ahead: ahead,
-        drive: next,
-        waiting: w.at,
+// Draws a PDU into its row, if its page is asked for.
+fn drawn(task: Task, block: &mut [u8], number: u32, pdu: Pdu, twice: bool, at: usize) -> Waiting {
+    let book = task.book;
+    let c = task.clock;
+    if (task.only != 0) & (task.only != leaf::number_of(book, number)) {
+        return Waiting { ok: true, at: at };
     }
+    let mut n = opened(task, block, at, number);
+    n = cells::put_pdu(block, n, leaf::shape(book, number), c, number, pdu, twice);
+    n = closed(task, block, n, number);
+    written_if_full(task.output, block, n)
 }
 
-// Takes a line: a PDU is drawn when the next one begins, since what it delivered is known then.
-fn taken(task: Task, block: &mut [u8], run: Run, ahead: Lines, e: Entry) -> Run {
-    let before = run.drive;
-    let wrong = drive::fault(before, e);
-    if wrong != 0 {
-        return stopped(run, WRONG, wrong);
-    }
-    let next = drive::taken(before, e);
-    if !entry::is_pdu(e.kind) {
-        return onward(
-            run,
-            ahead,
-            next,
-            Waiting {
-                ok: true,
-                at: run.waiting,
-            },
-        );
-    }
-    let w = drawn(task, block, before, run.waiting);
-    onward(run, ahead, next, w)
+// Whether a PDU is the first of another stretch than the one that the reading is in.
+pub fn is_beyond(task: Task, s: Stretch, number: u32) -> bool {
+    let scale = task.scale;
+    overview::number_of(scale, number) != s.number
 }
 
-// Where no line is read: draws the last PDU at the file's end, or says why the reading stops.
-fn ended(task: Task, block: &mut [u8], run: Run, status: u8) -> Run {
-    if status == lines::LONG {
-        return stopped(run, WRONG, entry::TOO_LONG);
+// Draws the stretch that the reading is in, where the strip is drawn.
+pub fn stretch_drawn(task: Task, block: &mut [u8], s: Stretch, at: usize) -> Waiting {
+    let scale = task.scale;
+    if (task.draws != STRIP) | (s.pdus == 0) {
+        return Waiting { ok: true, at: at };
     }
-    if status == lines::FAILED {
-        return stopped(run, NOT_READ, 0);
-    }
-    if run.count == 0 {
-        return stopped(run, WRONG, entry::NO_FIRST);
-    }
-    let d = run.drive;
-    let w = drawn(task, block, d, run.waiting);
-    let mut last = stopped(run, state_of(w.ok, READ), 0);
-    last.waiting = w.at;
-    last
+    let n = overview::put_stretch(block, at, scale, s);
+    written_if_full(task.output, block, n)
 }
 
-// Whether a line may say less than it did: it says nothing, or ends with a number. The last one is whole if that is the count of PDUs.
-fn is_part(d: Drive, e: Entry) -> bool {
-    (e.wrong != 0)
-        | (e.counted & entry::is_pdu(e.kind))
-        | ((e.kind == entry::END) & (e.number < d.count))
-}
-
-// Whether a line is the beginning of one, with which the file is cut: it lacks its end and may say less than it did, the first line is there, and the last
-// is not.
-fn is_cut(run: Run, ended: bool, e: Entry) -> bool {
-    let d = run.drive;
-    !ended & is_part(d, e) & (run.count != 0) & !d.whole
-}
-
-// Reads a line and takes it; one that is cut is left out.
-fn turn(task: Task, buf: &mut [u8], block: &mut [u8], run: Run) -> Run {
-    let before = run.ahead;
-    let l = lines::next(before, buf);
-    if l.status != lines::GOT {
-        return ended(task, block, run, l.status);
+// Draws what a PDU adds: its cell, where it may look as if it came twice, or the stretch before it.
+pub fn put(
+    task: Task,
+    block: &mut [u8],
+    at: usize,
+    s: Stretch,
+    number: u32,
+    pdu: Pdu,
+    twice: bool,
+) -> Waiting {
+    if task.draws == ROWS {
+        return drawn(task, block, number, pdu, twice, at);
     }
-    let ahead = l.rest;
-    let d = run.drive;
-    let e = entry::read(lines::part(buf, l.from, l.to), run.count, d.counted);
-    if is_cut(run, l.ended, e) {
-        return ended(task, block, run, lines::END);
+    if is_beyond(task, s, number) {
+        return stretch_drawn(task, block, s, at);
     }
-    taken(task, block, run, ahead, e)
-}
-
-// How far the work is, where somebody looks on.
-fn progress(count: u64) {
-    files::progress(b"barzhilup coverage", b": lines ", count);
-}
-
-// All lines. They are counted down from a number that no file uses up, since a proved loop has to end, and nothing says that a file does.
-fn all_lines(task: Task, buf: &mut [u8], block: &mut [u8], start: Run) -> Run {
-    let mut run = start;
-    let mut turns = u64::MAX;
-    while 0 < turns {
-        let next = turn(task, buf, block, run);
-        run = next;
-        if run.state != GOING {
-            return run;
-        }
-        progress(run.count);
-        turns -= 1;
-    }
-    run
-}
-
-// Reads the CSV and draws nothing.
-pub fn count(input: i32, columns: u32, buf: &mut [u8]) -> Run {
-    let mut block = [0u8; 1];
-    let task = Task {
-        input: input,
-        drawing: false,
-        output: 0,
-        shape: Shape {
-            columns: columns,
-            pdus: 0,
-            most: 0,
-        },
-    };
-    all_lines(task, buf, &mut block, begin(input, 0))
-}
-
-// Reads the CSV and draws it: what stands above the rows, each PDU in its turn, and what stands below them.
-pub fn draw(task: Task, title: &[u8], buf: &mut [u8]) -> Run {
-    let shape = task.shape;
-    let mut block = io::large_buffer();
-    let n = picture::frame::put_head(&mut block, shape, title);
-    let run = all_lines(task, buf, &mut block, begin(task.input, n));
-    if run.state != READ {
-        return run;
-    }
-    closed(task, run, &mut block)
-}
-
-// Writes what waits, and what stands below the rows.
-fn closed(task: Task, run: Run, block: &mut [u8]) -> Run {
-    let shape = task.shape;
-    let d = run.drive;
-    let rows = written(task.output, block, run.waiting);
-    if !rows.ok {
-        return stopped(run, NOT_WRITTEN, 0);
-    }
-    let n = picture::legend::put_legend(block, shape, d);
-    let last = written(task.output, block, n);
-    stopped(run, state_of(last.ok, READ), 0)
+    Waiting { ok: true, at: at }
 }

@@ -2,17 +2,36 @@
 use csv::entry;
 use csv::entry::Entry;
 
-// A PDU: what became of it, the copy that its pieces are taken from, 0 where it came as one, whether it was withheld (document 02, Ask 10), how many bytes of
-// its header were corrected, how many of its pieces have a wrong CRC, how many packets it delivered, and how many are missing before these: by so many the
-// loss column grew (document 02, Ask 14).
+// Causes of notes, beside those that have a name in csv (document 01, "Receiver").
+const SEQUENCE: u32 = 1;
+
+const NOTHING_HELD: u32 = 3;
+
+const TOO_LONG: u32 = 5;
+
+// A PDU: what became of it, the copy that its pieces are taken from, 0 where it came as one, whether it was withheld (document 02, Ask 10), whether its
+// sequence does not follow, how many bytes of its header were corrected, how many notes it has, how many of its pieces have a wrong CRC, how many packets it
+// delivered, and how many are missing before these: by so many the loss column grew (document 02, Ask 14).
 pub struct Pdu {
     pub kind: u32,
     pub copy: u32,
     pub withheld: bool,
+    pub broken: bool,
     pub corrected: u32,
+    pub notes: u32,
     pub crcs: u32,
     pub packets: u32,
     pub missing: u32,
+    pub edges: Edges,
+}
+
+// The numbers of a PDU's first packet and of its last, 0 where it delivered none; and how many notes tell of a packet that was not delivered before the first,
+// and after the last, all of them where there is none.
+pub struct Edges {
+    pub first: u32,
+    pub last: u32,
+    pub before: u32,
+    pub after: u32,
 }
 
 // How many PDUs were received, were received with a corrected header, were withheld, were lost and were refused; how many pieces have a wrong CRC; the
@@ -79,10 +98,18 @@ fn fresh(kind: u32, copy: u32, corrected: u32, missing: u32) -> Pdu {
         kind: kind,
         copy: copy,
         withheld: false,
+        broken: false,
         corrected: corrected,
+        notes: 0,
         crcs: 0,
         packets: 0,
         missing: missing,
+        edges: Edges {
+            first: 0,
+            last: 0,
+            before: 0,
+            after: 0,
+        },
     }
 }
 
@@ -161,7 +188,7 @@ pub fn taken(d: Drive, e: Entry) -> Drive {
     let kind = e.kind;
     match kind {
         entry::RECEIVED | entry::LOST | entry::REFUSED => begun(d, e),
-        entry::PACKET => delivered(d),
+        entry::PACKET => delivered(d, e.number),
         entry::NOTE => noted(d, e.cause),
         entry::TITLE => titled(d, e.counted),
         entry::END => ended(d),
@@ -253,10 +280,34 @@ fn begun(d: Drive, e: Entry) -> Drive {
     }
 }
 
-// The drive with one more packet.
-fn delivered(d: Drive) -> Drive {
+// A PDU's edges with one more packet after so many.
+fn with_packet(e: Edges, packets: u32, number: u32) -> Edges {
+    let mut next = e;
+    if packets == 0 {
+        next.first = number;
+    }
+    next.last = number;
+    next.after = 0;
+    next
+}
+
+// A PDU's edges with one more note after so many packets: some tell of a packet that was not delivered.
+fn with_note(e: Edges, packets: u32, cause: u32) -> Edges {
+    let untold = one_if(is_wrong(cause) | (cause == NOTHING_HELD) | (cause == TOO_LONG));
+    let mut next = e;
+    if packets == 0 {
+        next.before = more(e.before, untold);
+    }
+    next.after = more(e.after, untold);
+    next
+}
+
+// The drive with one more packet, of a number.
+fn delivered(d: Drive, number: u32) -> Drive {
     let mut p = d.pdu;
     let mut t = d.totals;
+    let edges = p.edges;
+    p.edges = with_packet(edges, p.packets, number);
     p.packets = more(p.packets, 1);
     t.most = greatest(t.most, p.packets);
     let mut next = d;
@@ -276,6 +327,10 @@ fn noted(d: Drive, cause: u32) -> Drive {
     let mut t = d.totals;
     let wrong = one_if(is_wrong(cause));
     let withheld = (cause == entry::WITHHELD) & (p.kind == entry::RECEIVED) & !p.withheld;
+    let edges = p.edges;
+    p.edges = with_note(edges, p.packets, cause);
+    p.notes = more(p.notes, 1);
+    p.broken = p.broken | (cause == SEQUENCE);
     p.crcs = more(p.crcs, wrong);
     p.withheld = p.withheld | withheld;
     t.crcs = add(t.crcs, wrong);

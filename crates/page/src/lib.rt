@@ -1,4 +1,5 @@
 // The picture's measures, in its own units. PDUs stand in rows of cells from left to right; under each row of cells stands a strip of bars.
+pub mod leaf;
 pub mod share;
 pub mod title;
 
@@ -27,20 +28,36 @@ pub const STRIP: u64 = 17;
 pub const BAR: u64 = 20;
 
 // The legend's height, and the width that it takes at the least.
-const LEGEND: u64 = 216;
+const LEGEND: u64 = 260;
 
 const LEAST: u64 = 736;
 
-// What decides the picture's shape: how many PDUs stand in a row, how many there are, and how many packets a bar of full height stands for.
+// What decides the picture's shape: how many PDUs stand in a row, the first PDU, how many there are, and how many packets a bar of full height stands for.
 pub struct Shape {
     pub columns: u32,
+    pub from: u32,
     pub pdus: u32,
     pub most: u32,
 }
 
-// The picture's height.
+// The height of a picture with a legend under its rows, and of the rows alone.
 pub fn height(s: Shape) -> u64 {
     top_of(rows(s)) + LEGEND
+}
+
+pub fn height_of_rows(s: Shape) -> u64
+    ensures { λ r. ⌜ 76 ≤ r ⌝ }
+{
+    top_of(rows(s))
+}
+
+// The number of the last PDU.
+pub fn last(s: Shape) -> u64 {
+    std::num::wrapping_sub_u32(std::num::wrapping_add_u32(s.from, s.pdus), 1) as u64
+}
+
+pub fn height_of_legend() -> u64 {
+    LEGEND
 }
 
 // Where a PDU's cell has its upper left corner.
@@ -85,32 +102,39 @@ pub fn rows(s: Shape) -> u32 {
 
 // Where a row's top lies, or after the last row where the legend begins.
 pub fn top_of(row: u32) -> u64
-    ensures { λ r. ⌜ r < 300000000000 ⌝ }
+    ensures { λ r. ⌜ (76 ≤ r) × (r < 300000000000) ⌝ }
 {
     TOP + (row as u64) * ROW
+}
+
+// How many PDUs of the picture stand before one.
+fn place_in(s: Shape, number: u32) -> u32 {
+    std::num::wrapping_sub_u32(number, s.from)
 }
 
 pub fn place_of(s: Shape, number: u32) -> Place
     ensures { λ r. ⌜ (r .x < 100000000000) × (r .y < 300000000000) ⌝ }
 {
+    let place = place_in(s, number);
     Place {
-        x: LEFT + (remainder(number, s.columns) as u64) * PITCH,
-        y: top_of(quotient(number, s.columns)),
+        x: LEFT + (remainder(place, s.columns) as u64) * PITCH,
+        y: top_of(quotient(place, s.columns)),
     }
 }
 
 // Whether a PDU is its row's first.
 pub fn is_first(s: Shape, number: u32) -> bool {
-    remainder(number, s.columns) == 0
+    remainder(place_in(s, number), s.columns) == 0
 }
 
 // How many PDUs stand in the row that a PDU begins.
 pub fn in_row(s: Shape, number: u32) -> u32 {
-    if s.pdus < number {
+    let place = place_in(s, number);
+    if s.pdus < place {
         return 0;
     }
-    if s.pdus - number < s.columns {
-        return s.pdus - number;
+    if s.pdus - place < s.columns {
+        return s.pdus - place;
     }
     s.columns
 }

@@ -1,9 +1,11 @@
-// The picture's title: any text in UTF-8 that is not too long.
+// Texts that a user gives, as the picture's title: any text in UTF-8 that is not too long.
 ghost use Prim.Native.Nat.{_≤_};
 ghost use lib.ListN.{length};
 
-// The longest title, in bytes.
-const MOST: usize = 200;
+// The longest title, and the longest note, in bytes.
+pub const MOST: usize = 200;
+
+pub const MOST_OF_NOTE: usize = 4000;
 
 // What a byte may be: how many bytes of a character are still to come, and between which values the next of them lies.
 struct Expected {
@@ -49,9 +51,9 @@ fn after(e: Expected, byte: u8) -> Expected {
     follows(e.left - 1, 128, 191)
 }
 
-// Whether a text may be a title.
-pub fn is_fit(text: &[u8]) -> bool {
-    if MOST < text.len() {
+// Whether a text is in UTF-8 and has at most so many bytes.
+pub fn is_fit(text: &[u8], most: usize) -> bool {
+    if most < text.len() {
         return false;
     }
     let mut e = follows(0, 0, 0);
@@ -117,28 +119,34 @@ pub fn size(text: &[u8], width: u64) -> u64
     fitting
 }
 
-// Which text stands for a byte in SVG: what would begin a tag or an entity is written as an entity, and a control character as a space; 0 for
-// the byte itself.
+// Which text stands for a byte in SVG and HTML: what would begin or end a tag, an entity or a value is written as an entity, and a control character as a
+// space; 0 for the byte itself.
 fn stand_in(byte: u8) -> u32 {
     match byte {
         0..=31 => 1,
         b'&' => 2,
         b'<' => 3,
         b'>' => 4,
+        b'"' => 5,
+        b'\'' => 6,
         _ => 0,
     }
 }
 
-// One byte, as it stands in SVG.
+// One byte, as it stands in SVG and HTML.
 fn put_byte(out: &mut [u8], at: usize, byte: u8) -> usize {
     let other = stand_in(byte);
     if other == 0 {
         return text::put(out, at, &[byte]);
     }
-    text::put(out, at, text::entry(b"\0 \0&amp;\0&lt;\0&gt;\0", other))
+    text::put(
+        out,
+        at,
+        text::entry(b"\0 \0&amp;\0&lt;\0&gt;\0&quot;\0&#39;\0", other),
+    )
 }
 
-// A text, as it stands in SVG.
+// A text, as it stands in SVG and HTML.
 pub fn put(out: &mut [u8], at: usize, text: &[u8]) -> usize {
     let mut n = at;
     let mut i: usize = 0;

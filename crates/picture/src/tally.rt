@@ -1,7 +1,8 @@
-// What is said of a drive: its totals in a line, and in another one when the loss column is exact.
+// What is said of a drive: its totals in a line, and in others what missing is, and when it is exact.
 use drive::Copies;
 use drive::Drive;
 use drive::Totals;
+use gaps::Gaps;
 use libc::STDERR_FILENO;
 use page::share;
 ghost use Rattle.io.specs.Counts.{Counts};
@@ -28,17 +29,36 @@ fn put_withheld(out: &mut [u8], at: usize, t: Totals) -> usize {
     share::put(out, n, b" (@.@ % of the received)", t.withheld, t.received)
 }
 
+// The estimate of missing, and its share, before what is certain; nothing where both are the same.
+fn put_about(out: &mut [u8], at: usize, t: Totals, hidden: u64) -> usize {
+    if hidden == 0 {
+        return at;
+    }
+    let about = std::num::wrapping_add_u64(t.missing as u64, hidden);
+    let n = text::fill(out, at, b"about @", &[about]);
+    let k = share::put(
+        out,
+        n,
+        b" (@.@ % of both)",
+        about,
+        std::num::wrapping_add_u64(drive::both(t), hidden),
+    );
+    text::put(out, k, b", at least ")
+}
+
 // The loss column after the last PDU (document 02, Ask 14), and its share; nothing where the log has none.
-fn put_loss(out: &mut [u8], at: usize, counted: bool, t: Totals) -> usize {
+fn put_loss(out: &mut [u8], at: usize, counted: bool, t: Totals, hidden: u64) -> usize {
     if !counted {
         return at;
     }
-    let n = text::fill(
+    let mut n = text::fill(
         out,
         at,
-        b"; packets delivered @, missing @",
-        &[t.delivered as u64, t.missing as u64],
+        b"; packets delivered @, missing ",
+        &[t.delivered as u64],
     );
+    n = put_about(out, n, t, hidden);
+    n = text::put_decimal(out, n, t.missing as u64);
     share::put(
         out,
         n,
@@ -64,7 +84,7 @@ fn put_end(out: &mut [u8], at: usize, c: Copies) -> usize
 }
 
 // The totals of a drive on standard error.
-pub fn say(d: Drive) {
+pub fn say(d: Drive, g: Gaps) {
     let t = d.totals;
     let copies = d.copies;
     let mut line = [0u8; 512];
@@ -76,18 +96,53 @@ pub fn say(d: Drive) {
         b", lost @, refused @; wrong CRCs @",
         &[t.lost, t.refused, t.crcs],
     );
-    n = put_loss(&mut line, n, d.counted, t);
+    n = put_loss(&mut line, n, d.counted, t, g.hidden);
     let end = put_end(&mut line, n, copies);
     io::write_all(STDERR_FILENO, &line[..end]);
-    say_exact(d.counted);
+    say_missing(d.counted, g);
 }
 
 // What counts as missing, and when the count is exact, where there is one.
-fn say_exact(counted: bool) {
-    if counted {
+fn say_missing(counted: bool, g: Gaps) {
+    if !counted {
+        return;
+    }
+    if g.hidden == 0 {
         io::write_all(
             STDERR_FILENO,
             b"barzhilup coverage: withheld packets and those with a damaged piece count as missing; missing is exact from the first packet delivered to the last where each PDU comes or is marked lost once, in turn, and fewer than 64 packets are missing between two delivered\n",
         );
+    } else {
+        say_about(g);
     }
+    say_twice(g.twice);
+}
+
+// What the estimate is, and what is certain.
+fn say_about(g: Gaps) {
+    let pace = g.pace;
+    let tenths = gaps::packets_in(pace, 10);
+    let mut line = [0u8; 512];
+    let n = text::fill(
+        &mut line,
+        0,
+        b"barzhilup coverage: withheld packets and those with a damaged piece count as missing; at least is what packet numbers tell, which repeat after 64; about takes, between each two packets delivered, the count that fits the numbers and is nearest to @.@ packets for each PDU lost, refused or withheld there\n",
+        &[tenths / 10, tenths % 10],
+    );
+    io::write_all(STDERR_FILENO, &line[..n]);
+}
+
+// How many PDUs look as if they came twice, where there are any.
+fn say_twice(twice: u32) {
+    if twice == 0 {
+        return;
+    }
+    let mut line = [0u8; 256];
+    let n = text::fill(
+        &mut line,
+        0,
+        b"barzhilup coverage: PDUs that look as if they came twice: @; each may add up to 63 to missing, so that figure is not certain\n",
+        &[twice as u64],
+    );
+    io::write_all(STDERR_FILENO, &line[..n]);
 }

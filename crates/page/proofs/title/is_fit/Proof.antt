@@ -5,10 +5,10 @@ use Rattle.page.proofs.title.is_fit.Statement.{statement}
 use Rattle.page.proofs.title.is_fit.Tie as tie
 
 abbrev Inv-loop : tie.InvT-loop
-Inv-loop text e₀ i₀ e i = Unit {0}
+Inv-loop text most e₀ i₀ e i = Unit {0}
 
 abbrev μ-loop : tie.MeasureT-loop
-μ-loop text e₀ i₀ e i = length text - i
+μ-loop text most e₀ i₀ e i = length text - i
 
 returns : tie.Need-returns Inv-loop μ-loop
 returns c = search needs

@@ -12,10 +12,10 @@ use Rattle.picture.proofs.frame.put_column.Reads as put-column-reads
 use Rattle.text.proofs.put.Reads as put-reads
 
 abbrev Inv-loop : tie.InvT-loop
-Inv-loop out₀ at columns n₀ column₀ out n column = (column < 4294967306) × (length out ≡ length out₀)
+Inv-loop out₀ at columns c n₀ column₀ out n column = (column < 4294967306) × (length out ≡ length out₀)
 
 abbrev μ-loop : tie.MeasureT-loop
-μ-loop out₀ at columns n₀ column₀ out n column = columns - column
+μ-loop out₀ at columns c n₀ column₀ out n column = columns - column
 
 -- src/frame.rt:55:9
 slice-aggregate-put : tie.Need-slice-aggregate-put Inv-loop μ-loop

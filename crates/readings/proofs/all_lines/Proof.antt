@@ -1,8 +1,8 @@
 use borrow.Author.Needs.{needs}
 use mathlib.Core.Path.{_≡_}
 use lib.ListN.{length}
-use Rattle.drawing.proofs.all_lines.Statement.{statement}
-use Rattle.drawing.proofs.all_lines.Tie as tie
+use Rattle.readings.proofs.all_lines.Statement.{statement}
+use Rattle.readings.proofs.all_lines.Tie as tie
 
 abbrev Inv-loop : tie.InvT-loop
 Inv-loop task buf₀ block₀ run₀ turns₀ buf block run turns = (length buf ≡ length buf₀) × (length block ≡ length block₀)
