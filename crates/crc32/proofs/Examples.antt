@@ -2,16 +2,16 @@
 use mathlib.Core.Path.{_≡_, refl}
 use mathlib.Core.List.{List, [], _∷_}
 use Prim.Native.Nat.{ℕ}
-use Rattle.crc32.specs.Crc32.{shiftOne, shifts, crcByte, crcFrom, crc32, wordBytes, bytesOf}
+use Rattle.crc32.specs.Crc32.{shiftDown, shiftsDown, crc32Byte, crc32From, crc32, entryBytes, entriesBytes}
 
 of-digits : crc32 (49 ∷ 50 ∷ 51 ∷ 52 ∷ 53 ∷ 54 ∷ 55 ∷ 56 ∷ 57 ∷ []) ≡ 0xCBF43926
-unfolding crcFrom crcByte shifts shiftOne
+unfolding crc32From crc32Byte shiftsDown shiftDown
 of-digits = refl
 
 of-nothing : crc32 [] ≡ 0
-unfolding crcFrom
+unfolding crc32From
 of-nothing = refl
 
-of-words : bytesOf (0x43010203 ∷ 0x41040000 ∷ []) ≡ 1 ∷ 2 ∷ 3 ∷ 4 ∷ []
-unfolding bytesOf wordBytes
+of-words : entriesBytes (0x43010203 ∷ 0x41040000 ∷ []) ≡ 1 ∷ 2 ∷ 3 ∷ 4 ∷ []
+unfolding entriesBytes entryBytes
 of-words = refl

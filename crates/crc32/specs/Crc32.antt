@@ -8,41 +8,41 @@ use lib.Dec.{eqb}
 use lib.ListN.{getD}
 
 -- the divisor without x^32, x^31 in the lowest bit
-abbrev pub divisor : ℕ
-divisor = 0xEDB88320
+abbrev pub divisor32 : ℕ
+divisor32 = 0xEDB88320
 
 -- the register moves down by one bit, and where a one leaves it, the divisor is taken away
-unfoldable pub shiftOne : ℕ → ℕ
-shiftOne x = bitXor (x / 2) (x % 2 * divisor)
+unfoldable pub shiftDown : ℕ → ℕ
+shiftDown x = bitXor (x / 2) (x % 2 * divisor32)
 
-unfoldable pub shifts : ℕ → ℕ → ℕ
-shifts zero x = x
-shifts (suc n) x = shifts n (shiftOne x)
+unfoldable pub shiftsDown : ℕ → ℕ → ℕ
+shiftsDown zero x = x
+shiftsDown (suc n) x = shiftsDown n (shiftDown x)
 
 -- the register after a byte
-unfoldable pub crcByte : ℕ → ℕ → ℕ
-crcByte r b = shifts 8 (bitXor r b)
+unfoldable pub crc32Byte : ℕ → ℕ → ℕ
+crc32Byte r b = shiftsDown 8 (bitXor r b)
 
 -- the register after bytes
-unfoldable pub crcFrom : ℕ → List ℕ → ℕ
-crcFrom r [] = r
-crcFrom r (b ∷ bs) = crcFrom (crcByte r b) bs
+unfoldable pub crc32From : ℕ → List ℕ → ℕ
+crc32From r [] = r
+crc32From r (b ∷ bs) = crc32From (crc32Byte r b) bs
 
 abbrev pub crc32 : List ℕ → ℕ
-crc32 bs = bitXor (crcFrom 0xFFFFFFFF bs) 0xFFFFFFFF
+crc32 bs = bitXor (crc32From 0xFFFFFFFF bs) 0xFFFFFFFF
 
 -- the bytes of a data word of the packet log: three, two or one, the first in bits 23-16
-unfoldable pub wordBytes : ℕ → List ℕ
-wordBytes w =
+unfoldable pub entryBytes : ℕ → List ℕ
+entryBytes w =
     cond (eqb (w / 16777216 % 4) 3) (w / 65536 % 256 ∷ w / 256 % 256 ∷ w % 256 ∷ [])
     (cond (eqb (w / 16777216 % 4) 2) (w / 65536 % 256 ∷ w / 256 % 256 ∷ []) (w / 65536 % 256 ∷ []))
 
-unfoldable pub bytesOf : List ℕ → List ℕ
-bytesOf [] = []
-bytesOf (w ∷ ws) = wordBytes w ++ bytesOf ws
+unfoldable pub entriesBytes : List ℕ → List ℕ
+entriesBytes [] = []
+entriesBytes (w ∷ ws) = entryBytes w ++ entriesBytes ws
 
 -- tables of what a byte comes to: after 8 shifts, after 16 and after 24
 pub record Tables (t : List ℕ) : Type 0 where
-  pub eight : (k : ℕ) → k < 256 → getD t k 0 ≡ shifts 8 k
-  pub sixteen : (k : ℕ) → k < 256 → getD t (256 + k) 0 ≡ shifts 16 k
-  pub twentyfour : (k : ℕ) → k < 256 → getD t (512 + k) 0 ≡ shifts 24 k
+  pub eight : (k : ℕ) → k < 256 → getD t k 0 ≡ shiftsDown 8 k
+  pub sixteen : (k : ℕ) → k < 256 → getD t (256 + k) 0 ≡ shiftsDown 16 k
+  pub twentyfour : (k : ℕ) → k < 256 → getD t (512 + k) 0 ≡ shiftsDown 24 k

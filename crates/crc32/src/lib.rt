@@ -1,7 +1,7 @@
 // CRC-32 as zlib and PNG have it: lowest bit of each byte first, the divisor 0xEDB88320, register and result inverted.
 ghost use mathlib.Core.Path.{_≡_};
 ghost use Prim.Native.Nat.{_%_, _<_};
-ghost use Rattle.crc32.specs.Crc32.{crcByte, crcFrom, crc32, wordBytes, bytesOf, Tables};
+ghost use Rattle.crc32.specs.Crc32.{crc32Byte, crc32From, crc32, entryBytes, entriesBytes, Tables};
 
 // What the register's three lowest bytes come to: of each byte k, k after 8 bits of zero, then after 16, then after 24.
 const TABLES: [u32; 768] = [
@@ -792,7 +792,7 @@ fn place(x: u32) -> usize
 // The register after the lowest byte of a number, from the lent tables.
 fn with_byte(tables: &[u32; 768], register: u32, byte: u32) -> u32
     requires { ⌜ Tables (now tables) ⌝ }
-    ensures { λ r. ⌜ r ≡ crcByte register (byte % 256) ⌝ }
+    ensures { λ r. ⌜ r ≡ crc32Byte register (byte % 256) ⌝ }
 {
     (register / 256) ^ tables[place(register ^ byte)]
 }
@@ -800,7 +800,7 @@ fn with_byte(tables: &[u32; 768], register: u32, byte: u32) -> u32
 // The register after the lowest bytes of three numbers, from the lent tables.
 fn with_three(tables: &[u32; 768], register: u32, first: u32, second: u32, third: u32) -> u32
     requires { ⌜ Tables (now tables) ⌝ }
-    ensures { λ r. ⌜ r ≡ crcByte (crcByte (crcByte register (first % 256)) (second % 256)) (third % 256) ⌝ }
+    ensures { λ r. ⌜ r ≡ crc32Byte (crc32Byte (crc32Byte register (first % 256)) (second % 256)) (third % 256) ⌝ }
 {
     let a = tables[512 + place(register ^ first)];
     let b = tables[256 + place((register / 256) ^ second)];
@@ -811,7 +811,7 @@ fn with_three(tables: &[u32; 768], register: u32, first: u32, second: u32, third
 // The register after the bytes of a data word of the packet log, which has one to three.
 fn with_word(tables: &[u32; 768], register: u32, word: u32) -> u32
     requires { ⌜ Tables (now tables) ⌝ }
-    ensures { λ r. ⌜ r ≡ crcFrom register (wordBytes word) ⌝ }
+    ensures { λ r. ⌜ r ≡ crc32From register (entryBytes word) ⌝ }
 {
     let count = word / 16777216 % 4;
     if count == 3 {
@@ -827,7 +827,7 @@ fn with_word(tables: &[u32; 768], register: u32, word: u32) -> u32
 // The CRC-32 of the bytes of data words, from the lent tables.
 fn crc_by(tables: &[u32; 768], words: &[u32]) -> u32
     requires { ⌜ Tables (now tables) ⌝ }
-    ensures { λ r. ⌜ r ≡ crc32 (bytesOf (now (words .entry))) ⌝ }
+    ensures { λ r. ⌜ r ≡ crc32 (entriesBytes (now (words .entry))) ⌝ }
 {
     let mut register: u32 = 0xffffffff;
     let mut i: usize = 0;
@@ -840,7 +840,7 @@ fn crc_by(tables: &[u32; 768], words: &[u32]) -> u32
 
 // The CRC-32 of the bytes of data words of the packet log, each of which has one to three.
 pub fn of_words(words: &[u32]) -> u32
-    ensures { λ r. ⌜ r ≡ crc32 (bytesOf (now (words .entry))) ⌝ }
+    ensures { λ r. ⌜ r ≡ crc32 (entriesBytes (now (words .entry))) ⌝ }
 {
     let tables = tables();
     crc_by(&tables, words)

@@ -5,7 +5,7 @@ use Prim.Native.Nat.{ℕ, _+_, _-_, _*_, _≤_, _<_}
 use lib.ListN.{length, take, drop, getD, set, length-set}
 use mathlib.Core.List.{List, [], _∷_, _++_}
 use lib.Bits.{bitXor}
-use Rattle.crc32.specs.Crc32.{crcFrom, bytesOf}
+use Rattle.crc32.specs.Crc32.{crc32From, entriesBytes}
 use Rattle.crc32.proofs.Laws.{next-word, no-word}
 use Rattle.crc32.proofs.crc_by.Statement.{statement}
 use Rattle.crc32.proofs.crc_by.Tie as tie
@@ -14,7 +14,7 @@ use Rattle.crc32.proofs.crc_by.Lts as lts
 use Rattle.crc32.proofs.with_word.Reads as with-word-reads
 
 abbrev Inv-loop : tie.InvT-loop
-Inv-loop tables words register₀ i₀ register i = (i ≤ length words) × (crcFrom register (bytesOf (drop i words)) ≡ crcFrom 4294967295 (bytesOf words))
+Inv-loop tables words register₀ i₀ register i = (i ≤ length words) × (crc32From register (entriesBytes (drop i words)) ≡ crc32From 4294967295 (entriesBytes words))
 
 abbrev μ-loop : tie.MeasureT-loop
 μ-loop tables words register₀ i₀ register i = length words - i
@@ -43,7 +43,7 @@ loop-again c =
     let t = p .before .before .args .words .now in
     let h : p .loop .i < length t = omega arith in (
       omega arith,
-      ap (λ (x : ℕ). crcFrom x (bytesOf (drop (p .loop .i + 1) t))) (c .with-word .ensures) ∙ sym (next-word t (p .loop .register) (p .loop .i) h) ∙ p .loop .inv .1,
+      ap (λ (x : ℕ). crc32From x (entriesBytes (drop (p .loop .i + 1) t))) (c .with-word .ensures) ∙ sym (next-word t (p .loop .register) (p .loop .i) h) ∙ p .loop .inv .1,
     )
 
 returns : tie.Need-returns Inv-loop μ-loop

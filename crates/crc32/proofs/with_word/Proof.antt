@@ -5,7 +5,7 @@ use lib.ListN.{length, take, drop, getD, set, length-set}
 use mathlib.Core.List.{List, [], _∷_, _++_}
 use borrow.Author.Needs.{needs}
 use Prim.Native.Nat.{_/_, _%_}
-use Rattle.crc32.specs.Crc32.{crcByte}
+use Rattle.crc32.specs.Crc32.{crc32Byte}
 use Rattle.crc32.proofs.Laws.{three-in, two-in, one-in}
 use Rattle.crc32.proofs.with_word.Statement.{statement}
 use Rattle.crc32.proofs.with_word.Tie as tie
@@ -32,7 +32,7 @@ returns-2 : tie.Need-returns-2
 returns-2 c =
     let d = c .before .before in
     let a = d .before .before .args in
-    c .with-byte2 .ensures ∙ ap (λ (x : ℕ). crcByte x (a .word / 256 % 256)) (d .with-byte .ensures)
+    c .with-byte2 .ensures ∙ ap (λ (x : ℕ). crc32Byte x (a .word / 256 % 256)) (d .with-byte .ensures)
     ∙ sym (two-in (a .register) (a .word) (d .before .if1 .left) (c .before .if2 .taken))
 
 returns-3 : tie.Need-returns-3
