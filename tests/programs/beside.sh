@@ -73,7 +73,7 @@ check_beside_drives() {
         cp out road
         beside road --format csv
         ended "beside a drive, seed $seed" 0 log
-        same "beside a drive, seed $seed, packets" "$(awk -F , '$2 == "packet" { print $4 }' beside.log)" "$(lengths_of beside.packets)"
+        same "beside a drive, seed $seed, packets" "$(awk -F , '$2 == "packet" { print $7 }' beside.log)" "$(lengths_of beside.packets)"
         same "beside a drive, seed $seed, PSD" $((14 * $(grep -c ,psd, beside.log))) "$(wc -c <beside.psd)"
         cp beside.packets wanted
         cp beside.adts wanted.adts
@@ -167,7 +167,7 @@ compared() { # SENT FILE OPTION...
 right_list() { # WHAT SENT
     same "$1, the list's first line" index,number,length,state,pdu "$(head -n 1 beside.list)"
     same "$1, the packets sent" "$(lengths_of "$2" | awk '{ print NR - 1 "," (NR - 1) % 64 "," $1 }')" "$(grep ',delivered,\|,missing,' beside.list | cut -d , -f 1-3)"
-    same "$1, those that came" "$(awk -F , '$2 == "packet" { print $3 "," $4 "," $1 }' beside.log)" "$(grep ',delivered,\|,again,\|,never sent,' beside.list | cut -d , -f 2,3,5)"
+    same "$1, those that came" "$(awk -F , '$2 == "packet" { print $6 "," $7 "," $1 }' beside.log)" "$(grep ',delivered,\|,again,\|,never sent,' beside.list | cut -d , -f 2,3,5)"
     same "$1, the list's last line" ",end,$(lengths_of "$2" | wc -l),,whole" "$(tail -n 1 beside.list)"
 }
 

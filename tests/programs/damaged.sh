@@ -200,7 +200,7 @@ check_auto_stream() {
     run log --in auto --mode auto --stream 1 --format csv
     ended "a stream that is given" 0 log
     same "a stream that is given" "barzhilup log: auto: mode 1, stream 1, by the first PDU that can be read" "$(head -n 1 err)"
-    same "a stream that is given, PDUs of the other" 3 "$(grep -c ',refused,6,' out)"
+    same "a stream that is given, PDUs of the other" 3 "$(grep -c ',refused,,,6,' out)"
 }
 
 # No PDU that can be read: nothing is made.

@@ -17,7 +17,7 @@ hexadecimal() {
 # The lengths of the PSD of a file of PDUs, one for each PDU, 0 where it has none.
 psd_lengths() { # FILE OPTIONS
     run log --in "$1" --format csv "${@:2}"
-    awk -F , '$2 == "received" { if (NR > 2) print length_of; length_of = 0 } $2 == "psd" { length_of = $4 } $2 == "end" { print length_of }' out | tr '\n' ' ' | sed 's/ $//'
+    awk -F , '$2 == "received" { if (NR > 2) print length_of; length_of = 0 } $2 == "psd" { length_of = $7 } $2 == "end" { print length_of }' out | tr '\n' ' ' | sed 's/ $//'
 }
 
 # What generate says with a stream: the counts, and the bytes of PSD.
