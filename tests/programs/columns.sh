@@ -75,10 +75,13 @@ check_columns_same() {
     says_the_same "a pair of which both have damage" --in damaged --second sent
     steps 0 3 2 5 >order
     says_the_same "PDUs out of order" --in order --mode 1
-    same "a refused PDU as JSON" '{"pdu":0,"kind":"refused","refusal":3,"length":95,"cause":"length not 96 to 20480","delivered":0,"missing":0}' \
-        "$("$program" log --format json 2>/dev/null < <(record 95) | head -n 1)"
-    same "a note as JSON" '{"pdu":0,"kind":"note","note":6,"cause":"lost"}' "$("$program" log --format json 2>/dev/null < <(record 95) | sed -n 2p)"
-    same "no PDUs as JSON" '{"kind":"end","pdus":0}' "$("$program" log --format json --in empty 2>/dev/null)"
+    record 95 >short.pdu
+    run log --in short.pdu --format json
+    same "a refused PDU and its note as JSON" '{"pdu":0,"kind":"refused","refusal":3,"length":95,"cause":"length not 96 to 20480","delivered":0,"missing":0}
+{"pdu":0,"kind":"note","note":6,"cause":"lost"}
+{"kind":"end","pdus":1}' "$(cat out)"
+    run log --in empty --format json
+    same "no PDUs as JSON" '{"kind":"end","pdus":0}' "$(cat out)"
     run log --in <(head -c 400 sent) --format json
     ended "a cut file as JSON" 1 log
     same "a cut file as JSON has no last line" 0 "$(grep -c '"kind":"end"' out || true)"
@@ -109,10 +112,10 @@ check_columns_text() {
     has_text "a sign" '-1' '" -1"' ',"text":"-1"'
     has_text "an at sign" '@all' '" @all"' ',"text":"@all"'
     has_text "a plus" '\x00+12' '" +12"' ',"text":"+12"'
-    long=$(printf '%0250d' 0 | tr 0 x)
-    has_text "a long one" "$long" "\"${long:0:200}\"" ",\"text\":\"${long:0:200}\""
+    long=$(printf '%0128d' 0 | tr 0 x)
+    has_text "the longest" "$long" "\"$long\"" ",\"text\":\"$long\""
     long=${long//x/\"}
-    has_text "a long one of quotes" "$long" "\"$long${long:0:150}\"" ",\"text\":\"$(head -c 200 <<<"$long" | sed 's/"/\\"/g')\""
+    has_text "the longest, of quotes" "$long" "\"$long$long\"" ",\"text\":\"$(sed 's/"/\\"/g' <<<"$long")\""
     run log --in some.pdus --format csv
     cp out quotes.csv
     run coverage --in quotes.csv

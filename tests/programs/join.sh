@@ -286,7 +286,7 @@ check_join_drive() {
         run log --in enhanced.came --mode 1 --stream 1 --format records --out enhanced.log
         run log --in enhanced.came --mode 1 --stream 1 --format csv --out enhanced.csv
         run join --in core.log --enhanced enhanced.log
-        same "a drive joined, seed $seed" "$(joined_by_hand 8 1 core.csv enhanced.csv)" "$(cat out)"
+        same "a drive joined, seed $seed" "$(joined_by_hand 8 1 <(older core.csv) <(older enhanced.csv))" "$(cat out)"
         ended "a drive joined, seed $seed" 0 join
         has_line "its counts" "$(awk -F , '
             NR > 1 && $2 != "end" && $3 > 0 && $5 == 0 { alone += 1 }
