@@ -153,16 +153,7 @@ fn with_ahead(
     let n = files::put_output_label(&mut onto, b"barzhilup log", &job::KNOWN);
     let mut labels = beside_files::label_buffer();
     let k = beside_files::put_labels(&mut labels, &job::KNOWN);
-    with_labels(
-        job,
-        state,
-        carry,
-        from,
-        &onto[..n],
-        &labels[..k],
-        rest,
-        buf,
-    )
+    with_labels(job, state, carry, from, &onto[..n], &labels[..k], rest, buf)
 }
 
 // Makes the file of the log and those beside it, and that in which the state is saved, where it is given; and logs.
@@ -196,7 +187,7 @@ fn with_labels(
     logged(job, task, state, carry, from, onto, labels, rest, buf)
 }
 
-// Logs, and says why it ended and what was received.
+// Logs, with the path of the file in which the state is saved, where it is given.
 fn logged(
     job: Job,
     task: Task,
@@ -210,6 +201,33 @@ fn logged(
 ) -> i32 {
     let mut path = io::buffer();
     let n = interruption::put_path(&job::KNOWN, &mut path);
+    with_path(
+        job,
+        task,
+        state,
+        &path[..n],
+        carry,
+        from,
+        onto,
+        labels,
+        rest,
+        buf,
+    )
+}
+
+// Logs, and says why it ended and what was received.
+fn with_path(
+    job: Job,
+    task: Task,
+    state: State,
+    path: &[u8],
+    carry: &mut [u8],
+    from: &[u8],
+    onto: &[u8],
+    labels: &[u8],
+    rest: Ahead,
+    buf: &mut [u8],
+) -> i32 {
     let receiver = state.receiver;
     let mut counts = crate::no_counts();
     counts::begin(&mut counts, receiver);
@@ -217,16 +235,7 @@ fn logged(
     let beside = o.beside;
     comparison::begin(&mut counts, beside.many);
     let start = ahead_logging::begin(logging::run_of(records::WHOLE, receiver, state.pdus), rest);
-    let last = ahead_logging::log_all(
-        task,
-        job.resync,
-        &path[..n],
-        from,
-        carry,
-        buf,
-        &mut counts,
-        start,
-    );
+    let last = ahead_logging::log_all(task, job.resync, path, from, carry, buf, &mut counts, start);
     ends(last, from, onto, labels);
     let status = crate::finish(last.run, state.pdus, o, onto, labels, &counts);
     remarks::passed(last.places, last.passed);
