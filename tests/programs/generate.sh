@@ -2,7 +2,7 @@
 
 # The words of a refusal, by the options that are refused.
 generate_words() {
-    awk -F ' [|] ' -v options="$*" '{ given = $1; sub(/^[0-9]+ /, "", given) } given == options { print $2 }' "$data/generate.settings"
+    awk -F ' [|] ' -v options="$(sed 's/ --crc-start [0-9]*//' <<<"$*")" '{ given = $1; sub(/^[0-9]+ /, "", given) } given == options { print $2 }' "$data/generate.settings"
 }
 
 # A refusal: its number and the options. Nothing is made, and what was in its output before is kept, also with --force, and where a packet is wrong

@@ -113,6 +113,6 @@ check_road_log() {
     cp out came
     run log --in came --mode 1 --format csv
     ended "PDUs that come twice, logged" 0 log
-    same "PDUs that come twice, notes of the sequence" 4 "$(grep -c ',note,0,,sequence,,$' out || true)"
-    same "PDUs that come twice, packets" 8 "$(grep -c ',packet,' out || true)"
+    same "PDUs that come twice, notes of the sequence" 4 "$(grep -c '^[0-9]*,note,.*,1,sequence,' out || true)"
+    same "PDUs that come twice, packets" 8 "$(grep -c '^[0-9]*,packet,' out || true)"
 }
