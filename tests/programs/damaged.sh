@@ -78,11 +78,67 @@ check_resync() {
     { busy_pdus 0 3; head -c 70001 /dev/zero | tr '\0' '\252'; busy_pdus 4 9; } >broken
     resynced "other bytes among the records" 3 70001 906 70907
     same_file "other bytes among the records, the log" plain.csv resynced
+    check_resync_cuts
+    check_resync_texts
+    check_resync_zeros
     check_resync_ends
     check_resync_pipes
     check_resync_many
     check_resync_resumed
     check_resync_asked
+}
+
+# The PDUs of a drive of 300 bytes each from one on, and those before it.
+behind() { # DRIVE PDU
+    tail -c +$((302 * $2 + 1)) "$1"
+}
+
+ahead_of() { # DRIVE PDU
+    head -c $((302 * $2)) "$1"
+}
+
+# The log of the file broken is that of a drive in whose place of damage one PDU is lost.
+as_lost() { # ABOUT DRIVE PDU NEXT
+    { ahead_of "$2" "$3"; record 0; behind "$2" "$4"; } >plain
+    run log --in plain --format csv
+    cp out wanted
+    run log --in broken --resync --format csv
+    ended "$1" 0 log
+    same_file "$1, the log" wanted out
+}
+
+# A record that was cut after so many of its bytes, in its length, its header and each part of the PDU, in packets of zeros and in others: the PDU before it and
+# all behind it are logged once, in turn.
+check_resync_cuts() {
+    local drive pdu bytes
+    for drive in sent busy; do
+        for pdu in 2 5 11; do
+            for bytes in 1 2 3 10 14 16 20 32 50 66 84 97 98 99 150 201 299 300 301; do
+                { head -c $((302 * pdu + bytes)) "$drive"; behind "$drive" $((pdu + 1)); } >broken
+                as_lost "$drive, PDU $pdu cut after $bytes bytes" "$drive" "$pdu" $((pdu + 1))
+            done
+        done
+    done
+}
+
+# Text among the records, of which two letters may read as a length.
+check_resync_texts() {
+    local drive line
+    for drive in sent busy; do
+        for line in "!" "OK" "AT+CSQ" "recorder: disk full, 12 records dropped" "$(seq 100 900)"; do
+            { ahead_of "$drive" 4; echo "$line"; behind "$drive" 4; } >broken
+            as_lost "$drive, ${#line} letters" "$drive" 4 4
+        done
+    done
+}
+
+# A length that no PDU has, with zeros behind it, where zeros are what packets have.
+check_resync_zeros() {
+    local bytes
+    for bytes in 1 2 299 300 301 4000; do
+        { ahead_of sent 6; printf '\377\377'; head -c "$bytes" /dev/zero; behind sent 7; } >broken
+        as_lost "$bytes zeros" sent 6 7
+    done
 }
 
 # Damage at the beginning and at the end, and nothing but damage.
@@ -119,7 +175,7 @@ check_resync_many() {
     same "seven places, how many are said" 5 "$(grep -c 'passed over 3 bytes' err)"
     has_line "seven places, the others" "barzhilup log: further places passed over are counted only" err
     has_line "seven places, the summary" "barzhilup log: places passed over 7 (bytes 21), each logged as a lost PDU" err
-    same "seven places, lost PDUs" 7 "$(grep -c ',lost,,,,' out)"
+    same "seven places, lost PDUs" 7 "$(grep -c '^[0-9]*,lost,' out)"
 }
 
 # A run over a damaged file that is killed goes on: the places passed over are counted as the PDUs are.

@@ -38,9 +38,10 @@ pub struct Next {
     pub ahead: Ahead,
 }
 
-// Whether records were found, and what is read ahead.
+// Whether records were found, the last place that was looked at, and what is read ahead.
 struct Found {
     found: bool,
+    at: usize,
     ahead: Ahead,
 }
 
@@ -153,9 +154,10 @@ fn pdu_at(a: Ahead, buf: &mut [u8], at: usize, length: usize, wanted: Wanted) ->
     }
 }
 
-fn found_if(found: bool, ahead: Ahead) -> Found {
+fn found_if(found: bool, at: usize, ahead: Ahead) -> Found {
     Found {
         found: found,
+        at: at,
         ahead: ahead,
     }
 }
@@ -209,12 +211,12 @@ fn leads(a: Ahead, buf: &mut [u8], start: usize, wanted: Wanted) -> Found {
         let ahead = l.ahead;
         now = ahead;
         if goes_on(l) | (l.status != records::WHOLE) {
-            return found_if(goes_on(l), now);
+            return found_if(goes_on(l), at, now);
         }
         at = after(at, l.length);
         turns -= 1;
     }
-    found_if(true, now)
+    found_if(true, at, now)
 }
 
 // Whether a record begins at a place whose PDU can be read, and the records after it lead to another such or to the file's end.
@@ -223,7 +225,7 @@ fn begins(a: Ahead, buf: &mut [u8], at: usize, wanted: Wanted) -> Found {
     let ahead = l.ahead;
     let p = l.pdu;
     if !p.right {
-        return found_if(false, ahead);
+        return found_if(false, at, ahead);
     }
     leads(ahead, buf, after(at, l.length), wanted)
 }
@@ -284,11 +286,10 @@ struct Inside {
     ahead: Ahead,
 }
 
-// Looks for records that begin inside the first one, which has so many bytes: of a record that was cut, and then others written behind it.
-fn begun_inside(a: Ahead, buf: &mut [u8], length: usize, wanted: Wanted) -> Inside {
+// Looks for records that begin before a place, after the first byte that is read ahead: of a record that was cut, and then others written behind it.
+fn begun_inside(a: Ahead, buf: &mut [u8], end: usize, wanted: Wanted) -> Inside {
     let mut now = a;
-    let end = after(0, length);
-    let mut at: usize = 2;
+    let mut at: usize = 1;
     while at < end {
         let f = begins(now, buf, at, wanted);
         let ahead = f.ahead;
@@ -301,27 +302,54 @@ fn begun_inside(a: Ahead, buf: &mut [u8], length: usize, wanted: Wanted) -> Insi
     Inside { at: 0, ahead: now }
 }
 
-// The first record, of so many bytes, after which no records are found: where records begin inside it, it was cut, and is passed over up to these.
-fn cut(a: Ahead, buf: &mut [u8], length: usize, wanted: Wanted) -> Next {
-    let i = begun_inside(a, buf, length, wanted);
+// The first record, of so many bytes, where its PDU cannot be read or that of the next: where records begin before a place, it was cut or is none, and is passed
+// over up to these; else it stands if it may.
+fn settled(
+    a: Ahead,
+    buf: &mut [u8],
+    length: usize,
+    end: usize,
+    stands: bool,
+    wanted: Wanted,
+) -> Next {
+    let i = begun_inside(a, buf, end, wanted);
     let ahead = i.ahead;
-    if i.at == 0 {
-        return record(ahead, length);
+    if i.at != 0 {
+        return passed(ahead, ahead::without(ahead, i.at));
     }
-    passed(ahead, ahead::without(ahead, i.at))
-}
-
-// The first record, of so many bytes, if the records after it go on; if not, and its PDU cannot be read, the next place is looked for at which records begin.
-fn checked(a: Ahead, buf: &mut [u8], length: usize, right: bool, wanted: Wanted) -> Next {
-    let f = leads(a, buf, after(0, length), wanted);
-    let ahead = f.ahead;
-    if f.found {
+    if stands {
         return record(ahead, length);
-    }
-    if right {
-        return cut(ahead, buf, length, wanted);
     }
     search(ahead, buf, wanted)
+}
+
+// Up to where records are looked for that begin after the first one does, of so many bytes: its end, or, where its PDU cannot be read, the place at which records
+// go on after it.
+fn end_of(f: Found, length: usize, right: bool) -> usize {
+    if f.found & !right {
+        return f.at;
+    }
+    after(0, length)
+}
+
+// The first record, of so many bytes, which is taken at once where its PDU can be read and that of the next, or the file ends after it. An empty one is a lost PDU.
+fn checked(a: Ahead, buf: &mut [u8], length: usize, right: bool, wanted: Wanted) -> Next {
+    if length == 0 {
+        return record(a, length);
+    }
+    let f = leads(a, buf, after(0, length), wanted);
+    let ahead = f.ahead;
+    if f.found & right & (f.at == after(0, length)) {
+        return record(ahead, length);
+    }
+    settled(
+        ahead,
+        buf,
+        length,
+        end_of(f, length, right),
+        f.found | right,
+        wanted,
+    )
 }
 
 // The next record by a look at it and its PDU. Bytes at which no record begins are passed over.

@@ -7,13 +7,10 @@ use Rattle.resync.proofs.begun_inside.Statement.{statement}
 use Rattle.resync.proofs.begun_inside.Tie as tie
 
 abbrev Inv-loop : tie.InvT-loop
-Inv-loop buf₀ many wanted now₀ end at₀ buf now at = length buf ≡ length buf₀
+Inv-loop buf₀ end wanted now₀ at₀ buf now at = length buf ≡ length buf₀
 
 abbrev μ-loop : tie.MeasureT-loop
-μ-loop buf₀ many wanted now₀ end at₀ buf now at = end - at
-
-after-requires : tie.Need-after-requires Inv-loop μ-loop
-after-requires c κs = search needs
+μ-loop buf₀ end wanted now₀ at₀ buf now at = end - at
 
 loop-holds : tie.Need-loop-holds Inv-loop μ-loop
 loop-holds c = search needs
@@ -48,7 +45,6 @@ begun-inside-spec =
     (tie.spec
     Inv-loop
     μ-loop
-    after-requires
     loop-holds
     begins-requires
     same-length
