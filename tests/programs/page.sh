@@ -82,11 +82,12 @@ check_page_texts() {
 <p><b>Date</b>2026-11-17</p>
 <p><b>Source</b>car &amp; roof</p>
 <p><b>Mode</b>0</p>
-<p><b>PDU time</b>1486.1 ms</p>' "$(grep '^<p><b>' out | head -n 5)"
+<p><b>PDU length</b>300 bytes</p>
+<p><b>PDU time</b>1486.1 ms</p>' "$(grep '^<p><b>' out | head -n 6)"
     same "a page's note" 4000 "$(grep -o '&amp;' <(grep 'class="note"' out) | wc -l)"
     check_page_whole "a page with a head"
     run coverage --in log.csv --format html
-    same "a page without a head" 0 "$(grep -c '<p>\|<p ' out || true)"
+    same "a page without a head" '<p><b>PDU length</b>300 bytes</p>' "$(grep '<p>\|<p ' out || true)"
     same "a page has nothing from outside, and no script" 0 "$(grep -ci '<script\|href\|src=\|@import\|url(' out || true)"
     check_page_whole "a page without a head"
 }

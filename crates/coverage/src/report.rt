@@ -58,8 +58,9 @@ where packets are missing before those; and totals. A withheld PDU (log
 --entitled) has a hollow cell, one that looks as if it came twice a 2. In the
 log of two recordings (log --second) a stroke at a cell's upper edge tells that
 pieces are taken from the first copy, one at its lower edge that they are from
-the second. An HTML page has a head, an overview of the share of PDUs lost or
-refused, the totals, and then pages of rows; it prints on paper laid across.
+the second. An HTML page has a head with the PDU length, an overview of the
+share of PDUs lost or refused, the totals, the text of PSD where it changes, and
+then pages of rows; it prints on paper laid across.
 
 Delivered and missing are those of the receiver's record, as the CSV has them;
 a tick stands where missing grew. Withheld packets and those with a damaged
