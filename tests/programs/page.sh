@@ -82,11 +82,12 @@ check_page_texts() {
 <p><b>Date</b>2026-11-17</p>
 <p><b>Source</b>car &amp; roof</p>
 <p><b>Mode</b>0</p>
-<p><b>PDU time</b>1486.1 ms</p>' "$(grep '^<p><b>' out | head -n 5)"
+<p><b>PDU length</b>300 bytes</p>
+<p><b>PDU time</b>1486.1 ms</p>' "$(grep '^<p><b>' out | head -n 6)"
     same "a page's note" 4000 "$(grep -o '&amp;' <(grep 'class="note"' out) | wc -l)"
     check_page_whole "a page with a head"
     run coverage --in log.csv --format html
-    same "a page without a head" 0 "$(grep -c '<p>\|<p ' out || true)"
+    same "a page without a head" '<p><b>PDU length</b>300 bytes</p>' "$(grep '<p>\|<p ' out || true)"
     same "a page has nothing from outside, and no script" 0 "$(grep -ci '<script\|href\|src=\|@import\|url(' out || true)"
     check_page_whole "a page without a head"
 }
@@ -168,7 +169,23 @@ class="f" x="314" y="46" width="249" height="24"' "$(sed -n '/class="strip"/,/<\
     run coverage --in strip.csv --format html --pdu-ms 1000
     same "the overview by seconds" "Overview: PDUs lost or refused, in each 10 s" "$(overview_of)"
     run coverage --in long.csv --format html --pdu-ms 60000
+    same "the overview by two minutes" "Overview: PDUs lost or refused, in each 2 min" "$(overview_of)"
+    run coverage --in long.csv --format html --pdu-ms 30000
     same "the overview by minutes" "Overview: PDUs lost or refused, in each 1 min" "$(overview_of)"
+    check_page_bars
+}
+
+# However long a drive is, it has at most some hundred bars, and the number under the last one ends within the strip's picture: it stands in the middle below its mark,
+# and a digit takes 6 at the most.
+check_page_bars() {
+    local ms bars last
+    for ms in 1 7600 7700 23000 23100 46100 46200 60000; do
+        run coverage --in long.csv --format html --pdu-ms "$ms"
+        bars=$(sed -n '/class="strip"/,/<\/svg>/p' out | grep -c '<rect class="l"' || true)
+        same "the bars of PDUs of $ms ms, $bars" yes "$([ "$bars" -ge 1 ] && [ "$bars" -le 101 ] && echo yes || echo no)"
+        last=$(sed -n '/class="strip"/,/<\/svg>/s/<text class="t" text-anchor="middle" x="\([0-9]*\)" y="84">\(.*\)<\/text>/\1 \2/p' out | tail -n 1)
+        same "the last number of PDUs of $ms ms, $last" yes "$(awk '{ print $1 + 3 * length($2) <= 1088 && NF == 2 ? "yes" : "no" }' <<<"$last")"
+    done
 }
 
 overview_of() {

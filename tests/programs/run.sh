@@ -16,7 +16,7 @@ if [ ! -x "$program" ]; then
 fi
 program=$(readlink -f "$program")
 subs=(generate channel log coverage latency join)
-for part in harness usage files generate log marks second registers batches bursts road stream coverage columns loss page entitled resume beside damaged latency join; do
+for part in harness usage files generate log marks second registers batches bursts road stream coverage columns loss page particulars entitled resume beside damaged latency join; do
     # shellcheck source=/dev/null
     . "$here/$part.sh"
 done
@@ -126,6 +126,10 @@ check_page_estimate
 check_page_twice
 check_page_asked
 check_page_texts
+check_page_lengths
+check_page_psd
+check_page_psd_none
+check_page_psd_many
 check_page_times
 check_page_rows
 check_page_strip

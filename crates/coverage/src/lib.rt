@@ -1,12 +1,11 @@
 // Draws a drive: from the CSV of its log to a strip of its PDUs, as an SVG picture or an HTML page.
 //
 // The file is read more than once. The first time counts: the picture's height stands in its first tag. The last time draws.
-mod arguments;
 mod report;
 
-use arguments::Asked;
-use arguments::KNOWN;
-use arguments::NAME;
+use commission::Asked;
+use commission::KNOWN;
+use commission::NAME;
 use drawing::Task;
 use page::leaf;
 use page::leaf::Book;
@@ -14,13 +13,13 @@ use readings::Run;
 
 // The program: answers its exit status.
 pub fn program() -> i32 {
-    if arguments::given(b"help") {
+    if commission::given(b"help") {
         return files::status(&NAME, report::usage());
     }
-    if !arguments::check() {
+    if !commission::check() {
         return files::WRONG;
     }
-    let asked = arguments::asked_for();
+    let asked = commission::asked_for();
     if !asked.ok {
         return files::WRONG;
     }
@@ -29,7 +28,7 @@ pub fn program() -> i32 {
 
 // Opens the CSV. Answers whether all is done; what went wrong is said.
 fn with_options(asked: Asked) -> bool {
-    if arguments::is_unlisted() {
+    if commission::is_unlisted() {
         files::say(
             &NAME,
             b": refused with 5: mode and stream not in the table\n",

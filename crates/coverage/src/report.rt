@@ -1,5 +1,5 @@
 // What the program says on standard error, a line in one write.
-use crate::arguments;
+use commission::NAME;
 use libc::STDERR_FILENO;
 use readings::Run;
 
@@ -10,7 +10,7 @@ fn say(line: &[u8]) {
 // How many pages there are, where another one is asked for.
 pub fn say_pages(pages: u32) {
     files::say_number(
-        &arguments::NAME,
+        &NAME,
         b": --page: there are only so many pages: ",
         pages as u64,
         b"\n",
@@ -48,7 +48,7 @@ pub fn is_read(run: Run, from: &[u8], onto: &[u8]) -> bool {
 // How the program is used, on standard output.
 pub fn usage() -> bool {
     files::print_usage(
-        &arguments::NAME,
+        &NAME,
         b"usage: barzhilup coverage [--in FILE] [--out FILE] [OPTION]...
 
 Draws a drive as SVG or HTML from the CSV of barzhilup log: a cell for each PDU,
@@ -58,8 +58,9 @@ where packets are missing before those; and totals. A withheld PDU (log
 --entitled) has a hollow cell, one that looks as if it came twice a 2. In the
 log of two recordings (log --second) a stroke at a cell's upper edge tells that
 pieces are taken from the first copy, one at its lower edge that they are from
-the second. An HTML page has a head, an overview of the share of PDUs lost or
-refused, the totals, and then pages of rows; it prints on paper laid across.
+the second. An HTML page has a head with the PDU length, an overview of the
+share of PDUs lost or refused, the totals, the text of PSD where it changes, and
+then pages of rows; it prints on paper laid across.
 
 Delivered and missing are those of the receiver's record, as the CSV has them;
 a tick stands where missing grew. Withheld packets and those with a damaged

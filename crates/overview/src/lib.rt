@@ -62,8 +62,11 @@ fn seconds_for(seconds: u32) -> u32 {
     if seconds < 3000 {
         return 30;
     }
-    if seconds < 12000 {
+    if seconds < 6000 {
         return 60;
+    }
+    if seconds < 12000 {
+        return 120;
     }
     if seconds < 60000 {
         return 600;
@@ -267,7 +270,7 @@ fn put_number(out: &mut [u8], at: usize, s: Scale, number: u32, x: u64) -> usize
     let mut n = text::fill(
         out,
         at,
-        b"<path stroke=\"#666\" d=\"M@ 70v4\"/>\n<text class=\"t\" x=\"@\" y=\"84\">",
+        b"<path stroke=\"#666\" d=\"M@ 70v4\"/>\n<text class=\"t\" text-anchor=\"middle\" x=\"@\" y=\"84\">",
         &[x, x],
     );
     n = put_begin(out, n, s, number);

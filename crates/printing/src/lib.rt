@@ -1,8 +1,10 @@
 // A drive as it is handed on: a page of its rows as an SVG picture, or all of it as an HTML page.
+use csv::lines;
 use drawing::Task;
 use legend::Ground;
 use page::Shape;
 use page::leaf;
+use particulars::Particulars;
 use readings::Run;
 
 // A task that draws another thing.
@@ -86,12 +88,12 @@ fn with_scale(task: Task, survey: Run) -> Task {
 }
 
 // Writes the head and the overview strip.
-fn with_head(task: Task, known: &[u8], buf: &mut [u8]) -> Run {
+fn with_head(task: Task, known: &[u8], p: Particulars, buf: &mut [u8]) -> Run {
     let c = task.clock;
     let book = task.book;
     let scale = task.scale;
     let mut block = io::large_buffer();
-    let mut n = sheet::put_head(&mut block, known, c, book.pdus);
+    let mut n = sheet::put_head(&mut block, known, p.shortest, p.longest, c, book.pdus);
     n = overview::put_head(&mut block, n, scale);
     let run = readings::read_all(task, buf, &mut block, n);
     if run.state != readings::READ {
@@ -133,22 +135,47 @@ fn with_pages(task: Task, buf: &mut [u8]) -> Run {
     written(run, task.output, &block, end)
 }
 
-// Writes the totals of a survey, and then the pages.
-fn with_totals(task: Task, survey: Run, buf: &mut [u8]) -> Run {
+// Writes the totals of a survey, the list of PSD texts, and then the pages.
+fn with_totals(task: Task, survey: Run, list: &[u8], buf: &mut [u8]) -> Run {
     let totals = with_legend(task, survey);
     if totals.state != readings::READ {
         return totals;
     }
+    let texts = written(totals, task.output, list, list.len());
+    if texts.state != readings::READ {
+        return texts;
+    }
     with_pages(task, buf)
 }
 
-// Writes all, after a survey.
-fn with_survey(task: Task, survey: Run, known: &[u8], buf: &mut [u8]) -> Run {
-    let head = with_head(task, known, buf);
+// Writes all, after a survey, and after the lengths of PDUs and the list of PSD texts are read.
+fn with_particulars(
+    task: Task,
+    survey: Run,
+    known: &[u8],
+    p: Particulars,
+    list: &[u8],
+    buf: &mut [u8],
+) -> Run {
+    let head = with_head(task, known, p, buf);
     if head.state != readings::READ {
         return head;
     }
-    with_totals(task, survey, buf)
+    with_totals(task, survey, list, buf)
+}
+
+// Reads the lengths of PDUs and the texts of PSD, and writes all.
+fn with_survey(task: Task, survey: Run, known: &[u8], buf: &mut [u8]) -> Run {
+    let c = task.clock;
+    let mut list = io::large_buffer();
+    let p = particulars::read(task.input, task.start, c, buf, &mut list);
+    if !p.ok {
+        let mut stopped = survey;
+        stopped.state = readings::NOT_READ;
+        return stopped;
+    }
+    let texts = lines::part(&list, 0, particulars::length_of_list(p));
+    with_particulars(task, survey, known, p, texts, buf)
 }
 
 // Draws all as HTML. A survey comes first: the head has what is only known at the log's end.

@@ -67,8 +67,11 @@ fn put_style(out: &mut [u8], at: usize) -> usize {
 @page{size:landscape;margin:10mm}
 *{print-color-adjust:exact;-webkit-print-color-adjust:exact}
 body{font:10pt sans-serif;color:#222;max-width:277mm;margin:0 auto}
-h1{font-size:18pt;margin:0 0 3mm}h2{font-size:11pt;margin:3mm 0 1mm}
+h1{font-size:18pt;margin:0 0 3mm}h2{font-size:11pt;margin:3mm 0 1mm;break-after:avoid}
 p{margin:0 0 1mm}p b{display:inline-block;width:26mm}.note{white-space:pre-wrap;margin:2mm 0}
+.psd{columns:3 80mm;break-inside:avoid}.psd h2{column-span:all}tr{break-inside:avoid}
+td{font-size:8.5pt;padding:0 3mm .5mm 0;vertical-align:top;white-space:nowrap}
+td:last-child{white-space:normal;overflow-wrap:anywhere}
 svg{display:block;width:100%}.legend{max-width:215mm}.rows{max-height:172mm}
 section{break-before:page;break-inside:avoid}
 ",
@@ -100,6 +103,27 @@ fn put_lines(out: &mut [u8], at: usize, known: &[u8]) -> usize {
     put_line(out, n, known, 4)
 }
 
+// How many bytes the PDUs have, from the least to the greatest, where that is known.
+fn put_lengths(out: &mut [u8], at: usize, shortest: u32, longest: u32) -> usize {
+    if longest == 0 {
+        return at;
+    }
+    if shortest == longest {
+        return text::fill(
+            out,
+            at,
+            b"<p><b>PDU length</b>@ bytes</p>\n",
+            &[longest as u64],
+        );
+    }
+    text::fill(
+        out,
+        at,
+        b"<p><b>PDU length</b>@ to @ bytes</p>\n",
+        &[shortest as u64, longest as u64],
+    )
+}
+
 // How long a PDU and the drive are, where that is known.
 fn put_times(out: &mut [u8], at: usize, c: Clock, pdus: u32) -> usize {
     if !clock::is_known(c) {
@@ -126,10 +150,18 @@ fn put_heading(out: &mut [u8], known: &[u8]) -> usize {
 }
 
 // All that stands above the overview, from the block's start on.
-pub fn put_head(out: &mut [u8], known: &[u8], c: Clock, pdus: u32) -> usize {
+pub fn put_head(
+    out: &mut [u8],
+    known: &[u8],
+    shortest: u32,
+    longest: u32,
+    c: Clock,
+    pdus: u32,
+) -> usize {
     let mut n = put_heading(out, known);
     n = text::put(out, n, b"</h1>\n");
     n = put_lines(out, n, known);
+    n = put_lengths(out, n, shortest, longest);
     n = put_times(out, n, c, pdus);
     put_given(out, n, known, b"note", b"<p class=\"note\">", b"</p>\n")
 }

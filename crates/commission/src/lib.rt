@@ -1,4 +1,4 @@
-// What the command line asks for.
+// What the command line of `barzhilup coverage` asks for: the kind of picture, its measures, its texts, and how long a PDU is.
 use clock::Clock;
 use libc::STDERR_FILENO;
 use page::title;
