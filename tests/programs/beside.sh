@@ -311,6 +311,6 @@ check_sent_early() {
     head -c $((514 * 4 + 100)) all.sent >road
     compared all road
     ended "compared, cut" 1 log
-    same "compared, cut, the list" "$(grep -c ,packet, beside.log)" "$(($(wc -l <beside.list) - 1))"
+    same "compared, cut, the list" "$(grep -c "^[0-9]*,packet," beside.log)" "$(($(wc -l <beside.list) - 1))"
     same "compared, cut, no last line" 0 "$(grep -c end beside.list || true)"
 }
