@@ -74,7 +74,7 @@ check_beside_drives() {
         beside road --format csv
         ended "beside a drive, seed $seed" 0 log
         same "beside a drive, seed $seed, packets" "$(awk -F , '$2 == "packet" { print $7 }' beside.log)" "$(lengths_of beside.packets)"
-        same "beside a drive, seed $seed, PSD" $((14 * $(grep -c ,psd, beside.log))) "$(wc -c <beside.psd)"
+        same "beside a drive, seed $seed, PSD" $((14 * $(grep -c "^[0-9]*,psd," beside.log))) "$(wc -c <beside.psd)"
         cp beside.packets wanted
         cp beside.adts wanted.adts
         beside road --batch 8

@@ -347,12 +347,11 @@ def strings(crate, beginning):
 
 
 def compare_words():
-    """The header's words are those of the program, or begin with them and go on after "; or"."""
+    """The header's words are those of the program, or begin with them and go on after "; or"; for a writer's the program names the option instead."""
     receiver = dict(zip(list(range(14)) + [19, 20, 22, 25, 27], strings("causes", "unknown\\0wrong receiver")))
     del receiver[0]
-    writer = {number: words for number, words in enumerate(strings("sending", "\\0the writer's state")) if 14 <= number <= 17}
     joining = dict(zip((23, 24), strings("joining", "words that are no log")))
-    for number, words in {**receiver, **writer, **joining}.items():
+    for number, words in {**receiver, **joining}.items():
         same("header and the program's words", str(number), words, refusal_words().get(number, "").split("; or ")[0])
     for number, words in enumerate(strings("causes", "unknown\\0sequence\\0")[:-1]):
         if number:
