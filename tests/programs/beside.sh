@@ -186,12 +186,12 @@ check_sent_drives() {
             same "compared, seed $seed $options, exit status" 0 "$status"
             right_list "compared, seed $seed $options" all
             delivered=$(grep -c ,delivered, beside.list)
-            has_line "compared, seed $seed $options, the counts" "$(compared_lines 600 "$delivered" $((600 - delivered)) "$(awk -v n=$((600 - delivered)) 'BEGIN { t = int((n * 1000 + 300) / 600); print int(t / 10) "." t % 10 }')" "$(awk -F , 'NR > 1 && $4 == "delivered" { print $1; exit }' beside.list)" "$(awk -F , '$4 == "delivered" { n = 0 } $4 == "missing" { n++ } END { print n + 0 }' beside.list)" 0 0 | head -n 1)" err
+            has_line "compared, seed $seed $options, the counts" "$(compared_lines 600 "$delivered" $((600 - delivered)) "$(awk -v n=$((600 - delivered)) 'BEGIN { t = int((n * 1000 + 300) / 600); print int(t / 10) "." t % 10 }')" "$(awk -F , 'NR > 1 && $4 == "delivered" { print $1; exit }' beside.list)" "$(awk -F , '$4 == "delivered" { n = 0 } $4 == "missing" { n++ } END { print n + 0 }' beside.list)" 0 0 | sed -n 1p)" err
             has_line "compared, seed $seed $options, none was never sent" "$(compared_lines 0 0 0 0 0 0 0 0 | tail -n 1)" err
         done
     done
     compared all all.sent
-    has_line "compared, all come" "$(compared_lines 600 600 0 0.0 0 0 0 0 | head -n 1)" err
+    has_line "compared, all come" "$(compared_lines 600 600 0 0.0 0 0 0 0 | sed -n 1p)" err
     ended "compared, all come" 0 log
 }
 
@@ -247,7 +247,7 @@ check_sent_never() {
     same "packets of another drive, exit status" 1 "$status"
     right_list "packets of another drive" other.all
     same "packets of another drive, lines" "5 1" "$(grep -c 'was never sent$' err) $(grep -cx 'barzhilup log: further packets that were never sent are counted only' err)"
-    has_line "packets of another drive, counts" "$(compared_lines 600 0 600 100.0 0 600 0 0 | head -n 1)" err
+    has_line "packets of another drive, counts" "$(compared_lines 600 0 600 100.0 0 600 0 0 | sed -n 1p)" err
     has_line "packets of another drive, never sent" "$(compared_lines 0 0 0 0 0 0 0 600 | tail -n 1)" err
     same "packets of another drive, the last line" "barzhilup log: all PDUs are logged, but packets came that were never sent: is the file of --sent that of this drive?" "$(tail -n 1 err)"
     run generate --in other.all --length 512
@@ -256,13 +256,13 @@ check_sent_never() {
     same "packets glued of two, exit status" 1 "$status"
     right_list "packets glued of two" all
     same "packets glued of two, the PDUs" "2 3" "$(grep ',never sent,' beside.list | cut -d , -f 5 | uniq | tr '\n' ' ' | sed 's/ $//')"
-    k=$(grep ',never sent,' beside.list | head -n 1 | cut -d , -f 2)
+    k=$(grep ',never sent,' beside.list | sed -n 1p | cut -d , -f 2)
     has_line "packets glued of two, the first" "barzhilup log: PDU 2: packet $k of 50 bytes was never sent" err
     cp all spoiled
     printf 'x' | dd of=spoiled bs=1 seek=$((52 * 100 + 30)) conv=notrunc 2>dd.err
     compared spoiled all.sent
     same "a byte altered, exit status" 1 "$status"
-    has_line "a byte altered" "$(compared_lines 600 599 1 0.2 0 0 0 1 | head -n 1)" err
+    has_line "a byte altered" "$(compared_lines 600 599 1 0.2 0 0 0 1 | sed -n 1p)" err
     same "a byte altered, the packet" "100,36,50,missing," "$(grep ,missing, beside.list)"
     same "a byte altered, what came" ",36,50,never sent" "$(grep ',never sent,' beside.list | cut -d , -f 1-4)"
     tail -c +53 all >spoiled

@@ -61,7 +61,7 @@ says_the_same() { # WHAT OPTION...
         run log "$@" --format "$format"
         cp out "same.$format"
     done
-    same "$about: CSV, JSON and words" "" "$(differences same.csv same.json same.words 2>&1 | head -n 5)"
+    same "$about: CSV, JSON and words" "" "$(differences same.csv same.json same.words 2>&1 | sed -n 1,5p)"
 }
 
 # Lengths of every remainder by 3, losses, refusals, wrong CRCs, pairs, withheld PDUs.
@@ -163,7 +163,7 @@ check_columns_saved() {
             done
         done
     done
-    { older log.csv | grep -v ,end, | head -n 12; tail -n +13 log.csv; } >mixed.csv
+    { older log.csv | grep -v ,end, | sed -n 1,12p; tail -n +13 log.csv; } >mixed.csv
     run coverage --in mixed.csv
     same_file "an older log that another goes on" picture.svg out
 }

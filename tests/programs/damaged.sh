@@ -66,13 +66,13 @@ check_resync() {
     run log --in plain --format csv
     cp out plain.csv
     same_file "a wrong length, the log" plain.csv resynced
-    { busy_pdus 0 3; busy_pdus 3 1 | head -c 200; busy_pdus 4 9; } >broken
+    { busy_pdus 0 3; head -c 200 < <(busy_pdus 3 1); busy_pdus 4 9; } >broken
     resynced "a record that was cut, with others behind it" 3 200 906 1106
     same_file "a record that was cut, the log" plain.csv resynced
-    { busy_pdus 0 3; busy_pdus 3 1 | head -c 50; busy_pdus 4 9; } >broken
+    { busy_pdus 0 3; head -c 50 < <(busy_pdus 3 1); busy_pdus 4 9; } >broken
     resynced "a record that was cut inside its header" 3 50 906 956
     same_file "a record that was cut inside its header, the log" plain.csv resynced
-    { busy_pdus 0 3; busy_pdus 3 1 | head -c 1; busy_pdus 4 9; } >broken
+    { busy_pdus 0 3; head -c 1 < <(busy_pdus 3 1); busy_pdus 4 9; } >broken
     resynced "a record that was cut inside its length" 3 1 906 907
     same_file "a record that was cut inside its length, the log" plain.csv resynced
     { busy_pdus 0 3; head -c 70001 /dev/zero | tr '\0' '\252'; busy_pdus 4 9; } >broken
@@ -145,7 +145,7 @@ check_resync_zeros() {
 check_resync_ends() {
     { head -c 77 /dev/zero | tr '\0' '\252'; busy_pdus 0 5; } >broken
     resynced "damage at the beginning" 0 77 0 77
-    { busy_pdus 0 5; busy_pdus 5 1 | head -c 111; } >broken
+    { busy_pdus 0 5; head -c 111 < <(busy_pdus 5 1); } >broken
     resynced "a file that is cut" 5 111 1510 1621
     head -c 3893 /dev/zero | tr '\0' '\252' >broken
     resynced "no records at all" 0 3893 0 3893

@@ -55,7 +55,7 @@ loses() { # WHAT LOSS FILE OPTION...
     run coverage --in loss.csv
     ended "$about, the picture" 0 coverage
     same "$about, the line of totals" "$(loss_said "$wanted")" "$(said_least)"
-    if said_loss | grep -q 'missing about'; then
+    if said_loss | grep 'missing about' >/dev/null; then
         same "$about, the picture's figures" "${wanted% *} ${wanted#* }" "$(figure 'packets delivered') $(figure 'missing, at least')"
     else
         same "$about, when it is exact" "$(exact_line)" "$(tail -n 1 err)"

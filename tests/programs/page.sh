@@ -24,7 +24,7 @@ check_page_estimate() {
         ended "far gaps, seed $seed" 0 coverage
         same "far gaps, seed $seed, the estimate" "$wanted" "$(said_about)"
         same "far gaps, seed $seed, what is certain" "$(loss_said "$(last_loss far.csv)")" "$(said_least)"
-        if said_loss | grep -q 'missing about'; then
+        if said_loss | grep 'missing about' >/dev/null; then
             far=$((far + 1))
             same "far gaps, seed $seed, in the picture" "$wanted $(last_loss far.csv | cut -d ' ' -f 2)" "$(figure 'missing, about') $(figure 'missing, at least')"
             same "far gaps, seed $seed, what both are" 1 "$(grep -c 'at least is what packet numbers tell, which repeat after 64; about takes' err || true)"
@@ -83,7 +83,7 @@ check_page_texts() {
 <p><b>Source</b>car &amp; roof</p>
 <p><b>Mode</b>0</p>
 <p><b>PDU length</b>300 bytes</p>
-<p><b>PDU time</b>1486.1 ms</p>' "$(grep '^<p><b>' out | head -n 6)"
+<p><b>PDU time</b>1486.1 ms</p>' "$(grep '^<p><b>' out | sed -n 1,6p)"
     same "a page's note" 4000 "$(grep -o '&amp;' <(grep 'class="note"' out) | wc -l)"
     check_page_whole "a page with a head"
     run coverage --in log.csv --format html

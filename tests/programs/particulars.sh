@@ -46,7 +46,7 @@ check_page_psd() {
     check_page_whole "PSD texts"
     run coverage --in texts.csv --format html --pdu-ms 60000
     same "PSD texts, with times" '1</td><td>0:01:00</td><td>A song
-5</td><td>0:05:00</td><td>One, two' "$(text_rows | head -n 2)"
+5</td><td>0:05:00</td><td>One, two' "$(text_rows | sed -n 1,2p)"
     check_page_whole "PSD texts, with times"
 }
 
@@ -61,7 +61,7 @@ check_page_psd_none() {
     ended "no PSD texts" 0 coverage
     same "no PSD texts, no list" 0 "$(grep -c '<table\|PSD' out || true)"
     run coverage --in log.csv --format html
-    same "the PSD text of a drive" "$(sed -n 's/^\([0-9]*\),psd,.*,"\(.*\)",$/\1<\/td><td>\2/p' log.csv | head -n 1)" "$(text_rows)"
+    same "the PSD text of a drive" "$(sed -n 's/^\([0-9]*\),psd,.*,"\(.*\)",$/\1<\/td><td>\2/p' log.csv | sed -n 1p)" "$(text_rows)"
     same "the PSD text of a drive is one" 1 "$(text_rows | grep -c 'Song by Singer' || true)"
     run coverage --in log.csv
     same "no PSD texts in a picture by itself" 0 "$(grep -c 'PSD\|Song' out || true)"

@@ -118,8 +118,8 @@ barzhilup generate: changes of settings 5"
     cp out planned
     run log --in planned
     has_line "a plan, logged" "barzhilup log: packets 40, PSD entries 0, notes 0" err
-    same "a plan: blend, gain, delays and latency, PDU by PDU" "0 0 67 67 67 67 67 67 67 0 0" "$(control_of planned | cut -d ' ' -f 1 | head -n 11 | tr '\n' ' ' | sed 's/ $//')"
-    same "a plan: whether there are expansion fields, PDU by PDU" "0 0 0 1 1 1 1 0 0 0 0" "$(control_of planned | cut -d ' ' -f 2 | head -n 11 | tr '\n' ' ' | sed 's/ $//')"
+    same "a plan: blend, gain, delays and latency, PDU by PDU" "0 0 67 67 67 67 67 67 67 0 0" "$(control_of planned | cut -d ' ' -f 1 | sed -n 1,11p | tr '\n' ' ' | sed 's/ $//')"
+    same "a plan: whether there are expansion fields, PDU by PDU" "0 0 0 1 1 1 1 0 0 0 0" "$(control_of planned | cut -d ' ' -f 2 | sed -n 1,11p | tr '\n' ' ' | sed 's/ $//')"
     run generate --in one --length 300 --gain 3 --latency 2 --program 2 --displacement
     cp out wanted
     printf '0 gain=3 latency=2 program=2 displacement\n' >plan
