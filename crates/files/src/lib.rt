@@ -321,6 +321,25 @@ pub fn progress(program: &[u8], things: &[u8], count: u64) {
     say_number(program, things, count, b"\r");
 }
 
+// The second that it is, by the clock.
+pub fn second() -> i64 {
+    let mut t: i64 = 0;
+    libc::time(&mut t)
+}
+
+// How far the work is, where somebody looks on: a line that the next one overwrites. It is said once a second: not in the second that is given, in which it was
+// last said or the work began. Answers the second that it is.
+pub fn show_progress(program: &[u8], things: &[u8], count: u64, shown: i64) -> i64 {
+    let now = second();
+    if now == shown {
+        return now;
+    }
+    if libc::isatty(STDERR_FILENO) == 1 {
+        say_number(program, things, count, b"\r");
+    }
+    now
+}
+
 // The last line where not all of the work is done.
 pub fn stopped_early(program: &[u8]) {
     say(program, b": stopped early\n");

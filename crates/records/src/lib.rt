@@ -16,6 +16,9 @@ pub const LONG: u8 = 3;
 
 pub const FAILED: u8 = 4;
 
+// The longest PDU; a longer record of a file of PDUs is none.
+pub const LONGEST: usize = 20480;
+
 // What came of reading, and how many bytes stand in the buffer from its start on.
 pub struct Record {
     pub status: u8,
@@ -83,14 +86,14 @@ fn wide(x: u8) -> usize
 }
 
 // Two bytes, low byte first.
-fn two_bytes(low: u8, high: u8) -> usize
+pub fn two_bytes(low: u8, high: u8) -> usize
     ensures { λ r. ⌜ r ≡ low + 256 * high ⌝ }
 {
     wide(low) + 256 * wide(high)
 }
 
-// Reads the next record to the buffer's start. After an answer other than WHOLE, the file's place is not that of a record.
-pub fn read(fd: i32, buf: &mut [u8]) -> Record
+// Reads the next record to the buffer's start, of at most so many bytes. After an answer other than WHOLE, the file's place is not that of a record.
+fn read_limited(fd: i32, buf: &mut [u8], most: usize) -> Record
     ensures { λ r. ⌜ Counts (r .length) (now (buf .exit)) ⌝ }
 {
     let mut head = [0u8; 2];
@@ -101,7 +104,28 @@ pub fn read(fd: i32, buf: &mut [u8]) -> Record
             length: 0,
         };
     }
-    read_bytes(fd, buf, two_bytes(head[0], head[1]))
+    let length = two_bytes(head[0], head[1]);
+    if most < length {
+        return Record {
+            status: LONG,
+            length: 0,
+        };
+    }
+    read_bytes(fd, buf, length)
+}
+
+// Reads the next record to the buffer's start.
+pub fn read(fd: i32, buf: &mut [u8]) -> Record
+    ensures { λ r. ⌜ Counts (r .length) (now (buf .exit)) ⌝ }
+{
+    read_limited(fd, buf, 65535)
+}
+
+// The same of a file of PDUs: LONG where the record is longer than any PDU.
+pub fn read_pdu(fd: i32, buf: &mut [u8]) -> Record
+    ensures { λ r. ⌜ Counts (r .length) (now (buf .exit)) ⌝ }
+{
+    read_limited(fd, buf, LONGEST)
 }
 
 // Writes a record of at most 65,535 bytes: in one write up to 4,096 bytes, else its length first. Answers whether all is written.
