@@ -1,5 +1,5 @@
-// A run that reads ahead: each turn takes the next record from a lent buffer, gives its PDU to the receiver, and writes its log. Where bytes are passed over at
-// which no record begins, a PDU is logged as lost, so that nothing is joined across them.
+// A run that reads ahead: each turn takes the next record from a lent buffer, gives its PDU to the receiver, and writes its log; on `resync` and `logging`.
+// Where bytes are passed over at which no record begins, a PDU is logged as lost, so that nothing is joined across them.
 use ahead::Ahead;
 use logging::Onto;
 use logging::Run;

@@ -1,1 +1,1 @@
-// Reed-Solomon decoding over a field of characteristic 2: mathematics alone, see proofs/. No code is here.
+// Reed-Solomon decoding over a field of characteristic 2, on `field`: mathematics alone, see proofs/. No code is here.

@@ -1,4 +1,5 @@
-// What each of two recordings of a drive gives alone: each file has a receiver of its own, beside that of the pair (document 02, Ask 5).
+// What each of two recordings of a drive gives alone: each file has a receiver of its own, beside that of the pair (document 02, Ask 5); on `receiver` and
+// `counts`.
 use receiver::Receiver;
 ghost use Prim.Native.Nat.{_≤_};
 

@@ -1,4 +1,4 @@
-// Receiving PDUs that come joined in one buffer, with a list of their lengths (document 02, Ask 1).
+// Receiving PDUs that come joined in one buffer, with a list of their lengths (document 02, Ask 1); on `receiver`.
 use receiver::Receiver;
 ghost use mathlib.Core.Path.{_≡_};
 ghost use mathlib.Core.List.{[]};

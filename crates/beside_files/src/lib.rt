@@ -1,4 +1,4 @@
-// The files that `barzhilup log` is asked for beside its log: which there are, how they are made and opened, and how they end.
+// The files that `barzhilup log` is asked for beside its log: which there are, how they are made and opened, and how they end; on `beside` and `packets`.
 pub mod asked;
 
 use beside::Beside;

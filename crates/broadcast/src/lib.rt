@@ -1,4 +1,4 @@
-// A run of the writer in which settings and PSD may change from PDU to PDU.
+// A run of the writer in which settings and PSD may change from PDU to PDU; on `sending`, `schedule` and `psd_stream`.
 use packets::Source;
 use packets::window;
 use packets::window::Window;

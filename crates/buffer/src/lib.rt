@@ -1,4 +1,4 @@
-// Copies into lent buffers.
+// Copies into lent buffers; they stand on nothing.
 ghost use mathlib.Core.Path.{_≡_};
 ghost use Prim.Native.Nat.{_+_, _≤_};
 ghost use lib.ListN.{length, replicate};

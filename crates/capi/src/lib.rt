@@ -1,4 +1,5 @@
-// The C library: each public operation with C's types, and the core's contract. include/barzhilup.h declares them.
+// The C library: each public operation with C's types, and the core's contract, on `writer`, `batch`, `pair`, `snapshot`, `join`, `latency` and `parity_share`.
+// include/barzhilup.h declares them.
 use batch::Batch;
 use correction::Correction;
 use join::Joined;

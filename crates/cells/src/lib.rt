@@ -1,4 +1,5 @@
-// A PDU in the picture: its cell, which is hollow where it was withheld, the copies that it is taken from, its bar, and the tick where packets are missing.
+// A PDU in the picture: its cell, which is hollow where it was withheld, the copies that it is taken from, its bar, and the tick where packets are missing; on
+// `page`, `drive` and `clock`.
 use clock::Clock;
 use csv::entry;
 use drive::Pdu;

@@ -1,4 +1,4 @@
-// The time that PDUs take on the air, and times as text.
+// The time that PDUs take on the air, and times as text; on `modes` and `text`.
 //
 // An L1 frame takes 65,536 / 44,100 s (Station Information Service Transport, 5.4.1), and has 8 PDUs of a stream whose sequence is 0 to 7, and one of a stream whose
 // sequence is 0 to 1 (Audio Transport, table 5-2).

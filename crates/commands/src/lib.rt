@@ -1,4 +1,5 @@
-// The program `barzhilup`: its first argument says what it does. A C main calls it and hands on its answer as the exit status.
+// The program `barzhilup`, on `generator`, `channel`, `logger`, `coverage`, `trials` and `joiner`: its first argument says what it does. A C main calls it and
+// hands on its answer as the exit status.
 use libc::STDERR_FILENO;
 
 // 0 where all is done, 1 where the work stopped early, 2 where the usage is wrong.

@@ -1,4 +1,5 @@
-// What the command line of `barzhilup coverage` asks for: the kind of picture, its measures, its texts, and how long a PDU is.
+// What the command line of `barzhilup coverage` asks for: the kind of picture, its measures, its texts, and how long a PDU is; on `page`, `clock` and
+// `options`.
 use clock::Clock;
 use libc::STDERR_FILENO;
 use page::title;

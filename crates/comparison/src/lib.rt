@@ -1,4 +1,5 @@
-// The packets that a log delivers, held against the file of those that were sent: which were delivered, which are missing, and which were never sent.
+// The packets that a log delivers, held against the file of those that were sent: which were delivered, which are missing, and which were never sent; on
+// `sent_packets` and `packet_files`.
 pub mod list;
 mod search;
 

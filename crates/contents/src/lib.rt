@@ -1,4 +1,4 @@
-// A PDU's contents, written (document 01, "Control word, bytes 8 to 13", "Expansion, PSD, pieces").
+// A PDU's contents, written (document 01, "Control word, bytes 8 to 13", "Expansion, PSD, pieces"); on `layout` and `pieces`.
 ghost use mathlib.Core.Path.{_≡_};
 ghost use mathlib.Core.List.{List, _++_};
 ghost use Prim.Native.Nat.{_+_, _≤_};

@@ -1,5 +1,5 @@
-// What comes of two copies of a PDU, a record of each of two files: two receivers heard one signal (document 02, Ask 5). An empty record is a copy that did
-// not come.
+// What comes of two copies of a PDU, a record of each of two files: two receivers heard one signal (document 02, Ask 5); on `pair`, `outcome` and `words`. An
+// empty record is a copy that did not come.
 use correction::Correction;
 use layout::ControlWord;
 use outcome::Outcome;

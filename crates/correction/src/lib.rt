@@ -1,4 +1,4 @@
-// Error correction of the header code (document 01, "Header code"; document 02, Ask 3).
+// Error correction of the header code (document 01, "Header code"; document 02, Ask 3), on `header` and `elimination`.
 ghost use mathlib.Core.Path.{_≡_};
 ghost use Prim.Native.Nat.{_<_, _≤_};
 ghost use lib.ListN.{length};

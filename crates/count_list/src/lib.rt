@@ -1,4 +1,5 @@
-// Lists of counts in text: decimal numbers, in a file with blanks or line ends between them, in an option with commas.
+// Lists of counts in text: decimal numbers, in a file with blanks or line ends between them, in an option with commas; on `records` and the toolchain's
+// `bytes`.
 ghost use mathlib.Core.Path.{_≡_};
 ghost use Prim.Native.Nat.{_<_};
 

@@ -1,4 +1,4 @@
-// What a run counts, as one row of numbers with a place for each count, and the lines that sum it up.
+// What a run counts, as one row of numbers with a place for each count, and the lines that sum it up; on `loss`, `outcome` and `causes`.
 use loss::Loss;
 use outcome::Outcome;
 use receiver::Receiver;

@@ -1,4 +1,4 @@
-// CRC-32 as zlib and PNG have it: lowest bit of each byte first, the divisor 0xEDB88320, register and result inverted.
+// CRC-32 as zlib and PNG have it: lowest bit of each byte first, the divisor 0xEDB88320, register and result inverted; it stands on `bits` alone.
 ghost use mathlib.Core.Path.{_≡_};
 ghost use Prim.Native.Nat.{_%_, _<_};
 ghost use Rattle.crc32.specs.Crc32.{crc32Byte, crc32From, crc32, entryBytes, entriesBytes, Tables};

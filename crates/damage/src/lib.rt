@@ -1,4 +1,4 @@
-// Damage to a PDU's header, drawn by dice.
+// Damage to a PDU's header, drawn by dice; it stands on `header` alone.
 pub mod dice;
 
 use dice::Dice;

@@ -1,4 +1,5 @@
-// What a road does to the order and the length of records, drawn by dice: some PDUs come twice, some after the next record, and some are cut.
+// What a road does to the order and the length of records, drawn by dice: some PDUs come twice, some after the next record, and some are cut; on `damage` and
+// `records`.
 use damage::dice;
 use damage::dice::Dice;
 

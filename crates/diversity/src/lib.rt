@@ -1,4 +1,4 @@
-// Two receivers on one signal: the better copy of a PDU, and two copies that are alike received as one (document 02, Ask 5).
+// Two receivers on one signal: the better copy of a PDU, and two copies that are alike received as one (document 02, Ask 5); on `receiver`.
 use correction::Correction;
 use modes::Mode;
 use reassembly::Head;

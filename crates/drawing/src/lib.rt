@@ -1,4 +1,4 @@
-// What a PDU adds to the overview strip and to the rows, as a reading of the CSV goes over it.
+// What a PDU adds to the overview strip and to the rows, as a reading of the CSV goes over it; on `cells`, `overview` and `sheet`.
 use clock::Clock;
 use csv::lines;
 use drive::Pdu;

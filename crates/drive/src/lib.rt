@@ -1,4 +1,4 @@
-// A drive, as the lines of its log tell it.
+// A drive, as the lines of its log tell it; it stands on `csv` alone.
 use csv::entry;
 use csv::entry::Entry;
 

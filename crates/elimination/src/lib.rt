@@ -1,5 +1,5 @@
-// Linear equations over the field, four unknowns and four rows, solved by Gauss-Jordan elimination: the coefficients of the polynomial that locates
-// wrong bytes (document 01, "Header code").
+// Linear equations over the field, four unknowns and four rows, solved by Gauss-Jordan elimination: the coefficients of the polynomial that locates wrong bytes
+// (document 01, "Header code"); on `field` and `algebra`.
 ghost use mathlib.Core.Path.{_≡_};
 ghost use Prim.Native.Nat.{_<_};
 ghost use lib.ListN.{getD, take};

@@ -1,4 +1,4 @@
-// Runs the examples of document 01 on the proved code, and writes what it answers.
+// Runs the examples of document 01 on the proved code, `writer`, `log` and what these stand on, and writes through the toolchain's `io` what it answers.
 use correction::Correction;
 use layout::ControlWord;
 use libc::STDOUT_FILENO;

@@ -1,4 +1,4 @@
-// Expansion bytes of a PDU, read and written (document 01, "Expansion, PSD, pieces").
+// Expansion bytes of a PDU, read and written (document 01, "Expansion, PSD, pieces"), on `layout`.
 ghost use mathlib.Core.Path.{_≡_};
 ghost use Prim.Native.Nat.{_+_, _*_, _/_, _%_, _<_, _≤_};
 ghost use mathlib.Core.List.{List, [], _∷_, _++_};

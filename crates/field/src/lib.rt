@@ -1,4 +1,4 @@
-// GF(256) by tables of powers and logarithms of a = 2 (document 01, "Header code").
+// GF(256) by tables of powers and logarithms of a = 2 (document 01, "Header code"); it stands on `bits` alone.
 ghost use mathlib.Core.Path.{_≡_};
 ghost use Prim.Native.Nat.{_+_, _<_};
 ghost use Rattle.field.specs.Field.{mul, pow, inverse as inverseOf, Powers, Logarithms};

@@ -1,4 +1,4 @@
-// The files that a program's options name, and what it says of its work on standard error.
+// The files that a program's options name, and what it says of its work on standard error; they stand on `options`.
 //
 // A label is the program's name and that of a file, for a line that says what is wrong.
 use libc::PATH_MAX;

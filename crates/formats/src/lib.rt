@@ -1,4 +1,5 @@
-// The formats of the packet log: its words, text for people, comma-separated values, JSON lines, or records of each PDU's words.
+// The formats of the packet log: its words, text for people, comma-separated values, JSON lines, or records of each PDU's words; on `outcome`, `causes`,
+// `psd_text` and `crc32`.
 mod people;
 mod rows;
 

@@ -1,5 +1,5 @@
-// Files of logs: a record for each PDU, in it the words of the PDU's log, each in four bytes, low byte first. A frame has so many PDUs of its file; its
-// log is theirs, one after another.
+// Files of logs, on `records`: a record for each PDU, in it the words of the PDU's log, each in four bytes, low byte first. A frame has so many PDUs of its
+// file; its log is theirs, one after another.
 ghost use mathlib.Core.Path.{_≡_};
 ghost use Prim.Native.Nat.{_+_, _*_, _<_};
 ghost use lib.ListN.{length};

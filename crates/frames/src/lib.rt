@@ -1,4 +1,4 @@
-// The header of an ADTS frame, by its bytes.
+// The header of an ADTS frame, by its bytes; it stands on nothing.
 ghost use mathlib.Core.Path.{_≡_};
 ghost use Prim.Native.Nat.{_<_};
 ghost use Rattle.frames.specs.Adts.{isSync, frameLength, headerLength};

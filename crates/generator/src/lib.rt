@@ -1,4 +1,4 @@
-// Makes a file of PDUs from a file of packets (document 01, "Writer").
+// Makes a file of PDUs from a file of packets (document 01, "Writer"), on `inputs`, `broadcast` and `mode_table`.
 mod report;
 
 use broadcast::Broadcast;

@@ -1,4 +1,4 @@
-// The header code: syndromes, and parity by division with the generator (document 01, "Header code").
+// The header code: syndromes, and parity by division with the generator (document 01, "Header code"); on `field` and `algebra`.
 ghost use mathlib.Core.Path.{_≡_};
 ghost use mathlib.Core.List.{map};
 ghost use Prim.Native.Nat.{_+_, _/_, _%_, _<_, _≤_};

@@ -1,4 +1,4 @@
-// What `barzhilup generate` reads before the packets: the PSD, and the changes of settings.
+// What `barzhilup generate` reads before the packets: the PSD, and the changes of settings; on `psd_stream` and `transmission`.
 use psd_stream::Supply;
 use records::Record;
 use transmission::KNOWN;

@@ -1,4 +1,5 @@
-// A drive that is interrupted (document 02, Ask 13): what `--save`, `--resume` and `--skip` of `barzhilup log` ask for.
+// A drive that is interrupted (document 02, Ask 13): what `--save`, `--resume` and `--skip` of `barzhilup log` ask for; on `saved_state`, `opening` and
+// `causes`.
 use saved_state::State;
 ghost use Rattle.io.specs.Counts.{Counts};
 

@@ -1,4 +1,4 @@
-// What the command line of `barzhilup log` asks for.
+// What the command line of `barzhilup log` asks for; on `interruption`, `beside_files` and `formats`.
 use text::Number;
 ghost use Prim.Native.Nat.{_≤_};
 

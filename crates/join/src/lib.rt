@@ -1,4 +1,4 @@
-// Core and enhanced side by side (document 02, Ask 11): two logs of one frame joined by packet number.
+// Core and enhanced side by side (document 02, Ask 11): two logs of one frame joined by packet number; on `log` and `refusal`.
 ghost use mathlib.Core.Path.{_≡_};
 ghost use mathlib.Core.Bool.{true};
 ghost use Prim.Native.Nat.{_+_, _-_, _/_, _%_, _<_, _≤_};

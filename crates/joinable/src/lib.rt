@@ -1,1 +1,1 @@
-// Document 02, Ask 11: what receivers logged can be joined. No code is here.
+// Document 02, Ask 11: what receivers logged can be joined; on `join` and `delivery`. No code is here.

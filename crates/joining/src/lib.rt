@@ -1,4 +1,5 @@
-// Joins two files of logs frame by frame (document 02, Ask 11): each turn reads a frame of either log, joins them, and writes what comes of it.
+// Joins two files of logs frame by frame (document 02, Ask 11), on `join`, `frame_logs`, `side_by_side` and `files`: each turn reads a frame of either log,
+// joins them, and writes what comes of it.
 use join::Joined;
 use libc::STDERR_FILENO;
 ghost use Rattle.io.specs.Counts.{Counts};

@@ -1,5 +1,5 @@
-// A bench for latency settings (document 02, Ask 7): from the counts of packets ended in each PDU, at which latency a packet waits at every
-// tick that takes one.
+// A bench for latency settings (document 02, Ask 7), on `modes` and `buffer`: from the counts of packets ended in each PDU, at which latency a packet waits at
+// every tick that takes one.
 ghost use mathlib.Core.Path.{_≡_};
 ghost use mathlib.Core.Bool.{cond};
 ghost use Prim.Native.Nat.{_+_, _-_, _*_, _<_, _≤_, min, max};

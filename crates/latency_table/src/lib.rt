@@ -1,4 +1,4 @@
-// The table of latencies that were tried (document 02, Ask 7): a line for each, and the smallest without a dry tick.
+// The table of latencies that were tried (document 02, Ask 7), on `latency` and `text`: a line for each, and the smallest without a dry tick.
 use latency::Answer;
 use latency::Trial;
 ghost use Rattle.io.specs.Counts.{Counts};

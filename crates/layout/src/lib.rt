@@ -1,4 +1,4 @@
-// The control word and the locators of a PDU (document 01, "Control word, bytes 8 to 13").
+// The control word and the locators of a PDU (document 01, "Control word, bytes 8 to 13"), on `bits` and `buffer`.
 ghost use mathlib.Core.Path.{_≡_};
 ghost use Prim.Native.Nat.{_+_, _*_, _/_, _%_, _<_, _≤_};
 ghost use lib.ListN.{length, getD};

@@ -1,4 +1,4 @@
-// What stands below the rows of a drive's picture: what its parts mean, and the totals.
+// What stands below the rows of a drive's picture: what its parts mean, and the totals; on `page`, `clock` and `gaps`.
 use clock::Clock;
 use drive::Copies;
 use drive::Drive;

@@ -1,4 +1,4 @@
-// How much PSD a mode and settings leave room for, and which limit is passed by settings that the writer refuses, in words.
+// How much PSD a mode and settings leave room for, and which limit is passed by settings that the writer refuses, in words; on `modes`, `settings` and `text`.
 use modes::Listing;
 use modes::Mode;
 use settings::Settings;

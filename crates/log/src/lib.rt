@@ -1,4 +1,4 @@
-// Words of the packet log (document 01, "Receiver").
+// Words of the packet log (document 01, "Receiver"), on `bits` and `buffer`.
 ghost use mathlib.Core.Path.{_≡_};
 ghost use mathlib.Core.List.{_++_};
 ghost use Prim.Native.Nat.{_+_, _-_, _*_, _/_, _<_, _≤_, min};

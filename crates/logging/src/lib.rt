@@ -1,4 +1,4 @@
-// A run: each turn reads a PDU and its marks, gives it to the receiver, and writes its log.
+// A run: each turn reads a PDU and its marks, gives it to the receiver, and writes its log; on `reception`, `formats`, `counts`, `saved_state` and `beside`.
 pub mod marks;
 pub mod output;
 

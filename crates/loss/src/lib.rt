@@ -1,4 +1,4 @@
-// The loss column (document 02, Ask 14): delivered and missing, as the receiver's record has them, and the last delivered number.
+// The loss column (document 02, Ask 14): delivered and missing, as the receiver's record has them, and the last delivered number; on `receiver` and `words`.
 use receiver::Receiver;
 ghost use mathlib.Core.Path.{_≡_};
 ghost use mathlib.Core.Bool.{cond};

@@ -1,4 +1,4 @@
-// The mode table (document 01, "Modes") as text, for the help of subcommands.
+// The mode table (document 01, "Modes") as text, for the help of subcommands; on `files` alone.
 
 // Prints the table on standard output. Answers whether all is printed; if not, says why.
 pub fn print(program: &[u8]) -> bool {

@@ -1,4 +1,4 @@
-// Bursts of flipped bits in the pieces of a PDU, drawn by dice (document 02, Ask 12).
+// Bursts of flipped bits in the pieces of a PDU, drawn by dice (document 02, Ask 12), on `pdu` and `damage`.
 use damage::dice::Dice;
 use pdu::Reading;
 ghost use mathlib.Core.Path.{_≡_};

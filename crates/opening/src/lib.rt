@@ -1,4 +1,5 @@
-// The receiver of a program, opened for the programs that its option `--entitled` names (document 02, Ask 10): numbers with commas between them, or `none`.
+// The receiver of a program, opened for the programs that its option `--entitled` names (document 02, Ask 10): numbers with commas between them, or `none`; on
+// `receiver`, `count_list` and `files`.
 // Without the option it is entitled to all.
 use receiver::Opened;
 ghost use Rattle.io.specs.Counts.{Counts};

@@ -1,4 +1,5 @@
-// Options on the command line: `--name value` or `--name=value`, and flags, `--name`; `-h` is `--help`. An option may be given once.
+// Options on the command line, on `text` and the toolchain's `os`, `bytes` and `check`: `--name value` or `--name=value`, and flags, `--name`; `-h` is
+// `--help`. An option may be given once.
 //
 // A program gives the names that it knows as one text: each name without its dashes, then `=` if a value follows it, then a zero byte, as in
 // b"in=\0adts\0". A name has fewer than 60 bytes, a value at most 4,096. What is wrong is said in a line on standard error that begins with the

@@ -1,4 +1,4 @@
-// What comes of a record of the file of PDUs.
+// What comes of a record of the file of PDUs, on `receiver`.
 use layout::ControlWord;
 use receiver::Received;
 use receiver::Receiver;

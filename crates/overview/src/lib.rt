@@ -1,4 +1,4 @@
-// The overview strip: for each stretch of a drive, the share of its PDUs that were lost or refused.
+// The overview strip: for each stretch of a drive, the share of its PDUs that were lost or refused; on `clock`.
 use clock::Clock;
 ghost use Prim.Native.Nat.{_≤_};
 

@@ -1,4 +1,5 @@
-// The packets and the PSD of a PDU's log as the bytes of a file: packets as records, as `barzhilup generate` reads them, or in ADTS frames; the PSD joined.
+// The packets and the PSD of a PDU's log as the bytes of a file, on `words` and `text`: packets as records, as `barzhilup generate` reads them, or in ADTS
+// frames; the PSD joined.
 use words::Word;
 ghost use Rattle.io.specs.Counts.{Counts};
 

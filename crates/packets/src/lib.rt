@@ -1,5 +1,5 @@
-// Packets from a file: a file of records, or an ADTS dump, as open HD Radio receivers write. In a dump each frame is a header of 7 bytes, or of
-// 9 with its check, and then a packet.
+// Packets from a file: a file of records, or an ADTS dump, as open HD Radio receivers write; on `frames`, `records` and `files`. In a dump each frame is a
+// header of 7 bytes, or of 9 with its check, and then a packet.
 pub mod window;
 
 use records::Record;

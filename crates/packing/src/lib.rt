@@ -1,4 +1,4 @@
-// Packing of packets into a PDU (document 01, "Writer": the placing rule).
+// Packing of packets into a PDU (document 01, "Writer": the placing rule), on `layout` and `pieces`.
 ghost use mathlib.Core.Path.{_≡_};
 ghost use mathlib.Core.List.{List, _++_};
 ghost use Prim.Native.Nat.{_+_, _-_, _≤_, _<_};

@@ -1,4 +1,4 @@
-// Receiving a pair of PDUs, two copies of one (document 02, Ask 5).
+// Receiving a pair of PDUs, two copies of one (document 02, Ask 5), on `receiver` and `diversity`.
 use correction::Correction;
 use modes::Listing;
 use modes::Mode;

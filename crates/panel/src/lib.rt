@@ -1,4 +1,4 @@
-// For the panel (document 01, "After that, for the panel"): the list of a PDU's pieces, and the receiver stepped in place.
+// For the panel (document 01, "After that, for the panel"): the list of a PDU's pieces, and the receiver stepped in place; on `writer` and `receiver`.
 use layout::ControlWord;
 use pdu::Reading;
 use receiver::Receiver;

@@ -1,4 +1,4 @@
-// Parity as bytes arrive (document 02, Ask 8): a byte's share is added to the parity when the byte is known.
+// Parity as bytes arrive (document 02, Ask 8): a byte's share is added to the parity when the byte is known; on `header`.
 ghost use mathlib.Core.Path.{_≡_};
 ghost use Prim.Native.Nat.{_<_, _≤_};
 ghost use Rattle.header.specs.Packed.{unpacked};

@@ -1,4 +1,5 @@
-// What a log tells of its PDUs besides what became of them, for an HTML page: their lengths, and the texts of PSD where they change.
+// What a log tells of its PDUs besides what became of them, for an HTML page: their lengths, and the texts of PSD where they change; on `csv`, `page`, `clock`
+// and `files`.
 mod list;
 
 use clock::Clock;

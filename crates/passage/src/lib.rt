@@ -1,4 +1,5 @@
-// PDUs sent over a channel, one after the other: each is lost or comes through, with bytes of its header altered or bits of its pieces flipped.
+// PDUs sent over a channel, one after the other: each is lost or comes through, with bytes of its header altered or bits of its pieces flipped; on `noise`,
+// `disorder` and `files`.
 use damage::dice;
 use damage::dice::Dice;
 use disorder::Outlet;

@@ -1,4 +1,4 @@
-// Reading a PDU without a receiver (document 01, "Reading without a receiver").
+// Reading a PDU without a receiver (document 01, "Reading without a receiver"), on `correction`, `contents`, `expansion`, `modes` and `refusal`.
 use correction::Correction;
 use expansion::Expansion;
 use expansion::Interpreted;

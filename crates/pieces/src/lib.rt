@@ -1,4 +1,4 @@
-// Pieces of packets in a PDU (document 01, "Expansion, PSD, pieces").
+// Pieces of packets in a PDU (document 01, "Expansion, PSD, pieces"), on `crc` and `buffer`.
 ghost use mathlib.Core.Path.{_≡_};
 ghost use Prim.Native.Nat.{_+_, _-_, _≤_};
 ghost use lib.ListN.{length, take, drop};

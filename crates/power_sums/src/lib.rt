@@ -1,4 +1,4 @@
-// The header's eight sums with a power of a worked out for each byte, as document 01, "Header code", writes them.
+// The header's eight sums with a power of a worked out for each byte, as document 01, "Header code", writes them; on `field` and `header`.
 // In none of the product's libraries: the benchmark times these beside those of `header::syndromes`, which are the same.
 ghost use mathlib.Core.Path.{_≡_};
 ghost use mathlib.Core.Bool.{true};

@@ -1,4 +1,4 @@
-// What of PSD is text: its runs of printable ASCII characters.
+// What of PSD is text: its runs of printable ASCII characters; on `words` and `text`.
 ghost use Prim.Native.Nat.{_≤_};
 ghost use lib.ListN.{length};
 ghost use Rattle.io.specs.Counts.{Counts};

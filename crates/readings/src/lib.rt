@@ -1,4 +1,4 @@
-// The readings of a packet log's CSV, from its first line to its last: each goes over the PDUs, and draws what its task says.
+// The readings of a packet log's CSV, from its first line to its last: each goes over the PDUs, and draws what its task says; on `drawing` and `files`.
 use csv::entry;
 use csv::entry::Entry;
 use csv::lines;

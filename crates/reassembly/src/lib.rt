@@ -1,4 +1,5 @@
-// Reassembly of packets from the pieces of PDUs (document 01, "Receiver"), withheld ones too (document 02, Ask 10); delivered and missing counted (Ask 14).
+// Reassembly of packets from the pieces of PDUs (document 01, "Receiver"), withheld ones too (document 02, Ask 10), with delivered and missing counted
+// (Ask 14); on `layout` and `log`.
 ghost use mathlib.Core.Path.{_≡_};
 ghost use mathlib.Core.Bool.{true, false, cond};
 ghost use mathlib.Core.List.{List, _++_};

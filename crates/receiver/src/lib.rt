@@ -1,5 +1,5 @@
-// Opening a receiver, receiving PDUs, and marking them lost (document 01, "Receiver"); with entitled programs (document 02, Ask 10), and with delivered and missing
-// counted (Ask 14).
+// Opening a receiver, receiving PDUs, and marking them lost (document 01, "Receiver"), on `pdu` and `reassembly`; with entitled programs (document 02, Ask 10),
+// and with delivered and missing counted (Ask 14).
 use correction::Correction;
 use layout::ControlWord;
 use modes::Listing;

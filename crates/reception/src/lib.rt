@@ -1,4 +1,4 @@
-// The reception of the records of a file of PDUs: what comes of each, and a line on standard error for those that are refused.
+// The reception of the records of a file of PDUs: what comes of each, and a line on standard error for those that are refused; on `outcome` and `causes`.
 use layout::ControlWord;
 use libc::STDERR_FILENO;
 use outcome::Outcome;

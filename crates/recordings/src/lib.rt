@@ -1,5 +1,5 @@
 // A drive that two receivers recorded, record for record: each turn reads a copy of a PDU from each file, receives the two, and writes the log (document 02,
-// Ask 5). Each file is also received alone (`apart`).
+// Ask 5); on `copies`, `logging` and `apart`. Each file is also received alone (`apart`).
 use copies::Pieces;
 use copies::Taken;
 use logging::Onto;

@@ -1,1 +1,1 @@
-// The order of refusals: see specs/. No code is here.
+// The order of refusals (see specs/); it stands on nothing. No code is here.

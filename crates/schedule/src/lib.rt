@@ -1,4 +1,5 @@
-// Settings that change from PDU to PDU, in a text: each line has the number of a PDU, from 0, and what changes from it on, as in "120 gain=3 program=-".
+// Settings that change from PDU to PDU, in a text, on `named_settings` and the toolchain's `bytes`: each line has the number of a PDU, from 0, and what changes
+// from it on, as in "120 gain=3 program=-".
 // A number sign begins a comment.
 use named_settings::COUNT;
 use named_settings::DISPLACEMENT;

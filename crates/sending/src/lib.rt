@@ -1,4 +1,4 @@
-// A run of the writer: packets are read ahead, and each turn sends a PDU.
+// A run of the writer: packets are read ahead, and each turn sends a PDU; on `writer`, `packets` and `limits`.
 pub mod trial;
 
 use packets::Source;

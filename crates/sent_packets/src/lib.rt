@@ -1,4 +1,5 @@
-// The packets of a file that was sent, each by its index, counted from 0: where it stands, which number it has, and whether it is one that was delivered.
+// The packets of a file that was sent, each by its index, counted from 0: where it stands, which number it has, and whether it is one that was delivered; on
+// `frames` and the toolchain's `check`.
 ghost use mathlib.Core.Path.{_≡_};
 ghost use mathlib.Core.Bool.{true};
 ghost use Prim.Native.Nat.{_<_};

@@ -1,4 +1,4 @@
-// A writer's settings for a PDU (document 01, "Expansion, PSD, pieces").
+// A writer's settings for a PDU (document 01, "Expansion, PSD, pieces"), on `expansion` and `refusal`.
 use expansion::Fields;
 ghost use mathlib.Core.Path.{_≡_};
 ghost use Prim.Native.Nat.{_≤_};

@@ -1,4 +1,4 @@
-// The HTML page of a drive: its style, and the head that tells what the drive is, in the words of the options.
+// The HTML page of a drive: its style, and the head that tells what the drive is, in the words of the options; on `picture` and `options`.
 use clock::Clock;
 use page::title;
 ghost use Rattle.io.specs.Counts.{Counts};

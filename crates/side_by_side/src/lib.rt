@@ -1,5 +1,5 @@
-// A joined frame in the output (document 02, Ask 11): its words, or lines of comma-separated values, a line for each packet; and the counts of its
-// packets.
+// A joined frame in the output (document 02, Ask 11), on `words` and `text`: its words, or lines of comma-separated values, a line for each packet; and the
+// counts of its packets.
 use words::Word;
 ghost use mathlib.Core.Path.{_≡_};
 ghost use Prim.Native.Nat.{_<_};

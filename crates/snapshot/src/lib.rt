@@ -1,4 +1,4 @@
-// A running receiver written out as words, and read again (document 02, Ask 13), with its counts (Ask 14).
+// A running receiver written out as words, and read again (document 02, Ask 13), with its counts (Ask 14); on `receiver`.
 use receiver::Opened;
 use receiver::Receiver;
 ghost use mathlib.Core.Path.{_≡_};

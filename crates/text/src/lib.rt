@@ -1,4 +1,4 @@
-// Lines of text made in a lent buffer, so that a block of them is written at once; and numbers read from text.
+// Lines of text made in a lent buffer, so that a block of them is written at once, and numbers read from text; on `buffer` and the toolchain's `io`.
 ghost use mathlib.Core.Path.{_≡_};
 ghost use Prim.Native.Nat.{_+_, _≤_, _<_, min};
 ghost use lib.ListN.{length};

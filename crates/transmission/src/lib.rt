@@ -1,4 +1,5 @@
-// What the command line asks to be sent: mode and stream, the register that CRCs start with, the length of each PDU, its settings and its PSD.
+// What the command line asks to be sent: mode and stream, the register that CRCs start with, the length of each PDU, its settings and its PSD; on
+// `named_settings`, `records` and `files`.
 pub mod psd;
 
 use settings::Settings;

@@ -1,4 +1,4 @@
-// Words of 32 bits in bytes, four for each, low byte first, and read again (document 02, Ask 13).
+// Words of 32 bits in bytes, four for each, low byte first, and read again (document 02, Ask 13); on `log` and the toolchain's `io`.
 ghost use mathlib.Core.Path.{_≡_};
 ghost use Prim.Native.Nat.{_+_, _*_, _/_, _≤_, _<_};
 ghost use lib.ListN.{length, getD};

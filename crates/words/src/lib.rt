@@ -1,4 +1,4 @@
-// Words of the packet log, taken apart (document 01, "Receiver").
+// Words of the packet log, taken apart (document 01, "Receiver"); they stand on `log` alone.
 ghost use mathlib.Core.Path.{_≡_};
 ghost use Prim.Native.Nat.{_+_, _*_, _<_, _≤_};
 ghost use lib.ListN.{length, getD};

@@ -1,4 +1,4 @@
-// Opening a writer, and writing PDUs (document 01, "Writer").
+// Opening a writer, and writing PDUs (document 01, "Writer"); on `settings`, `packing` and `pdu`.
 use expansion::ExpansionBytes;
 use layout::ControlWord;
 use modes::Listing;
