@@ -64,17 +64,63 @@ check_house() {
     echo "documents: docs/ARCHITECTURE.md, the drawing: $(drawn | wc -l) crates in $(drawn | cut -d ' ' -f 1 | sort -u | wc -l) layers, held against crates.txt"
 }
 
-# The table under it names each crate; each crate is a folder with a first comment of a sentence.
+# The table under it names each crate, and each crate is a folder.
 check_crates() {
     local crate count=0
     for crate in $(sed -n 's/^\([a-z_0-9]*\):.*/\1/p' crates.txt); do
         count=$((count + 1))
         grep -q "^|.*\`$crate\`" docs/ARCHITECTURE.md || fail "docs/ARCHITECTURE.md: no row names $crate"
-        awk '!/^\/\/ / { exit 1 } /[.](  *|$)/ { exit 0 }' "$(ls crates/"$crate"/src/{lib,main}.rt 2>/dev/null | head -n 1)" ||
-            fail "crates/$crate/src does not begin with a sentence that says what the crate is"
+        [ -d "crates/$crate" ] || fail "there is no folder crates/$crate"
     done
     [ "$count" = "$(ls crates | wc -l)" ] || fail "crates.txt has $count crates, and crates/ $(ls crates | wc -l)"
-    echo "documents: docs/ARCHITECTURE.md, the table, and first comments: those of $count crates"
+    echo "documents: docs/ARCHITECTURE.md, the table: $count crates"
+}
+
+# The first sentence of each crate's first comment, "CRATE:SENTENCE" to a line: at most two lines of 160 characters; without such a sentence there is only "CRATE:".
+sentences() {
+    local crate
+    for crate in $(ls crates); do
+        echo "$crate:$(cat "crates/$crate/src/"{lib,main}.rt 2>/dev/null | awk '
+            !/^\/\/ / || NR > 2 || length > 160 { exit }
+            { text = text substr($0, 3) }
+            match(text, /[.]( |$)/) { print substr(text, 2, RSTART - 1); exit }')"
+    done
+}
+
+# Each says what the crate may use: it names in backquotes crates of its line in crates.txt and no other, and among them all that no other of that line stands on;
+# of the toolchain's, os stands on io, and io on libc. A crate whose line has none stands on nothing.
+check_uses() {
+    local wrong line
+    wrong=$(sentences | awk -F : '
+        function reach(list, seen, k, n, name) {
+            n = split(list, name, " ")
+            for (k = 1; k <= n; k++) if (!(name[k] in seen)) { seen[name[k]]; reach(needs[name[k]], seen) }
+        }
+        function wrong(text) { print "the first sentence of crates/" $1 "/src " text }
+        BEGIN { needs["io"] = "libc"; needs["os"] = "io" }
+        NR == FNR {
+            sub(/#.*/, "")
+            if (NF == 2) { needs[$1] = $2; reach($1 " " $2, known) }
+            next
+        }
+        $2 == "" { wrong("is not there, or has more than two lines of 160 characters"); next }
+        {
+            split("", named)
+            split("", below)
+            n = split($0, part, "`")
+            for (k = 2; k <= n; k += 2) if (part[k] in known) {
+                named[part[k]]
+                if (!index(" " needs[$1] " ", " " part[k] " ")) wrong("names `" part[k] "`, which its line of crates.txt does not have")
+            }
+            n = split(needs[$1], name, " ")
+            for (k = 1; k <= n; k++) reach(needs[name[k]], below)
+            for (k = 1; k <= n; k++) if (!(name[k] in below) && !(name[k] in named)) wrong("does not name `" name[k] "`, which the crate uses")
+            if ((n == 0) != ($0 ~ /stands? on nothing/)) wrong(n ? "says that it stands on nothing" : "does not say that it stands on nothing")
+        }' crates.txt -)
+    while read -r line; do
+        [ -z "$line" ] || fail "$line"
+    done <<<"$wrong"
+    echo "documents: first comments: what each of $(sentences | grep -c ':.') crates is and may use, held against crates.txt"
 }
 
 # README.md says what is proved of the core: each function of the layer of libraries, and of those below it, has a contract.
@@ -203,6 +249,7 @@ check_believe
 check_names
 check_house
 check_crates
+check_uses
 check_contracts
 check_audit
 check_command
