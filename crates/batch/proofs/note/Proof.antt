@@ -11,17 +11,8 @@ use Rattle.batch.proofs.note.Lts as lts
 returns : tie.Need-returns
 returns c = let a = c .before .args in sym (set-out (now (a .list)) (a .at) (a .number) (omega (arith, c .if1 .taken)))
 
-mul-list : tie.Need-mul-list
-mul-list c = search needs
-
-slice-write-list : tie.Need-slice-write-list
-slice-write-list c = search needs
-
-same-length : tie.Need-same-length
-same-length c = search needs
-
 returns-2 : tie.Need-returns-2
 returns-2 c = search needs
 
 pub note-spec : {M : Type 1} → statement M
-note-spec = tie.close (tie.spec returns mul-list slice-write-list same-length returns-2)
+note-spec = tie.close (tie.spec returns (λ c. search needs) (λ c. search needs) (λ c. search needs) returns-2)

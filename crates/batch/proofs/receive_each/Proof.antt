@@ -23,20 +23,11 @@ Inv-loop carry₀ pdus₀ lengths log₀ ends₀ b₀ from₀ i₀ carry pdus lo
 abbrev μ-loop : tie.MeasureT-loop
 μ-loop carry₀ pdus₀ lengths log₀ ends₀ b₀ from₀ i₀ carry pdus log ends b from i = length lengths - i
 
-begun-requires : tie.Need-begun-requires Inv-loop μ-loop
-begun-requires c κs = search needs
-
 loop-holds : tie.Need-loop-holds Inv-loop μ-loop
 loop-holds c =
     let s = c .before .before .before .before .before .before in
     let a = s .args in
     (at-start (now (a .lengths)) (now (a .carry)) (now (a .pdus)) (now (a .log)) (c .begun .result) (a .receiver) (c .begun .ensures) (s .pre), refl, refl, refl, refl, refl)
-
-mul-to : tie.Need-mul-to Inv-loop μ-loop
-mul-to c = search needs
-
-shared-slice-read-to : tie.Need-shared-slice-read-to Inv-loop μ-loop
-shared-slice-read-to c = search needs
 
 add-to : tie.Need-add-to Inv-loop μ-loop
 add-to c =
@@ -44,29 +35,17 @@ add-to c =
     let d = total-drop (now (p .before .before .before .before .before .before .before .args .lengths)) (p .loop .i) (c .before .loop-test .taken) in
     record { fits = omega (arith, d, p .loop .inv .0 .left) }
 
-sub-receive-next : tie.Need-sub-receive-next Inv-loop μ-loop
-sub-receive-next c = search needs
-
-part-receive-next-start : tie.Need-part-receive-next-start Inv-loop μ-loop
-part-receive-next-start c = search needs
-
 part-receive-next-end : tie.Need-part-receive-next-end Inv-loop μ-loop
 part-receive-next-end c =
     let p = c .before .before .before in
     let d = total-drop (now (p .before .before .before .before .before .before .before .args .lengths)) (p .loop .i) (c .before .before .loop-test .taken) in
     omega (arith, d, p .loop .inv .0 .left)
 
-mul-receive-next : tie.Need-mul-receive-next Inv-loop μ-loop
-mul-receive-next c = search needs
-
 sub-receive-next-2 : tie.Need-sub-receive-next-2 Inv-loop μ-loop
 sub-receive-next-2 c = omega (arith, c .before .before .before .before .loop .inv .0 .room)
 
 part-receive-next-start-2 : tie.Need-part-receive-next-start-2 Inv-loop μ-loop
 part-receive-next-start-2 c = omega (arith, c .before .before .before .before .loop .inv .0 .room)
-
-part-receive-next-end-2 : tie.Need-part-receive-next-end-2 Inv-loop μ-loop
-part-receive-next-end-2 c = search needs
 
 receive-next-requires : tie.Need-receive-next-requires Inv-loop μ-loop
 receive-next-requires c κs =
@@ -76,18 +55,6 @@ receive-next-requires c κs =
     let l = p .loop .log in
     let v = p .loop .inv in
     (omega (arith, v .0 .count, c .before .before .before .before .loop-test .taken, s .good .1 .1 .1 .0), omega (arith, length-take (length l - w) (drop w l), length-drop w l, v .0 .room, v .3, s .good .1 .1 .1 .1 .0))
-
-same-length : tie.Need-same-length Inv-loop μ-loop
-same-length c = search needs
-
-same-length-2 : tie.Need-same-length-2 Inv-loop μ-loop
-same-length-2 c = search needs
-
-same-length-3 : tie.Need-same-length-3 Inv-loop μ-loop
-same-length-3 c = search needs
-
-same-length-4 : tie.Need-same-length-4 Inv-loop μ-loop
-same-length-4 c = search needs
 
 returns : tie.Need-returns Inv-loop μ-loop
 returns c =
@@ -100,16 +67,10 @@ returns c =
       s .1 ∙ o .inv .5 ∙ ends-at-start (now (a .ends)) (now (a .lengths)) (now (a .carry)) (now (a .pdus)) (now (a .log)) (p .before .begun .result) (a .receiver) (p .before .begun .ensures),
     )
 
-note-requires : tie.Need-note-requires Inv-loop μ-loop
-note-requires c κs = search needs
-
 add-i : tie.Need-add-i Inv-loop μ-loop
 add-i c =
     let w = c .before .before .before .before .before .before .before .before .before .before .before .before .before .before .before .before .before in
     record { fits = omega (arith, w .loop-test .taken, w .before .before .before .before .before .before .before .before .good .1 .1 .1 .0) }
-
-loop-less : tie.Need-loop-less Inv-loop μ-loop
-loop-less c = search needs
 
 loop-again : tie.Need-loop-again Inv-loop μ-loop
 loop-again c =
@@ -128,18 +89,6 @@ loop-again c =
       m .1 ∙ o .inv .5,
     )
 
-same-length-5 : tie.Need-same-length-5 Inv-loop μ-loop
-same-length-5 c = search needs
-
-same-length-6 : tie.Need-same-length-6 Inv-loop μ-loop
-same-length-6 c = search needs
-
-same-length-7 : tie.Need-same-length-7 Inv-loop μ-loop
-same-length-7 c = search needs
-
-same-length-8 : tie.Need-same-length-8 Inv-loop μ-loop
-same-length-8 c = search needs
-
 returns-2 : tie.Need-returns-2 Inv-loop μ-loop
 returns-2 c =
     let p = c .before in
@@ -155,30 +104,22 @@ receive-each-spec =
     (tie.spec
     Inv-loop
     μ-loop
-    begun-requires
+    (λ c κs. search needs)
     loop-holds
-    mul-to
-    shared-slice-read-to
+    (λ c. search needs) (λ c. search needs)
     add-to
-    sub-receive-next
-    part-receive-next-start
+    (λ c. search needs) (λ c. search needs)
     part-receive-next-end
-    mul-receive-next
+    (λ c. search needs)
     sub-receive-next-2
     part-receive-next-start-2
-    part-receive-next-end-2
+    (λ c. search needs)
     receive-next-requires
-    same-length
-    same-length-2
-    same-length-3
-    same-length-4
+    (λ c. search needs) (λ c. search needs) (λ c. search needs) (λ c. search needs)
     returns
-    note-requires
+    (λ c κs. search needs)
     add-i
-    loop-less
+    (λ c. search needs)
     loop-again
-    same-length-5
-    same-length-6
-    same-length-7
-    same-length-8
+    (λ c. search needs) (λ c. search needs) (λ c. search needs) (λ c. search needs)
     returns-2)

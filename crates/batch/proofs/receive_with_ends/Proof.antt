@@ -12,23 +12,11 @@ use Rattle.batch.proofs.receive_each.Reads as receive-each-reads
 use Rattle.batch.proofs.sums_to.Reads as sums-to-reads
 use Rattle.receiver.proofs.Receiver.state_refusal.Reads as state-refusal-reads
 
-state-refusal-requires : tie.Need-state-refusal-requires
-state-refusal-requires c κs = search needs
-
-begun-requires : tie.Need-begun-requires
-begun-requires c κs = search needs
-
 returns : tie.Need-returns
 returns c =
     let k = c .before .before in
     let a = k .before .before .before .before .before .before .args in
     state-call (now (a .lengths)) (now (a .carry)) (now (a .pdus)) (now (a .log)) (now (a .ends)) (a .receiver) (k .state-refusal .result) (k .state-refusal .ensures) (c .begun .result) (λ q. omega (arith, q, c .before .if1 .taken)) (c .begun .ensures)
-
-sums-to-requires : tie.Need-sums-to-requires
-sums-to-requires c κs = search needs
-
-begun-requires-2 : tie.Need-begun-requires-2
-begun-requires-2 c κs = search needs
 
 returns-2 : tie.Need-returns-2
 returns-2 c =
@@ -44,18 +32,6 @@ receive-each-requires c κs =
     let a = k .before .before .before .before .before .before .args in
     sum-right (now (a .lengths)) (now (a .carry)) (now (a .pdus)) (now (a .log)) (now (a .ends)) (a .receiver) (k .state-refusal .result) (k .state-refusal .ensures) (omega (arith, t .before .if1 .left)) (t .sums-to .result) (t .sums-to .ensures) (not-false (t .sums-to .result) (c .before .before .before .before .if2 .left))
 
-same-length : tie.Need-same-length
-same-length c = search needs
-
-same-length-2 : tie.Need-same-length-2
-same-length-2 c = search needs
-
-same-length-3 : tie.Need-same-length-3
-same-length-3 c = search needs
-
-same-length-4 : tie.Need-same-length-4
-same-length-4 c = search needs
-
 returns-3 : tie.Need-returns-3
 returns-3 c =
     let e = c .before .before .before .before .before .before .before .before in
@@ -68,15 +44,10 @@ pub receive-with-ends-spec : {M : Type 1} → statement M
 receive-with-ends-spec =
     tie.close
     (tie.spec
-    state-refusal-requires
-    begun-requires
+    (λ c κs. search needs) (λ c κs. search needs)
     returns
-    sums-to-requires
-    begun-requires-2
+    (λ c κs. search needs) (λ c κs. search needs)
     returns-2
     receive-each-requires
-    same-length
-    same-length-2
-    same-length-3
-    same-length-4
+    (λ c. search needs) (λ c. search needs) (λ c. search needs) (λ c. search needs)
     returns-3)

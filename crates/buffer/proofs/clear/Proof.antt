@@ -23,15 +23,6 @@ abbrev μ-loop : tie.MeasureT-loop
 loop-holds : tie.Need-loop-holds Inv-loop μ-loop
 loop-holds c = (refl, refl)
 
-slice-write-dst : tie.Need-slice-write-dst Inv-loop μ-loop
-slice-write-dst c = search needs
-
-add-j : tie.Need-add-j Inv-loop μ-loop
-add-j c = search needs
-
-loop-less : tie.Need-loop-less Inv-loop μ-loop
-loop-less c = search needs
-
 loop-again : tie.Need-loop-again Inv-loop μ-loop
 loop-again c =
     let p = c .before in
@@ -42,9 +33,6 @@ loop-again c =
     let t : putAt (set (p .loop .dst) (0 + p .loop .j) 0) (0 + (p .loop .j + 1)) (drop (p .loop .j + 1) z) ≡ putAt (now (p .before .args .dst)) 0 z =
     put-turn (now (p .before .args .dst)) (p .loop .dst) z 0 (p .loop .j) 0 (omega (arith, c .loop-test .taken)) (omega arith) (sym (getD-replicate n (p .loop .j) 0 0 h)) (p .loop .inv .0) in
     (rw (zero-add (p .loop .j)) at t, length-set (p .loop .dst) (p .loop .j) 0 ∙ p .loop .inv .1)
-
-same-length : tie.Need-same-length Inv-loop μ-loop
-same-length c = search needs
 
 returns : tie.Need-returns Inv-loop μ-loop
 returns c =
@@ -63,9 +51,7 @@ clear-spec =
     Inv-loop
     μ-loop
     loop-holds
-    slice-write-dst
-    add-j
-    loop-less
+    (λ c. search needs) (λ c. search needs) (λ c. search needs)
     loop-again
-    same-length
+    (λ c. search needs)
     returns)

@@ -8,15 +8,6 @@ use Rattle.capi.proofs.barzhilup_correct_header_marked.Lts as lts
 use Rattle.capi.proofs.in_numbers.Reads as in-numbers-reads
 use Rattle.correction.proofs.correct_marked.Reads as correct-marked-reads
 
-correct-marked-requires : tie.Need-correct-marked-requires
-correct-marked-requires c κs = search needs
-
-in-numbers-requires : tie.Need-in-numbers-requires
-in-numbers-requires c κs = search needs
-
-same-length : tie.Need-same-length
-same-length c = search needs
-
 returns : tie.Need-returns
 returns c =
     let r = c .before .before .before .correct-marked in
@@ -24,4 +15,4 @@ returns c =
 
 pub barzhilup-correct-header-marked-spec : {M : Type 1} → statement M
 barzhilup-correct-header-marked-spec =
-    tie.close (tie.spec correct-marked-requires in-numbers-requires same-length returns)
+    tie.close (tie.spec (λ c κs. search needs) (λ c κs. search needs) (λ c. search needs) returns)

@@ -5,15 +5,9 @@ use Rattle.capi.proofs.barzhilup_load_receiver.Reads as reads
 use Rattle.capi.proofs.barzhilup_load_receiver.Lts as lts
 use Rattle.snapshot.proofs.load.Reads as load-reads
 
-load-requires : tie.Need-load-requires
-load-requires c κs = search needs
-
-same-length : tie.Need-same-length
-same-length c = search needs
-
 returns : tie.Need-returns
 returns c = c .before .before .load .ensures
 
 pub barzhilup-load-receiver-spec : {M : Type 1} → statement M
 barzhilup-load-receiver-spec =
-    tie.close (tie.spec load-requires same-length returns)
+    tie.close (tie.spec (λ c κs. search needs) (λ c. search needs) returns)

@@ -5,15 +5,9 @@ use Rattle.capi.proofs.barzhilup_mark_lost.Reads as reads
 use Rattle.capi.proofs.barzhilup_mark_lost.Lts as lts
 use Rattle.receiver.proofs.Receiver.mark_lost.Reads as mark-lost-reads
 
-mark-lost-requires : tie.Need-mark-lost-requires
-mark-lost-requires c κs = search needs
-
-same-length : tie.Need-same-length
-same-length c = search needs
-
 returns : tie.Need-returns
 returns c = c .before .before .mark-lost .ensures
 
 pub barzhilup-mark-lost-spec : {M : Type 1} → statement M
 barzhilup-mark-lost-spec =
-    tie.close (tie.spec mark-lost-requires same-length returns)
+    tie.close (tie.spec (λ c κs. search needs) (λ c. search needs) returns)

@@ -5,15 +5,9 @@ use Rattle.capi.proofs.barzhilup_read.Reads as reads
 use Rattle.capi.proofs.barzhilup_read.Lts as lts
 use Rattle.pdu.proofs.read.Reads as read-reads
 
-read-requires : tie.Need-read-requires
-read-requires c κs = search needs
-
-same-length : tie.Need-same-length
-same-length c = search needs
-
 returns : tie.Need-returns
 returns c = c .before .before .read .ensures
 
 pub barzhilup-read-spec : {M : Type 1} → statement M
 barzhilup-read-spec =
-    tie.close (tie.spec read-requires same-length returns)
+    tie.close (tie.spec (λ c κs. search needs) (λ c. search needs) returns)

@@ -5,25 +5,10 @@ use Rattle.capi.proofs.barzhilup_receive_pair.Reads as reads
 use Rattle.capi.proofs.barzhilup_receive_pair.Lts as lts
 use Rattle.pair.proofs.receive.Reads as receive-reads
 
-receive-requires : tie.Need-receive-requires
-receive-requires c κs = search needs
-
-same-length : tie.Need-same-length
-same-length c = search needs
-
-same-length-2 : tie.Need-same-length-2
-same-length-2 c = search needs
-
-same-length-3 : tie.Need-same-length-3
-same-length-3 c = search needs
-
-same-length-4 : tie.Need-same-length-4
-same-length-4 c = search needs
-
 returns : tie.Need-returns
 returns c = c .before .before .before .before .before .before .before .before .receive .ensures
 
 pub barzhilup-receive-pair-spec : {M : Type 1} → statement M
 barzhilup-receive-pair-spec =
     tie.close
-    (tie.spec receive-requires same-length same-length-2 same-length-3 same-length-4 returns)
+    (tie.spec (λ c κs. search needs) (λ c. search needs) (λ c. search needs) (λ c. search needs) (λ c. search needs) returns)

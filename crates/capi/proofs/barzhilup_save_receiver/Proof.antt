@@ -5,15 +5,9 @@ use Rattle.capi.proofs.barzhilup_save_receiver.Reads as reads
 use Rattle.capi.proofs.barzhilup_save_receiver.Lts as lts
 use Rattle.snapshot.proofs.save.Reads as save-reads
 
-save-requires : tie.Need-save-requires
-save-requires c κs = search needs
-
-same-length : tie.Need-same-length
-same-length c = search needs
-
 returns : tie.Need-returns
 returns c = c .before .before .save .ensures
 
 pub barzhilup-save-receiver-spec : {M : Type 1} → statement M
 barzhilup-save-receiver-spec =
-    tie.close (tie.spec save-requires same-length returns)
+    tie.close (tie.spec (λ c κs. search needs) (λ c. search needs) returns)

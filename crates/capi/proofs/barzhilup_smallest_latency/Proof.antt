@@ -8,12 +8,6 @@ use Rattle.capi.proofs.barzhilup_smallest_latency.Lts as lts
 use Rattle.capi.proofs.smallest_in_numbers.Reads as smallest-in-numbers-reads
 use Rattle.latency.proofs.smallest.Reads as smallest-reads
 
-smallest-requires : tie.Need-smallest-requires
-smallest-requires c κs = search needs
-
-smallest-in-numbers-requires : tie.Need-smallest-in-numbers-requires
-smallest-in-numbers-requires c κs = search needs
-
 returns : tie.Need-returns
 returns c =
     let n = c .smallest-in-numbers .ensures in
@@ -22,4 +16,4 @@ returns c =
 
 pub barzhilup-smallest-latency-spec : {M : Type 1} → statement M
 barzhilup-smallest-latency-spec =
-    tie.close (tie.spec smallest-requires smallest-in-numbers-requires returns)
+    tie.close (tie.spec (λ c κs. search needs) (λ c κs. search needs) returns)

@@ -5,15 +5,9 @@ use Rattle.capi.proofs.barzhilup_waiting_packets.Reads as reads
 use Rattle.capi.proofs.barzhilup_waiting_packets.Lts as lts
 use Rattle.latency.proofs.show_waiting.Reads as show-waiting-reads
 
-show-waiting-requires : tie.Need-show-waiting-requires
-show-waiting-requires c κs = search needs
-
-same-length : tie.Need-same-length
-same-length c = search needs
-
 returns : tie.Need-returns
 returns c = c .before .before .show-waiting .ensures
 
 pub barzhilup-waiting-packets-spec : {M : Type 1} → statement M
 barzhilup-waiting-packets-spec =
-    tie.close (tie.spec show-waiting-requires same-length returns)
+    tie.close (tie.spec (λ c κs. search needs) (λ c. search needs) returns)

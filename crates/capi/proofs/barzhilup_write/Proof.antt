@@ -5,15 +5,9 @@ use Rattle.capi.proofs.barzhilup_write.Reads as reads
 use Rattle.capi.proofs.barzhilup_write.Lts as lts
 use Rattle.writer.proofs.Writer.write.Reads as write-reads
 
-write-requires : tie.Need-write-requires
-write-requires c κs = search needs
-
-same-length : tie.Need-same-length
-same-length c = search needs
-
 returns : tie.Need-returns
 returns c = c .before .before .write .ensures
 
 pub barzhilup-write-spec : {M : Type 1} → statement M
 barzhilup-write-spec =
-    tie.close (tie.spec write-requires same-length returns)
+    tie.close (tie.spec (λ c κs. search needs) (λ c. search needs) returns)

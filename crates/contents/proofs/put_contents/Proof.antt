@@ -24,30 +24,6 @@ use Rattle.layout.proofs.locator_size.Reads as locator-size-reads
 use Rattle.pieces.proofs.locators.Reads as locators-reads
 use Rattle.pieces.proofs.put_pieces.Reads as put-pieces-reads
 
-cast-locator-size : tie.Need-cast-locator-size
-cast-locator-size c = search needs
-
-locator-size-requires : tie.Need-locator-size-requires
-locator-size-requires c κs = search needs
-
-add-first : tie.Need-add-first
-add-first c = search needs
-
-add-first-2 : tie.Need-add-first-2
-add-first-2 c = search needs
-
-add-first-3 : tie.Need-add-first-3
-add-first-3 c = search needs
-
-cast-locators : tie.Need-cast-locators
-cast-locators c = search needs
-
-locators-requires : tie.Need-locators-requires
-locators-requires c κs = search needs
-
-array-share-prefix-locators : tie.Need-array-share-prefix-locators
-array-share-prefix-locators c = search needs
-
 slice-aggregate-put-front : tie.Need-slice-aggregate-put-front
 slice-aggregate-put-front c = sym (ap length (c .before .before .locators .ensures .1) ∙ length-from (now (c .before .before .before .before .before .before .before .before .before .args .lengths)) _)
 
@@ -59,12 +35,6 @@ put-front-requires c κs =
     let room : 14 + locatorSize (a .width) (length ls) + length (now (a .expansion)) + length (now (a .psd)) + total ls + length ls ≤ length (now (a .pdu)) = c .before .before .before .before .before .before .before .before .before .pre .0 in
     let more : 14 + locatorSize (a .width) (length (take (length ls) (c .before .before .locators .result))) + length (now (a .expansion)) + length (now (a .psd)) ≤ length (now (a .pdu)) = rw n (omega (arith, room)) in
     (more, omega (arith, n, c .before .before .before .before .before .before .before .before .before .pre .1 .0))
-
-put-pieces-requires : tie.Need-put-pieces-requires
-put-pieces-requires c κs = search needs
-
-same-length : tie.Need-same-length
-same-length c = search needs
 
 returns : tie.Need-returns
 returns c =
@@ -84,16 +54,9 @@ pub put-contents-spec : {M : Type 1} → statement M
 put-contents-spec =
     tie.close
     (tie.spec
-    cast-locator-size
-    locator-size-requires
-    add-first
-    add-first-2
-    add-first-3
-    cast-locators
-    locators-requires
-    array-share-prefix-locators
+    (λ c. search needs) (λ c κs. search needs) (λ c. search needs) (λ c. search needs) (λ c. search needs) (λ c. search needs) (λ c κs. search needs)
+    (λ c. search needs)
     slice-aggregate-put-front
     put-front-requires
-    put-pieces-requires
-    same-length
+    (λ c κs. search needs) (λ c. search needs)
     returns)

@@ -19,38 +19,8 @@ use Rattle.buffer.proofs.put_bytes.Reads as put-bytes-reads
 use Rattle.layout.proofs.locator_size.Reads as locator-size-reads
 use Rattle.layout.proofs.put_locators.Reads as put-locators-reads
 
-cast-locator-size : tie.Need-cast-locator-size
-cast-locator-size c = search needs
-
-locator-size-requires : tie.Need-locator-size-requires
-locator-size-requires c κs = search needs
-
-add-at : tie.Need-add-at
-add-at c = search needs
-
-clear-requires : tie.Need-clear-requires
-clear-requires c κs = search needs
-
-slice-aggregate-put-bytes : tie.Need-slice-aggregate-put-bytes
-slice-aggregate-put-bytes c = search needs
-
 put-bytes-requires : tie.Need-put-bytes-requires
 put-bytes-requires c κs = search needs
-
-put-locators-requires : tie.Need-put-locators-requires
-put-locators-requires c κs = search needs
-
-put-bytes-requires-2 : tie.Need-put-bytes-requires-2
-put-bytes-requires-2 c κs = search needs
-
-add-put-bytes : tie.Need-add-put-bytes
-add-put-bytes c = search needs
-
-put-bytes-requires-3 : tie.Need-put-bytes-requires-3
-put-bytes-requires-3 c κs = search needs
-
-same-length : tie.Need-same-length
-same-length c = search needs
 
 returns : tie.Need-returns
 returns c =
@@ -70,15 +40,7 @@ pub put-front-spec : {M : Type 1} → statement M
 put-front-spec =
     tie.close
     (tie.spec
-    cast-locator-size
-    locator-size-requires
-    add-at
-    clear-requires
-    slice-aggregate-put-bytes
+    (λ c. search needs) (λ c κs. search needs) (λ c. search needs) (λ c κs. search needs) (λ c. search needs)
     put-bytes-requires
-    put-locators-requires
-    put-bytes-requires-2
-    add-put-bytes
-    put-bytes-requires-3
-    same-length
+    (λ c κs. search needs) (λ c κs. search needs) (λ c. search needs) (λ c κs. search needs) (λ c. search needs)
     returns)

@@ -23,12 +23,6 @@ abbrev μ-loop : tie.MeasureT-loop
 loop-holds : tie.Need-loop-holds Inv-loop μ-loop
 loop-holds c = (omega arith, refl)
 
-shared-slice-read-place : tie.Need-shared-slice-read-place Inv-loop μ-loop
-shared-slice-read-place c = search needs
-
-place-requires : tie.Need-place-requires Inv-loop μ-loop
-place-requires c κs = search needs
-
 -- the place marked is inside
 inside : (c : tie.After-place Inv-loop μ-loop) → c .place .result < 96
 inside c =
@@ -41,12 +35,6 @@ element-copy-out-out c = inside c
 
 array-write-out : tie.Need-array-write-out Inv-loop μ-loop
 array-write-out c = inside (c .before)
-
-add-k : tie.Need-add-k Inv-loop μ-loop
-add-k c = search needs
-
-loop-less : tie.Need-loop-less Inv-loop μ-loop
-loop-less c = search needs
 
 loop-again : tie.Need-loop-again Inv-loop μ-loop
 loop-again c =
@@ -68,11 +56,9 @@ adopted-spec =
     Inv-loop
     μ-loop
     loop-holds
-    shared-slice-read-place
-    place-requires
+    (λ c. search needs) (λ c κs. search needs)
     element-copy-out-out
     array-write-out
-    add-k
-    loop-less
+    (λ c. search needs) (λ c. search needs)
     loop-again
     returns)

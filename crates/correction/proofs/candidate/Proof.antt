@@ -21,21 +21,6 @@ use Rattle.correction.proofs.stripped.Reads as stripped-reads
 use Rattle.elimination.proofs.right_side.Reads as right-side-reads
 use Rattle.elimination.proofs.system.Reads as system-reads
 
-stripped-requires : tie.Need-stripped-requires
-stripped-requires c κs = search needs
-
-spare-requires : tie.Need-spare-requires
-spare-requires c κs = search needs
-
-system-requires : tie.Need-system-requires
-system-requires c κs = search needs
-
-right-side-requires : tie.Need-right-side-requires
-right-side-requires c κs = search needs
-
-eliminate-requires : tie.Need-eliminate-requires
-eliminate-requires c κs = search needs
-
 -- where the syndromes are filtered, and where the function begins, seen from the elimination
 abbrev filtering : tie.After-eliminate → tie.After-stripped
 filtering c = c .before .before .before .before
@@ -85,11 +70,7 @@ pub candidate-spec : {M : Type 1} → statement M
 candidate-spec =
     tie.close
     (tie.spec
-    stripped-requires
-    spare-requires
-    system-requires
-    right-side-requires
-    eliminate-requires
+    (λ c κs. search needs) (λ c κs. search needs) (λ c κs. search needs) (λ c κs. search needs) (λ c κs. search needs)
     error-places-requires
     repaired-requires
     returns)

@@ -11,18 +11,6 @@ use Rattle.correction.proofs.correct.Reads as reads
 use Rattle.correction.proofs.correct.Lts as lts
 use Rattle.correction.proofs.correct_marked.Reads as correct-marked-reads
 
-array-share-prefix-marks : tie.Need-array-share-prefix-marks
-array-share-prefix-marks c = search needs
-
-slice-aggregate-correct-marked : tie.Need-slice-aggregate-correct-marked
-slice-aggregate-correct-marked c = search needs
-
-correct-marked-requires : tie.Need-correct-marked-requires
-correct-marked-requires c κs = search needs
-
-same-length : tie.Need-same-length
-same-length c = search needs
-
 returns : tie.Need-returns
 returns c = let m = c .before .before in (m .correct-marked .ensures .0 ∙ no-marks-answer _, m .correct-marked .ensures .1 ∙ no-marks-pdu _)
 
@@ -30,8 +18,5 @@ pub correct-spec : {M : Type 1} → statement M
 correct-spec =
     tie.close
     (tie.spec
-    array-share-prefix-marks
-    slice-aggregate-correct-marked
-    correct-marked-requires
-    same-length
+    (λ c. search needs) (λ c. search needs) (λ c κs. search needs) (λ c. search needs)
     returns)

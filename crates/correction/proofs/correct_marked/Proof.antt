@@ -40,28 +40,13 @@ returns c = length-refused _ _ (short-refused _ (omega arith))
 returns-2 : tie.Need-returns-2
 returns-2 c = length-refused _ _ (long-refused _ (omega arith))
 
-marks-refusal-requires : tie.Need-marks-refusal-requires
-marks-refusal-requires c κs = search needs
-
 returns-3 : tie.Need-returns-3
 returns-3 c = marks-refused _ _ (omega arith) (omega arith) (λ e. c .if3 .taken (c .before .marks-refusal .ensures ∙ e))
-
-header-of-requires : tie.Need-header-of-requires
-header-of-requires c κs = search needs
 
 decode-requires : tie.Need-decode-requires
 decode-requires c κs =
     let a = allowed c in
     (header-all-bytes (begin c .args .marks .now) _ _ (omega arith) (omega arith) (bytes c) (c .header-of .ensures), a)
-
-slice-aggregate-put-front : tie.Need-slice-aggregate-put-front
-slice-aggregate-put-front c = search needs
-
-put-front-requires : tie.Need-put-front-requires
-put-front-requires c κs = search needs
-
-same-length : tie.Need-same-length
-same-length c = search needs
 
 returns-4 : tie.Need-returns-4
 returns-4 c =
@@ -76,11 +61,9 @@ correct-marked-spec =
     (tie.spec
     returns
     returns-2
-    marks-refusal-requires
+    (λ c κs. search needs)
     returns-3
-    header-of-requires
+    (λ c κs. search needs)
     decode-requires
-    slice-aggregate-put-front
-    put-front-requires
-    same-length
+    (λ c. search needs) (λ c κs. search needs) (λ c. search needs)
     returns-4)

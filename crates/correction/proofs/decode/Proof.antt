@@ -30,18 +30,6 @@ start c = begin (c .before .before .before .before .before)
 long : (c : tie.After-candidate) → length (start c .args .t1) ≡ 96
 long c = start c .good .0 .1 .0 .1
 
-powers-requires : tie.Need-powers-requires
-powers-requires c κs = search needs
-
-logarithms-requires : tie.Need-logarithms-requires
-logarithms-requires c κs = search needs
-
-syndromes-by-requires : tie.Need-syndromes-by-requires
-syndromes-by-requires c κs = search needs
-
-all-zero-requires : tie.Need-all-zero-requires
-all-zero-requires c κs = search needs
-
 returns : tie.Need-returns
 unfolding isCodeWord
 returns c =
@@ -57,18 +45,6 @@ candidate-requires c κs =
 adopted-requires : tie.Need-adopted-requires
 adopted-requires c κs = start (c .before .before) .pre .1 .1
 
-difference-requires : tie.Need-difference-requires
-difference-requires c κs = search needs
-
-spare-requires : tie.Need-spare-requires
-spare-requires c κs = search needs
-
-cast-if2 : tie.Need-cast-if2
-cast-if2 c = search needs
-
-refused-requires : tie.Need-refused-requires
-refused-requires c κs = search needs
-
 returns-2 : tie.Need-returns-2
 returns-2 c =
     let p = c .before .before in
@@ -77,12 +53,6 @@ returns-2 c =
     let k = a .before .before .before in
     let r = answer-far _ _ (start k .pre .1 .0) (long k) (start k .pre .0) _ _ (k .candidate .ensures) (a .adopted .ensures) _ (d .difference .ensures) _ (p .spare .ensures) (omega (arith, c .before .if2 .taken)) in
     (c .refused .ensures .0 ∙ r .0, c .refused .ensures .1 ∙ r .1)
-
-is-code-word-by-requires : tie.Need-is-code-word-by-requires
-is-code-word-by-requires c κs = search needs
-
-difference-requires-2 : tie.Need-difference-requires-2
-difference-requires-2 c κs = search needs
 
 returns-3 : tie.Need-returns-3
 returns-3 c =
@@ -95,9 +65,6 @@ returns-3 c =
     let k = a .before .before .before in
     answer-corrected _ _ (start k .pre .1 .0) (long k) (start k .pre .0) _ _ (k .candidate .ensures) (a .adopted .ensures) _ (d .difference .ensures) _ (p .spare .ensures)
     _ (c .difference2 .ensures) (omega (arith, q .if2 .left)) (sym (w .is-code-word-by .ensures) ∙ t .if3 .taken)
-
-refused-requires-2 : tie.Need-refused-requires-2
-refused-requires-2 c κs = search needs
 
 returns-4 : tie.Need-returns-4
 returns-4 c =
@@ -114,20 +81,13 @@ pub decode-spec : {M : Type 1} → statement M
 decode-spec =
     tie.close
     (tie.spec
-    powers-requires
-    logarithms-requires
-    syndromes-by-requires
-    all-zero-requires
+    (λ c κs. search needs) (λ c κs. search needs) (λ c κs. search needs) (λ c κs. search needs)
     returns
     candidate-requires
     adopted-requires
-    difference-requires
-    spare-requires
-    cast-if2
-    refused-requires
+    (λ c κs. search needs) (λ c κs. search needs) (λ c. search needs) (λ c κs. search needs)
     returns-2
-    is-code-word-by-requires
-    difference-requires-2
+    (λ c κs. search needs) (λ c κs. search needs)
     returns-3
-    refused-requires-2
+    (λ c κs. search needs)
     returns-4)

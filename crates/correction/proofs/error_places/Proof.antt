@@ -21,12 +21,6 @@ abbrev μ-loop : tie.MeasureT-loop
 loop-holds : tie.Need-loop-holds Inv-loop μ-loop
 loop-holds c = (omega arith, search-start _ _ (search needs))
 
-sub-m : tie.Need-sub-m Inv-loop μ-loop
-sub-m c = search needs
-
-is-located-requires : tie.Need-is-located-requires Inv-loop μ-loop
-is-located-requires c κs = search needs
-
 -- there is room for a place that passes the test
 room : (c : tie.Then1 Inv-loop μ-loop) → c .before .before .before .loop .count < 8
 room c =
@@ -44,9 +38,6 @@ array-write-places c = let r : c .before .before .before .loop .count < 8 = room
 add-count : tie.Need-add-count Inv-loop μ-loop
 add-count c = let r : c .before .before .before .loop .count < 8 = room c in omega arith
 
-loop-less : tie.Need-loop-less Inv-loop μ-loop
-loop-less c = search needs
-
 loop-again : tie.Need-loop-again Inv-loop μ-loop
 loop-again c =
     let l = c .before .before .before in
@@ -55,9 +46,6 @@ loop-again c =
       loop-hit (located (a .marks .now) (a .coefficients) (a .degree)) (l .loop .m) (l .loop .count) (l .loop .places) (omega arith) (l .loop .inv .1)
           (c .before .is-located .result) (c .before .is-located .ensures) (l .before .before .pre .1 .0) (c .if1 .taken),
     )
-
-loop-less-2 : tie.Need-loop-less-2 Inv-loop μ-loop
-loop-less-2 c = search needs
 
 loop-again-2 : tie.Need-loop-again-2 Inv-loop μ-loop
 loop-again-2 c =
@@ -78,13 +66,12 @@ error-places-spec =
     Inv-loop
     μ-loop
     loop-holds
-    sub-m
-    is-located-requires
+    (λ c. search needs) (λ c κs. search needs)
     mul-places
     array-write-places
     add-count
-    loop-less
+    (λ c. search needs)
     loop-again
-    loop-less-2
+    (λ c. search needs)
     loop-again-2
     returns)

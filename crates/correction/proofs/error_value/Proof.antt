@@ -22,26 +22,8 @@ Inv-loop powers logarithms m k z at t₀ f₀ q₀ t f q = (q ≤ m) × Working 
 abbrev μ-loop : tie.MeasureT-loop
 μ-loop powers logarithms m k z at t₀ f₀ q₀ t f q = m - q
 
-array-read-at : tie.Need-array-read-at Inv-loop μ-loop
-array-read-at c = search needs
-
 loop-holds : tie.Need-loop-holds Inv-loop μ-loop
 loop-holds c = (omega arith, working-start _ _ _)
-
-array-read-x : tie.Need-array-read-x Inv-loop μ-loop
-array-read-x c = search needs
-
-filtered-requires : tie.Need-filtered-requires Inv-loop μ-loop
-filtered-requires c κs = search needs
-
-product-by-requires : tie.Need-product-by-requires Inv-loop μ-loop
-product-by-requires c κs = search needs
-
-add-q : tie.Need-add-q Inv-loop μ-loop
-add-q c = search needs
-
-loop-less : tie.Need-loop-less Inv-loop μ-loop
-loop-less c = search needs
 
 loop-again : tie.Need-loop-again Inv-loop μ-loop
 loop-again c = (
@@ -51,15 +33,6 @@ loop-again c = (
       (λ w. rw (w .1, w .2) (working-skip _ _ _ (c .before .before .loop .q) (c .before .before .loop .t) (c .before .before .loop .f) (c .before .before .loop .inv .1) (w .0 .left)))
       (c .if1 .came),
 )
-
-inverse-by-requires : tie.Need-inverse-by-requires Inv-loop μ-loop
-inverse-by-requires c κs = search needs
-
-array-read-product-by : tie.Need-array-read-product-by Inv-loop μ-loop
-array-read-product-by c = search needs
-
-product-by-requires-2 : tie.Need-product-by-requires-2 Inv-loop μ-loop
-product-by-requires-2 c κs = search needs
 
 returns : tie.Need-returns Inv-loop μ-loop
 returns c = working-end (c .before .before .before .before .args .s) (c .before .before .before .before .args .t4) (c .before .before .before .before .args .k) (c .before .before .before .loop .q) (c .before .before .before .before .args .m) (c .before .before .before .loop .t) (c .before .before .before .loop .f) _ (c .before .inverse-by .result)
@@ -71,15 +44,9 @@ error-value-spec =
     (tie.spec
     Inv-loop
     μ-loop
-    array-read-at
+    (λ c. search needs)
     loop-holds
-    array-read-x
-    filtered-requires
-    product-by-requires
-    add-q
-    loop-less
+    (λ c. search needs) (λ c κs. search needs) (λ c κs. search needs) (λ c. search needs) (λ c. search needs)
     loop-again
-    inverse-by-requires
-    array-read-product-by
-    product-by-requires-2
+    (λ c κs. search needs) (λ c. search needs) (λ c κs. search needs)
     returns)

@@ -23,27 +23,6 @@ abbrev μ-loop : tie.MeasureT-loop
 loop-holds : tie.Need-loop-holds Inv-loop μ-loop
 loop-holds c = (omega arith, record { long = search needs; last = search needs; entry = λ i l. absurd (omega arith) })
 
-add-out : tie.Need-add-out Inv-loop μ-loop
-add-out c = search needs
-
-array-read-out : tie.Need-array-read-out Inv-loop μ-loop
-array-read-out c = search needs
-
-array-read-product-by : tie.Need-array-read-product-by Inv-loop μ-loop
-array-read-product-by c = search needs
-
-product-by-requires : tie.Need-product-by-requires Inv-loop μ-loop
-product-by-requires c κs = search needs
-
-array-write-out : tie.Need-array-write-out Inv-loop μ-loop
-array-write-out c = search needs
-
-add-j : tie.Need-add-j Inv-loop μ-loop
-add-j c = search needs
-
-loop-less : tie.Need-loop-less Inv-loop μ-loop
-loop-less c = search needs
-
 loop-again : tie.Need-loop-again Inv-loop μ-loop
 loop-again c = (
   omega arith,
@@ -61,12 +40,6 @@ filtered-spec =
     Inv-loop
     μ-loop
     loop-holds
-    add-out
-    array-read-out
-    array-read-product-by
-    product-by-requires
-    array-write-out
-    add-j
-    loop-less
+    (λ c. search needs) (λ c. search needs) (λ c. search needs) (λ c κs. search needs) (λ c. search needs) (λ c. search needs) (λ c. search needs)
     loop-again
     returns)

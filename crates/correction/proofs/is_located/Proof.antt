@@ -15,17 +15,8 @@ use Rattle.correction.proofs.evaluate.Reads as evaluate-reads
 use Rattle.correction.proofs.is_marked.Reads as is-marked-reads
 use Rattle.field.proofs.power_by.Reads as power-by-reads
 
-is-marked-requires : tie.Need-is-marked-requires
-is-marked-requires c κs = search needs
-
 returns : tie.Need-returns
 returns c = ap (λ (b : Bool). b || root (c .before .before .before .args .coefficients) (c .before .before .before .args .degree) (c .before .before .before .args .i)) (sym (c .if1 .taken) ∙ c .before .is-marked .ensures)
-
-power-by-requires : tie.Need-power-by-requires
-power-by-requires c κs = search needs
-
-evaluate-requires : tie.Need-evaluate-requires
-evaluate-requires c κs = search needs
 
 returns-2 : tie.Need-returns-2
 returns-2 c =
@@ -36,4 +27,4 @@ returns-2 c =
 
 pub is-located-spec : {M : Type 1} → statement M
 is-located-spec =
-    tie.close (tie.spec is-marked-requires returns power-by-requires evaluate-requires returns-2)
+    tie.close (tie.spec (λ c κs. search needs) returns (λ c κs. search needs) (λ c κs. search needs) returns-2)

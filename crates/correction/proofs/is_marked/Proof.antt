@@ -21,20 +21,8 @@ abbrev μ-loop : tie.MeasureT-loop
 loop-holds : tie.Need-loop-holds Inv-loop μ-loop
 loop-holds c = (omega arith, refl)
 
-shared-slice-read-place : tie.Need-shared-slice-read-place Inv-loop μ-loop
-shared-slice-read-place c = search needs
-
-place-requires : tie.Need-place-requires Inv-loop μ-loop
-place-requires c κs = search needs
-
 returns : tie.Need-returns Inv-loop μ-loop
 returns c = marked-here _ _ (c .before .before .before .before .loop .k) (omega arith) (c .before .before .before .before .loop .inv .1) (sym (c .before .place .ensures) ∙ c .if1 .taken)
-
-add-k : tie.Need-add-k Inv-loop μ-loop
-add-k c = search needs
-
-loop-less : tie.Need-loop-less Inv-loop μ-loop
-loop-less c = search needs
 
 loop-again : tie.Need-loop-again Inv-loop μ-loop
 loop-again c = (omega arith, marked-past _ _ (c .before .before .before .before .loop .k) (omega arith) (c .before .before .before .before .loop .inv .1) (λ e. c .if1 .left (c .before .place .ensures ∙ e)))
@@ -49,10 +37,8 @@ is-marked-spec =
     Inv-loop
     μ-loop
     loop-holds
-    shared-slice-read-place
-    place-requires
+    (λ c. search needs) (λ c κs. search needs)
     returns
-    add-k
-    loop-less
+    (λ c. search needs) (λ c. search needs)
     loop-again
     returns-2)

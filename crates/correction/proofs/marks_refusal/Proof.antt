@@ -25,31 +25,10 @@ returns c = many-refused _ (omega (arith, c .if1 .taken))
 loop-holds : tie.Need-loop-holds Inv-loop μ-loop
 loop-holds c = (omega arith, refl)
 
-shared-slice-read-place : tie.Need-shared-slice-read-place Inv-loop μ-loop
-shared-slice-read-place c = search needs
-
-place-requires : tie.Need-place-requires Inv-loop μ-loop
-place-requires c κs = search needs
-
 returns-2 : tie.Need-returns-2 Inv-loop μ-loop
 returns-2 c =
     let l = c .before .before .before .before in
     over-refused (l .before .before .before .args .marks .now) (l .loop .k) (omega arith) (l .loop .inv .1) (omega arith) (omega (arith, c .before .place .ensures, c .if2 .taken))
-
-add-next : tie.Need-add-next Inv-loop μ-loop
-add-next c = search needs
-
-sub-is-marked : tie.Need-sub-is-marked Inv-loop μ-loop
-sub-is-marked c = search needs
-
-part-is-marked-start : tie.Need-part-is-marked-start Inv-loop μ-loop
-part-is-marked-start c = search needs
-
-part-is-marked-end : tie.Need-part-is-marked-end Inv-loop μ-loop
-part-is-marked-end c = search needs
-
-is-marked-requires : tie.Need-is-marked-requires Inv-loop μ-loop
-is-marked-requires c κs = search needs
 
 returns-3 : tie.Need-returns-3 Inv-loop μ-loop
 returns-3 c =
@@ -57,9 +36,6 @@ returns-3 c =
     let l = p .before .before .before in
     repeated-refused (l .before .before .before .args .marks .now) (l .loop .k) (omega arith) (l .loop .inv .1) (omega arith)
     (sym (c .if3 .taken) ∙ c .before .is-marked .ensures ∙ ap (λ (ms : List ℕ). isMarked ms (p .place .result)) (marks-from (l .before .before .before .args .marks .now) (l .loop .k + 1)) ∙ ap (isMarked (drop (l .loop .k + 1) (l .before .before .before .args .marks .now))) (p .place .ensures))
-
-loop-less : tie.Need-loop-less Inv-loop μ-loop
-loop-less c = search needs
 
 loop-again : tie.Need-loop-again Inv-loop μ-loop
 loop-again c =
@@ -82,15 +58,10 @@ marks-refusal-spec =
     μ-loop
     returns
     loop-holds
-    shared-slice-read-place
-    place-requires
+    (λ c. search needs) (λ c κs. search needs)
     returns-2
-    add-next
-    sub-is-marked
-    part-is-marked-start
-    part-is-marked-end
-    is-marked-requires
+    (λ c. search needs) (λ c. search needs) (λ c. search needs) (λ c. search needs) (λ c κs. search needs)
     returns-3
-    loop-less
+    (λ c. search needs)
     loop-again
     returns-4)

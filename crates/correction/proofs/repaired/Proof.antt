@@ -20,32 +20,14 @@ Inv-loop powers logarithms s m header places z out₀ k₀ out k = (k ≤ m) × 
 abbrev μ-loop : tie.MeasureT-loop
 μ-loop powers logarithms s m header places z out₀ k₀ out k = m - k
 
-points-requires : tie.Need-points-requires Inv-loop μ-loop
-points-requires c κs = search needs
-
 loop-holds : tie.Need-loop-holds Inv-loop μ-loop
 loop-holds c = (omega arith, repaired-start _ _ _ _ (omega arith))
-
-mul-at : tie.Need-mul-at Inv-loop μ-loop
-mul-at c = search needs
-
-array-read-at : tie.Need-array-read-at Inv-loop μ-loop
-array-read-at c = search needs
 
 array-read-out : tie.Need-array-read-out Inv-loop μ-loop
 array-read-out c = c .before .before .before .pre .1 .0 .inside (c .before .loop .k) (c .loop-test .taken)
 
-error-value-requires : tie.Need-error-value-requires Inv-loop μ-loop
-error-value-requires c κs = search needs
-
 array-write-out : tie.Need-array-write-out Inv-loop μ-loop
 array-write-out c = c .before .before .before .before .pre .1 .0 .inside (c .before .before .loop .k) (c .before .loop-test .taken)
-
-add-k : tie.Need-add-k Inv-loop μ-loop
-add-k c = search needs
-
-loop-less : tie.Need-loop-less Inv-loop μ-loop
-loop-less c = search needs
 
 loop-again : tie.Need-loop-again Inv-loop μ-loop
 loop-again c =
@@ -65,14 +47,12 @@ repaired-spec =
     (tie.spec
     Inv-loop
     μ-loop
-    points-requires
+    (λ c κs. search needs)
     loop-holds
-    mul-at
-    array-read-at
+    (λ c. search needs) (λ c. search needs)
     array-read-out
-    error-value-requires
+    (λ c κs. search needs)
     array-write-out
-    add-k
-    loop-less
+    (λ c. search needs) (λ c. search needs)
     loop-again
     returns)

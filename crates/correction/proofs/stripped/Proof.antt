@@ -24,24 +24,6 @@ abbrev μ-loop : tie.MeasureT-loop
 loop-holds : tie.Need-loop-holds Inv-loop μ-loop
 loop-holds c = (omega arith, stripped-start _ _)
 
-shared-slice-read-place : tie.Need-shared-slice-read-place Inv-loop μ-loop
-shared-slice-read-place c = search needs
-
-place-requires : tie.Need-place-requires Inv-loop μ-loop
-place-requires c κs = search needs
-
-power-by-requires : tie.Need-power-by-requires Inv-loop μ-loop
-power-by-requires c κs = search needs
-
-filtered-requires : tie.Need-filtered-requires Inv-loop μ-loop
-filtered-requires c κs = search needs
-
-add-k : tie.Need-add-k Inv-loop μ-loop
-add-k c = search needs
-
-loop-less : tie.Need-loop-less Inv-loop μ-loop
-loop-less c = search needs
-
 loop-again : tie.Need-loop-again Inv-loop μ-loop
 loop-again c =
     let l = c .before .before .before .before .before in (
@@ -60,11 +42,6 @@ stripped-spec =
     Inv-loop
     μ-loop
     loop-holds
-    shared-slice-read-place
-    place-requires
-    power-by-requires
-    filtered-requires
-    add-k
-    loop-less
+    (λ c. search needs) (λ c κs. search needs) (λ c κs. search needs) (λ c κs. search needs) (λ c. search needs) (λ c. search needs)
     loop-again
     returns)

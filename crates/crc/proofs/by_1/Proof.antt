@@ -30,21 +30,6 @@ loop-holds c =
     let s = c .before in
     (refl, omega arith, s .fits .h .fits, s .fits .l .fits, refl)
 
-push-high-requires : tie.Need-push-high-requires Inv-loop μ-loop
-push-high-requires c κs = search needs
-
-shared-slice-read-push-low : tie.Need-shared-slice-read-push-low Inv-loop μ-loop
-shared-slice-read-push-low c = search needs
-
-push-low-requires : tie.Need-push-low-requires Inv-loop μ-loop
-push-low-requires c κs = search needs
-
-add-i : tie.Need-add-i Inv-loop μ-loop
-add-i c = search needs
-
-loop-less : tie.Need-loop-less Inv-loop μ-loop
-loop-less c = search needs
-
 loop-again : tie.Need-loop-again Inv-loop μ-loop
 loop-again c =
     let l = c .before .before .before .before in
@@ -71,11 +56,7 @@ by-1-spec =
     Inv-loop
     μ-loop
     loop-holds
-    push-high-requires
-    shared-slice-read-push-low
-    push-low-requires
-    add-i
-    loop-less
+    (λ c κs. search needs) (λ c. search needs) (λ c κs. search needs) (λ c. search needs) (λ c. search needs)
     loop-again
     by-16-requires
     returns)

@@ -10,36 +10,6 @@ use Rattle.crc.proofs.Ring.{next-again}
 use Rattle.crc.proofs.by_16.Statement.{statement}
 use Rattle.crc.proofs.by_16.Tie as tie
 
-sub-if1 : tie.Need-sub-if1
-sub-if1 c = search needs
-
-by-32-requires : tie.Need-by-32-requires
-by-32-requires c κs = search needs
-
-returns : tie.Need-returns
-returns c = search needs
-
-word-requires : tie.Need-word-requires
-word-requires c κs = search needs
-
-add-word : tie.Need-add-word
-add-word c = search needs
-
-word-requires-2 : tie.Need-word-requires-2
-word-requires-2 c κs = search needs
-
-next-high-requires : tie.Need-next-high-requires
-next-high-requires c κs = search needs
-
-next-low-requires : tie.Need-next-low-requires
-next-low-requires c κs = search needs
-
-add-by-32 : tie.Need-add-by-32
-add-by-32 c = search needs
-
-by-32-requires-2 : tie.Need-by-32-requires-2
-by-32-requires-2 c κs = search needs
-
 returns-2 : tie.Need-returns-2
 returns-2 c =
     let k = c .before .before .before .before .before .before in
@@ -55,14 +25,6 @@ pub by-16-spec : {M : Type 1} → statement M
 by-16-spec =
     tie.close
     (tie.spec
-    sub-if1
-    by-32-requires
-    returns
-    word-requires
-    add-word
-    word-requires-2
-    next-high-requires
-    next-low-requires
-    add-by-32
-    by-32-requires-2
+    (λ c. search needs) (λ c κs. search needs) (λ c. search needs) (λ c κs. search needs) (λ c. search needs) (λ c κs. search needs) (λ c κs. search needs)
+    (λ c κs. search needs) (λ c. search needs) (λ c κs. search needs)
     returns-2)

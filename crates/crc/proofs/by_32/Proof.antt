@@ -34,45 +34,6 @@ loop-holds c =
     let s = c .before in
     (omega arith, omega arith, s .fits .h .fits, s .fits .l .fits, refl)
 
-word-requires : tie.Need-word-requires Inv-loop μ-loop
-word-requires c κs = search needs
-
-add-word : tie.Need-add-word Inv-loop μ-loop
-add-word c = search needs
-
-word-requires-2 : tie.Need-word-requires-2 Inv-loop μ-loop
-word-requires-2 c κs = search needs
-
-add-word-2 : tie.Need-add-word-2 Inv-loop μ-loop
-add-word-2 c = search needs
-
-word-requires-3 : tie.Need-word-requires-3 Inv-loop μ-loop
-word-requires-3 c κs = search needs
-
-next-high-requires : tie.Need-next-high-requires Inv-loop μ-loop
-next-high-requires c κs = search needs
-
-add-word-3 : tie.Need-add-word-3 Inv-loop μ-loop
-add-word-3 c = search needs
-
-word-requires-4 : tie.Need-word-requires-4 Inv-loop μ-loop
-word-requires-4 c κs = search needs
-
-next-low-requires : tie.Need-next-low-requires Inv-loop μ-loop
-next-low-requires c κs = search needs
-
-far-high-requires : tie.Need-far-high-requires Inv-loop μ-loop
-far-high-requires c κs = search needs
-
-far-low-requires : tie.Need-far-low-requires Inv-loop μ-loop
-far-low-requires c κs = search needs
-
-add-i : tie.Need-add-i Inv-loop μ-loop
-add-i c = search needs
-
-loop-less : tie.Need-loop-less Inv-loop μ-loop
-loop-less c = search needs
-
 loop-again : tie.Need-loop-again Inv-loop μ-loop
 loop-again c =
     let l = c .before .before .before .before .before .before .before .before .before in
@@ -89,9 +50,6 @@ loop-again c =
           ∙ far-again _ b (l .loop .h) (l .loop .l) (l .loop .i) (l .loop .inv .2) (l .loop .inv .3) (λ k. l .before .shared-slice-known .given k .fits) (l .loop .inv .4) (omega arith),
     )
 
-finish-requires : tie.Need-finish-requires Inv-loop μ-loop
-finish-requires c κs = search needs
-
 returns : tie.Need-returns Inv-loop μ-loop
 returns c =
     let l = c .before .before in
@@ -105,19 +63,8 @@ by-32-spec =
     Inv-loop
     μ-loop
     loop-holds
-    word-requires
-    add-word
-    word-requires-2
-    add-word-2
-    word-requires-3
-    next-high-requires
-    add-word-3
-    word-requires-4
-    next-low-requires
-    far-high-requires
-    far-low-requires
-    add-i
-    loop-less
+    (λ c κs. search needs) (λ c. search needs) (λ c κs. search needs) (λ c. search needs) (λ c κs. search needs) (λ c κs. search needs) (λ c. search needs)
+    (λ c κs. search needs) (λ c κs. search needs) (λ c κs. search needs) (λ c κs. search needs) (λ c. search needs) (λ c. search needs)
     loop-again
-    finish-requires
+    (λ c κs. search needs)
     returns)

@@ -11,29 +11,8 @@ use borrow.Author.Needs.{needs}
 use Rattle.crc.proofs.crc8_from.Statement.{statement}
 use Rattle.crc.proofs.crc8_from.Tie as tie
 
-few-requires : tie.Need-few-requires
-few-requires c κs = search needs
-
 returns : tie.Need-returns
 returns c = search needs
-
-wide-requires : tie.Need-wide-requires
-wide-requires c κs = search needs
-
-mul-h : tie.Need-mul-h
-mul-h c = search needs
-
-mul-from : tie.Need-mul-from
-mul-from c = search needs
-
-first-high-requires : tie.Need-first-high-requires
-first-high-requires c κs = search needs
-
-first-low-requires : tie.Need-first-low-requires
-first-low-requires c κs = search needs
-
-by-1-requires : tie.Need-by-1-requires
-by-1-requires c κs = search needs
 
 returns-2 : tie.Need-returns-2
 returns-2 c =
@@ -51,12 +30,7 @@ pub crc8-from-spec : {M : Type 1} → statement M
 crc8-from-spec =
     tie.close
     (tie.spec
-    few-requires
+    (λ c κs. search needs)
     returns
-    wide-requires
-    mul-h
-    mul-from
-    first-high-requires
-    first-low-requires
-    by-1-requires
+    (λ c κs. search needs) (λ c. search needs) (λ c. search needs) (λ c κs. search needs) (λ c κs. search needs) (λ c κs. search needs)
     returns-2)

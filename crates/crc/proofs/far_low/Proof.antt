@@ -9,15 +9,9 @@ use Rattle.crc.proofs.far_low.Tie as tie
 use Rattle.crc.proofs.far_low.Reads as reads
 use Rattle.crc.proofs.far_low.Lts as lts
 
-mul-result : tie.Need-mul-result
-mul-result c = search needs
-
-mul-result-2 : tie.Need-mul-result-2
-mul-result-2 c = search needs
-
 returns : tie.Need-returns
 unfolding farLow
 returns c = (refl, xor-lt 64 _ (c .args .b) (xor-lt 64 _ _ (far-low-fits (c .args .l)) (two-fits (c .args .h) (c .fits .h .fits))) (c .fits .b .fits))
 
 pub far-low-spec : {M : Type 1} → statement M
-far-low-spec = tie.close (tie.spec mul-result mul-result-2 returns)
+far-low-spec = tie.close (tie.spec (λ c. search needs) (λ c. search needs) returns)

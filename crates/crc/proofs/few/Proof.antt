@@ -18,20 +18,11 @@ Inv-loop start bytes w₀ i₀ w i = (i ≤ length bytes) × (w < 2 ^ (8 + 8 * i
 abbrev μ-loop : tie.MeasureT-loop
 μ-loop start bytes w₀ i₀ w i = length bytes - i
 
-wide-requires : tie.Need-wide-requires Inv-loop μ-loop
-wide-requires c κs = search needs
-
 loop-holds : tie.Need-loop-holds Inv-loop μ-loop
 loop-holds c =
     let s = c .wide in
     let b : List ℕ = c .before .before .args .bytes .now in
     (omega arith, s .ensures .1, ap (λ (r : ℕ). crcFrom r b) (red-wide (s .result) (s .ensures .1) ∙ s .ensures .0))
-
-shared-slice-read-wide : tie.Need-shared-slice-read-wide Inv-loop μ-loop
-shared-slice-read-wide c = search needs
-
-wide-requires-2 : tie.Need-wide-requires-2 Inv-loop μ-loop
-wide-requires-2 c κs = search needs
 
 -- there is room for a byte more
 space : (c : tie.After-wide2 Inv-loop μ-loop)
@@ -45,12 +36,6 @@ space c =
 mul-w : tie.Need-mul-w Inv-loop μ-loop
 mul-w c = omega (arith, space c .1)
 
-add-i : tie.Need-add-i Inv-loop μ-loop
-add-i c = search needs
-
-loop-less : tie.Need-loop-less Inv-loop μ-loop
-loop-less c = search needs
-
 loop-again : tie.Need-loop-again Inv-loop μ-loop
 loop-again c =
     let l = c .before .before .before in
@@ -61,9 +46,6 @@ loop-again c =
       ap (λ (x : ℕ). crcFrom (red 64 (bitXor (l .loop .w) x * 256)) (drop (l .loop .i + 1) b)) (c .wide2 .ensures .0)
           ∙ few-again _ b (l .loop .w) (l .loop .i) (l .loop .inv .2) (space c .0) (λ j. k .shared-slice-known .given j .fits) (omega arith),
     )
-
-reduced64-requires : tie.Need-reduced64-requires Inv-loop μ-loop
-reduced64-requires c κs = search needs
 
 returns : tie.Need-returns Inv-loop μ-loop
 returns c =
@@ -76,13 +58,11 @@ few-spec =
     (tie.spec
     Inv-loop
     μ-loop
-    wide-requires
+    (λ c κs. search needs)
     loop-holds
-    shared-slice-read-wide
-    wide-requires-2
+    (λ c. search needs) (λ c κs. search needs)
     mul-w
-    add-i
-    loop-less
+    (λ c. search needs) (λ c. search needs)
     loop-again
-    reduced64-requires
+    (λ c κs. search needs)
     returns)

@@ -18,15 +18,6 @@ use Rattle.crc.proofs.push_high.Reads as push-high-reads
 use Rattle.crc.proofs.push_low.Reads as push-low-reads
 use Rattle.crc.proofs.reduced.Reads as reduced-reads
 
-push-high-requires : tie.Need-push-high-requires
-push-high-requires c κs = search needs
-
-push-low-requires : tie.Need-push-low-requires
-push-low-requires c κs = search needs
-
-reduced-requires : tie.Need-reduced-requires
-reduced-requires c κs = search needs
-
 returns : tie.Need-returns
 returns c =
     let a = c .before .before .before in
@@ -36,4 +27,4 @@ returns c =
     ∙ xor-zero-r (shifts 8 (val (a .args .h) (a .args .l)))
 
 pub finish-spec : {M : Type 1} → statement M
-finish-spec = tie.close (tie.spec push-high-requires push-low-requires reduced-requires returns)
+finish-spec = tie.close (tie.spec (λ c κs. search needs) (λ c κs. search needs) (λ c κs. search needs) returns)

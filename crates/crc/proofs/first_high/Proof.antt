@@ -12,13 +12,10 @@ returns c =
     let a = c .before .args in
     sym (ap (λ (t : Bool). cond t (a .h) (nextHigh 0 (a .h) 0)) (eq-eqb (a .from) 0 (c .if1 .taken)))
 
-next-high-requires : tie.Need-next-high-requires
-next-high-requires c κs = search needs
-
 returns-2 : tie.Need-returns-2
 returns-2 c =
     let a = c .before .before .args in
     c .next-high .ensures .0 ∙ sym (ap (λ (t : Bool). cond t (a .h) (nextHigh 0 (a .h) 0)) (ne-eqb (a .from) 0 (c .before .if1 .left)))
 
 pub first-high-spec : {M : Type 1} → statement M
-first-high-spec = tie.close (tie.spec returns next-high-requires returns-2)
+first-high-spec = tie.close (tie.spec returns (λ c κs. search needs) returns-2)

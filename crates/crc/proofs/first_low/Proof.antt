@@ -12,12 +12,6 @@ returns c =
     let a = c .before .before .args in
     sym (ap (λ (t : Bool). cond t 0 (nextLow 0 (a .h) (wordAt (a .bytes .now) 0))) (eq-eqb (a .from) 0 (c .if1 .taken)))
 
-word-requires : tie.Need-word-requires
-word-requires c κs = search needs
-
-next-low-requires : tie.Need-next-low-requires
-next-low-requires c κs = search needs
-
 returns-2 : tie.Need-returns-2
 returns-2 c =
     let w = c .before in
@@ -26,4 +20,4 @@ returns-2 c =
     ∙ sym (ap (λ (t : Bool). cond t 0 (nextLow 0 (a .h) (wordAt (a .bytes .now) 0))) (ne-eqb (a .from) 0 (w .before .if1 .left)))
 
 pub first-low-spec : {M : Type 1} → statement M
-first-low-spec = tie.close (tie.spec returns word-requires next-low-requires returns-2)
+first-low-spec = tie.close (tie.spec returns (λ c κs. search needs) (λ c κs. search needs) returns-2)

@@ -12,15 +12,9 @@ use Rattle.crc.proofs.fold16.Tie as tie
 use Rattle.crc.proofs.fold16.Reads as reads
 use Rattle.crc.proofs.fold16.Lts as lts
 
-mul-result : tie.Need-mul-result
-mul-result c = search needs
-
-mul-result-2 : tie.Need-mul-result-2
-mul-result-2 c = search needs
-
 returns : tie.Need-returns
 unfolding folded within over
 returns c = (refl, folded-lt 16 8 8 6 10 (λ v. (omega arith, omega arith)) (c .args .h) (c .args .l) (c .pre .0) (c .pre .1))
 
 pub fold16-spec : {M : Type 1} → statement M
-fold16-spec = tie.close (tie.spec mul-result mul-result-2 returns)
+fold16-spec = tie.close (tie.spec (λ c. search needs) (λ c. search needs) returns)

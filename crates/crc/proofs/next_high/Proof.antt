@@ -9,9 +9,6 @@ use Rattle.crc.proofs.next_high.Tie as tie
 use Rattle.crc.proofs.next_high.Reads as reads
 use Rattle.crc.proofs.next_high.Lts as lts
 
-mul-result : tie.Need-mul-result
-mul-result c = search needs
-
 add-result : tie.Need-add-result
 add-result c = record { fits = next-fits (c .args .h) (c .args .l) (c .fits .l .fits) }
 
@@ -20,4 +17,4 @@ unfolding nextHigh
 returns c = (refl, xor-lt 64 _ (c .args .a) (next-fits (c .args .h) (c .args .l) (c .fits .l .fits)) (c .fits .a .fits))
 
 pub next-high-spec : {M : Type 1} → statement M
-next-high-spec = tie.close (tie.spec mul-result add-result returns)
+next-high-spec = tie.close (tie.spec (λ c. search needs) add-result returns)

@@ -9,15 +9,9 @@ use Rattle.crc.proofs.next_low.Tie as tie
 use Rattle.crc.proofs.next_low.Reads as reads
 use Rattle.crc.proofs.next_low.Lts as lts
 
-mul-result : tie.Need-mul-result
-mul-result c = search needs
-
-mul-result-2 : tie.Need-mul-result-2
-mul-result-2 c = search needs
-
 returns : tie.Need-returns
 unfolding nextLow
 returns c = (refl, xor-lt 64 _ (c .args .b) (xor-lt 64 _ _ (next-low-fits (c .args .l)) (bit-fits (c .args .h) (c .fits .h .fits))) (c .fits .b .fits))
 
 pub next-low-spec : {M : Type 1} → statement M
-next-low-spec = tie.close (tie.spec mul-result mul-result-2 returns)
+next-low-spec = tie.close (tie.spec (λ c. search needs) (λ c. search needs) returns)

@@ -8,9 +8,6 @@ use Rattle.crc.proofs.push_high.Tie as tie
 use Rattle.crc.proofs.push_high.Reads as reads
 use Rattle.crc.proofs.push_high.Lts as lts
 
-mul-result : tie.Need-mul-result
-mul-result c = search needs
-
 add-result : tie.Need-add-result
 add-result c = record { fits = high-fits (c .args .h) (c .args .l) (c .fits .l .fits) }
 
@@ -19,4 +16,4 @@ unfolding pushHigh
 returns c = (refl, high-fits (c .args .h) (c .args .l) (c .fits .l .fits))
 
 pub push-high-spec : {M : Type 1} → statement M
-push-high-spec = tie.close (tie.spec mul-result add-result returns)
+push-high-spec = tie.close (tie.spec (λ c. search needs) add-result returns)

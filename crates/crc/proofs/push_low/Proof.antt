@@ -9,18 +9,9 @@ use Rattle.crc.proofs.push_low.Tie as tie
 use Rattle.crc.proofs.push_low.Reads as reads
 use Rattle.crc.proofs.push_low.Lts as lts
 
-mul-result : tie.Need-mul-result
-mul-result c = search needs
-
-add-result : tie.Need-add-result
-add-result c = search needs
-
-mul-result-2 : tie.Need-mul-result-2
-mul-result-2 c = search needs
-
 returns : tie.Need-returns
 unfolding pushLow
 returns c = (refl, xor-lt 64 _ _ (low-fits (c .args .l) (c .args .b) (c .fits .b .fits)) (top-fits (c .args .h) (c .fits .h .fits)))
 
 pub push-low-spec : {M : Type 1} → statement M
-push-low-spec = tie.close (tie.spec mul-result add-result mul-result-2 returns)
+push-low-spec = tie.close (tie.spec (λ c. search needs) (λ c. search needs) (λ c. search needs) returns)

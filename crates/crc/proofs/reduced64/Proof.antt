@@ -14,18 +14,6 @@ use Rattle.crc.proofs.fold16.Reads as fold16-reads
 use Rattle.crc.proofs.fold32.Reads as fold32-reads
 use Rattle.crc.proofs.fold8.Reads as fold8-reads
 
-fold32-requires : tie.Need-fold32-requires
-fold32-requires c κs = search needs
-
-fold16-requires : tie.Need-fold16-requires
-fold16-requires c κs = search needs
-
-fold8-requires : tie.Need-fold8-requires
-fold8-requires c κs = search needs
-
-cast-result : tie.Need-cast-result
-cast-result c = search needs
-
 returns : tie.Need-returns
 returns c =
     let a = c .before .before .before in
@@ -37,4 +25,4 @@ returns c =
 pub reduced64-spec : {M : Type 1} → statement M
 reduced64-spec =
     tie.close
-    (tie.spec fold32-requires fold16-requires fold8-requires cast-result returns)
+    (tie.spec (λ c κs. search needs) (λ c κs. search needs) (λ c κs. search needs) (λ c. search needs) returns)

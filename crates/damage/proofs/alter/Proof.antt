@@ -16,28 +16,10 @@ Inv-loop pdu₀ count places₀ altered left₀ thrown₀ place₀ pdu places le
 abbrev μ-loop : tie.MeasureT-loop
 μ-loop pdu₀ count places₀ altered left₀ thrown₀ place₀ pdu places left thrown place = places
 
-least-requires : tie.Need-least-requires Inv-loop μ-loop
-least-requires c κs = search needs
-
-least-requires-2 : tie.Need-least-requires-2 Inv-loop μ-loop
-least-requires-2 c κs = search needs
-
 loop-holds : tie.Need-loop-holds Inv-loop μ-loop
 loop-holds c =
     let none = distance-self (c .before .before .before .args .pdu .now) in
     (search needs, search needs, search needs, refl, omega arith)
-
-turn-requires : tie.Need-turn-requires Inv-loop μ-loop
-turn-requires c κs = search needs
-
-sub-places : tie.Need-sub-places Inv-loop μ-loop
-sub-places c = search needs
-
-add-place : tie.Need-add-place Inv-loop μ-loop
-add-place c = search needs
-
-loop-less : tie.Need-loop-less Inv-loop μ-loop
-loop-less c = search needs
 
 loop-again : tie.Need-loop-again Inv-loop μ-loop
 loop-again c =
@@ -46,9 +28,6 @@ loop-again c =
     let before = p .before .before .before .before .args .pdu .now in
     let same = t .count before (p .loop .inv .3) in
     (search needs, search needs, search needs, t .ahead before (p .loop .inv .3), omega arith)
-
-same-length : tie.Need-same-length Inv-loop μ-loop
-same-length c = search needs
 
 returns : tie.Need-returns Inv-loop μ-loop
 returns c =
@@ -63,13 +42,9 @@ alter-spec =
     (tie.spec
     Inv-loop
     μ-loop
-    least-requires
-    least-requires-2
+    (λ c κs. search needs) (λ c κs. search needs)
     loop-holds
-    turn-requires
-    sub-places
-    add-place
-    loop-less
+    (λ c κs. search needs) (λ c. search needs) (λ c. search needs) (λ c. search needs)
     loop-again
-    same-length
+    (λ c. search needs)
     returns)

@@ -9,21 +9,6 @@ use Rattle.damage.proofs.alter.Reads as alter-reads
 use Rattle.damage.proofs.differing_places.Reads as differing-places-reads
 use Rattle.header.proofs.header_of.Reads as header-of-reads
 
-header-of-requires : tie.Need-header-of-requires
-header-of-requires c κs = search needs
-
-alter-requires : tie.Need-alter-requires
-alter-requires c κs = search needs
-
-header-of-requires-2 : tie.Need-header-of-requires-2
-header-of-requires-2 c κs = search needs
-
-differing-places-requires : tie.Need-differing-places-requires
-differing-places-requires c κs = search needs
-
-same-length : tie.Need-same-length
-same-length c = search needs
-
 returns : tie.Need-returns
 returns c =
     let h = c .before in
@@ -35,9 +20,5 @@ pub damaged-spec : {M : Type 1} → statement M
 damaged-spec =
     tie.close
     (tie.spec
-    header-of-requires
-    alter-requires
-    header-of-requires-2
-    differing-places-requires
-    same-length
+    (λ c κs. search needs) (λ c κs. search needs) (λ c κs. search needs) (λ c κs. search needs) (λ c. search needs)
     returns)

@@ -7,15 +7,6 @@ use Rattle.diversity.proofs.choice.Lts as lts
 use Rattle.diversity.proofs.better_of.Reads as better-of-reads
 use Rattle.diversity.proofs.count.Reads as count-reads
 
-count-requires : tie.Need-count-requires
-count-requires c κs = search needs
-
-count-requires-2 : tie.Need-count-requires-2
-count-requires-2 c κs = search needs
-
-better-of-requires : tie.Need-better-of-requires
-better-of-requires c κs = search needs
-
 returns : tie.Need-returns
 returns c =
     let b = c .before in
@@ -23,4 +14,4 @@ returns c =
     choice-is _ _ (a .count .result) (b .count2 .result) _ (a .count .ensures) (b .count2 .ensures) (c .better-of .ensures)
 
 pub choice-spec : {M : Type 1} → statement M
-choice-spec = tie.close (tie.spec count-requires count-requires-2 better-of-requires returns)
+choice-spec = tie.close (tie.spec (λ c κs. search needs) (λ c κs. search needs) (λ c κs. search needs) returns)

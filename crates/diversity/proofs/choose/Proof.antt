@@ -7,17 +7,11 @@ use Rattle.diversity.proofs.choose.Reads as reads
 use Rattle.diversity.proofs.choose.Lts as lts
 use Rattle.diversity.proofs.choice.Reads as choice-reads
 
-choice-requires : tie.Need-choice-requires
-choice-requires c κs = search needs
-
 returns : tie.Need-returns
 returns c = rw (is-first _ _ _ (c .before .choice .ensures) (c .if1 .taken)) refl
 
 returns-2 : tie.Need-returns-2
 returns-2 c = rw (is-second _ _ _ (c .before .before .choice .ensures) (c .if2 .taken)) refl
-
-slice-aggregate-result : tie.Need-slice-aggregate-result
-slice-aggregate-result c = search needs
 
 returns-3 : tie.Need-returns-3
 returns-3 c =
@@ -26,4 +20,4 @@ returns-3 c =
 
 pub choose-spec : {M : Type 1} → statement M
 choose-spec =
-    tie.close (tie.spec choice-requires returns returns-2 slice-aggregate-result returns-3)
+    tie.close (tie.spec (λ c κs. search needs) returns returns-2 (λ c. search needs) returns-3)

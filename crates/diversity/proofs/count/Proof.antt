@@ -15,15 +15,6 @@ returns c = count-short _ (c .if1 .taken)
 returns-2 : tie.Need-returns-2
 returns-2 c = count-long _ (c .if2 .taken)
 
-header-of-requires : tie.Need-header-of-requires
-header-of-requires c κs = search needs
-
-slice-aggregate-correct : tie.Need-slice-aggregate-correct
-slice-aggregate-correct c = search needs
-
-correct-requires : tie.Need-correct-requires
-correct-requires c κs = search needs
-
 returns-3 : tie.Need-returns-3
 returns-3 c =
     let k = c .before in
@@ -36,7 +27,5 @@ count-spec =
     (tie.spec
     returns
     returns-2
-    header-of-requires
-    slice-aggregate-correct
-    correct-requires
+    (λ c κs. search needs) (λ c. search needs) (λ c κs. search needs)
     returns-3)

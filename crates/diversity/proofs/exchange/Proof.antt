@@ -41,9 +41,6 @@ slice-write-first c = omega (arith, first-long (c .before .before .before))
 slice-write-second : tie.Need-slice-write-second Inv-loop μ-loop
 slice-write-second c = omega (arith, second-long (c .before .before .before))
 
-add-i : tie.Need-add-i Inv-loop μ-loop
-add-i c = search needs
-
 loop-less : tie.Need-loop-less Inv-loop μ-loop
 loop-less c = omega arith
 
@@ -85,7 +82,7 @@ exchange-spec =
     slice-read-first
     slice-write-first
     slice-write-second
-    add-i
+    (λ c. search needs)
     loop-less
     loop-again
     same-length

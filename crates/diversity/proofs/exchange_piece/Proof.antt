@@ -16,39 +16,6 @@ returns c =
     let z : a .cause ≡ 0 = omega (arith, c .if1 .taken) in
     (piece-stays (a .t3) (a .cause) (a .k) (now (a .first)) (now (a .second)) z, piece-stays (a .t3) (a .cause) (a .k) (now (a .second)) (now (a .first)) z)
 
-mul-place : tie.Need-mul-place
-mul-place c = search needs
-
-array-read-place : tie.Need-array-read-place
-array-read-place c = search needs
-
-place-requires : tie.Need-place-requires
-place-requires c κs = search needs
-
-add-a : tie.Need-add-a
-add-a c = search needs
-
-add-place : tie.Need-add-place
-add-place c = search needs
-
-mul-place-2 : tie.Need-mul-place-2
-mul-place-2 c = search needs
-
-array-read-place-2 : tie.Need-array-read-place-2
-array-read-place-2 c = search needs
-
-place-requires-2 : tie.Need-place-requires-2
-place-requires-2 c κs = search needs
-
-exchange-requires : tie.Need-exchange-requires
-exchange-requires c κs = search needs
-
-same-length : tie.Need-same-length
-same-length c = search needs
-
-same-length-2 : tie.Need-same-length-2
-same-length-2 c = search needs
-
 returns-2 : tie.Need-returns-2
 returns-2 c =
     let f = c .before .before .before .before in
@@ -65,15 +32,6 @@ exchange-piece-spec =
     tie.close
     (tie.spec
     returns
-    mul-place
-    array-read-place
-    place-requires
-    add-a
-    add-place
-    mul-place-2
-    array-read-place-2
-    place-requires-2
-    exchange-requires
-    same-length
-    same-length-2
+    (λ c. search needs) (λ c. search needs) (λ c κs. search needs) (λ c. search needs) (λ c. search needs) (λ c. search needs) (λ c. search needs)
+    (λ c κs. search needs) (λ c κs. search needs) (λ c. search needs) (λ c. search needs)
     returns-2)

@@ -30,9 +30,6 @@ loop-holds c =
     let a = c .before .before .args in
     (omega arith, (exchanged-none (a .marks) (a .t5) (now (a .first)) (now (a .second)), exchanged-none (a .marks) (a .t5) (now (a .second)) (now (a .first))))
 
-array-read-exchange-piece : tie.Need-array-read-exchange-piece Inv-loop μ-loop
-array-read-exchange-piece c = search needs
-
 exchange-piece-requires : tie.Need-exchange-piece-requires Inv-loop μ-loop
 exchange-piece-requires c κs =
     let t = c .before .before in
@@ -41,9 +38,6 @@ exchange-piece-requires c κs =
     let k = p .loop .k in
     let h = t .loop-test .taken in
     ((omega (arith, w .0 .few), w .0 .rising k h), (omega (arith, w .0 .within k h, first-long p), first-long p ∙ w .1 ∙ sym (second-long p)))
-
-add-k : tie.Need-add-k Inv-loop μ-loop
-add-k c = search needs
 
 loop-less : tie.Need-loop-less Inv-loop μ-loop
 loop-less c = omega arith
@@ -83,9 +77,9 @@ exchange-pieces-spec =
     Inv-loop
     μ-loop
     loop-holds
-    array-read-exchange-piece
+    (λ c. search needs)
     exchange-piece-requires
-    add-k
+    (λ c. search needs)
     loop-less
     loop-again
     same-length

@@ -9,17 +9,11 @@ use Rattle.diversity.proofs.pair_cause.Lts as lts
 use Rattle.diversity.proofs.same_piece.Reads as same-piece-reads
 use Rattle.receiver.proofs.cause_at.Reads as cause-at-reads
 
-cause-at-requires : tie.Need-cause-at-requires
-cause-at-requires c κs = search needs
-
 returns : tie.Need-returns
 returns c =
     let s = c .before .before .before .before in
     let a = s .args in
     second-cause (a .register) (now (a .first)) (now (a .second)) (a .marks) (a .k) (a .cause) (s .pre .1 .1) _ (c .before .if1 .taken) (c .cause-at .ensures)
-
-same-piece-requires : tie.Need-same-piece-requires
-same-piece-requires c κs = search needs
 
 returns-2 : tie.Need-returns-2
 returns-2 c =
@@ -27,9 +21,6 @@ returns-2 c =
     let s = p .before .before .before .before in
     let a = s .args in
     taken-cause (a .register) (now (a .first)) (now (a .second)) (a .marks) (a .k) (a .cause) (s .pre .1 .1) (omega (arith, p .before .if1 .left)) _ (p .same-piece .ensures) (c .if2 .taken)
-
-cause-at-requires-2 : tie.Need-cause-at-requires-2
-cause-at-requires-2 c κs = search needs
 
 returns-3 : tie.Need-returns-3
 returns-3 c =
@@ -51,10 +42,10 @@ pub pair-cause-spec : {M : Type 1} → statement M
 pair-cause-spec =
     tie.close
     (tie.spec
-    cause-at-requires
+    (λ c κs. search needs)
     returns
-    same-piece-requires
+    (λ c κs. search needs)
     returns-2
-    cause-at-requires-2
+    (λ c κs. search needs)
     returns-3
     returns-4)

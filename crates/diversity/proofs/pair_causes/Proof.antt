@@ -20,9 +20,6 @@ abbrev μ-loop : tie.MeasureT-loop
 loop-holds : tie.Need-loop-holds Inv-loop μ-loop
 loop-holds c = (omega arith, filled-start _)
 
-array-read-pair-cause : tie.Need-array-read-pair-cause Inv-loop μ-loop
-array-read-pair-cause c = search needs
-
 pair-cause-requires : tie.Need-pair-cause-requires Inv-loop μ-loop
 pair-cause-requires c κs =
     let p = c .before in
@@ -32,15 +29,6 @@ pair-cause-requires c κs =
     let k = p .loop .k in
     let h = c .loop-test .taken in
     (((omega (arith, w .few), w .rising k h), ((w .within k h, v .within k h), s .pre .1 k h)))
-
-array-write-both : tie.Need-array-write-both Inv-loop μ-loop
-array-write-both c = search needs
-
-add-k : tie.Need-add-k Inv-loop μ-loop
-add-k c = search needs
-
-loop-less : tie.Need-loop-less Inv-loop μ-loop
-loop-less c = search needs
 
 loop-again : tie.Need-loop-again Inv-loop μ-loop
 loop-again c =
@@ -63,10 +51,8 @@ pair-causes-spec =
     Inv-loop
     μ-loop
     loop-holds
-    array-read-pair-cause
+    (λ c. search needs)
     pair-cause-requires
-    array-write-both
-    add-k
-    loop-less
+    (λ c. search needs) (λ c. search needs) (λ c. search needs)
     loop-again
     returns)

@@ -15,12 +15,6 @@ use Rattle.receiver.proofs.causes_of.Reads as causes-of-reads
 use Rattle.receiver.proofs.head_of.Reads as head-of-reads
 use Rattle.receiver.proofs.marks_of.Reads as marks-of-reads
 
-control-word-requires : tie.Need-control-word-requires
-control-word-requires c κs = search needs
-
-cast-nop : tie.Need-cast-nop
-cast-nop c = search needs
-
 marks-of-requires : tie.Need-marks-of-requires
 marks-of-requires c κs =
     let w = c .before .before in
@@ -47,9 +41,6 @@ pair-causes-requires c κs =
       g .causes-of .ensures,
     )
 
-head-of-requires : tie.Need-head-of-requires
-head-of-requires c κs = search needs
-
 receive-exchanged-requires : tie.Need-receive-exchanged-requires
 receive-exchanged-requires c κs =
     let h = c .before .before .before .before in
@@ -63,18 +54,6 @@ receive-exchanged-requires c κs =
         alike-length (now (s .args .first)) (now (s .args .second)) (s .pre .1 .1 .1),
       ),
     )
-
-same-length : tie.Need-same-length
-same-length c = search needs
-
-same-length-2 : tie.Need-same-length-2
-same-length-2 c = search needs
-
-same-length-3 : tie.Need-same-length-3
-same-length-3 c = search needs
-
-same-length-4 : tie.Need-same-length-4
-same-length-4 c = search needs
 
 returns : tie.Need-returns
 returns c =
@@ -94,15 +73,11 @@ pub receive-alike-spec : {M : Type 1} → statement M
 receive-alike-spec =
     tie.close
     (tie.spec
-    control-word-requires
-    cast-nop
+    (λ c κs. search needs) (λ c. search needs)
     marks-of-requires
     causes-of-requires
     pair-causes-requires
-    head-of-requires
+    (λ c κs. search needs)
     receive-exchanged-requires
-    same-length
-    same-length-2
-    same-length-3
-    same-length-4
+    (λ c. search needs) (λ c. search needs) (λ c. search needs) (λ c. search needs)
     returns)

@@ -14,9 +14,6 @@ use Rattle.diversity.proofs.receive_exchanged.Lts as lts
 use Rattle.diversity.proofs.exchange_pieces.Reads as exchange-pieces-reads
 use Rattle.receiver.proofs.receive_parsed.Reads as receive-parsed-reads
 
-exchange-pieces-requires : tie.Need-exchange-pieces-requires
-exchange-pieces-requires c κs = search needs
-
 receive-parsed-requires : tie.Need-receive-parsed-requires
 receive-parsed-requires c κs =
     let x = c .before .before .before .before .before .before .before in
@@ -33,18 +30,6 @@ exchange-pieces-requires-2 c κs =
     let one = mixed-long _ _ _ _ (x .exchange-pieces .ensures .0) in
     let two = mixed-long _ _ _ _ (x .exchange-pieces .ensures .1) in
     (parsed-long (a .head) (now (a .first)) (x .exchange-pieces .last .0) (a .marks) (sym one) (s .pre .1 .0) .marked, one ∙ s .pre .1 .1 ∙ sym two)
-
-same-length : tie.Need-same-length
-same-length c = search needs
-
-same-length-2 : tie.Need-same-length-2
-same-length-2 c = search needs
-
-same-length-3 : tie.Need-same-length-3
-same-length-3 c = search needs
-
-same-length-4 : tie.Need-same-length-4
-same-length-4 c = search needs
 
 returns : tie.Need-returns
 returns c =
@@ -66,11 +51,8 @@ pub receive-exchanged-spec : {M : Type 1} → statement M
 receive-exchanged-spec =
     tie.close
     (tie.spec
-    exchange-pieces-requires
+    (λ c κs. search needs)
     receive-parsed-requires
     exchange-pieces-requires-2
-    same-length
-    same-length-2
-    same-length-3
-    same-length-4
+    (λ c. search needs) (λ c. search needs) (λ c. search needs) (λ c. search needs)
     returns)

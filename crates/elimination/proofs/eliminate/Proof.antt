@@ -25,12 +25,6 @@ abbrev μ-loop : tie.MeasureT-loop
 loop-holds : tie.Need-loop-holds Inv-loop μ-loop
 loop-holds c = (omega arith, search needs, search needs, begun)
 
-pivot-requires : tie.Need-pivot-requires Inv-loop μ-loop
-pivot-requires c κs = search needs
-
-column-requires : tie.Need-column-requires Inv-loop μ-loop
-column-requires c κs = search needs
-
 returns : tie.Need-returns Inv-loop μ-loop
 returns c =
     let p = c .before .before in
@@ -44,12 +38,6 @@ reduce-right-requires c κs = (omega arith, (omega arith, c .before .before .bef
 
 reduce-requires : tie.Need-reduce-requires Inv-loop μ-loop
 reduce-requires c κs = (omega arith, (omega arith, c .before .before .before .before .before .pre))
-
-add-k : tie.Need-add-k Inv-loop μ-loop
-add-k c = search needs
-
-loop-less : tie.Need-loop-less Inv-loop μ-loop
-loop-less c = search needs
 
 loop-again : tie.Need-loop-again Inv-loop μ-loop
 loop-again c =
@@ -80,12 +68,10 @@ eliminate-spec =
     Inv-loop
     μ-loop
     loop-holds
-    pivot-requires
-    column-requires
+    (λ c κs. search needs) (λ c κs. search needs)
     returns
     reduce-right-requires
     reduce-requires
-    add-k
-    loop-less
+    (λ c. search needs) (λ c. search needs)
     loop-again
     returns-2)

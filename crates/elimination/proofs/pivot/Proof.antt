@@ -22,23 +22,8 @@ abbrev μ-loop : tie.MeasureT-loop
 loop-holds : tie.Need-loop-holds Inv-loop μ-loop
 loop-holds c = (omega arith, omega arith, λ i a b. absurd (omega arith))
 
-mul-row : tie.Need-mul-row Inv-loop μ-loop
-mul-row c = search needs
-
-array-copy-out-row : tie.Need-array-copy-out-row Inv-loop μ-loop
-array-copy-out-row c = search needs
-
-array-read-if1 : tie.Need-array-read-if1 Inv-loop μ-loop
-array-read-if1 c = search needs
-
 returns : tie.Need-returns Inv-loop μ-loop
 returns c = record { low = omega arith; high = omega arith; zeros = c .before .before .before .loop .inv .2; here = λ l. c .if1 .taken }
-
-add-r : tie.Need-add-r Inv-loop μ-loop
-add-r c = search needs
-
-loop-less : tie.Need-loop-less Inv-loop μ-loop
-loop-less c = search needs
 
 loop-again : tie.Need-loop-again Inv-loop μ-loop
 loop-again c = (omega arith, omega arith, zeros-again (c .before .before .before .before .args .t1) (c .before .before .before .before .args .k) (c .before .before .before .loop .r) (c .before .before .before .loop .inv .2) (c .if1 .left))
@@ -53,11 +38,8 @@ pivot-spec =
     Inv-loop
     μ-loop
     loop-holds
-    mul-row
-    array-copy-out-row
-    array-read-if1
+    (λ c. search needs) (λ c. search needs) (λ c. search needs)
     returns
-    add-r
-    loop-less
+    (λ c. search needs) (λ c. search needs)
     loop-again
     returns-2)

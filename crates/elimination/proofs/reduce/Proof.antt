@@ -21,59 +21,8 @@ Inv-loop powers logarithms k p b top out₀ r₀ out r = (r ≤ 4) × Clear out�
 abbrev μ-loop : tie.MeasureT-loop
 μ-loop powers logarithms k p b top out₀ r₀ out r = 4 - r
 
-mul-row : tie.Need-mul-row Inv-loop μ-loop
-mul-row c = search needs
-
-array-copy-out-row : tie.Need-array-copy-out-row Inv-loop μ-loop
-array-copy-out-row c = search needs
-
-array-read-b : tie.Need-array-read-b Inv-loop μ-loop
-array-read-b c = search needs
-
-scaled-requires : tie.Need-scaled-requires Inv-loop μ-loop
-scaled-requires c κs = search needs
-
-mul-other : tie.Need-mul-other Inv-loop μ-loop
-mul-other c = search needs
-
-array-copy-out-other : tie.Need-array-copy-out-other Inv-loop μ-loop
-array-copy-out-other c = search needs
-
-mul-out : tie.Need-mul-out Inv-loop μ-loop
-mul-out c = search needs
-
-array-set-from-out : tie.Need-array-set-from-out Inv-loop μ-loop
-array-set-from-out c = search needs
-
-mul-out-2 : tie.Need-mul-out-2 Inv-loop μ-loop
-mul-out-2 c = search needs
-
-array-set-from-out-2 : tie.Need-array-set-from-out-2 Inv-loop μ-loop
-array-set-from-out-2 c = search needs
-
 loop-holds : tie.Need-loop-holds Inv-loop μ-loop
 loop-holds c = (omega arith, clear-begin (c .before .before .before .args .t3) _ _ _ _ (omega arith) (search needs))
-
-mul-old : tie.Need-mul-old Inv-loop μ-loop
-mul-old c = search needs
-
-array-copy-out-old : tie.Need-array-copy-out-old Inv-loop μ-loop
-array-copy-out-old c = search needs
-
-cleared-requires : tie.Need-cleared-requires Inv-loop μ-loop
-cleared-requires c κs = search needs
-
-mul-out-3 : tie.Need-mul-out-3 Inv-loop μ-loop
-mul-out-3 c = search needs
-
-array-set-from-out-3 : tie.Need-array-set-from-out-3 Inv-loop μ-loop
-array-set-from-out-3 c = search needs
-
-add-r : tie.Need-add-r Inv-loop μ-loop
-add-r c = search needs
-
-loop-less : tie.Need-loop-less Inv-loop μ-loop
-loop-less c = search needs
 
 loop-again : tie.Need-loop-again Inv-loop μ-loop
 loop-again c = (
@@ -93,23 +42,9 @@ reduce-spec =
     (tie.spec
     Inv-loop
     μ-loop
-    mul-row
-    array-copy-out-row
-    array-read-b
-    scaled-requires
-    mul-other
-    array-copy-out-other
-    mul-out
-    array-set-from-out
-    mul-out-2
-    array-set-from-out-2
+    (λ c. search needs) (λ c. search needs) (λ c. search needs) (λ c κs. search needs) (λ c. search needs) (λ c. search needs) (λ c. search needs)
+    (λ c. search needs) (λ c. search needs) (λ c. search needs)
     loop-holds
-    mul-old
-    array-copy-out-old
-    cleared-requires
-    mul-out-3
-    array-set-from-out-3
-    add-r
-    loop-less
+    (λ c. search needs) (λ c. search needs) (λ c κs. search needs) (λ c. search needs) (λ c. search needs) (λ c. search needs) (λ c. search needs)
     loop-again
     returns)

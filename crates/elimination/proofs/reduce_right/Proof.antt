@@ -21,71 +21,8 @@ Inv-loop powers logarithms k p v top rows out₀ r₀ out r = (r ≤ 4) × Clear
 abbrev μ-loop : tie.MeasureT-loop
 μ-loop powers logarithms k p v top rows out₀ r₀ out r = 4 - r
 
-mul-row : tie.Need-mul-row Inv-loop μ-loop
-mul-row c = search needs
-
-array-copy-out-row : tie.Need-array-copy-out-row Inv-loop μ-loop
-array-copy-out-row c = search needs
-
-array-read-inverse-by : tie.Need-array-read-inverse-by Inv-loop μ-loop
-array-read-inverse-by c = search needs
-
-inverse-by-requires : tie.Need-inverse-by-requires Inv-loop μ-loop
-inverse-by-requires c κs = search needs
-
-array-read-product-by : tie.Need-array-read-product-by Inv-loop μ-loop
-array-read-product-by c = search needs
-
-product-by-requires : tie.Need-product-by-requires Inv-loop μ-loop
-product-by-requires c κs = search needs
-
-mul-other : tie.Need-mul-other Inv-loop μ-loop
-mul-other c = search needs
-
-array-copy-out-other : tie.Need-array-copy-out-other Inv-loop μ-loop
-array-copy-out-other c = search needs
-
-mul-rows : tie.Need-mul-rows Inv-loop μ-loop
-mul-rows c = search needs
-
-array-set-from-rows : tie.Need-array-set-from-rows Inv-loop μ-loop
-array-set-from-rows c = search needs
-
-array-read-out : tie.Need-array-read-out Inv-loop μ-loop
-array-read-out c = search needs
-
-array-write-out : tie.Need-array-write-out Inv-loop μ-loop
-array-write-out c = search needs
-
-array-write-out-2 : tie.Need-array-write-out-2 Inv-loop μ-loop
-array-write-out-2 c = search needs
-
 loop-holds : tie.Need-loop-holds Inv-loop μ-loop
 loop-holds c = (omega arith, right-begin (c .before .before .before .before .args .t4) _ _ _ _ _ (omega arith) (search needs))
-
-mul-old : tie.Need-mul-old Inv-loop μ-loop
-mul-old c = search needs
-
-array-copy-out-old : tie.Need-array-copy-out-old Inv-loop μ-loop
-array-copy-out-old c = search needs
-
-array-read-out-2 : tie.Need-array-read-out-2 Inv-loop μ-loop
-array-read-out-2 c = search needs
-
-array-read-product-by-2 : tie.Need-array-read-product-by-2 Inv-loop μ-loop
-array-read-product-by-2 c = search needs
-
-product-by-requires-2 : tie.Need-product-by-requires-2 Inv-loop μ-loop
-product-by-requires-2 c κs = search needs
-
-array-write-out-3 : tie.Need-array-write-out-3 Inv-loop μ-loop
-array-write-out-3 c = search needs
-
-add-r : tie.Need-add-r Inv-loop μ-loop
-add-r c = search needs
-
-loop-less : tie.Need-loop-less Inv-loop μ-loop
-loop-less c = search needs
 
 loop-again : tie.Need-loop-again Inv-loop μ-loop
 loop-again c = (
@@ -108,27 +45,10 @@ reduce-right-spec =
     (tie.spec
     Inv-loop
     μ-loop
-    mul-row
-    array-copy-out-row
-    array-read-inverse-by
-    inverse-by-requires
-    array-read-product-by
-    product-by-requires
-    mul-other
-    array-copy-out-other
-    mul-rows
-    array-set-from-rows
-    array-read-out
-    array-write-out
-    array-write-out-2
+    (λ c. search needs) (λ c. search needs) (λ c. search needs) (λ c κs. search needs) (λ c. search needs) (λ c κs. search needs) (λ c. search needs)
+    (λ c. search needs) (λ c. search needs) (λ c. search needs) (λ c. search needs) (λ c. search needs) (λ c. search needs)
     loop-holds
-    mul-old
-    array-copy-out-old
-    array-read-out-2
-    array-read-product-by-2
-    product-by-requires-2
-    array-write-out-3
-    add-r
-    loop-less
+    (λ c. search needs) (λ c. search needs) (λ c. search needs) (λ c. search needs) (λ c κs. search needs) (λ c. search needs) (λ c. search needs)
+    (λ c. search needs)
     loop-again
     returns)

@@ -12,12 +12,6 @@ use Rattle.elimination.proofs.right_entry.Tie as tie
 use Rattle.elimination.proofs.right_entry.Reads as reads
 use Rattle.elimination.proofs.right_entry.Lts as lts
 
-add-result : tie.Need-add-result
-add-result c = search needs
-
-array-read-result : tie.Need-array-read-result
-array-read-result c = search needs
-
 returns : tie.Need-returns
 returns c =
     let e : ltb (c .before .args .r) (c .before .args .h) ≡ true = lt-ltb _ _ (c .if1 .taken) in
@@ -29,4 +23,4 @@ returns-2 c =
     simp e
 
 pub right-entry-spec : {M : Type 1} → statement M
-right-entry-spec = tie.close (tie.spec add-result array-read-result returns returns-2)
+right-entry-spec = tie.close (tie.spec (λ c. search needs) (λ c. search needs) returns returns-2)

@@ -20,26 +20,8 @@ Inv-loop powers logarithms b row v out₀ i₀ out i = (i ≤ 4) × Row 4 (scale
 abbrev μ-loop : tie.MeasureT-loop
 μ-loop powers logarithms b row v out₀ i₀ out i = 4 - i
 
-inverse-by-requires : tie.Need-inverse-by-requires Inv-loop μ-loop
-inverse-by-requires c κs = search needs
-
 loop-holds : tie.Need-loop-holds Inv-loop μ-loop
 loop-holds c = (omega arith, begin _ _ _ (search needs))
-
-array-read-product-by : tie.Need-array-read-product-by Inv-loop μ-loop
-array-read-product-by c = search needs
-
-product-by-requires : tie.Need-product-by-requires Inv-loop μ-loop
-product-by-requires c κs = search needs
-
-array-write-out : tie.Need-array-write-out Inv-loop μ-loop
-array-write-out c = search needs
-
-add-i : tie.Need-add-i Inv-loop μ-loop
-add-i c = search needs
-
-loop-less : tie.Need-loop-less Inv-loop μ-loop
-loop-less c = search needs
 
 loop-again : tie.Need-loop-again Inv-loop μ-loop
 loop-again c = (
@@ -57,12 +39,8 @@ scaled-spec =
     (tie.spec
     Inv-loop
     μ-loop
-    inverse-by-requires
+    (λ c κs. search needs)
     loop-holds
-    array-read-product-by
-    product-by-requires
-    array-write-out
-    add-i
-    loop-less
+    (λ c. search needs) (λ c κs. search needs) (λ c. search needs) (λ c. search needs) (λ c. search needs)
     loop-again
     returns)

@@ -12,27 +12,6 @@ use Rattle.elimination.proofs.system_row.Tie as tie
 use Rattle.elimination.proofs.system_row.Reads as reads
 use Rattle.elimination.proofs.system_row.Lts as lts
 
-array-read-t8 : tie.Need-array-read-t8
-array-read-t8 c = search needs
-
-add-t9 : tie.Need-add-t9
-add-t9 c = search needs
-
-array-read-t12 : tie.Need-array-read-t12
-array-read-t12 c = search needs
-
-add-t13 : tie.Need-add-t13
-add-t13 c = search needs
-
-array-read-t16 : tie.Need-array-read-t16
-array-read-t16 c = search needs
-
-add-t17 : tie.Need-add-t17
-add-t17 c = search needs
-
-array-read-t20 : tie.Need-array-read-t20
-array-read-t20 c = search needs
-
 returns : tie.Need-returns
 returns c =
     let e : ltb (c .before .args .r) (c .before .args .h) ≡ true = lt-ltb _ _ (c .if1 .taken) in
@@ -47,12 +26,6 @@ pub system-row-spec : {M : Type 1} → statement M
 system-row-spec =
     tie.close
     (tie.spec
-    array-read-t8
-    add-t9
-    array-read-t12
-    add-t13
-    array-read-t16
-    add-t17
-    array-read-t20
+    (λ c. search needs) (λ c. search needs) (λ c. search needs) (λ c. search needs) (λ c. search needs) (λ c. search needs) (λ c. search needs)
     returns
     returns-2)

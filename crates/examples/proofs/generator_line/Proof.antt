@@ -20,69 +20,12 @@ Inv-loop s i₀ t5 i = i ≤ 8
 abbrev μ-loop : tie.MeasureT-loop
 μ-loop s i₀ t5 i = 8 - i
 
-generator-requires : tie.Need-generator-requires Inv-loop μ-loop
-generator-requires c κs = search needs
-
-syndromes-requires : tie.Need-syndromes-requires Inv-loop μ-loop
-syndromes-requires c κs = search needs
-
-slice-aggregate-say : tie.Need-slice-aggregate-say Inv-loop μ-loop
-slice-aggregate-say c = search needs
-
-say-requires : tie.Need-say-requires Inv-loop μ-loop
-say-requires c κs = search needs
-
-loop-holds : tie.Need-loop-holds Inv-loop μ-loop
-loop-holds c = search needs
-
-slice-aggregate-say-2 : tie.Need-slice-aggregate-say-2 Inv-loop μ-loop
-slice-aggregate-say-2 c = search needs
-
-say-requires-2 : tie.Need-say-requires-2 Inv-loop μ-loop
-say-requires-2 c κs = search needs
-
-array-read-print-hex : tie.Need-array-read-print-hex Inv-loop μ-loop
-array-read-print-hex c = search needs
-
-cast-print-hex : tie.Need-cast-print-hex Inv-loop μ-loop
-cast-print-hex c = search needs
-
-print-hex-requires : tie.Need-print-hex-requires Inv-loop μ-loop
-print-hex-requires c κs = search needs
-
-add-i : tie.Need-add-i Inv-loop μ-loop
-add-i c = search needs
-
-loop-less : tie.Need-loop-less Inv-loop μ-loop
-loop-less c = search needs
-
-loop-again : tie.Need-loop-again Inv-loop μ-loop
-loop-again c = search needs
-
-end-line-requires : tie.Need-end-line-requires Inv-loop μ-loop
-end-line-requires c κs = search needs
-
-returns : tie.Need-returns Inv-loop μ-loop
-returns c = search needs
-
 pub generator-line-spec : {M : Type 1} → statement M
 generator-line-spec =
     tie.close
     (tie.spec
     Inv-loop
     μ-loop
-    generator-requires
-    syndromes-requires
-    slice-aggregate-say
-    say-requires
-    loop-holds
-    slice-aggregate-say-2
-    say-requires-2
-    array-read-print-hex
-    cast-print-hex
-    print-hex-requires
-    add-i
-    loop-less
-    loop-again
-    end-line-requires
-    returns)
+    (λ c κs. search needs) (λ c κs. search needs) (λ c. search needs) (λ c κs. search needs) (λ c. search needs) (λ c. search needs) (λ c κs. search needs)
+    (λ c. search needs) (λ c. search needs) (λ c κs. search needs) (λ c. search needs) (λ c. search needs) (λ c. search needs) (λ c κs. search needs)
+    (λ c. search needs))

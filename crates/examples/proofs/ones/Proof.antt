@@ -15,24 +15,6 @@ Inv-loop mask rest₀ n₀ i₀ rest n i = (i ≤ 9) × (n ≤ i)
 abbrev μ-loop : tie.MeasureT-loop
 μ-loop mask rest₀ n₀ i₀ rest n i = 9 - i
 
-loop-holds : tie.Need-loop-holds Inv-loop μ-loop
-loop-holds c = search needs
-
-add-n : tie.Need-add-n Inv-loop μ-loop
-add-n c = search needs
-
-add-i : tie.Need-add-i Inv-loop μ-loop
-add-i c = search needs
-
-loop-less : tie.Need-loop-less Inv-loop μ-loop
-loop-less c = search needs
-
-loop-again : tie.Need-loop-again Inv-loop μ-loop
-loop-again c = search needs
-
-returns : tie.Need-returns Inv-loop μ-loop
-returns c = search needs
-
 pub ones-spec : {M : Type 1} → statement M
 ones-spec =
-    tie.close (tie.spec Inv-loop μ-loop loop-holds add-n add-i loop-less loop-again returns)
+    tie.close (tie.spec Inv-loop μ-loop (λ c. search needs) (λ c. search needs) (λ c. search needs) (λ c. search needs) (λ c. search needs) (λ c. search needs))

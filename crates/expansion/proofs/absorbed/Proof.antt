@@ -12,18 +12,6 @@ use Rattle.expansion.proofs.absorbed.Lts as lts
 use Rattle.expansion.proofs.fourteen.Reads as fourteen-reads
 use Rattle.expansion.proofs.twenty_one.Reads as twenty-one-reads
 
-fourteen-requires : tie.Need-fourteen-requires
-fourteen-requires c κs = search needs
-
-mul-out : tie.Need-mul-out
-mul-out c = search needs
-
-add-out : tie.Need-add-out
-add-out c = search needs
-
-twenty-one-requires : tie.Need-twenty-one-requires
-twenty-one-requires c κs = search needs
-
 returns : tie.Need-returns
 returns c = with-class _ _ _ _ _ _ (c .match .keys1)
 
@@ -45,10 +33,7 @@ pub absorbed-spec : {M : Type 1} → statement M
 absorbed-spec =
     tie.close
     (tie.spec
-    fourteen-requires
-    mul-out
-    add-out
-    twenty-one-requires
+    (λ c κs. search needs) (λ c. search needs) (λ c. search needs) (λ c κs. search needs)
     returns
     returns-2
     returns-3

@@ -17,18 +17,6 @@ use Rattle.expansion.proofs.put_program.Reads as put-program-reads
 use Rattle.expansion.proofs.put_services.Reads as put-services-reads
 use Rattle.expansion.proofs.put_type.Reads as put-type-reads
 
-put-class-requires : tie.Need-put-class-requires
-put-class-requires c κs = search needs
-
-put-program-requires : tie.Need-put-program-requires
-put-program-requires c κs = search needs
-
-put-type-requires : tie.Need-put-type-requires
-put-type-requires c κs = search needs
-
-put-services-requires : tie.Need-put-services-requires
-put-services-requires c κs = search needs
-
 -- bit 7 set in each
 all : (c : tie.After-put-services) → soFar (c .put-services .result) ≡ marked (septetsOfAll (sentFields (c .before .before .before .before .args .x)))
 all c =
@@ -48,18 +36,6 @@ returns c =
     let a = c .before in
     none-put (a .before .before .before .before .args .x) (a .put-services .result) (all a) (a .put-services .ensures .1 .1) (c .if1 .taken)
 
-sub-bytes : tie.Need-sub-bytes
-sub-bytes c = search needs
-
-array-read-bytes : tie.Need-array-read-bytes
-array-read-bytes c = search needs
-
-sub-bytes-2 : tie.Need-sub-bytes-2
-sub-bytes-2 c = search needs
-
-array-write-bytes : tie.Need-array-write-bytes
-array-write-bytes c = search needs
-
 returns-2 : tie.Need-returns-2
 returns-2 c =
     let a = c .before .before in
@@ -69,13 +45,7 @@ pub expansion-bytes-spec : {M : Type 1} → statement M
 expansion-bytes-spec =
     tie.close
     (tie.spec
-    put-class-requires
-    put-program-requires
-    put-type-requires
-    put-services-requires
+    (λ c κs. search needs) (λ c κs. search needs) (λ c κs. search needs) (λ c κs. search needs)
     returns
-    sub-bytes
-    array-read-bytes
-    sub-bytes-2
-    array-write-bytes
+    (λ c. search needs) (λ c. search needs) (λ c. search needs) (λ c. search needs)
     returns-2)

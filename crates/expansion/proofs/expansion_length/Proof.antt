@@ -20,9 +20,6 @@ abbrev μ-loop : tie.MeasureT-loop
 loop-holds : tie.Need-loop-holds Inv-loop μ-loop
 loop-holds c = (omega arith, left-start _ _ _)
 
-add-place : tie.Need-add-place Inv-loop μ-loop
-add-place c = search needs
-
 returns : tie.Need-returns Inv-loop μ-loop
 returns c = let p = c .before .before in
     let a = p .before .args in
@@ -31,24 +28,12 @@ returns c = let p = c .before .before in
 returns-2 : tie.Need-returns-2 Inv-loop μ-loop
 returns-2 c = let p = c .before .before .before in left-past-end _ _ _ (p .loop .i) (c .if2 .taken) (p .loop .inv .1)
 
-shared-slice-read-if3 : tie.Need-shared-slice-read-if3 Inv-loop μ-loop
-shared-slice-read-if3 c = search needs
-
-add-result : tie.Need-add-result Inv-loop μ-loop
-add-result c = search needs
-
 returns-3 : tie.Need-returns-3 Inv-loop μ-loop
 returns-3 c =
     let p = c .before .before .before .before .before in
     let a = p .before .args in
     let e = c .before .before in
     left-found (now (a .pdu)) (a .at) (a .la) (p .loop .i) (omega arith) (omega (arith, e .before .if1 .left)) (e .if2 .left) (p .loop .inv .1) (c .if3 .taken)
-
-add-i : tie.Need-add-i Inv-loop μ-loop
-add-i c = search needs
-
-loop-less : tie.Need-loop-less Inv-loop μ-loop
-loop-less c = search needs
 
 loop-again : tie.Need-loop-again Inv-loop μ-loop
 loop-again c =
@@ -67,13 +52,11 @@ expansion-length-spec =
     Inv-loop
     μ-loop
     loop-holds
-    add-place
+    (λ c. search needs)
     returns
     returns-2
-    shared-slice-read-if3
-    add-result
+    (λ c. search needs) (λ c. search needs)
     returns-3
-    add-i
-    loop-less
+    (λ c. search needs) (λ c. search needs)
     loop-again
     returns-4)

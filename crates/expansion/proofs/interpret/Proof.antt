@@ -33,18 +33,9 @@ septets c = septetsAt (now (c .args .pdu)) (c .args .at) (c .args .n)
 inside : (c : tie.After-septet Inv-loop μ-loop) → c .before .before .loop .i < length (septets (c .before .before .before .before .before))
 inside c = omega (arith, c .before .before .before .before .before .pre .1, c .before .loop-test .taken)
 
-nothing-requires : tie.Need-nothing-requires Inv-loop μ-loop
-nothing-requires c κs = search needs
-
 loop-holds : tie.Need-loop-holds Inv-loop μ-loop
 loop-holds c =
     (omega arith, ap (λ (v : Interpreted). interpretedAs v (fieldsFrom 0 0 (septets (c .before .before)))) (c .nothing .ensures) ∙ left-start (septets (c .before .before)))
-
-septet-requires : tie.Need-septet-requires Inv-loop μ-loop
-septet-requires c κs = search needs
-
-nothing-requires-2 : tie.Need-nothing-requires-2 Inv-loop μ-loop
-nothing-requires-2 c κs = search needs
 
 returns : tie.Need-returns Inv-loop μ-loop
 returns c =
@@ -52,18 +43,12 @@ returns c =
     let p = s .before .before in
     c .nothing2 .ensures ∙ left-order (septets (p .before .before .before)) _ _ _ _ (inside s) (p .loop .inv .1) (s .septet .ensures .0) (c .before .if1 .taken)
 
-known-requires : tie.Need-known-requires Inv-loop μ-loop
-known-requires c κs = search needs
-
 returns-2 : tie.Need-returns-2 Inv-loop μ-loop
 returns-2 c =
     let e = c .before .before in
     let s = e .before in
     let p = s .before .before in
     left-unknown (septets (p .before .before .before)) _ _ _ _ (inside s) (p .loop .inv .1) (s .septet .ensures .0) (e .if1 .left) (sym (c .before .known .ensures) ∙ not-true _ (c .if2 .taken))
-
-nothing-requires-3 : tie.Need-nothing-requires-3 Inv-loop μ-loop
-nothing-requires-3 c κs = search needs
 
 returns-3 : tie.Need-returns-3 Inv-loop μ-loop
 returns-3 c =
@@ -74,18 +59,6 @@ returns-3 c =
     c .nothing3 .ensures
     ∙ left-class-zero (septets (p .before .before .before)) _ _ _ _ (inside s) (p .loop .inv .1) (s .septet .ensures .0) (e .if1 .left)
     (sym (k .known .ensures) ∙ not-false _ (c .before .before .if2 .left)) (c .before .if3 .taken)
-
-more-bytes-requires : tie.Need-more-bytes-requires Inv-loop μ-loop
-more-bytes-requires c κs = search needs
-
-add-if4 : tie.Need-add-if4 Inv-loop μ-loop
-add-if4 c = search needs
-
-add-if4-2 : tie.Need-add-if4-2 Inv-loop μ-loop
-add-if4-2 c = search needs
-
-nothing-requires-4 : tie.Need-nothing-requires-4 Inv-loop μ-loop
-nothing-requires-4 c κs = search needs
 
 returns-4 : tie.Need-returns-4 Inv-loop μ-loop
 returns-4 c =
@@ -99,30 +72,6 @@ returns-4 c =
     ∙ left-cut (septets (p .before .before .before)) _ _ _ _ (inside s) (p .loop .inv .1) (s .septet .ensures .0) (e .if1 .left)
     (sym (k .known .ensures) ∙ not-false _ (z .before .if2 .left)) (z .if3 .left)
     (omega (arith, c .before .if4 .taken, m .more-bytes .ensures .0, p .before .before .before .pre .1))
-
-add-septet : tie.Need-add-septet Inv-loop μ-loop
-add-septet c = search needs
-
-septet-requires-2 : tie.Need-septet-requires-2 Inv-loop μ-loop
-septet-requires-2 c κs = search needs
-
-add-septet-2 : tie.Need-add-septet-2 Inv-loop μ-loop
-add-septet-2 c = search needs
-
-septet-requires-3 : tie.Need-septet-requires-3 Inv-loop μ-loop
-septet-requires-3 c κs = search needs
-
-add-septet-3 : tie.Need-add-septet-3 Inv-loop μ-loop
-add-septet-3 c = search needs
-
-septet-requires-4 : tie.Need-septet-requires-4 Inv-loop μ-loop
-septet-requires-4 c κs = search needs
-
-absorbed-requires : tie.Need-absorbed-requires Inv-loop μ-loop
-absorbed-requires c κs = search needs
-
-add-next : tie.Need-add-next Inv-loop μ-loop
-add-next c = search needs
 
 add-i : tie.Need-add-i Inv-loop μ-loop
 add-i c =
@@ -174,28 +123,18 @@ interpret-spec =
     (tie.spec
     Inv-loop
     μ-loop
-    nothing-requires
+    (λ c κs. search needs)
     loop-holds
-    septet-requires
-    nothing-requires-2
+    (λ c κs. search needs) (λ c κs. search needs)
     returns
-    known-requires
+    (λ c κs. search needs)
     returns-2
-    nothing-requires-3
+    (λ c κs. search needs)
     returns-3
-    more-bytes-requires
-    add-if4
-    add-if4-2
-    nothing-requires-4
+    (λ c κs. search needs) (λ c. search needs) (λ c. search needs) (λ c κs. search needs)
     returns-4
-    add-septet
-    septet-requires-2
-    add-septet-2
-    septet-requires-3
-    add-septet-3
-    septet-requires-4
-    absorbed-requires
-    add-next
+    (λ c. search needs) (λ c κs. search needs) (λ c. search needs) (λ c κs. search needs) (λ c. search needs) (λ c κs. search needs) (λ c κs. search needs)
+    (λ c. search needs)
     add-i
     add-i-2
     loop-less

@@ -17,12 +17,6 @@ use Rattle.expansion.proofs.wide.Reads as wide-reads
 returns : tie.Need-returns
 returns c = let e : eqb (c .before .args .id) 0 ≡ true = eq-eqb _ _ (c .if1 .taken) in (rw e, omega arith)
 
-wide-requires : tie.Need-wide-requires
-wide-requires c κs = search needs
-
-mul-result : tie.Need-mul-result
-mul-result c = search needs
-
 returns-2 : tie.Need-returns-2
 returns-2 c =
     let a = c .before .before .before .args in
@@ -48,4 +42,4 @@ returns-4 c =
 
 pub more-bytes-spec : {M : Type 1} → statement M
 more-bytes-spec =
-    tie.close (tie.spec returns wide-requires mul-result returns-2 returns-3 returns-4)
+    tie.close (tie.spec returns (λ c κs. search needs) (λ c. search needs) returns-2 returns-3 returns-4)

@@ -10,15 +10,6 @@ use Rattle.expansion.proofs.put.Tie as tie
 use Rattle.expansion.proofs.put.Reads as reads
 use Rattle.expansion.proofs.put.Lts as lts
 
-add-bytes : tie.Need-add-bytes
-add-bytes c = search needs
-
-array-write-bytes : tie.Need-array-write-bytes
-array-write-bytes c = search needs
-
-add-t9 : tie.Need-add-t9
-add-t9 c = search needs
-
 returns : tie.Need-returns
 returns c =
     let a = c .before .args in
@@ -26,4 +17,4 @@ returns c =
     (one-more (a .l .bytes) (a .l .length) _ (a .b) (omega arith) (omega arith), (refl, length-set (a .l .bytes) _ _ ∙ g))
 
 pub put-spec : {M : Type 1} → statement M
-put-spec = tie.close (tie.spec add-bytes array-write-bytes add-t9 returns)
+put-spec = tie.close (tie.spec (λ c. search needs) (λ c. search needs) (λ c. search needs) returns)

@@ -18,9 +18,6 @@ returns c =
     let a = c .before .before .args in
     (not-put (a .x .classed) (class (a .x .class)) (soFar (a .l)) (c .if1 .taken), omega arith)
 
-put-requires : tie.Need-put-requires
-put-requires c κs = search needs
-
 returns-2 : tie.Need-returns-2
 returns-2 c =
     let e = c .before .before in
@@ -29,4 +26,4 @@ returns-2 c =
     (all-put (a .x .classed) (class (a .x .class)) (soFar (a .l)) (soFar (c .put .result)) (e .if1 .left) h, omega arith)
 
 pub put-class-spec : {M : Type 1} → statement M
-put-class-spec = tie.close (tie.spec returns put-requires returns-2)
+put-class-spec = tie.close (tie.spec returns (λ c κs. search needs) returns-2)

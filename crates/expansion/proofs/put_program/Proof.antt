@@ -21,15 +21,6 @@ returns c =
     let a = c .before .before .args in
     (not-put (a .x .programmed) (program (a .x .program) (cond (a .x .displaced) (some (a .x .displacement)) none)) (soFar (a .l)) (c .if1 .taken), omega arith)
 
-mul-put : tie.Need-mul-put
-mul-put c = search needs
-
-add-put : tie.Need-add-put
-add-put c = search needs
-
-put-requires : tie.Need-put-requires
-put-requires c κs = search needs
-
 returns-2 : tie.Need-returns-2
 returns-2 c =
     let d = c .before .before in
@@ -40,36 +31,6 @@ returns-2 c =
       all-put (a .x .programmed) (program (a .x .program) (cond (a .x .displaced) (some (a .x .displacement)) none)) t _ (e .if1 .left) (without (a .x .displaced) (a .x .program) (a .x .displacement) t (soFar (c .put .result)) (d .if2 .taken) h),
       omega arith,
     )
-
-mul-put-2 : tie.Need-mul-put-2
-mul-put-2 c = search needs
-
-add-put-2 : tie.Need-add-put-2
-add-put-2 c = search needs
-
-add-put-3 : tie.Need-add-put-3
-add-put-3 c = search needs
-
-put-requires-2 : tie.Need-put-requires-2
-put-requires-2 c κs = search needs
-
-cast-low : tie.Need-cast-low
-cast-low c = search needs
-
-low-requires : tie.Need-low-requires
-low-requires c κs = search needs
-
-put-requires-3 : tie.Need-put-requires-3
-put-requires-3 c κs = search needs
-
-cast-low-2 : tie.Need-cast-low-2
-cast-low-2 c = search needs
-
-low-requires-2 : tie.Need-low-requires-2
-low-requires-2 c κs = search needs
-
-put-requires-4 : tie.Need-put-requires-4
-put-requires-4 c κs = search needs
 
 returns-3 : tie.Need-returns-3
 returns-3 c =
@@ -93,18 +54,8 @@ put-program-spec =
     tie.close
     (tie.spec
     returns
-    mul-put
-    add-put
-    put-requires
+    (λ c. search needs) (λ c. search needs) (λ c κs. search needs)
     returns-2
-    mul-put-2
-    add-put-2
-    add-put-3
-    put-requires-2
-    cast-low
-    low-requires
-    put-requires-3
-    cast-low-2
-    low-requires-2
-    put-requires-4
+    (λ c. search needs) (λ c. search needs) (λ c. search needs) (λ c κs. search needs) (λ c. search needs) (λ c κs. search needs) (λ c κs. search needs)
+    (λ c. search needs) (λ c κs. search needs) (λ c κs. search needs)
     returns-3)

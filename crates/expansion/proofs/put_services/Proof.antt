@@ -19,33 +19,6 @@ returns c =
     let a = c .before .before .args in
     (not-put (a .x .serviced) (services (a .x .services) (a .x .marker)) (soFar (a .l)) (c .if1 .taken), (omega arith, full (a .l .bytes) 16 (c .before .before .good .0 .1 .1 .0 .1 .0 .1)))
 
-add-put : tie.Need-add-put
-add-put c = search needs
-
-add-put-2 : tie.Need-add-put-2
-add-put-2 c = search needs
-
-put-requires : tie.Need-put-requires
-put-requires c κs = search needs
-
-low-requires : tie.Need-low-requires
-low-requires c κs = search needs
-
-put-requires-2 : tie.Need-put-requires-2
-put-requires-2 c κs = search needs
-
-low-requires-2 : tie.Need-low-requires-2
-low-requires-2 c κs = search needs
-
-put-requires-3 : tie.Need-put-requires-3
-put-requires-3 c κs = search needs
-
-low-requires-3 : tie.Need-low-requires-3
-low-requires-3 c κs = search needs
-
-put-requires-4 : tie.Need-put-requires-4
-put-requires-4 c κs = search needs
-
 returns-2 : tie.Need-returns-2
 returns-2 c =
     let p3 = c .before .before in
@@ -68,13 +41,6 @@ put-services-spec =
     tie.close
     (tie.spec
     returns
-    add-put
-    add-put-2
-    put-requires
-    low-requires
-    put-requires-2
-    low-requires-2
-    put-requires-3
-    low-requires-3
-    put-requires-4
+    (λ c. search needs) (λ c. search needs) (λ c κs. search needs) (λ c κs. search needs) (λ c κs. search needs) (λ c κs. search needs) (λ c κs. search needs)
+    (λ c κs. search needs) (λ c κs. search needs)
     returns-2)

@@ -18,21 +18,6 @@ returns c =
     let a = c .before .before .args in
     (not-put (a .x .typed) (ptype (a .x .access) (a .x .ptype)) (soFar (a .l)) (c .if1 .taken), omega arith)
 
-mul-put : tie.Need-mul-put
-mul-put c = search needs
-
-add-put : tie.Need-add-put
-add-put c = search needs
-
-add-put-2 : tie.Need-add-put-2
-add-put-2 c = search needs
-
-put-requires : tie.Need-put-requires
-put-requires c κs = search needs
-
-put-requires-2 : tie.Need-put-requires-2
-put-requires-2 c κs = search needs
-
 returns-2 : tie.Need-returns-2
 returns-2 c =
     let p = c .before .before in
@@ -47,4 +32,4 @@ returns-2 c =
 
 pub put-type-spec : {M : Type 1} → statement M
 put-type-spec =
-    tie.close (tie.spec returns mul-put add-put add-put-2 put-requires put-requires-2 returns-2)
+    tie.close (tie.spec returns (λ c. search needs) (λ c. search needs) (λ c. search needs) (λ c κs. search needs) (λ c κs. search needs) returns-2)

@@ -17,12 +17,6 @@ use Rattle.expansion.proofs.expansion_length.Reads as expansion-length-
 use Rattle.expansion.proofs.interpret.Reads as interpret-reads
 use Rattle.expansion.proofs.nothing.Reads as nothing-reads
 
-expansion-length-requires : tie.Need-expansion-length-requires
-expansion-length-requires c κs = search needs
-
-nothing-requires : tie.Need-nothing-requires
-nothing-requires c κs = search needs
-
 returns : tie.Need-returns
 returns c =
     let l = c .before .before in
@@ -49,4 +43,4 @@ returns-2 c =
 pub read-expansion-spec : {M : Type 1} → statement M
 read-expansion-spec =
     tie.close
-    (tie.spec expansion-length-requires nothing-requires returns interpret-requires returns-2)
+    (tie.spec (λ c κs. search needs) (λ c κs. search needs) returns interpret-requires returns-2)

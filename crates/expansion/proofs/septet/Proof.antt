@@ -13,12 +13,6 @@ use Rattle.expansion.proofs.septet.Reads as reads
 use Rattle.expansion.proofs.septet.Lts as lts
 use Rattle.layout.proofs.byte_at.Reads as byte-at-reads
 
-add-byte-at : tie.Need-add-byte-at
-add-byte-at c = search needs
-
-byte-at-requires : tie.Need-byte-at-requires
-byte-at-requires c κs = search needs
-
 returns : tie.Need-returns
 returns c = (ap (λ (x : ℕ). x % 128) (c .byte-at .ensures) ∙ septet-inside _ _ _ _ (c .before .if1 .taken), omega arith)
 
@@ -26,4 +20,4 @@ returns-2 : tie.Need-returns-2
 returns-2 c = (septet-outside _ _ _ _ (c .if1 .left), lit< tt)
 
 pub septet-spec : {M : Type 1} → statement M
-septet-spec = tie.close (tie.spec add-byte-at byte-at-requires returns returns-2)
+septet-spec = tie.close (tie.spec (λ c. search needs) (λ c κs. search needs) returns returns-2)

@@ -9,15 +9,6 @@ use Rattle.field.proofs.inverse_by.Tie as tie
 returns : tie.Need-returns
 returns c = sym (ap inverse (c .if1 .taken) ∙ inverse-zero)
 
-logarithm-by-requires : tie.Need-logarithm-by-requires
-logarithm-by-requires c κs = search needs
-
-complement-requires : tie.Need-complement-requires
-complement-requires c κs = search needs
-
-power-by-requires : tie.Need-power-by-requires
-power-by-requires c κs = search needs
-
 returns-2 : tie.Need-returns-2
 returns-2 c =
     let p = c .before .before in
@@ -27,4 +18,4 @@ returns-2 c =
     (pow-inverse (p .before .before .args .x) (p .logarithm-by .result) m (c .before .complement .ensures) (p .logarithm-by .ensures .1)))
 
 pub inverse-by-spec : {M : Type 1} → statement M
-inverse-by-spec = tie.close (tie.spec returns logarithm-by-requires complement-requires power-by-requires returns-2)
+inverse-by-spec = tie.close (tie.spec returns (λ c κs. search needs) (λ c κs. search needs) (λ c κs. search needs) returns-2)

@@ -6,9 +6,6 @@ use Rattle.field.proofs.logarithm_by.Tie as tie
 use Rattle.field.proofs.logarithm_by.Reads as reads
 use Rattle.field.proofs.logarithm_by.Lts as lts
 
-element-copy-out-result : tie.Need-element-copy-out-result
-element-copy-out-result c = search needs
-
 cast-result : tie.Need-cast-result
 cast-result c = omega (arith, c .before .pre .0 .small (c .before .args .x) (c .before .pre .1) (c .before .fits .x .fits))
 
@@ -19,4 +16,4 @@ returns c = (
 )
 
 pub logarithm-by-spec : {M : Type 1} → statement M
-logarithm-by-spec = tie.close (tie.spec element-copy-out-result cast-result returns)
+logarithm-by-spec = tie.close (tie.spec (λ c. search needs) cast-result returns)

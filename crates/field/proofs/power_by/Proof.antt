@@ -11,12 +11,9 @@ use Rattle.field.proofs.power_by.Tie as tie
 use Rattle.field.proofs.power_by.Reads as reads
 use Rattle.field.proofs.power_by.Lts as lts
 
-element-copy-out-result : tie.Need-element-copy-out-result
-element-copy-out-result c = search needs
-
 returns : tie.Need-returns
 returns c =
     c .before .pre .entry (c .before .args .k % 255) (let m : c .before .args .k % 255 < 255 = mod-lt (c .before .args .k) (lit< tt) in omega arith) ∙ pow-mod (c .before .args .k)
 
 pub power-by-spec : {M : Type 1} → statement M
-power-by-spec = tie.close (tie.spec element-copy-out-result returns)
+power-by-spec = tie.close (tie.spec (λ c. search needs) returns)

@@ -17,18 +17,6 @@ returns c = sym (ap (λ (x : ℕ). mul x (c .before .args .y)) (c .if1 .taken) �
 returns-2 : tie.Need-returns-2
 returns-2 c = sym (ap (mul (c .before .before .args .x)) (c .if2 .taken) ∙ mul-zero-r (c .before .before .args .x))
 
-logarithm-by-requires : tie.Need-logarithm-by-requires
-logarithm-by-requires c κs = search needs
-
-logarithm-by-requires-2 : tie.Need-logarithm-by-requires-2
-logarithm-by-requires-2 c κs = search needs
-
-add-result : tie.Need-add-result
-add-result c = search needs
-
-element-copy-out-result : tie.Need-element-copy-out-result
-element-copy-out-result c = search needs
-
 returns-3 : tie.Need-returns-3
 returns-3 c =
     let l = c .before in
@@ -43,8 +31,5 @@ product-by-spec =
     (tie.spec
     returns
     returns-2
-    logarithm-by-requires
-    logarithm-by-requires-2
-    add-result
-    element-copy-out-result
+    (λ c κs. search needs) (λ c κs. search needs) (λ c. search needs) (λ c. search needs)
     returns-3)

@@ -15,24 +15,6 @@ use Rattle.header.proofs.by_byte.Lts as lts
 use Rattle.header.proofs.by_half.Reads as by-half-reads
 use Rattle.header.proofs.doubled.Reads as doubled-reads
 
-doubled-requires : tie.Need-doubled-requires
-doubled-requires c κs = search needs
-
-doubled-requires-2 : tie.Need-doubled-requires-2
-doubled-requires-2 c κs = search needs
-
-doubled-requires-3 : tie.Need-doubled-requires-3
-doubled-requires-3 c κs = search needs
-
-doubled-requires-4 : tie.Need-doubled-requires-4
-doubled-requires-4 c κs = search needs
-
-by-half-requires : tie.Need-by-half-requires
-by-half-requires c κs = search needs
-
-by-half-requires-2 : tie.Need-by-half-requires-2
-by-half-requires-2 c κs = search needs
-
 returns : tie.Need-returns
 unfolding timesA
 returns c =
@@ -48,10 +30,5 @@ pub by-byte-spec : {M : Type 1} → statement M
 by-byte-spec =
     tie.close
     (tie.spec
-    doubled-requires
-    doubled-requires-2
-    doubled-requires-3
-    doubled-requires-4
-    by-half-requires
-    by-half-requires-2
+    (λ c κs. search needs) (λ c κs. search needs) (λ c κs. search needs) (λ c κs. search needs) (λ c κs. search needs) (λ c κs. search needs)
     returns)

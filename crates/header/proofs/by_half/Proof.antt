@@ -42,15 +42,6 @@ fifteen c =
     let h : 15 ≤ n = past n 14 (past n 13 (past n 12 (past n 11 (past n 10 (past n 9 (past n 8 (past n 7 (past n 6 (past n 5 (past n 4 (past n 3 (past n 2 (past n 1 (past n 0 (omega arith) (c .match .rest .0 .0 .0 .0 .0 .0 .0 .0 .0 .0 .0 .0 .0 .0 .1)) (c .match .rest .0 .0 .0 .0 .0 .0 .0 .0 .0 .0 .0 .0 .0 .1)) (c .match .rest .0 .0 .0 .0 .0 .0 .0 .0 .0 .0 .0 .0 .1)) (c .match .rest .0 .0 .0 .0 .0 .0 .0 .0 .0 .0 .0 .1)) (c .match .rest .0 .0 .0 .0 .0 .0 .0 .0 .0 .0 .1)) (c .match .rest .0 .0 .0 .0 .0 .0 .0 .0 .0 .1)) (c .match .rest .0 .0 .0 .0 .0 .0 .0 .0 .1)) (c .match .rest .0 .0 .0 .0 .0 .0 .0 .1)) (c .match .rest .0 .0 .0 .0 .0 .0 .1)) (c .match .rest .0 .0 .0 .0 .0 .1)) (c .match .rest .0 .0 .0 .0 .1)) (c .match .rest .0 .0 .0 .1)) (c .match .rest .0 .0 .1)) (c .match .rest .0 .1)) (c .match .rest .1) in
     omega (arith, h)
 
-doubled-requires : tie.Need-doubled-requires
-doubled-requires c κs = search needs
-
-doubled-requires-2 : tie.Need-doubled-requires-2
-doubled-requires-2 c κs = search needs
-
-doubled-requires-3 : tie.Need-doubled-requires-3
-doubled-requires-3 c κs = search needs
-
 returns : tie.Need-returns
 returns c =
     let p = c .before in
@@ -135,9 +126,7 @@ pub by-half-spec : {M : Type 1} → statement M
 by-half-spec =
     tie.close
     (tie.spec
-    doubled-requires
-    doubled-requires-2
-    doubled-requires-3
+    (λ c κs. search needs) (λ c κs. search needs) (λ c κs. search needs)
     returns
     returns-2
     returns-3

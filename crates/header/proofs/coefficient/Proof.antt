@@ -13,15 +13,6 @@ use Rattle.header.proofs.coefficient.Lts as lts
 use Rattle.header.proofs.exponent.Reads as exponent-reads
 use Rattle.header.proofs.wide.Reads as wide-reads
 
-exponent-requires : tie.Need-exponent-requires
-exponent-requires c κs = search needs
-
-element-copy-out-wide : tie.Need-element-copy-out-wide
-element-copy-out-wide c = search needs
-
-wide-requires : tie.Need-wide-requires
-wide-requires c κs = search needs
-
 returns : tie.Need-returns
 returns c =
     let s = c .before .before .before in
@@ -30,4 +21,4 @@ returns c =
 
 pub coefficient-spec : {M : Type 1} → statement M
 coefficient-spec =
-    tie.close (tie.spec exponent-requires element-copy-out-wide wide-requires returns)
+    tie.close (tie.spec (λ c κs. search needs) (λ c. search needs) (λ c κs. search needs) returns)

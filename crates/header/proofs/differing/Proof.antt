@@ -45,21 +45,6 @@ loop-holds c =
     let a = c .args in
     (omega arith, omega arith, none-left (a .u .now) (a .v .now) (omega arith))
 
-sub-place : tie.Need-sub-place Inv-loop μ-loop
-sub-place c = search needs
-
-shared-slice-read-if1 : tie.Need-shared-slice-read-if1 Inv-loop μ-loop
-shared-slice-read-if1 c = search needs
-
-shared-slice-read-if1-2 : tie.Need-shared-slice-read-if1-2 Inv-loop μ-loop
-shared-slice-read-if1-2 c = search needs
-
-add-n : tie.Need-add-n Inv-loop μ-loop
-add-n c = search needs
-
-loop-less : tie.Need-loop-less Inv-loop μ-loop
-loop-less c = search needs
-
 loop-again : tie.Need-loop-again Inv-loop μ-loop
 loop-again c =
     let p = c .before .before .before .before in (
@@ -67,9 +52,6 @@ loop-again c =
       omega arith,
       differ (p .before .args .u .now) (p .before .args .v .now) (p .loop .n) (p .loop .place) (omega arith) (omega arith) (omega arith) (c .if1 .taken) (p .loop .inv .2),
     )
-
-loop-less-2 : tie.Need-loop-less-2 Inv-loop μ-loop
-loop-less-2 c = search needs
 
 loop-again-2 : tie.Need-loop-again-2 Inv-loop μ-loop
 loop-again-2 c =
@@ -92,12 +74,8 @@ differing-spec =
     Inv-loop
     μ-loop
     loop-holds
-    sub-place
-    shared-slice-read-if1
-    shared-slice-read-if1-2
-    add-n
-    loop-less
+    (λ c. search needs) (λ c. search needs) (λ c. search needs) (λ c. search needs) (λ c. search needs)
     loop-again
-    loop-less-2
+    (λ c. search needs)
     loop-again-2
     returns)

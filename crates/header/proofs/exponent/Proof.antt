@@ -13,9 +13,6 @@ use Rattle.header.proofs.exponent.Tie as tie
 exponent-lt : (k : ℕ) → k < 9 → getD exponents k 0 < 256
 exponent-lt k h = ltb→lt (getD exponents k 0) 256 (at (λ i x. ltb x 256) exponents tt k h)
 
-array-read-result : tie.Need-array-read-result
-array-read-result c = search needs
-
 cast-result : tie.Need-cast-result
 cast-result c = omega (arith, exponent-lt (c .args .k) (c .pre))
 
@@ -23,4 +20,4 @@ returns : tie.Need-returns
 returns c = (refl, exponent-lt (c .args .k) (c .pre))
 
 pub exponent-spec : {M : Type 1} → statement M
-exponent-spec = tie.close (tie.spec array-read-result cast-result returns)
+exponent-spec = tie.close (tie.spec (λ c. search needs) cast-result returns)

@@ -39,18 +39,6 @@ loop-holds c = (omega arith, omega arith, refl, refl)
 returns : tie.Need-returns Inv-loop μ-loop
 returns c = short _ _ (c .before .before .loop .i) (omega arith) (omega arith) (c .before .before .loop .inv .3)
 
-shared-slice-read-header : tie.Need-shared-slice-read-header Inv-loop μ-loop
-shared-slice-read-header c = search needs
-
-array-write-header : tie.Need-array-write-header Inv-loop μ-loop
-array-write-header c = search needs
-
-add-i : tie.Need-add-i Inv-loop μ-loop
-add-i c = search needs
-
-loop-less : tie.Need-loop-less Inv-loop μ-loop
-loop-less c = search needs
-
 loop-again : tie.Need-loop-again Inv-loop μ-loop
 loop-again c =
     let l = c .before .before .before .loop in
@@ -72,9 +60,6 @@ header-of-spec =
     μ-loop
     loop-holds
     returns
-    shared-slice-read-header
-    array-write-header
-    add-i
-    loop-less
+    (λ c. search needs) (λ c. search needs) (λ c. search needs) (λ c. search needs)
     loop-again
     returns-2)

@@ -5,15 +5,9 @@ use Rattle.header.specs.Header.{isCodeWord, allZero}
 use Rattle.header.proofs.is_code_word_by.Statement.{statement}
 use Rattle.header.proofs.is_code_word_by.Tie as tie
 
-syndromes-by-requires : tie.Need-syndromes-by-requires
-syndromes-by-requires c κs = search needs
-
-all-zero-requires : tie.Need-all-zero-requires
-all-zero-requires c κs = search needs
-
 returns : tie.Need-returns
 unfolding isCodeWord
 returns c = c .all-zero .ensures ∙ ap allZero (c .before .syndromes-by .ensures)
 
 pub is-code-word-by-spec : {M : Type 1} → statement M
-is-code-word-by-spec = tie.close (tie.spec syndromes-by-requires all-zero-requires returns)
+is-code-word-by-spec = tie.close (tie.spec (λ c κs. search needs) (λ c κs. search needs) returns)

@@ -14,17 +14,8 @@ use Rattle.header.proofs.next.Lts as lts
 use Rattle.header.proofs.by_byte.Reads as by-byte-reads
 use Rattle.header.proofs.x8.Reads as x8-reads
 
-mul-result : tie.Need-mul-result
-mul-result c = search needs
-
-x8-requires : tie.Need-x8-requires
-x8-requires c κs = search needs
-
-by-byte-requires : tie.Need-by-byte-requires
-by-byte-requires c κs = search needs
-
 returns : tie.Need-returns
 returns c = next-step (c .before .before .args .r) (c .by-byte .result) (omega arith) (c .by-byte .ensures ∙ ap (timesAll _) (c .before .x8 .ensures))
 
 pub next-spec : {M : Type 1} → statement M
-next-spec = tie.close (tie.spec mul-result x8-requires by-byte-requires returns)
+next-spec = tie.close (tie.spec (λ c. search needs) (λ c κs. search needs) (λ c κs. search needs) returns)

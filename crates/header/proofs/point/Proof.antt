@@ -8,12 +8,9 @@ use Rattle.header.proofs.point.Tie as tie
 use Rattle.header.proofs.point.Reads as reads
 use Rattle.header.proofs.point.Lts as lts
 
-array-read-result : tie.Need-array-read-result
-array-read-result c = search needs
-
 returns : tie.Need-returns
 unfolding points pow shift timesA
 returns c = refl
 
 pub point-spec : {M : Type 1} → statement M
-point-spec = tie.close (tie.spec array-read-result returns)
+point-spec = tie.close (tie.spec (λ c. search needs) returns)

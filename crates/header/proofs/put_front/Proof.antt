@@ -38,25 +38,10 @@ abbrev μ-loop : tie.MeasureT-loop
 loop-holds : tie.Need-loop-holds Inv-loop μ-loop
 loop-holds c = (omega arith, omega arith, refl, refl)
 
-same-length : tie.Need-same-length Inv-loop μ-loop
-same-length c = search needs
-
 returns : tie.Need-returns Inv-loop μ-loop
 returns c =
     let l = c .before .before .loop in
     full _ _ (l .pdu) (l .i) (omega arith) (omega arith) (l .inv .3)
-
-shared-slice-read-pdu : tie.Need-shared-slice-read-pdu Inv-loop μ-loop
-shared-slice-read-pdu c = search needs
-
-slice-write-pdu : tie.Need-slice-write-pdu Inv-loop μ-loop
-slice-write-pdu c = search needs
-
-add-i : tie.Need-add-i Inv-loop μ-loop
-add-i c = search needs
-
-loop-less : tie.Need-loop-less Inv-loop μ-loop
-loop-less c = search needs
 
 loop-again : tie.Need-loop-again Inv-loop μ-loop
 loop-again c =
@@ -67,9 +52,6 @@ loop-again c =
       length-set (l .pdu) (l .i) (getD (a .front .now) (l .i) 0) ∙ l .inv .2,
       paste-more (a .pdu .now) (a .front .now) (l .pdu) (l .i) (l .inv .3) (omega arith) (omega arith),
     )
-
-same-length-2 : tie.Need-same-length-2 Inv-loop μ-loop
-same-length-2 c = search needs
 
 returns-2 : tie.Need-returns-2 Inv-loop μ-loop
 returns-2 c =
@@ -83,12 +65,9 @@ put-front-spec =
     Inv-loop
     μ-loop
     loop-holds
-    same-length
+    (λ c. search needs)
     returns
-    shared-slice-read-pdu
-    slice-write-pdu
-    add-i
-    loop-less
+    (λ c. search needs) (λ c. search needs) (λ c. search needs) (λ c. search needs)
     loop-again
-    same-length-2
+    (λ c. search needs)
     returns-2)

@@ -26,38 +26,8 @@ abbrev μ-loop : tie.MeasureT-loop
 abbrev header : tie.At-loop Inv-loop μ-loop → List ℕ
 header l = now (l .before .before .before .before .before .before .before .before .before .before .args .header)
 
-x8-requires : tie.Need-x8-requires Inv-loop μ-loop
-x8-requires c κs = search needs
-
-next-requires : tie.Need-next-requires Inv-loop μ-loop
-next-requires c κs = search needs
-
-next-requires-2 : tie.Need-next-requires-2 Inv-loop μ-loop
-next-requires-2 c κs = search needs
-
-next-requires-3 : tie.Need-next-requires-3 Inv-loop μ-loop
-next-requires-3 c κs = search needs
-
-next-requires-4 : tie.Need-next-requires-4 Inv-loop μ-loop
-next-requires-4 c κs = search needs
-
-next-requires-5 : tie.Need-next-requires-5 Inv-loop μ-loop
-next-requires-5 c κs = search needs
-
-next-requires-6 : tie.Need-next-requires-6 Inv-loop μ-loop
-next-requires-6 c κs = search needs
-
-next-requires-7 : tie.Need-next-requires-7 Inv-loop μ-loop
-next-requires-7 c κs = search needs
-
 loop-holds : tie.Need-loop-holds Inv-loop μ-loop
 loop-holds c = (omega arith, omega arith, refl, nothing-left (now (c .before .before .before .before .before .before .before .before .before .args .header)) (omega arith))
-
-sub-i : tie.Need-sub-i Inv-loop μ-loop
-sub-i c = search needs
-
-word-requires : tie.Need-word-requires Inv-loop μ-loop
-word-requires c κs = search needs
 
 step-requires : tie.Need-step-requires Inv-loop μ-loop
 step-requires c κs =
@@ -71,9 +41,6 @@ step-requires c κs =
     let g = next-left 5 (l .before .next6 .ensures) f in
     let h = next-left 6 (l .next7 .ensures) g in
     ((a, b, x, d), (e, f, g, h))
-
-loop-less : tie.Need-loop-less Inv-loop μ-loop
-loop-less c = search needs
 
 loop-again : tie.Need-loop-again Inv-loop μ-loop
 loop-again c =
@@ -98,18 +65,11 @@ remainder-spec =
     (tie.spec
     Inv-loop
     μ-loop
-    x8-requires
-    next-requires
-    next-requires-2
-    next-requires-3
-    next-requires-4
-    next-requires-5
-    next-requires-6
-    next-requires-7
+    (λ c κs. search needs) (λ c κs. search needs) (λ c κs. search needs) (λ c κs. search needs) (λ c κs. search needs) (λ c κs. search needs)
+    (λ c κs. search needs) (λ c κs. search needs)
     loop-holds
-    sub-i
-    word-requires
+    (λ c. search needs) (λ c κs. search needs)
     step-requires
-    loop-less
+    (λ c. search needs)
     loop-again
     returns)

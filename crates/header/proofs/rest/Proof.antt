@@ -8,15 +8,6 @@ use Rattle.header.proofs.Lanes.{rest-values}
 use Rattle.header.proofs.rest.Statement.{statement}
 use Rattle.header.proofs.rest.Tie as tie
 
-word-requires : tie.Need-word-requires
-word-requires c κs = search needs
-
-remainder-requires : tie.Need-remainder-requires
-remainder-requires c κs = search needs
-
-unpack-requires : tie.Need-unpack-requires
-unpack-requires c κs = search needs
-
 returns : tie.Need-returns
 returns c =
     let s = c .before .before .before in
@@ -24,4 +15,4 @@ returns c =
     ∙ rest-values (now (s .before .args .header)) (c .before .before .word .result) (c .before .remainder .result) (omega arith) (λ k. s .shared-slice-known .given k .fits) (c .before .before .word .ensures) (c .before .remainder .ensures)
 
 pub rest-spec : {M : Type 1} → statement M
-rest-spec = tie.close (tie.spec word-requires remainder-requires unpack-requires returns)
+rest-spec = tie.close (tie.spec (λ c κs. search needs) (λ c κs. search needs) (λ c κs. search needs) returns)

@@ -13,30 +13,6 @@ use Rattle.header.proofs.step.Reads as reads
 use Rattle.header.proofs.step.Lts as lts
 use Rattle.header.proofs.by_byte.Reads as by-byte-reads
 
-by-byte-requires : tie.Need-by-byte-requires
-by-byte-requires c κs = search needs
-
-by-byte-requires-2 : tie.Need-by-byte-requires-2
-by-byte-requires-2 c κs = search needs
-
-by-byte-requires-3 : tie.Need-by-byte-requires-3
-by-byte-requires-3 c κs = search needs
-
-by-byte-requires-4 : tie.Need-by-byte-requires-4
-by-byte-requires-4 c κs = search needs
-
-by-byte-requires-5 : tie.Need-by-byte-requires-5
-by-byte-requires-5 c κs = search needs
-
-by-byte-requires-6 : tie.Need-by-byte-requires-6
-by-byte-requires-6 c κs = search needs
-
-by-byte-requires-7 : tie.Need-by-byte-requires-7
-by-byte-requires-7 c κs = search needs
-
-by-byte-requires-8 : tie.Need-by-byte-requires-8
-by-byte-requires-8 c κs = search needs
-
 returns : tie.Need-returns
 returns c =
     let s = c .before .before .before .before .before .before .before .before in
@@ -54,12 +30,6 @@ pub step-spec : {M : Type 1} → statement M
 step-spec =
     tie.close
     (tie.spec
-    by-byte-requires
-    by-byte-requires-2
-    by-byte-requires-3
-    by-byte-requires-4
-    by-byte-requires-5
-    by-byte-requires-6
-    by-byte-requires-7
-    by-byte-requires-8
+    (λ c κs. search needs) (λ c κs. search needs) (λ c κs. search needs) (λ c κs. search needs) (λ c κs. search needs) (λ c κs. search needs)
+    (λ c κs. search needs) (λ c κs. search needs)
     returns)

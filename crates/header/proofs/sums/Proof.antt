@@ -19,18 +19,6 @@ abbrev μ-loop : tie.MeasureT-loop
 loop-holds : tie.Need-loop-holds Inv-loop μ-loop
 loop-holds c = (omega arith, sums-start _ _ (omega arith))
 
-sub-i : tie.Need-sub-i Inv-loop μ-loop
-sub-i c = search needs
-
-shared-slice-read-horner-step : tie.Need-shared-slice-read-horner-step Inv-loop μ-loop
-shared-slice-read-horner-step c = search needs
-
-horner-step-requires : tie.Need-horner-step-requires Inv-loop μ-loop
-horner-step-requires c κs = search needs
-
-loop-less : tie.Need-loop-less Inv-loop μ-loop
-loop-less c = search needs
-
 loop-again : tie.Need-loop-again Inv-loop μ-loop
 loop-again c =
     let l = c .before .before .before in (
@@ -52,9 +40,6 @@ sums-spec =
     Inv-loop
     μ-loop
     loop-holds
-    sub-i
-    shared-slice-read-horner-step
-    horner-step-requires
-    loop-less
+    (λ c. search needs) (λ c. search needs) (λ c κs. search needs) (λ c. search needs)
     loop-again
     returns)

@@ -6,22 +6,10 @@ use borrow.Author.Needs.{needs}
 use Rattle.header.proofs.syndromes_by.Statement.{statement}
 use Rattle.header.proofs.syndromes_by.Tie as tie
 
-rest-requires : tie.Need-rest-requires
-rest-requires c κs = search needs
-
-all-zero-requires : tie.Need-all-zero-requires
-all-zero-requires c κs = search needs
-
 returns : tie.Need-returns
 returns c =
     let z = c .before in
     values-zero (z .before .rest .result) (omega arith) (sym (z .all-zero .ensures) ∙ c .if1 .taken) ∙ z .before .rest .ensures
-
-slice-aggregate-sums : tie.Need-slice-aggregate-sums
-slice-aggregate-sums c = search needs
-
-sums-requires : tie.Need-sums-requires
-sums-requires c κs = search needs
 
 returns-2 : tie.Need-returns-2
 returns-2 c = c .sums .ensures ∙ c .before .before .before .before .rest .ensures
@@ -30,9 +18,7 @@ pub syndromes-by-spec : {M : Type 1} → statement M
 syndromes-by-spec =
     tie.close
     (tie.spec
-    rest-requires
-    all-zero-requires
+    (λ c κs. search needs) (λ c κs. search needs)
     returns
-    slice-aggregate-sums
-    sums-requires
+    (λ c. search needs) (λ c κs. search needs)
     returns-2)

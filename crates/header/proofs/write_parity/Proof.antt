@@ -31,21 +31,6 @@ returns-2 c =
     let e : lengthRefusal (length (now (c .before .before .before .args .pdu))) ≡ 3 = long-refused _ (omega arith) in
     (sym e, sym (parity-refused _ e))
 
-header-of-requires : tie.Need-header-of-requires
-header-of-requires c κs = search needs
-
-parity-requires : tie.Need-parity-requires
-parity-requires c κs = search needs
-
-slice-aggregate-put-front : tie.Need-slice-aggregate-put-front
-slice-aggregate-put-front c = search needs
-
-put-front-requires : tie.Need-put-front-requires
-put-front-requires c κs = search needs
-
-same-length : tie.Need-same-length
-same-length c = search needs
-
 returns-3 : tie.Need-returns-3
 returns-3 c =
     let f = c .before .before in
@@ -62,9 +47,5 @@ write-parity-spec =
     (tie.spec
     returns
     returns-2
-    header-of-requires
-    parity-requires
-    slice-aggregate-put-front
-    put-front-requires
-    same-length
+    (λ c κs. search needs) (λ c κs. search needs) (λ c. search needs) (λ c κs. search needs) (λ c. search needs)
     returns-3)

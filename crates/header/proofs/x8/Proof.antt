@@ -6,14 +6,8 @@ use Rattle.header.proofs.Lanes.{generator-packed}
 use Rattle.header.proofs.x8.Statement.{statement}
 use Rattle.header.proofs.x8.Tie as tie
 
-powers-requires : tie.Need-powers-requires
-powers-requires c κs = search needs
-
-coefficients-requires : tie.Need-coefficients-requires
-coefficients-requires c κs = search needs
-
 returns : tie.Need-returns
 returns c = ap unpacked (c .coefficients .ensures) ∙ generator-packed
 
 pub x8-spec : {M : Type 1} → statement M
-x8-spec = tie.close (tie.spec powers-requires coefficients-requires returns)
+x8-spec = tie.close (tie.spec (λ c κs. search needs) (λ c κs. search needs) returns)

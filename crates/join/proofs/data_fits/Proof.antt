@@ -12,23 +12,11 @@ use Rattle.join.proofs.kind.Reads as kind-reads
 use Rattle.join.proofs.low.Reads as low-reads
 use Rattle.join.proofs.unused_zero.Reads as unused-zero-reads
 
-kind-requires : tie.Need-kind-requires
-kind-requires c κs = search needs
-
 returns : tie.Need-returns
 returns c = other-kind (c .before .before .args .n) (c .before .before .args .w) (λ e. c .if1 .taken (c .before .kind .ensures ∙ e))
 
-high-requires : tie.Need-high-requires
-high-requires c κs = search needs
-
 returns-2 : tie.Need-returns-2
 returns-2 c = other-count (c .before .before .before .before .args .n) (c .before .before .before .before .args .w) (sym (c .before .before .before .kind .ensures) ∙ c .before .before .if1 .left) (λ e. c .if2 .taken (ap (λ (h : ℕ). h / 256) (c .before .high .ensures) ∙ e))
-
-low-requires : tie.Need-low-requires
-low-requires c κs = search needs
-
-unused-zero-requires : tie.Need-unused-zero-requires
-unused-zero-requires c κs = search needs
 
 returns-3 : tie.Need-returns-3
 returns-3 c =
@@ -41,10 +29,9 @@ pub data-fits-spec : {M : Type 1} → statement M
 data-fits-spec =
     tie.close
     (tie.spec
-    kind-requires
+    (λ c κs. search needs)
     returns
-    high-requires
+    (λ c κs. search needs)
     returns-2
-    low-requires
-    unused-zero-requires
+    (λ c κs. search needs) (λ c κs. search needs)
     returns-3)

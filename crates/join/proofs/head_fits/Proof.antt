@@ -11,12 +11,6 @@ use Rattle.join.proofs.head_fits.Lts as lts
 use Rattle.join.proofs.packet_fits.Reads as packet-fits-reads
 use Rattle.join.proofs.psd_fits.Reads as psd-fits-reads
 
-packet-fits-requires : tie.Need-packet-fits-requires
-packet-fits-requires c κs = search needs
-
-psd-fits-requires : tie.Need-psd-fits-requires
-psd-fits-requires c κs = search needs
-
 returns : tie.Need-returns
 returns c = c .packet-fits .ensures ∙ ap (λ (k : ℕ). headFitsAs k (c .before .before .args .h) (c .before .before .args .l)) (sym (c .before .match .keys1))
 
@@ -32,4 +26,4 @@ returns-4 c = note-fits (c .before .args .h) (c .before .args .l) (c .before .ar
 pub head-fits-spec : {M : Type 1} → statement M
 head-fits-spec =
     tie.close
-    (tie.spec packet-fits-requires psd-fits-requires returns returns-2 returns-3 returns-4)
+    (tie.spec (λ c κs. search needs) (λ c κs. search needs) returns returns-2 returns-3 returns-4)

@@ -8,11 +8,8 @@ use Rattle.join.proofs.is_packet.Reads as reads
 use Rattle.join.proofs.is_packet.Lts as lts
 use Rattle.join.proofs.kind.Reads as kind-reads
 
-kind-requires : tie.Need-kind-requires
-kind-requires c κs = search needs
-
 returns : tie.Need-returns
 returns c = ap (λ (k : ℕ). eqb k 0) (c .kind .ensures)
 
 pub is-packet-spec : {M : Type 1} → statement M
-is-packet-spec = tie.close (tie.spec kind-requires returns)
+is-packet-spec = tie.close (tie.spec (λ c κs. search needs) returns)

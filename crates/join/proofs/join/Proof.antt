@@ -6,30 +6,15 @@ use Rattle.join.proofs.Refusing.{refused-all, fits-room, joined-all}
 use Rattle.join.proofs.join.Statement.{statement}
 use Rattle.join.proofs.join.Tie as tie
 
-places-in-requires : tie.Need-places-in-requires
-places-in-requires c κs = search needs
-
-slice-aggregate-refusal : tie.Need-slice-aggregate-refusal
-slice-aggregate-refusal c = search needs
-
-refusal-requires : tie.Need-refusal-requires
-refusal-requires c κs = search needs
-
 returns : tie.Need-returns
 returns c =
     let a = c .before .before .before .before .before .before .before .args in
     refused-all (a .core .now) (a .enhanced .now) (a .result .now) (c .before .refusal .result) (c .before .refusal .ensures) (c .if1 .taken)
 
-slice-aggregate-put-joined : tie.Need-slice-aggregate-put-joined
-slice-aggregate-put-joined c = search needs
-
 put-joined-requires : tie.Need-put-joined-requires
 put-joined-requires c κs =
     let a = c .before .before .before .before .before .before .before .before .before .args in
     (fits-room (a .core .now) (a .enhanced .now) (length (a .result .now)) (sym (c .before .before .if1 .left) ∙ c .before .before .before .refusal .ensures), c .before .before .before .before .before .places-in .ensures)
-
-same-length : tie.Need-same-length
-same-length c = search needs
 
 returns-2 : tie.Need-returns-2
 returns-2 c =
@@ -42,11 +27,9 @@ pub join-spec : {M : Type 1} → statement M
 join-spec =
     tie.close
     (tie.spec
-    places-in-requires
-    slice-aggregate-refusal
-    refusal-requires
+    (λ c κs. search needs) (λ c. search needs) (λ c κs. search needs)
     returns
-    slice-aggregate-put-joined
+    (λ c. search needs)
     put-joined-requires
-    same-length
+    (λ c. search needs)
     returns-2)

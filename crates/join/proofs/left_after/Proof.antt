@@ -10,14 +10,8 @@ use Rattle.join.proofs.left_after.Lts as lts
 use Rattle.join.proofs.kind.Reads as kind-reads
 use Rattle.join.proofs.low.Reads as low-reads
 
-kind-requires : tie.Need-kind-requires
-kind-requires c κs = search needs
-
 returns : tie.Need-returns
 returns c = after-note (c .before .before .before .args .left) (c .before .before .before .args .w) (c .before .before .if1 .taken) (omega (arith, c .before .kind .ensures, c .if2 .taken))
-
-low-requires : tie.Need-low-requires
-low-requires c κs = search needs
 
 returns-2 : tie.Need-returns-2
 returns-2 c = c .low .ensures .0 ∙ after-head (c .before .before .before .before .args .left) (c .before .before .before .before .args .w) (c .before .before .before .if1 .taken) (λ e. c .before .if2 .left (c .before .before .kind .ensures ∙ e))
@@ -30,4 +24,4 @@ returns-4 c = after-data (c .before .before .args .left) (c .before .before .arg
 
 pub left-after-spec : {M : Type 1} → statement M
 left-after-spec =
-    tie.close (tie.spec kind-requires returns low-requires returns-2 returns-3 returns-4)
+    tie.close (tie.spec (λ c κs. search needs) returns (λ c κs. search needs) returns-2 returns-3 returns-4)

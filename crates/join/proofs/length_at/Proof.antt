@@ -15,37 +15,10 @@ use Rattle.join.proofs.number.Reads as number-reads
 use Rattle.join.proofs.partner_length.Reads as partner-length-reads
 use Rattle.join.proofs.run_end.Reads as run-end-reads
 
-mul-w : tie.Need-mul-w
-mul-w c = search needs
-
-shared-slice-read-w : tie.Need-shared-slice-read-w
-shared-slice-read-w c = search needs
-
-is-packet-requires : tie.Need-is-packet-requires
-is-packet-requires c κs = search needs
-
 returns : tie.Need-returns
 returns c =
     let a = c .before .before .before .before .before .before .args in
     (ap length (first-none (a .core .now) (a .enhanced .now) (a .i) (omega arith) (sym (c .before .is-packet .ensures) ∙ not-true _ (c .if1 .taken))), omega arith)
-
-add-run-end : tie.Need-add-run-end
-add-run-end c = search needs
-
-run-end-requires : tie.Need-run-end-requires
-run-end-requires c κs = search needs
-
-sub-result : tie.Need-sub-result
-sub-result c = search needs
-
-number-requires : tie.Need-number-requires
-number-requires c κs = search needs
-
-partner-length-requires : tie.Need-partner-length-requires
-partner-length-requires c κs = search needs
-
-add-result : tie.Need-add-result
-add-result c = search needs
 
 returns-2 : tie.Need-returns-2
 returns-2 c =
@@ -61,14 +34,7 @@ pub length-at-spec : {M : Type 1} → statement M
 length-at-spec =
     tie.close
     (tie.spec
-    mul-w
-    shared-slice-read-w
-    is-packet-requires
+    (λ c. search needs) (λ c. search needs) (λ c κs. search needs)
     returns
-    add-run-end
-    run-end-requires
-    sub-result
-    number-requires
-    partner-length-requires
-    add-result
+    (λ c. search needs) (λ c κs. search needs) (λ c. search needs) (λ c κs. search needs) (λ c κs. search needs) (λ c. search needs)
     returns-2)

@@ -20,26 +20,11 @@ abbrev μ-loop : tie.MeasureT-loop
 loop-holds : tie.Need-loop-holds Inv-loop μ-loop
 loop-holds c = (omega arith, omega arith, refl)
 
-mul-is-packet : tie.Need-mul-is-packet Inv-loop μ-loop
-mul-is-packet c = search needs
-
-shared-slice-read-is-packet : tie.Need-shared-slice-read-is-packet Inv-loop μ-loop
-shared-slice-read-is-packet c = search needs
-
-is-packet-requires : tie.Need-is-packet-requires Inv-loop μ-loop
-is-packet-requires c κs = search needs
-
 returns : tie.Need-returns Inv-loop μ-loop
 returns c =
     let l = c .before .before .before .before .loop in
     let a = c .before .before .before .before .before .before .args in
     ((omega arith, omega arith), (l .inv .2, λ h. sym (c .before .is-packet .ensures) ∙ c .if1 .taken))
-
-add-i : tie.Need-add-i Inv-loop μ-loop
-add-i c = search needs
-
-loop-less : tie.Need-loop-less Inv-loop μ-loop
-loop-less c = search needs
 
 loop-again : tie.Need-loop-again Inv-loop μ-loop
 loop-again c =
@@ -60,11 +45,8 @@ next-packet-spec =
     Inv-loop
     μ-loop
     loop-holds
-    mul-is-packet
-    shared-slice-read-is-packet
-    is-packet-requires
+    (λ c. search needs) (λ c. search needs) (λ c κs. search needs)
     returns
-    add-i
-    loop-less
+    (λ c. search needs) (λ c. search needs)
     loop-again
     returns-2)

@@ -13,17 +13,11 @@ use Rattle.join.proofs.out_of_order.Lts as lts
 use Rattle.join.proofs.next_packet.Reads as next-packet-reads
 use Rattle.join.proofs.rising.Reads as rising-reads
 
-next-packet-requires : tie.Need-next-packet-requires
-next-packet-requires c κs = search needs
-
 returns : tie.Need-returns
 returns c =
     let a = c .before .before .before .before .args in
     let s = c .before .next-packet in
     no-core (a .core .now) (a .enhanced .now) (s .result) (s .ensures .1 .0) (c .if1 .taken)
-
-rising-requires : tie.Need-rising-requires
-rising-requires c κs = search needs
 
 returns-2 : tie.Need-returns-2
 returns-2 c =
@@ -31,9 +25,6 @@ returns-2 c =
     let s = c .before .before .before .next-packet in
     let h : s .result < length (a .core .now) = omega arith in
     core-falls (a .core .now) (a .enhanced .now) (s .result) (s .ensures .1 .0) h (s .ensures .1 .1 h) (sym (c .before .rising .ensures) ∙ not-true _ (c .if2 .taken))
-
-rising-requires-2 : tie.Need-rising-requires-2
-rising-requires-2 c κs = search needs
 
 returns-3 : tie.Need-returns-3
 returns-3 c =
@@ -46,4 +37,4 @@ returns-3 c =
 pub out-of-order-spec : {M : Type 1} → statement M
 out-of-order-spec =
     tie.close
-    (tie.spec next-packet-requires returns rising-requires returns-2 rising-requires-2 returns-3)
+    (tie.spec (λ c κs. search needs) returns (λ c κs. search needs) returns-2 (λ c κs. search needs) returns-3)

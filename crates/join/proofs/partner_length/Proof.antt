@@ -10,20 +10,8 @@ use Rattle.join.proofs.partner_length.Lts as lts
 use Rattle.join.proofs.place_of.Reads as place-of-reads
 use Rattle.join.proofs.run_end.Reads as run-end-reads
 
-place-of-requires : tie.Need-place-of-requires
-place-of-requires c κs = search needs
-
 returns : tie.Need-returns
 returns c = (ap length (partner-none (c .before .before .before .before .args .enhanced .now) (c .before .before .before .before .args .n) (c .before .place-of .result) (c .before .place-of .ensures .1) (c .if1 .taken)), omega arith)
-
-add-run-end : tie.Need-add-run-end
-add-run-end c = search needs
-
-run-end-requires : tie.Need-run-end-requires
-run-end-requires c κs = search needs
-
-sub-result : tie.Need-sub-result
-sub-result c = search needs
 
 returns-2 : tie.Need-returns-2
 returns-2 c =
@@ -33,4 +21,4 @@ returns-2 c =
 
 pub partner-length-spec : {M : Type 1} → statement M
 partner-length-spec =
-    tie.close (tie.spec place-of-requires returns add-run-end run-end-requires sub-result returns-2)
+    tie.close (tie.spec (λ c κs. search needs) returns (λ c. search needs) (λ c κs. search needs) (λ c. search needs) returns-2)

@@ -2,14 +2,8 @@ use borrow.Author.Needs.{needs}
 use Rattle.join.proofs.place_of.Statement.{statement}
 use Rattle.join.proofs.place_of.Tie as tie
 
-mul-result : tie.Need-mul-result
-mul-result c = search needs
-
-shared-slice-read-result : tie.Need-shared-slice-read-result
-shared-slice-read-result c = search needs
-
 returns : tie.Need-returns
 returns c = c .before .pre .1 .1 (c .before .args .n) (c .before .pre .0)
 
 pub place-of-spec : {M : Type 1} → statement M
-place-of-spec = tie.close (tie.spec mul-result shared-slice-read-result returns)
+place-of-spec = tie.close (tie.spec (λ c. search needs) (λ c. search needs) returns)

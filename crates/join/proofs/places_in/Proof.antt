@@ -17,20 +17,11 @@ abbrev μ-loop : tie.MeasureT-loop
 loop-holds : tie.Need-loop-holds Inv-loop μ-loop
 loop-holds c = (omega arith, places-begin (c .before .args .log .now))
 
-sub-i : tie.Need-sub-i Inv-loop μ-loop
-sub-i c = search needs
-
-slice-aggregate-keep-place : tie.Need-slice-aggregate-keep-place Inv-loop μ-loop
-slice-aggregate-keep-place c = search needs
-
 keep-place-requires : tie.Need-keep-place-requires Inv-loop μ-loop
 keep-place-requires c κs =
     let l = c .before .before .loop in
     let e : l .i - 1 + 1 ≡ l .i = omega arith in
     (omega arith, subst (λ (k : ℕ). Placed (l .places) (c .before .before .before .before .args .log .now) k) (sym e) (l .inv .1))
-
-loop-less : tie.Need-loop-less Inv-loop μ-loop
-loop-less c = search needs
 
 loop-again : tie.Need-loop-again Inv-loop μ-loop
 loop-again c = (omega arith, c .before .keep-place .ensures)
@@ -48,9 +39,8 @@ places-in-spec =
     Inv-loop
     μ-loop
     loop-holds
-    sub-i
-    slice-aggregate-keep-place
+    (λ c. search needs) (λ c. search needs)
     keep-place-requires
-    loop-less
+    (λ c. search needs)
     loop-again
     returns)

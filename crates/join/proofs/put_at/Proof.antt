@@ -21,38 +21,11 @@ use Rattle.join.proofs.put_partner.Reads as put-partner-reads
 use Rattle.join.proofs.put_words.Reads as put-words-reads
 use Rattle.join.proofs.run_end.Reads as run-end-reads
 
-mul-w : tie.Need-mul-w
-mul-w c = search needs
-
-shared-slice-read-w : tie.Need-shared-slice-read-w
-shared-slice-read-w c = search needs
-
-is-packet-requires : tie.Need-is-packet-requires
-is-packet-requires c κs = search needs
-
 returns : tie.Need-returns
 returns c =
     let a = c .before .before .before .before .before .before .before .args in
     put-none (a .result .now) (firstJoined (a .enhanced .now) (drop (a .i) (a .core .now))) (a .at)
     (first-none (a .core .now) (a .enhanced .now) (a .i) (omega arith) (sym (c .before .is-packet .ensures) ∙ not-true _ (c .if1 .taken)))
-
-add-run-end : tie.Need-add-run-end
-add-run-end c = search needs
-
-run-end-requires : tie.Need-run-end-requires
-run-end-requires c κs = search needs
-
-mul-put-words : tie.Need-mul-put-words
-mul-put-words c = search needs
-
-sub-put-words : tie.Need-sub-put-words
-sub-put-words c = search needs
-
-part-put-words-start : tie.Need-part-put-words-start
-part-put-words-start c = search needs
-
-part-put-words-end : tie.Need-part-put-words-end
-part-put-words-end c = search needs
 
 put-words-requires : tie.Need-put-words-requires
 put-words-requires c κs =
@@ -64,15 +37,6 @@ put-words-requires c κs =
     let p = part-length (a .i) (e .result) (a .core .now) (omega arith) (omega arith) in
     omega arith
 
-sub-put-partner : tie.Need-sub-put-partner
-sub-put-partner c = search needs
-
-add-put-partner : tie.Need-add-put-partner
-add-put-partner c = search needs
-
-number-requires : tie.Need-number-requires
-number-requires c κs = search needs
-
 put-partner-requires : tie.Need-put-partner-requires
 put-partner-requires c κs =
     let a = c .before .before .before .before .before .before .before .before .before .before .before .before .before .before .before .args in
@@ -83,9 +47,6 @@ put-partner-requires c κs =
     let q = ap (λ (n : ℕ). length (partner (a .enhanced .now) n)) (c .number .ensures .0) in
     let k = c .before .before .before .before .put-words .kept .0 in
     (omega arith, (c .number .ensures .1, c .before .before .before .before .before .before .before .before .before .before .before .before .before .before .before .pre .1 .1))
-
-same-length : tie.Need-same-length
-same-length c = search needs
 
 returns-2 : tie.Need-returns-2
 returns-2 c =
@@ -110,20 +71,11 @@ pub put-at-spec : {M : Type 1} → statement M
 put-at-spec =
     tie.close
     (tie.spec
-    mul-w
-    shared-slice-read-w
-    is-packet-requires
+    (λ c. search needs) (λ c. search needs) (λ c κs. search needs)
     returns
-    add-run-end
-    run-end-requires
-    mul-put-words
-    sub-put-words
-    part-put-words-start
-    part-put-words-end
+    (λ c. search needs) (λ c κs. search needs) (λ c. search needs) (λ c. search needs) (λ c. search needs) (λ c. search needs)
     put-words-requires
-    sub-put-partner
-    add-put-partner
-    number-requires
+    (λ c. search needs) (λ c. search needs) (λ c κs. search needs)
     put-partner-requires
-    same-length
+    (λ c. search needs)
     returns-2)

@@ -35,12 +35,6 @@ put-at-requires c κs =
     let s = joined-size (a .core .now) (a .enhanced .now) (l .i) (omega arith) in
     (omega arith, (omega arith, c .before .before .before .before .before .before .before .pre .1))
 
-add-i : tie.Need-add-i Inv-loop μ-loop
-add-i c = search needs
-
-loop-less : tie.Need-loop-less Inv-loop μ-loop
-loop-less c = search needs
-
 loop-again : tie.Need-loop-again Inv-loop μ-loop
 loop-again c =
     let l = c .before .before .before .before .before .loop in
@@ -56,9 +50,6 @@ loop-again c =
           ∙ ap (putAt (l .result) (l .at)) (sym (joined-next (a .core .now) (a .enhanced .now) (l .i) (omega arith))) ∙ l .inv .2,
       g .kept .0 ∙ l .inv .3,
     )
-
-same-length : tie.Need-same-length Inv-loop μ-loop
-same-length c = search needs
 
 returns : tie.Need-returns Inv-loop μ-loop
 returns c =
@@ -77,8 +68,7 @@ put-joined-spec =
     μ-loop
     loop-holds
     put-at-requires
-    add-i
-    loop-less
+    (λ c. search needs) (λ c. search needs)
     loop-again
-    same-length
+    (λ c. search needs)
     returns)

@@ -17,26 +17,8 @@ use Rattle.join.proofs.place_of.Reads as place-of-reads
 use Rattle.join.proofs.put_words.Reads as put-words-reads
 use Rattle.join.proofs.run_end.Reads as run-end-reads
 
-place-of-requires : tie.Need-place-of-requires
-place-of-requires c κs = search needs
-
 returns : tie.Need-returns
 returns c = put-none (c .before .before .before .before .before .args .result .now) (partner (c .before .before .before .before .before .args .enhanced .now) (c .before .before .before .before .before .args .n)) (c .before .before .before .before .before .args .at) (partner-none (c .before .before .before .before .before .args .enhanced .now) (c .before .before .before .before .before .args .n) (c .before .place-of .result) (c .before .place-of .ensures .1) (c .if1 .taken))
-
-add-run-end : tie.Need-add-run-end
-add-run-end c = search needs
-
-run-end-requires : tie.Need-run-end-requires
-run-end-requires c κs = search needs
-
-mul-result : tie.Need-mul-result
-mul-result c = search needs
-
-shared-slice-read-result : tie.Need-shared-slice-read-result
-shared-slice-read-result c = search needs
-
-mul-result-2 : tie.Need-mul-result-2
-mul-result-2 c = search needs
 
 slice-write-result : tie.Need-slice-write-result
 slice-write-result c =
@@ -44,24 +26,6 @@ slice-write-result c =
     let f = c .before .before .before .place-of in
     let e = c .before .run-end in
     omega (arith, partner-size (a .enhanced .now) (a .n) (f .result) (f .ensures .1) (e .result) (omega arith) (omega arith) (omega arith) (e .ensures .1))
-
-add-put-words : tie.Need-add-put-words
-add-put-words c = search needs
-
-add-put-words-2 : tie.Need-add-put-words-2
-add-put-words-2 c = search needs
-
-mul-put-words : tie.Need-mul-put-words
-mul-put-words c = search needs
-
-sub-put-words : tie.Need-sub-put-words
-sub-put-words c = search needs
-
-part-put-words-start : tie.Need-part-put-words-start
-part-put-words-start c = search needs
-
-part-put-words-end : tie.Need-part-put-words-end
-part-put-words-end c = search needs
 
 put-words-requires : tie.Need-put-words-requires
 put-words-requires c κs =
@@ -71,12 +35,6 @@ put-words-requires c κs =
     let s = partner-size (a .enhanced .now) (a .n) (f .result) (f .ensures .1) (e .result) (omega arith) (omega arith) (omega arith) (e .ensures .1) in
     let p = part-length (f .result + 1) (e .result) (a .enhanced .now) (omega arith) (omega arith) in
     simp length-set (omega arith)
-
-sub-result : tie.Need-sub-result
-sub-result c = search needs
-
-add-result : tie.Need-add-result
-add-result c = search needs
 
 same-length : tie.Need-same-length
 same-length c = omega (arith, simp length-set at (c .before .before .put-words .kept .0))
@@ -101,22 +59,12 @@ pub put-partner-spec : {M : Type 1} → statement M
 put-partner-spec =
     tie.close
     (tie.spec
-    place-of-requires
+    (λ c κs. search needs)
     returns
-    add-run-end
-    run-end-requires
-    mul-result
-    shared-slice-read-result
-    mul-result-2
+    (λ c. search needs) (λ c κs. search needs) (λ c. search needs) (λ c. search needs) (λ c. search needs)
     slice-write-result
-    add-put-words
-    add-put-words-2
-    mul-put-words
-    sub-put-words
-    part-put-words-start
-    part-put-words-end
+    (λ c. search needs) (λ c. search needs) (λ c. search needs) (λ c. search needs) (λ c. search needs) (λ c. search needs)
     put-words-requires
-    sub-result
-    add-result
+    (λ c. search needs) (λ c. search needs)
     same-length
     returns-2)

@@ -10,14 +10,8 @@ use Rattle.join.proofs.out_of_order.Reads as out-of-order-reads
 use Rattle.join.proofs.is_log.Reads as is-log-reads
 use Rattle.join.proofs.has_room.Reads as has-room-reads
 
-is-log-requires : tie.Need-is-log-requires
-is-log-requires c κs = search needs
-
 returns : tie.Need-returns
 returns c = core-no-log (c .before .before .before .before .before .args .core .now) (c .before .before .before .before .before .args .enhanced .now) (c .before .before .before .before .before .args .room) (sym (c .before .is-log .ensures) ∙ not-true _ (c .if1 .taken))
-
-is-log-requires-2 : tie.Need-is-log-requires-2
-is-log-requires-2 c κs = search needs
 
 returns-2 : tie.Need-returns-2
 returns-2 c =
@@ -25,17 +19,11 @@ returns-2 c =
     enhanced-no-log (a .core .now) (a .enhanced .now) (a .room) (sym (c .before .before .before .is-log .ensures) ∙ not-false _ (c .before .before .if1 .left))
     (sym (c .before .is-log2 .ensures) ∙ not-true _ (c .if2 .taken))
 
-out-of-order-requires : tie.Need-out-of-order-requires
-out-of-order-requires c κs = search needs
-
 returns-3 : tie.Need-returns-3
 returns-3 c =
     let a = c .before .before .before .before .before .before .before .before .before .args in
     not-in-order (a .core .now) (a .enhanced .now) (sym (c .before .before .before .before .before .is-log .ensures) ∙ not-false _ (c .before .before .before .before .if1 .left))
     (sym (c .before .before .before .is-log2 .ensures) ∙ not-false _ (c .before .before .if2 .left)) (a .room) (sym (c .before .out-of-order .ensures) ∙ c .if3 .taken)
-
-has-room-requires : tie.Need-has-room-requires
-has-room-requires c κs = search needs
 
 returns-4 : tie.Need-returns-4
 returns-4 c =
@@ -55,12 +43,12 @@ pub refusal-spec : {M : Type 1} → statement M
 refusal-spec =
     tie.close
     (tie.spec
-    is-log-requires
+    (λ c κs. search needs)
     returns
-    is-log-requires-2
+    (λ c κs. search needs)
     returns-2
-    out-of-order-requires
+    (λ c κs. search needs)
     returns-3
-    has-room-requires
+    (λ c κs. search needs)
     returns-4
     returns-5)

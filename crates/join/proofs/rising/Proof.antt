@@ -21,26 +21,8 @@ Inv-loop log start first last₀ i₀ last i = (i ≤ length log) × (risingAfte
 abbrev μ-loop : tie.MeasureT-loop
 μ-loop log start first last₀ i₀ last i = length log - i
 
-next-packet-requires : tie.Need-next-packet-requires Inv-loop μ-loop
-next-packet-requires c κs = search needs
-
 returns : tie.Need-returns Inv-loop μ-loop
 returns c = rising-none (c .before .before .before .args .log .now) (c .before .next-packet .result) (c .before .next-packet .ensures .1 .0) (c .if1 .taken)
-
-mul-number : tie.Need-mul-number Inv-loop μ-loop
-mul-number c = search needs
-
-shared-slice-read-number : tie.Need-shared-slice-read-number Inv-loop μ-loop
-shared-slice-read-number c = search needs
-
-number-requires : tie.Need-number-requires Inv-loop μ-loop
-number-requires c κs = search needs
-
-add-next-packet : tie.Need-add-next-packet Inv-loop μ-loop
-add-next-packet c = search needs
-
-next-packet-requires-2 : tie.Need-next-packet-requires-2 Inv-loop μ-loop
-next-packet-requires-2 c κs = search needs
 
 loop-holds : tie.Need-loop-holds Inv-loop μ-loop
 loop-holds c =
@@ -52,18 +34,6 @@ loop-holds c =
       c .next-packet2 .ensures .1 .1,
     )
 
-mul-number-2 : tie.Need-mul-number-2 Inv-loop μ-loop
-mul-number-2 c = search needs
-
-shared-slice-read-number-2 : tie.Need-shared-slice-read-number-2 Inv-loop μ-loop
-shared-slice-read-number-2 c = search needs
-
-number-requires-2 : tie.Need-number-requires-2 Inv-loop μ-loop
-number-requires-2 c κs = search needs
-
-counted-requires : tie.Need-counted-requires Inv-loop μ-loop
-counted-requires c κs = search needs
-
 returns-2 : tie.Need-returns-2 Inv-loop μ-loop
 returns-2 c =
     let l = c .before .before .before .before .before .loop in
@@ -72,15 +42,6 @@ returns-2 c =
     let h : l .i < length (a .log .now) = omega arith in
     rising-stop (a .log .now) (l .i) f (l .last) (c .before .counted .result) h (l .inv .2 h) (c .before .counted .ensures ∙ ap (countedFrom f) (c .before .before .number2 .ensures .0)) (omega arith)
     ∙ l .inv .1
-
-add-next-packet-2 : tie.Need-add-next-packet-2 Inv-loop μ-loop
-add-next-packet-2 c = search needs
-
-next-packet-requires-3 : tie.Need-next-packet-requires-3 Inv-loop μ-loop
-next-packet-requires-3 c κs = search needs
-
-loop-less : tie.Need-loop-less Inv-loop μ-loop
-loop-less c = search needs
 
 loop-again : tie.Need-loop-again Inv-loop μ-loop
 loop-again c =
@@ -104,21 +65,12 @@ rising-spec =
     (tie.spec
     Inv-loop
     μ-loop
-    next-packet-requires
+    (λ c κs. search needs)
     returns
-    mul-number
-    shared-slice-read-number
-    number-requires
-    add-next-packet
-    next-packet-requires-2
+    (λ c. search needs) (λ c. search needs) (λ c κs. search needs) (λ c. search needs) (λ c κs. search needs)
     loop-holds
-    mul-number-2
-    shared-slice-read-number-2
-    number-requires-2
-    counted-requires
+    (λ c. search needs) (λ c. search needs) (λ c κs. search needs) (λ c κs. search needs)
     returns-2
-    add-next-packet-2
-    next-packet-requires-3
-    loop-less
+    (λ c. search needs) (λ c κs. search needs) (λ c. search needs)
     loop-again
     returns-3)

@@ -8,12 +8,6 @@ use Rattle.latency.proofs.added.Reads as reads
 use Rattle.latency.proofs.added.Lts as lts
 use Rattle.latency.proofs.wide.Reads as wide-reads
 
-rem-if1 : tie.Need-rem-if1
-rem-if1 c = search needs
-
-div-i : tie.Need-div-i
-div-i c = search needs
-
 mul-wide : tie.Need-mul-wide
 mul-wide c =
     let a = c .before .before .args in
@@ -23,9 +17,6 @@ shared-slice-read-wide : tie.Need-shared-slice-read-wide
 shared-slice-read-wide c =
     let a = c .before .before .before .args in
     at-count (a .n) (a .t) (a .counts .now) (omega arith) (omega arith)
-
-wide-requires : tie.Need-wide-requires
-wide-requires c κs = search needs
 
 returns : tie.Need-returns
 returns c =
@@ -40,4 +31,4 @@ returns-2 c =
 pub added-spec : {M : Type 1} → statement M
 added-spec =
     tie.close
-    (tie.spec rem-if1 div-i mul-wide shared-slice-read-wide wide-requires returns returns-2)
+    (tie.spec (λ c. search needs) (λ c. search needs) mul-wide shared-slice-read-wide (λ c κs. search needs) returns returns-2)

@@ -15,11 +15,8 @@ returns c = refused-none (c .before .before .args .counts .now) (c .if1 .taken)
 returns-2 : tie.Need-returns-2
 returns-2 c = refused-many (c .before .before .before .args .counts .now) (c .before .if1 .left) (omega arith)
 
-over-most-requires : tie.Need-over-most-requires
-over-most-requires c κs = search needs
-
 returns-3 : tie.Need-returns-3
 returns-3 c = c .over-most .ensures ∙ refused-over (c .before .before .before .before .args .counts .now) (c .before .before .if1 .left) (omega arith)
 
 pub counts-refused-spec : {M : Type 1} → statement M
-counts-refused-spec = tie.close (tie.spec returns returns-2 over-most-requires returns-3)
+counts-refused-spec = tie.close (tie.spec returns returns-2 (λ c κs. search needs) returns-3)

@@ -7,9 +7,6 @@ use Rattle.latency.proofs.is_dry.Reads as reads
 use Rattle.latency.proofs.is_dry.Lts as lts
 use Rattle.latency.proofs.start.Reads as start-reads
 
-start-requires : tie.Need-start-requires
-start-requires c κs = search needs
-
 returns : tie.Need-returns
 returns c =
     let a = c .before .before .args in
@@ -21,4 +18,4 @@ returns-2 c =
     late-dry (a .v) (a .t) (a .waiting) (omega arith)
 
 pub is-dry-spec : {M : Type 1} → statement M
-is-dry-spec = tie.close (tie.spec start-requires returns returns-2)
+is-dry-spec = tie.close (tie.spec (λ c κs. search needs) returns returns-2)

@@ -30,9 +30,6 @@ add-waiting c =
     let s = c .before .before .before .before in
     omega (arith, turn-fits (s .args .n) (s .args .counts .now) (s .args .v) (l .t) (l .kept) (c .added .result) (l .inv .1) (c .added .ensures) (s .pre .0) (omega (arith, s .pre .1)))
 
-taken-requires : tie.Need-taken-requires Inv-loop μ-loop
-taken-requires c κs = search needs
-
 sub-kept : tie.Need-sub-kept Inv-loop μ-loop
 sub-kept c = omega (arith, c .taken .ensures .1)
 
@@ -68,7 +65,7 @@ left-after-spec =
     loop-holds
     added-requires
     add-waiting
-    taken-requires
+    (λ c κs. search needs)
     sub-kept
     add-t
     loop-less

@@ -39,27 +39,12 @@ add-waiting c =
     let s = c .before .before .before .before in
     omega (arith, turn-fits (s .args .n) (s .args .counts .now) (s .args .v) (l .t) (l .kept) (c .added .result) (l .inv .1) (c .added .ensures) (s .pre) (omega arith))
 
-is-dry-requires : tie.Need-is-dry-requires Inv-loop μ-loop
-is-dry-requires c κs = search needs
-
-one-if-requires : tie.Need-one-if-requires Inv-loop μ-loop
-one-if-requires c κs = search needs
-
 add-t14 : tie.Need-add-t14 Inv-loop μ-loop
 add-t14 c =
     let l = c .before .before .before .before .before .loop in
     let s = c .before .before .before .before .before .before .before in
     let small = tally-small (s .args .n) (s .args .counts .now) (s .pre) (s .args .v) (l .t) in
     omega (arith, small .dry, ap (λ (q : Tally). q .dry) (l .inv .2), one-most (c .before .one-if .result) (c .before .before .is-dry .result) (c .before .one-if .ensures), ticks-most (s .args .n) (s .args .counts .now) (s .pre))
-
-first-of-requires : tie.Need-first-of-requires Inv-loop μ-loop
-first-of-requires c κs = search needs
-
-greater-requires : tie.Need-greater-requires Inv-loop μ-loop
-greater-requires c κs = search needs
-
-taken-requires : tie.Need-taken-requires Inv-loop μ-loop
-taken-requires c κs = search needs
 
 sub-kept : tie.Need-sub-kept Inv-loop μ-loop
 sub-kept c = omega (arith, c .taken .ensures .1)
@@ -107,12 +92,9 @@ run-spec =
     loop-holds
     added-requires
     add-waiting
-    is-dry-requires
-    one-if-requires
+    (λ c κs. search needs) (λ c κs. search needs)
     add-t14
-    first-of-requires
-    greater-requires
-    taken-requires
+    (λ c κs. search needs) (λ c κs. search needs) (λ c κs. search needs)
     sub-kept
     add-t
     loop-less

@@ -9,12 +9,9 @@ use Rattle.latency.proofs.runs_dry.Reads as reads
 use Rattle.latency.proofs.runs_dry.Lts as lts
 use Rattle.latency.proofs.run.Reads as run-reads
 
-run-requires : tie.Need-run-requires
-run-requires c κs = search needs
-
 returns : tie.Need-returns
 unfolding runsDry
 returns c = ap (λ (q : Tally). ltb 0 (q .dry)) (c .before .run .ensures)
 
 pub runs-dry-spec : {M : Type 1} → statement M
-runs-dry-spec = tie.close (tie.spec run-requires returns)
+runs-dry-spec = tie.close (tie.spec (λ c κs. search needs) returns)

@@ -69,9 +69,6 @@ slice-write-row c =
     let s = c .before .before .before .before .before .before in
     omega (arith, s .pre .1, l .inv .3)
 
-taken-requires : tie.Need-taken-requires Inv-loop μ-loop
-taken-requires c κs = search needs
-
 sub-kept : tie.Need-sub-kept Inv-loop μ-loop
 sub-kept c = omega (arith, c .taken .ensures .1)
 
@@ -96,9 +93,6 @@ loop-again c =
       simp length-set (l .inv .3),
     )
 
-same-length : tie.Need-same-length Inv-loop μ-loop
-same-length c = search needs
-
 returns : tie.Need-returns Inv-loop μ-loop
 returns c =
     let l = c .before .loop in
@@ -119,10 +113,10 @@ show-spec =
     cast-row
     mul-row
     slice-write-row
-    taken-requires
+    (λ c κs. search needs)
     sub-kept
     add-k
     loop-less
     loop-again
-    same-length
+    (λ c. search needs)
     returns)

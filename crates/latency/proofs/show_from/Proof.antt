@@ -19,20 +19,11 @@ mul-shown-count c =
     let s = c .before .before in
     omega (arith, ticks-most (s .args .n) (s .args .counts .now) (s .pre))
 
-shown-count-requires : tie.Need-shown-count-requires
-shown-count-requires c κs = search needs
-
 returns : tie.Need-returns
 returns c =
     let a = c .before .before .before .before .args in
     let e = c .before .shown-count .ensures in
     (sym (c .if1 .taken) ∙ e, row-none (a .n) (a .counts .now) (a .v) (a .first) _ (now (a .row)) (sym e ∙ c .if1 .taken))
-
-show-requires : tie.Need-show-requires
-show-requires c κs = search needs
-
-same-length : tie.Need-same-length
-same-length c = search needs
 
 returns-2 : tie.Need-returns-2
 returns-2 c =
@@ -45,4 +36,4 @@ returns-2 c =
 pub show-from-spec : {M : Type 1} → statement M
 show-from-spec =
     tie.close
-    (tie.spec mul-shown-count shown-count-requires returns show-requires same-length returns-2)
+    (tie.spec mul-shown-count (λ c κs. search needs) returns (λ c κs. search needs) (λ c. search needs) returns-2)

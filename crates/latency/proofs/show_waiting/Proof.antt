@@ -14,15 +14,6 @@ use Rattle.latency.proofs.show_waiting.Lts as lts
 use Rattle.latency.proofs.show_from.Reads as show-from-reads
 use Rattle.latency.proofs.spacing_for.Reads as spacing-for-reads
 
-spacing-for-requires : tie.Need-spacing-for-requires
-spacing-for-requires c κs = search needs
-
-enum-known-k : tie.Need-enum-known-k
-enum-known-k c = search needs
-
-enum-known-n : tie.Need-enum-known-n
-enum-known-n c = search needs
-
 show-from-requires : tie.Need-show-from-requires
 show-from-requires c κs =
     let u = c .before .before in
@@ -49,9 +40,6 @@ returns c =
       row-by (a .mode) (a .stream) (a .counts .now) _ _ e (u .k .given .1) (a .v) (a .first) (now (a .row)),
     )
 
-same-length : tie.Need-same-length
-same-length c = search needs
-
 returns-2 : tie.Need-returns-2
 returns-2 c =
     let w = c .before .before in
@@ -67,11 +55,9 @@ pub show-waiting-spec : {M : Type 1} → statement M
 show-waiting-spec =
     tie.close
     (tie.spec
-    spacing-for-requires
-    enum-known-k
-    enum-known-n
+    (λ c κs. search needs) (λ c. search needs) (λ c. search needs)
     show-from-requires
     cast-t14
     returns
-    same-length
+    (λ c. search needs)
     returns-2)

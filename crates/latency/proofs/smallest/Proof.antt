@@ -9,15 +9,6 @@ use Rattle.latency.proofs.smallest.Lts as lts
 use Rattle.latency.proofs.smallest_of.Reads as smallest-of-reads
 use Rattle.latency.proofs.spacing_for.Reads as spacing-for-reads
 
-spacing-for-requires : tie.Need-spacing-for-requires
-spacing-for-requires c κs = search needs
-
-enum-known-k : tie.Need-enum-known-k
-enum-known-k c = search needs
-
-enum-known-n : tie.Need-enum-known-n
-enum-known-n c = search needs
-
 smallest-of-requires : tie.Need-smallest-of-requires
 smallest-of-requires c κs =
     let u = c .before in
@@ -40,9 +31,7 @@ pub smallest-spec : {M : Type 1} → statement M
 smallest-spec =
     tie.close
     (tie.spec
-    spacing-for-requires
-    enum-known-k
-    enum-known-n
+    (λ c κs. search needs) (λ c. search needs) (λ c. search needs)
     smallest-of-requires
     returns
     returns-2)

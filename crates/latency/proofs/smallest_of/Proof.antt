@@ -20,9 +20,6 @@ abbrev μ-loop : tie.MeasureT-loop
 loop-holds : tie.Need-loop-holds Inv-loop μ-loop
 loop-holds c = (omega arith, refl)
 
-runs-dry-requires : tie.Need-runs-dry-requires Inv-loop μ-loop
-runs-dry-requires c κs = search needs
-
 returns : tie.Need-returns Inv-loop μ-loop
 returns c =
     let l = c .before .before .before .loop in
@@ -54,7 +51,7 @@ smallest-of-spec =
     Inv-loop
     μ-loop
     loop-holds
-    runs-dry-requires
+    (λ c κs. search needs)
     returns
     add-v
     loop-less

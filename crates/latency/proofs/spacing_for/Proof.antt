@@ -9,27 +9,12 @@ use Rattle.latency.proofs.counts_refused.Reads as counts-refused-reads
 use Rattle.latency.proofs.ticks_apart.Reads as ticks-apart-reads
 use Rattle.modes.proofs.look_up.Reads as look-up-reads
 
-look-up-requires : tie.Need-look-up-requires
-look-up-requires c κs = search needs
-
-enum-known-n : tie.Need-enum-known-n
-enum-known-n c = search needs
-
-enum-known-m : tie.Need-enum-known-m
-enum-known-m c = search needs
-
-counts-refused-requires : tie.Need-counts-refused-requires
-counts-refused-requires c κs = search needs
-
 returns : tie.Need-returns
 returns c =
     let u = c .before .before .before in
     let a = u .before .before .before .before .args in
     spacing-by (a .mode) (a .stream) (a .counts .now) _ _ _ (u .before .before .look-up .ensures) (u .m .given .1)
     (listed-refused (a .mode) (a .stream) (a .counts .now) (u .m .given .0 .0) (sym (c .before .counts-refused .ensures) ∙ c .if1 .taken))
-
-ticks-apart-requires : tie.Need-ticks-apart-requires
-ticks-apart-requires c κs = search needs
 
 returns-2 : tie.Need-returns-2
 returns-2 c =
@@ -49,11 +34,8 @@ pub spacing-for-spec : {M : Type 1} → statement M
 spacing-for-spec =
     tie.close
     (tie.spec
-    look-up-requires
-    enum-known-n
-    enum-known-m
-    counts-refused-requires
+    (λ c κs. search needs) (λ c. search needs) (λ c. search needs) (λ c κs. search needs)
     returns
-    ticks-apart-requires
+    (λ c κs. search needs)
     returns-2
     returns-3)

@@ -7,9 +7,6 @@ use Rattle.latency.proofs.taken.Reads as reads
 use Rattle.latency.proofs.taken.Lts as lts
 use Rattle.latency.proofs.start.Reads as start-reads
 
-start-requires : tie.Need-start-requires
-start-requires c κs = search needs
-
 returns : tie.Need-returns
 returns c =
     let a = c .before .before .args in
@@ -26,4 +23,4 @@ returns-3 c =
     (one-taken (a .v) (a .t) (a .waiting) (omega arith) (λ e. omega arith), omega arith)
 
 pub taken-spec : {M : Type 1} → statement M
-taken-spec = tie.close (tie.spec start-requires returns returns-2 returns-3)
+taken-spec = tie.close (tie.spec (λ c κs. search needs) returns returns-2 returns-3)

@@ -10,9 +10,6 @@ use Rattle.latency.proofs.trial_of.Reads as reads
 use Rattle.latency.proofs.trial_of.Lts as lts
 use Rattle.latency.proofs.run.Reads as run-reads
 
-run-requires : tie.Need-run-requires
-run-requires c κs = search needs
-
 mul-t6 : tie.Need-mul-t6
 mul-t6 c =
     let s = c .before .before in
@@ -44,4 +41,4 @@ returns c =
     ap (trialWith (ticks (s .args .n) (s .args .counts .now))) (c .before .before .before .run .ensures)
 
 pub trial-of-spec : {M : Type 1} → statement M
-trial-of-spec = tie.close (tie.spec run-requires mul-t6 cast-t7 cast-t8 cast-t9 cast-t10 returns)
+trial-of-spec = tie.close (tie.spec (λ c κs. search needs) mul-t6 cast-t7 cast-t8 cast-t9 cast-t10 returns)

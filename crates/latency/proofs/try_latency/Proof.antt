@@ -9,15 +9,6 @@ use Rattle.latency.proofs.try_latency.Lts as lts
 use Rattle.latency.proofs.spacing_for.Reads as spacing-for-reads
 use Rattle.latency.proofs.trial_of.Reads as trial-of-reads
 
-spacing-for-requires : tie.Need-spacing-for-requires
-spacing-for-requires c κs = search needs
-
-enum-known-k : tie.Need-enum-known-k
-enum-known-k c = search needs
-
-enum-known-n : tie.Need-enum-known-n
-enum-known-n c = search needs
-
 trial-of-requires : tie.Need-trial-of-requires
 trial-of-requires c κs =
     let u = c .before in
@@ -39,4 +30,4 @@ returns-2 c =
 pub try-latency-spec : {M : Type 1} → statement M
 try-latency-spec =
     tie.close
-    (tie.spec spacing-for-requires enum-known-k enum-known-n trial-of-requires returns returns-2)
+    (tie.spec (λ c κs. search needs) (λ c. search needs) (λ c. search needs) trial-of-requires returns returns-2)

@@ -10,9 +10,6 @@ use Rattle.layout.proofs.byte_at.Tie as tie
 use Rattle.layout.proofs.byte_at.Reads as reads
 use Rattle.layout.proofs.byte_at.Lts as lts
 
-shared-slice-read-result : tie.Need-shared-slice-read-result
-shared-slice-read-result c = search needs
-
 returns : tie.Need-returns
 returns c = search needs
 
@@ -20,4 +17,4 @@ returns-2 : tie.Need-returns-2
 returns-2 c = let p : List ℕ = c .before .args .pdu .now in sym (List·getD-eq-default p 0 (c .if1 .left))
 
 pub byte-at-spec : {M : Type 1} → statement M
-byte-at-spec = tie.close (tie.spec shared-slice-read-result returns returns-2)
+byte-at-spec = tie.close (tie.spec (λ c. search needs) returns returns-2)

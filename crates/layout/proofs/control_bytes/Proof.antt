@@ -16,30 +16,6 @@ use Rattle.layout.proofs.byte12.Reads as byte12-reads
 use Rattle.layout.proofs.byte8.Reads as byte8-reads
 use Rattle.layout.proofs.byte9.Reads as byte9-reads
 
-bit-of-requires : tie.Need-bit-of-requires
-bit-of-requires c κs = search needs
-
-bit-of-requires-2 : tie.Need-bit-of-requires-2
-bit-of-requires-2 c κs = search needs
-
-bit-of-requires-3 : tie.Need-bit-of-requires-3
-bit-of-requires-3 c κs = search needs
-
-byte8-requires : tie.Need-byte8-requires
-byte8-requires c κs = search needs
-
-byte9-requires : tie.Need-byte9-requires
-byte9-requires c κs = search needs
-
-byte10-requires : tie.Need-byte10-requires
-byte10-requires c κs = search needs
-
-byte11-requires : tie.Need-byte11-requires
-byte11-requires c κs = search needs
-
-byte12-requires : tie.Need-byte12-requires
-byte12-requires c κs = search needs
-
 returns : tie.Need-returns
 unfolding controlBytes
 returns c = cc
@@ -48,12 +24,6 @@ pub control-bytes-spec : {M : Type 1} → statement M
 control-bytes-spec =
     tie.close
     (tie.spec
-    bit-of-requires
-    bit-of-requires-2
-    bit-of-requires-3
-    byte8-requires
-    byte9-requires
-    byte10-requires
-    byte11-requires
-    byte12-requires
+    (λ c κs. search needs) (λ c κs. search needs) (λ c κs. search needs) (λ c κs. search needs) (λ c κs. search needs) (λ c κs. search needs)
+    (λ c κs. search needs) (λ c κs. search needs)
     returns)

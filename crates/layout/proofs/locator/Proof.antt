@@ -14,16 +14,10 @@ use Rattle.layout.proofs.locator.Lts as lts
 use Rattle.layout.proofs.locator12.Reads as locator12-reads
 use Rattle.layout.proofs.locator16.Reads as locator16-reads
 
-locator16-requires : tie.Need-locator16-requires
-locator16-requires c κs = search needs
-
 returns : tie.Need-returns
 returns c =
     let e : eqb (c .before .before .before .args .width) 16 ≡ true = eq-eqb _ _ (c .before .if1 .taken) in
     rw e (c .locator16 .ensures)
-
-locator12-requires : tie.Need-locator12-requires
-locator12-requires c κs = search needs
 
 returns-2 : tie.Need-returns-2
 returns-2 c =
@@ -31,4 +25,4 @@ returns-2 c =
     rw e (c .locator12 .ensures)
 
 pub locator-spec : {M : Type 1} → statement M
-locator-spec = tie.close (tie.spec locator16-requires returns locator12-requires returns-2)
+locator-spec = tie.close (tie.spec (λ c κs. search needs) returns (λ c κs. search needs) returns-2)

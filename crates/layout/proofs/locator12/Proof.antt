@@ -17,60 +17,12 @@ use Rattle.layout.proofs.locator12.Lts as lts
 use Rattle.layout.proofs.byte_at.Reads as byte-at-reads
 use Rattle.layout.proofs.wide.Reads as wide-reads
 
-mul-byte-at : tie.Need-mul-byte-at
-mul-byte-at c = search needs
-
-add-byte-at : tie.Need-add-byte-at
-add-byte-at c = search needs
-
-byte-at-requires : tie.Need-byte-at-requires
-byte-at-requires c κs = search needs
-
-wide-requires : tie.Need-wide-requires
-wide-requires c κs = search needs
-
-mul-byte-at-2 : tie.Need-mul-byte-at-2
-mul-byte-at-2 c = search needs
-
-add-byte-at-2 : tie.Need-add-byte-at-2
-add-byte-at-2 c = search needs
-
-byte-at-requires-2 : tie.Need-byte-at-requires-2
-byte-at-requires-2 c κs = search needs
-
-wide-requires-2 : tie.Need-wide-requires-2
-wide-requires-2 c κs = search needs
-
-mul-result : tie.Need-mul-result
-mul-result c = search needs
-
-add-result : tie.Need-add-result
-add-result c = search needs
-
 returns : tie.Need-returns
 unfolding locator12
 returns c =
     let m = c .before .before .before in
     let e : eqb (m .before .before .before .args .k % 2) 0 ≡ true = eq-eqb _ _ (c .before .before .if1 .taken) in
     rw e (ap₂ (λ (x y : ℕ). x + 256 * (y % 16)) (c .wide2 .ensures .0 ∙ c .before .byte-at2 .ensures) (m .wide .ensures .0 ∙ m .before .byte-at .ensures))
-
-mul-byte-at-3 : tie.Need-mul-byte-at-3
-mul-byte-at-3 c = search needs
-
-add-byte-at-3 : tie.Need-add-byte-at-3
-add-byte-at-3 c = search needs
-
-byte-at-requires-3 : tie.Need-byte-at-requires-3
-byte-at-requires-3 c κs = search needs
-
-wide-requires-3 : tie.Need-wide-requires-3
-wide-requires-3 c κs = search needs
-
-mul-result-2 : tie.Need-mul-result-2
-mul-result-2 c = search needs
-
-add-result-2 : tie.Need-add-result-2
-add-result-2 c = search needs
 
 returns-2 : tie.Need-returns-2
 unfolding locator12
@@ -83,21 +35,8 @@ pub locator12-spec : {M : Type 1} → statement M
 locator12-spec =
     tie.close
     (tie.spec
-    mul-byte-at
-    add-byte-at
-    byte-at-requires
-    wide-requires
-    mul-byte-at-2
-    add-byte-at-2
-    byte-at-requires-2
-    wide-requires-2
-    mul-result
-    add-result
+    (λ c. search needs) (λ c. search needs) (λ c κs. search needs) (λ c κs. search needs) (λ c. search needs) (λ c. search needs) (λ c κs. search needs)
+    (λ c κs. search needs) (λ c. search needs) (λ c. search needs)
     returns
-    mul-byte-at-3
-    add-byte-at-3
-    byte-at-requires-3
-    wide-requires-3
-    mul-result-2
-    add-result-2
+    (λ c. search needs) (λ c. search needs) (λ c κs. search needs) (λ c κs. search needs) (λ c. search needs) (λ c. search needs)
     returns-2)

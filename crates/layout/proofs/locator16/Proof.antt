@@ -13,36 +13,6 @@ use Rattle.layout.proofs.locator16.Lts as lts
 use Rattle.layout.proofs.byte_at.Reads as byte-at-reads
 use Rattle.layout.proofs.wide.Reads as wide-reads
 
-mul-byte-at : tie.Need-mul-byte-at
-mul-byte-at c = search needs
-
-add-byte-at : tie.Need-add-byte-at
-add-byte-at c = search needs
-
-byte-at-requires : tie.Need-byte-at-requires
-byte-at-requires c κs = search needs
-
-wide-requires : tie.Need-wide-requires
-wide-requires c κs = search needs
-
-mul-byte-at-2 : tie.Need-mul-byte-at-2
-mul-byte-at-2 c = search needs
-
-add-byte-at-2 : tie.Need-add-byte-at-2
-add-byte-at-2 c = search needs
-
-byte-at-requires-2 : tie.Need-byte-at-requires-2
-byte-at-requires-2 c κs = search needs
-
-wide-requires-2 : tie.Need-wide-requires-2
-wide-requires-2 c κs = search needs
-
-mul-result : tie.Need-mul-result
-mul-result c = search needs
-
-add-result : tie.Need-add-result
-add-result c = search needs
-
 returns : tie.Need-returns
 unfolding locator16
 returns c = ap₂ (λ (x y : ℕ). x + 256 * y) (c .before .before .wide .ensures .0 ∙ c .before .before .before .byte-at .ensures) (c .wide2 .ensures .0 ∙ c .before .byte-at2 .ensures)
@@ -51,14 +21,6 @@ pub locator16-spec : {M : Type 1} → statement M
 locator16-spec =
     tie.close
     (tie.spec
-    mul-byte-at
-    add-byte-at
-    byte-at-requires
-    wide-requires
-    mul-byte-at-2
-    add-byte-at-2
-    byte-at-requires-2
-    wide-requires-2
-    mul-result
-    add-result
+    (λ c. search needs) (λ c. search needs) (λ c κs. search needs) (λ c κs. search needs) (λ c. search needs) (λ c. search needs) (λ c κs. search needs)
+    (λ c κs. search needs) (λ c. search needs) (λ c. search needs)
     returns)

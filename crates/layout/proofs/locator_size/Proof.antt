@@ -12,24 +12,12 @@ use Rattle.layout.proofs.locator_size.Tie as tie
 use Rattle.layout.proofs.locator_size.Reads as reads
 use Rattle.layout.proofs.locator_size.Lts as lts
 
-mul-result : tie.Need-mul-result
-mul-result c = search needs
-
-add-result : tie.Need-add-result
-add-result c = search needs
-
 returns : tie.Need-returns
 returns c = let e : eqb (c .before .args .width) 16 ≡ true = eq-eqb _ _ (c .if1 .taken) in rw e
-
-mul-result-2 : tie.Need-mul-result-2
-mul-result-2 c = search needs
-
-add-result-2 : tie.Need-add-result-2
-add-result-2 c = search needs
 
 returns-2 : tie.Need-returns-2
 returns-2 c = let e : eqb (c .before .args .width) 16 ≡ false = ne-eqb _ _ (c .if1 .left) in rw e
 
 pub locator-size-spec : {M : Type 1} → statement M
 locator-size-spec =
-    tie.close (tie.spec mul-result add-result returns mul-result-2 add-result-2 returns-2)
+    tie.close (tie.spec (λ c. search needs) (λ c. search needs) returns (λ c. search needs) (λ c. search needs) returns-2)

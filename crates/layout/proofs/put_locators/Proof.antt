@@ -24,9 +24,6 @@ put-locators16-requires c κs =
     let k : 14 + (16 * length (now (s .args .locators)) + 7) / 8 ≤ length (now (s .args .pdu)) = rw e at h in
     omega (arith, k)
 
-same-length : tie.Need-same-length
-same-length c = search needs
-
 returns : tie.Need-returns
 returns c =
     let p = c .before .before .before .before in
@@ -41,9 +38,6 @@ put-locators12-requires c κs =
     let k : 14 + (12 * length (now (s .args .locators)) + 7) / 8 ≤ length (now (s .args .pdu)) = rw e at h in
     omega (arith, k)
 
-same-length-2 : tie.Need-same-length-2
-same-length-2 c = search needs
-
 returns-2 : tie.Need-returns-2
 returns-2 c =
     let p = c .before .before .before .before in
@@ -55,8 +49,8 @@ put-locators-spec =
     tie.close
     (tie.spec
     put-locators16-requires
-    same-length
+    (λ c. search needs)
     returns
     put-locators12-requires
-    same-length-2
+    (λ c. search needs)
     returns-2)

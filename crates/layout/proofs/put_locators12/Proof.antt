@@ -25,50 +25,8 @@ abbrev μ-loop : tie.MeasureT-loop
 loop-holds : tie.Need-loop-holds Inv-loop μ-loop
 loop-holds c = (omega arith, refl, refl)
 
-mul-loop : tie.Need-mul-loop Inv-loop μ-loop
-mul-loop c = search needs
-
-mul-a : tie.Need-mul-a Inv-loop μ-loop
-mul-a c = search needs
-
-mul-a-2 : tie.Need-mul-a-2 Inv-loop μ-loop
-mul-a-2 c = search needs
-
-shared-slice-read-a : tie.Need-shared-slice-read-a Inv-loop μ-loop
-shared-slice-read-a c = search needs
-
-byte-from-requires : tie.Need-byte-from-requires Inv-loop μ-loop
-byte-from-requires c κs = search needs
-
-mul-pdu : tie.Need-mul-pdu Inv-loop μ-loop
-mul-pdu c = search needs
-
-add-pdu : tie.Need-add-pdu Inv-loop μ-loop
-add-pdu c = search needs
-
-slice-write-pdu : tie.Need-slice-write-pdu Inv-loop μ-loop
-slice-write-pdu c = search needs
-
-mul-if1 : tie.Need-mul-if1 Inv-loop μ-loop
-mul-if1 c = search needs
-
-add-if1 : tie.Need-add-if1 Inv-loop μ-loop
-add-if1 c = search needs
-
-middle-requires : tie.Need-middle-requires Inv-loop μ-loop
-middle-requires c κs = search needs
-
-mul-pdu-2 : tie.Need-mul-pdu-2 Inv-loop μ-loop
-mul-pdu-2 c = search needs
-
-add-pdu-2 : tie.Need-add-pdu-2 Inv-loop μ-loop
-add-pdu-2 c = search needs
-
 slice-write-pdu-2 : tie.Need-slice-write-pdu-2 Inv-loop μ-loop
 slice-write-pdu-2 c = simp length-set (omega arith)
-
-same-length : tie.Need-same-length Inv-loop μ-loop
-same-length c = search needs
 
 returns : tie.Need-returns Inv-loop μ-loop
 returns c =
@@ -80,47 +38,11 @@ returns c =
     let y : c .middle .result ≡ getD ls (2 * j) 0 / 256 % 16 + 16 * (0 % 16) = c .middle .ensures in
     rw (x, y) (last12 (p .loop .pdu) ls (putAt (now (a .pdu)) 14 (bytes12 ls)) j (omega arith) (omega arith) (p .loop .inv .2))
 
-mul-b : tie.Need-mul-b Inv-loop μ-loop
-mul-b c = search needs
-
-add-b : tie.Need-add-b Inv-loop μ-loop
-add-b c = search needs
-
-mul-b-2 : tie.Need-mul-b-2 Inv-loop μ-loop
-mul-b-2 c = search needs
-
-shared-slice-read-b : tie.Need-shared-slice-read-b Inv-loop μ-loop
-shared-slice-read-b c = search needs
-
-middle-requires-2 : tie.Need-middle-requires-2 Inv-loop μ-loop
-middle-requires-2 c κs = search needs
-
-mul-pdu-3 : tie.Need-mul-pdu-3 Inv-loop μ-loop
-mul-pdu-3 c = search needs
-
-add-pdu-3 : tie.Need-add-pdu-3 Inv-loop μ-loop
-add-pdu-3 c = search needs
-
 slice-write-pdu-3 : tie.Need-slice-write-pdu-3 Inv-loop μ-loop
 slice-write-pdu-3 c = simp length-set (omega arith)
 
-byte-from-requires-2 : tie.Need-byte-from-requires-2 Inv-loop μ-loop
-byte-from-requires-2 c κs = search needs
-
-mul-pdu-4 : tie.Need-mul-pdu-4 Inv-loop μ-loop
-mul-pdu-4 c = search needs
-
-add-pdu-4 : tie.Need-add-pdu-4 Inv-loop μ-loop
-add-pdu-4 c = search needs
-
 slice-write-pdu-4 : tie.Need-slice-write-pdu-4 Inv-loop μ-loop
 slice-write-pdu-4 c = simp (length-set, length-set) (omega arith)
-
-add-j : tie.Need-add-j Inv-loop μ-loop
-add-j c = search needs
-
-loop-less : tie.Need-loop-less Inv-loop μ-loop
-loop-less c = search needs
 
 loop-again : tie.Need-loop-again Inv-loop μ-loop
 loop-again c =
@@ -132,9 +54,6 @@ loop-again c =
     let y : c .before .middle2 .result ≡ getD ls (2 * j) 0 / 256 % 16 + 16 * (getD ls (2 * j + 1) 0 % 16) = c .before .middle2 .ensures in
     let z : c .byte-from2 .result ≡ getD ls (2 * j + 1) 0 / 16 % 256 = c .byte-from2 .ensures in
     (omega arith, simp (length-set, length-set, length-set) (p .loop .inv .1), rw (x, y, z) (turn12 (p .loop .pdu) ls (putAt (now (a .pdu)) 14 (bytes12 ls)) j (omega arith) (omega arith) (p .loop .inv .2)))
-
-same-length-2 : tie.Need-same-length-2 Inv-loop μ-loop
-same-length-2 c = search needs
 
 returns-2 : tie.Need-returns-2 Inv-loop μ-loop
 returns-2 c =
@@ -149,36 +68,16 @@ put-locators12-spec =
     Inv-loop
     μ-loop
     loop-holds
-    mul-loop
-    mul-a
-    mul-a-2
-    shared-slice-read-a
-    byte-from-requires
-    mul-pdu
-    add-pdu
-    slice-write-pdu
-    mul-if1
-    add-if1
-    middle-requires
-    mul-pdu-2
-    add-pdu-2
+    (λ c. search needs) (λ c. search needs) (λ c. search needs) (λ c. search needs) (λ c κs. search needs) (λ c. search needs) (λ c. search needs)
+    (λ c. search needs) (λ c. search needs) (λ c. search needs) (λ c κs. search needs) (λ c. search needs) (λ c. search needs)
     slice-write-pdu-2
-    same-length
+    (λ c. search needs)
     returns
-    mul-b
-    add-b
-    mul-b-2
-    shared-slice-read-b
-    middle-requires-2
-    mul-pdu-3
-    add-pdu-3
+    (λ c. search needs) (λ c. search needs) (λ c. search needs) (λ c. search needs) (λ c κs. search needs) (λ c. search needs) (λ c. search needs)
     slice-write-pdu-3
-    byte-from-requires-2
-    mul-pdu-4
-    add-pdu-4
+    (λ c κs. search needs) (λ c. search needs) (λ c. search needs)
     slice-write-pdu-4
-    add-j
-    loop-less
+    (λ c. search needs) (λ c. search needs)
     loop-again
-    same-length-2
+    (λ c. search needs)
     returns-2)

@@ -24,41 +24,8 @@ abbrev μ-loop : tie.MeasureT-loop
 loop-holds : tie.Need-loop-holds Inv-loop μ-loop
 loop-holds c = (omega arith, refl, refl)
 
-mul-a : tie.Need-mul-a Inv-loop μ-loop
-mul-a c = search needs
-
-shared-slice-read-a : tie.Need-shared-slice-read-a Inv-loop μ-loop
-shared-slice-read-a c = search needs
-
-byte-from-requires : tie.Need-byte-from-requires Inv-loop μ-loop
-byte-from-requires c κs = search needs
-
-mul-pdu : tie.Need-mul-pdu Inv-loop μ-loop
-mul-pdu c = search needs
-
-add-pdu : tie.Need-add-pdu Inv-loop μ-loop
-add-pdu c = search needs
-
-slice-write-pdu : tie.Need-slice-write-pdu Inv-loop μ-loop
-slice-write-pdu c = search needs
-
-byte-from-requires-2 : tie.Need-byte-from-requires-2 Inv-loop μ-loop
-byte-from-requires-2 c κs = search needs
-
-mul-pdu-2 : tie.Need-mul-pdu-2 Inv-loop μ-loop
-mul-pdu-2 c = search needs
-
-add-pdu-2 : tie.Need-add-pdu-2 Inv-loop μ-loop
-add-pdu-2 c = search needs
-
 slice-write-pdu-2 : tie.Need-slice-write-pdu-2 Inv-loop μ-loop
 slice-write-pdu-2 c = simp length-set (omega arith)
-
-add-k : tie.Need-add-k Inv-loop μ-loop
-add-k c = search needs
-
-loop-less : tie.Need-loop-less Inv-loop μ-loop
-loop-less c = search needs
 
 loop-again : tie.Need-loop-again Inv-loop μ-loop
 loop-again c =
@@ -71,9 +38,6 @@ loop-again c =
     let y : c .byte-from2 .result ≡ getD ls k 0 / 256 % 256 = c .byte-from2 .ensures in
     let t = turn16 l ls (putAt (now (a .pdu)) 14 (bytes16 ls)) k (omega arith) (omega arith) (p .loop .inv .2) in
     (omega arith, simp (length-set, length-set) (p .loop .inv .1), rw (x, y) t)
-
-same-length : tie.Need-same-length Inv-loop μ-loop
-same-length c = search needs
 
 returns : tie.Need-returns Inv-loop μ-loop
 returns c =
@@ -88,18 +52,10 @@ put-locators16-spec =
     Inv-loop
     μ-loop
     loop-holds
-    mul-a
-    shared-slice-read-a
-    byte-from-requires
-    mul-pdu
-    add-pdu
-    slice-write-pdu
-    byte-from-requires-2
-    mul-pdu-2
-    add-pdu-2
+    (λ c. search needs) (λ c. search needs) (λ c κs. search needs) (λ c. search needs) (λ c. search needs) (λ c. search needs) (λ c κs. search needs)
+    (λ c. search needs) (λ c. search needs)
     slice-write-pdu-2
-    add-k
-    loop-less
+    (λ c. search needs) (λ c. search needs)
     loop-again
-    same-length
+    (λ c. search needs)
     returns)

@@ -10,30 +10,15 @@ use Rattle.log.proofs.byte_of.Reads as reads
 use Rattle.log.proofs.byte_of.Lts as lts
 use Rattle.log.proofs.wide.Reads as wide-reads
 
-shared-slice-read-wide : tie.Need-shared-slice-read-wide
-shared-slice-read-wide c = search needs
-
-wide-requires : tie.Need-wide-requires
-wide-requires c κs = search needs
-
 returns : tie.Need-returns
 returns c =
     let a = c .before .before .before .before .before .args in
     (c .wide .ensures .0 ∙ sym (List·getD-append (now (a .first)) (now (a .second)) 0 (a .i) (c .before .before .if1 .taken)), c .wide .ensures .1)
 
-sub-j : tie.Need-sub-j
-sub-j c = search needs
-
 returns-2 : tie.Need-returns-2
 returns-2 c =
     let a = c .before .before .before .before .args in
     (sym (in-second (now (a .first)) (now (a .second)) (a .i) (c .before .if1 .left) ∙ List·getD-eq-default (now (a .second)) 0 (c .if2 .taken)), omega arith)
-
-shared-slice-read-wide-2 : tie.Need-shared-slice-read-wide-2
-shared-slice-read-wide-2 c = search needs
-
-wide-requires-2 : tie.Need-wide-requires-2
-wide-requires-2 c κs = search needs
 
 returns-3 : tie.Need-returns-3
 returns-3 c =
@@ -44,11 +29,9 @@ pub byte-of-spec : {M : Type 1} → statement M
 byte-of-spec =
     tie.close
     (tie.spec
-    shared-slice-read-wide
-    wide-requires
+    (λ c. search needs) (λ c κs. search needs)
     returns
-    sub-j
+    (λ c. search needs)
     returns-2
-    shared-slice-read-wide-2
-    wide-requires-2
+    (λ c. search needs) (λ c κs. search needs)
     returns-3)

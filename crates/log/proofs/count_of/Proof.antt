@@ -5,9 +5,6 @@ use Rattle.log.proofs.count_of.Tie as tie
 use Rattle.log.proofs.count_of.Reads as reads
 use Rattle.log.proofs.count_of.Lts as lts
 
-cast-result : tie.Need-cast-result
-cast-result c = search needs
-
 returns : tie.Need-returns
 returns c = (omega arith, omega arith)
 
@@ -15,4 +12,4 @@ returns-2 : tie.Need-returns-2
 returns-2 c = (omega arith, omega arith)
 
 pub count-of-spec : {M : Type 1} → statement M
-count-of-spec = tie.close (tie.spec cast-result returns returns-2)
+count-of-spec = tie.close (tie.spec (λ c. search needs) returns returns-2)

@@ -39,50 +39,14 @@ start l = l .before .before .before .before .before .before
 room : (l : tie.At-loop Inv-loop μ-loop) → start l .args .at + l .loop .j + 4 ≤ length (l .loop .log)
 room l = omega (arith, start l .pre .1 .1, l .loop .inv .0, l .loop .inv .1, l .loop .inv .3)
 
-add-if1 : tie.Need-add-if1 Inv-loop μ-loop
-add-if1 c = search needs
-
 returns : tie.Need-returns Inv-loop μ-loop
 returns c = (omega arith, λ rest. none-more _ _ (c .before .before .before .args .at) (c .before .before .before .args .from))
-
-eight-requires : tie.Need-eight-requires Inv-loop μ-loop
-eight-requires c κs = search needs
-
-add-four : tie.Need-add-four Inv-loop μ-loop
-add-four c = search needs
-
-four-requires : tie.Need-four-requires Inv-loop μ-loop
-four-requires c κs = search needs
 
 loop-holds : tie.Need-loop-holds Inv-loop μ-loop
 loop-holds c = (omega arith, omega arith, (λ rest. rw add-zero refl), refl, c .before .eight .ensures, c .four .ensures .0, c .four .ensures .1)
 
-add-loop : tie.Need-add-loop Inv-loop μ-loop
-add-loop c = search needs
-
-add-put-block : tie.Need-add-put-block Inv-loop μ-loop
-add-put-block c = search needs
-
 put-block-requires : tie.Need-put-block-requires Inv-loop μ-loop
 put-block-requires c κs = (omega (arith, room (c .before .before)), c .before .before .loop .inv .6)
-
-add-i : tie.Need-add-i Inv-loop μ-loop
-add-i c = search needs
-
-add-j : tie.Need-add-j Inv-loop μ-loop
-add-j c = search needs
-
-eight-requires-2 : tie.Need-eight-requires-2 Inv-loop μ-loop
-eight-requires-2 c κs = search needs
-
-add-four-2 : tie.Need-add-four-2 Inv-loop μ-loop
-add-four-2 c = search needs
-
-four-requires-2 : tie.Need-four-requires-2 Inv-loop μ-loop
-four-requires-2 c κs = search needs
-
-loop-less : tie.Need-loop-less Inv-loop μ-loop
-loop-less c = search needs
 
 loop-again : tie.Need-loop-again Inv-loop μ-loop
 loop-again c =
@@ -100,17 +64,8 @@ loop-again c =
       c .four2 .ensures .1,
     )
 
-add-put-block-2 : tie.Need-add-put-block-2 Inv-loop μ-loop
-add-put-block-2 c = search needs
-
 put-block-requires-2 : tie.Need-put-block-requires-2 Inv-loop μ-loop
 put-block-requires-2 c κs = (omega (arith, room (c .before .before)), c .before .before .loop .inv .6)
-
-add-result : tie.Need-add-result Inv-loop μ-loop
-add-result c = search needs
-
-same-length : tie.Need-same-length Inv-loop μ-loop
-same-length c = search needs
 
 returns-2 : tie.Need-returns-2 Inv-loop μ-loop
 returns-2 c =
@@ -131,24 +86,15 @@ put-blocks-spec =
     (tie.spec
     Inv-loop
     μ-loop
-    add-if1
+    (λ c. search needs)
     returns
-    eight-requires
-    add-four
-    four-requires
+    (λ c κs. search needs) (λ c. search needs) (λ c κs. search needs)
     loop-holds
-    add-loop
-    add-put-block
+    (λ c. search needs) (λ c. search needs)
     put-block-requires
-    add-i
-    add-j
-    eight-requires-2
-    add-four-2
-    four-requires-2
-    loop-less
+    (λ c. search needs) (λ c. search needs) (λ c κs. search needs) (λ c. search needs) (λ c κs. search needs) (λ c. search needs)
     loop-again
-    add-put-block-2
+    (λ c. search needs)
     put-block-requires-2
-    add-result
-    same-length
+    (λ c. search needs) (λ c. search needs)
     returns-2)

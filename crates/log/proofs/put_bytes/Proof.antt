@@ -26,9 +26,6 @@ put-data-requires c κs =
     let a = s .args in
     (omega (arith, s .pre .0), subst (λ (l : List ℕ). a .at + length (dataWords l) ≤ length (now (a .log))) (sym (all t)) (s .pre .1))
 
-same-length : tie.Need-same-length
-same-length c = search needs
-
 returns : tie.Need-returns
 returns c =
     let q = c .before .before .put-data in
@@ -36,16 +33,10 @@ returns c =
     let a = t .before .before .before .before .args in
     (q .ensures .0 ∙ ap (λ (l : List ℕ). length (dataWords l)) (all t), q .ensures .1 ∙ ap (λ (l : List ℕ). putAt (now (a .log)) (a .at) (dataWords l)) (all t))
 
-put-data-requires-2 : tie.Need-put-data-requires-2
-put-data-requires-2 c κs = search needs
-
-same-length-2 : tie.Need-same-length-2
-same-length-2 c = search needs
-
 returns-2 : tie.Need-returns-2
 returns-2 c = search needs
 
 pub put-bytes-spec : {M : Type 1} → statement M
 put-bytes-spec =
     tie.close
-    (tie.spec put-data-requires same-length returns put-data-requires-2 same-length-2 returns-2)
+    (tie.spec put-data-requires (λ c. search needs) returns (λ c κs. search needs) (λ c. search needs) returns-2)

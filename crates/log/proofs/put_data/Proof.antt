@@ -43,29 +43,11 @@ room c = omega (arith, c .pre .1, both-length (now (c .args .first)) (now (c .ar
 put-full-requires : tie.Need-put-full-requires
 put-full-requires c κs = (omega arith, (omega arith, omega (arith, room (one c))))
 
-add-put-one : tie.Need-add-put-one
-add-put-one c = search needs
-
-mul-put-one : tie.Need-mul-put-one
-mul-put-one c = search needs
-
 put-one-requires : tie.Need-put-one-requires
 put-one-requires c κs =
     let q = c .before .before .before .put-full in
     let s = two c .args in
     (omega arith, omega (arith, room (two c), q .kept .0, left-length (now (s .first)) (now (s .second)) (3 * q .result), first-fits (length (now (s .first))) (length (now (s .second))) (q .result) _ (q .ensures .0) refl))
-
-add-b : tie.Need-add-b
-add-b c = search needs
-
-mul-i : tie.Need-mul-i
-mul-i c = search needs
-
-add-if1 : tie.Need-add-if1
-add-if1 c = search needs
-
-same-length : tie.Need-same-length
-same-length c = search needs
 
 returns : tie.Need-returns
 returns c =
@@ -80,9 +62,6 @@ returns c =
       none-left _ (f ++ g) _ (t .at + b) (3 * b) n
           (behind _ _ (f ++ g) _ (t .at) (q .result) (o .result) (begun _ _ (f ++ g) (t .at) (q .result) (q .ensures .1 g)) (o .ensures .1)),
     )
-
-add-put-full : tie.Need-add-put-full
-add-put-full c = search needs
 
 -- the first slice is written
 past : (c : tie.After-put-full-arg2) → length (now (four c .args .first)) ≤ 3 * (c .before .before .before .before .before .before .before .before .put-full .result + c .before .before .before .before .put-one .result)
@@ -120,15 +99,6 @@ full c =
 below-all : (c : tie.After-put-one-arg2) → 3 * (c .before .before .before .before .before .before .before .before .before .before .before .before .put-full .result + c .before .before .before .before .before .before .before .before .put-one .result + c .before .before .before .put-full2 .result) ≤ length (now (five c .args .first)) + length (now (five c .args .second))
 below-all c = omega (arith, full c, c .before .before .before .before .before .if1 .left)
 
-add-c : tie.Need-add-c
-add-c c = search needs
-
-add-put-one-2 : tie.Need-add-put-one-2
-add-put-one-2 c = search needs
-
-mul-put-one-2 : tie.Need-mul-put-one-2
-mul-put-one-2 c = search needs
-
 put-one-requires-2 : tie.Need-put-one-requires-2
 put-one-requires-2 c κs =
     let d = c .before .before .before .put-full2 in
@@ -153,9 +123,6 @@ all c =
 
 add-result : tie.Need-add-result
 add-result c = omega (arith, all c, six c .pre .0)
-
-same-length-2 : tie.Need-same-length-2
-same-length-2 c = search needs
 
 returns-2 : tie.Need-returns-2
 returns-2 c =
@@ -184,21 +151,15 @@ put-data-spec =
     tie.close
     (tie.spec
     put-full-requires
-    add-put-one
-    mul-put-one
+    (λ c. search needs) (λ c. search needs)
     put-one-requires
-    add-b
-    mul-i
-    add-if1
-    same-length
+    (λ c. search needs) (λ c. search needs) (λ c. search needs) (λ c. search needs)
     returns
-    add-put-full
+    (λ c. search needs)
     sub-put-full
     put-full-requires-2
-    add-c
-    add-put-one-2
-    mul-put-one-2
+    (λ c. search needs) (λ c. search needs) (λ c. search needs)
     put-one-requires-2
     add-result
-    same-length-2
+    (λ c. search needs)
     returns-2)

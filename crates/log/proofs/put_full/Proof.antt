@@ -13,27 +13,6 @@ use Rattle.log.proofs.put_full.Lts as lts
 use Rattle.log.proofs.put_blocks.Reads as put-blocks-reads
 use Rattle.log.proofs.put_words.Reads as put-words-reads
 
-put-blocks-requires : tie.Need-put-blocks-requires
-put-blocks-requires c κs = search needs
-
-add-put-words : tie.Need-add-put-words
-add-put-words c = search needs
-
-mul-put-words : tie.Need-mul-put-words
-mul-put-words c = search needs
-
-add-put-words-2 : tie.Need-add-put-words-2
-add-put-words-2 c = search needs
-
-put-words-requires : tie.Need-put-words-requires
-put-words-requires c κs = search needs
-
-add-result : tie.Need-add-result
-add-result c = search needs
-
-same-length : tie.Need-same-length
-same-length c = search needs
-
 returns : tie.Need-returns
 returns c =
     let a = c .before .before .before .before .before .before .put-blocks in
@@ -47,11 +26,5 @@ pub put-full-spec : {M : Type 1} → statement M
 put-full-spec =
     tie.close
     (tie.spec
-    put-blocks-requires
-    add-put-words
-    mul-put-words
-    add-put-words-2
-    put-words-requires
-    add-result
-    same-length
+    (λ c κs. search needs) (λ c. search needs) (λ c. search needs) (λ c. search needs) (λ c κs. search needs) (λ c. search needs) (λ c. search needs)
     returns)

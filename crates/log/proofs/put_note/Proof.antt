@@ -16,29 +16,14 @@ use Rattle.log.proofs.put_note.Lts as lts
 use Rattle.log.proofs.wide.Reads as wide-reads
 use Rattle.log.proofs.word_of.Reads as word-of-reads
 
-wide-requires : tie.Need-wide-requires
-wide-requires c κs = search needs
-
-cast-word-of : tie.Need-cast-word-of
-cast-word-of c = search needs
-
-word-of-requires : tie.Need-word-of-requires
-word-of-requires c κs = search needs
-
 -- there is room for a word
 room : (c : tie.After-word-of) → c .before .before .before .args .at < length (now (c .before .before .before .args .log))
 room c =
     let a = c .before .before .before .args in
     omega (arith, note-length (a .cause) (a .piece), c .before .before .before .pre .1)
 
-mul-log : tie.Need-mul-log
-mul-log c = search needs
-
 slice-write-log : tie.Need-slice-write-log
 slice-write-log c = omega (arith, room c)
-
-same-length : tie.Need-same-length
-same-length c = search needs
 
 returns : tie.Need-returns
 returns c =
@@ -51,10 +36,7 @@ pub put-note-spec : {M : Type 1} → statement M
 put-note-spec =
     tie.close
     (tie.spec
-    wide-requires
-    cast-word-of
-    word-of-requires
-    mul-log
+    (λ c κs. search needs) (λ c. search needs) (λ c κs. search needs) (λ c. search needs)
     slice-write-log
-    same-length
+    (λ c. search needs)
     returns)

@@ -24,25 +24,13 @@ room c =
     let s = c .before .before .before .before .before in
     omega (arith, counted (bytes c) (s .args .i) (some-left c), s .pre .1)
 
-add-if1 : tie.Need-add-if1
-add-if1 c = search needs
-
 returns : tie.Need-returns
 returns c =
     let a = c .before .before .before .before .args in
     (omega arith, none-more (now (a .log)) (now (a .first) ++ now (a .second)) (a .at) (a .i))
 
-data-word-requires : tie.Need-data-word-requires
-data-word-requires c κs = search needs
-
-mul-log : tie.Need-mul-log
-mul-log c = search needs
-
 slice-write-log : tie.Need-slice-write-log
 slice-write-log c = omega (arith, room c)
-
-same-length : tie.Need-same-length
-same-length c = search needs
 
 returns-2 : tie.Need-returns-2
 returns-2 c =
@@ -53,4 +41,4 @@ returns-2 c =
 pub put-one-spec : {M : Type 1} → statement M
 put-one-spec =
     tie.close
-    (tie.spec add-if1 returns data-word-requires mul-log slice-write-log same-length returns-2)
+    (tie.spec (λ c. search needs) returns (λ c κs. search needs) (λ c. search needs) slice-write-log (λ c. search needs) returns-2)

@@ -31,12 +31,6 @@ room c =
 loop-holds : tie.Need-loop-holds Inv-loop μ-loop
 loop-holds c = (omega arith, omega arith, (λ rest. rw add-zero refl), refl)
 
-add-loop : tie.Need-add-loop Inv-loop μ-loop
-add-loop c = search needs
-
-full-word-requires : tie.Need-full-word-requires Inv-loop μ-loop
-full-word-requires c κs = search needs
-
 add-log : tie.Need-add-log Inv-loop μ-loop
 add-log c = omega (arith, room c)
 
@@ -46,14 +40,8 @@ mul-log c = omega (arith, room c)
 slice-write-log : tie.Need-slice-write-log Inv-loop μ-loop
 slice-write-log c = omega (arith, room c)
 
-add-i : tie.Need-add-i Inv-loop μ-loop
-add-i c = search needs
-
 add-j : tie.Need-add-j Inv-loop μ-loop
 add-j c = omega (arith, room c)
-
-loop-less : tie.Need-loop-less Inv-loop μ-loop
-loop-less c = search needs
 
 loop-again : tie.Need-loop-again Inv-loop μ-loop
 loop-again c =
@@ -67,9 +55,6 @@ loop-again c =
           (c .full-word .ensures ∙ word-in-first b rest (p .loop .i) (omega arith)) (p .loop .inv .2 rest)),
       simp length-set (p .loop .inv .3),
     )
-
-same-length : tie.Need-same-length Inv-loop μ-loop
-same-length c = search needs
 
 returns : tie.Need-returns Inv-loop μ-loop
 returns c =
@@ -86,14 +71,13 @@ put-words-spec =
     Inv-loop
     μ-loop
     loop-holds
-    add-loop
-    full-word-requires
+    (λ c. search needs) (λ c κs. search needs)
     add-log
     mul-log
     slice-write-log
-    add-i
+    (λ c. search needs)
     add-j
-    loop-less
+    (λ c. search needs)
     loop-again
-    same-length
+    (λ c. search needs)
     returns)

@@ -22,21 +22,6 @@ abbrev μ-loop : tie.MeasureT-loop
 loop-holds : tie.Need-loop-holds Inv-loop μ-loop
 loop-holds c = (omega arith, refl)
 
-mul-after-word : tie.Need-mul-after-word Inv-loop μ-loop
-mul-after-word c = search needs
-
-shared-slice-read-after-word : tie.Need-shared-slice-read-after-word Inv-loop μ-loop
-shared-slice-read-after-word c = search needs
-
-after-word-requires : tie.Need-after-word-requires Inv-loop μ-loop
-after-word-requires c κs = search needs
-
-add-i : tie.Need-add-i Inv-loop μ-loop
-add-i c = search needs
-
-loop-less : tie.Need-loop-less Inv-loop μ-loop
-loop-less c = search needs
-
 loop-again : tie.Need-loop-again Inv-loop μ-loop
 loop-again c =
     let l = c .before .before .before .loop in
@@ -55,10 +40,6 @@ after-spec =
     Inv-loop
     μ-loop
     loop-holds
-    mul-after-word
-    shared-slice-read-after-word
-    after-word-requires
-    add-i
-    loop-less
+    (λ c. search needs) (λ c. search needs) (λ c κs. search needs) (λ c. search needs) (λ c. search needs)
     loop-again
     returns)

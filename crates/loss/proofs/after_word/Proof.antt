@@ -13,27 +13,12 @@ use Rattle.loss.proofs.missing_before.Reads as missing-before-reads
 use Rattle.std.proofs.num.wrapping_add_u32.Reads as wrapping-add-u32-reads
 use Rattle.words.proofs.split.Reads as split-reads
 
-split-requires : tie.Need-split-requires
-split-requires c κs = search needs
-
 returns : tie.Need-returns
 returns c =
     let a = c .before .before .before .args in
     let t = c .if1 .taken in
     let s = c .before .before .split .ensures in
     sym (not-counted (tallyIn (a .l)) (a .word) (λ e. omega (arith, s .0, s .1, s .2, s .3, t, e)))
-
-cast-number : tie.Need-cast-number
-cast-number c = search needs
-
-wrapping-add-u32-requires : tie.Need-wrapping-add-u32-requires
-wrapping-add-u32-requires c κs = search needs
-
-missing-before-requires : tie.Need-missing-before-requires
-missing-before-requires c κs = search needs
-
-wrapping-add-u32-requires-2 : tie.Need-wrapping-add-u32-requires-2
-wrapping-add-u32-requires-2 c κs = search needs
 
 returns-2 : tie.Need-returns-2
 returns-2 c =
@@ -51,10 +36,7 @@ pub after-word-spec : {M : Type 1} → statement M
 after-word-spec =
     tie.close
     (tie.spec
-    split-requires
+    (λ c κs. search needs)
     returns
-    cast-number
-    wrapping-add-u32-requires
-    missing-before-requires
-    wrapping-add-u32-requires-2
+    (λ c. search needs) (λ c κs. search needs) (λ c κs. search needs) (λ c κs. search needs)
     returns-2)

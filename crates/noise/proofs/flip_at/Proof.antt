@@ -10,18 +10,9 @@ returns : tie.Need-returns
 unfolding flippedAt
 returns c = sym (set-out _ _ _ (omega arith))
 
-slice-read-pdu : tie.Need-slice-read-pdu
-slice-read-pdu c = search needs
-
-slice-write-pdu : tie.Need-slice-write-pdu
-slice-write-pdu c = search needs
-
-same-length : tie.Need-same-length
-same-length c = search needs
-
 returns-2 : tie.Need-returns-2
 unfolding flippedAt
 returns-2 c = search needs
 
 pub flip-at-spec : {M : Type 1} → statement M
-flip-at-spec = tie.close (tie.spec returns slice-read-pdu slice-write-pdu same-length returns-2)
+flip-at-spec = tie.close (tie.spec returns (λ c. search needs) (λ c. search needs) (λ c. search needs) returns-2)

@@ -13,17 +13,8 @@ Inv-loop offset bits mask₀ left₀ mask left = down left mask ≡ down offset 
 abbrev μ-loop : tie.MeasureT-loop
 μ-loop offset bits mask₀ left₀ mask left = left
 
-mul-mask : tie.Need-mul-mask Inv-loop μ-loop
-mul-mask c = search needs
-
 loop-holds : tie.Need-loop-holds Inv-loop μ-loop
 loop-holds c = refl
-
-sub-left : tie.Need-sub-left Inv-loop μ-loop
-sub-left c = search needs
-
-loop-less : tie.Need-loop-less Inv-loop μ-loop
-loop-less c = search needs
 
 loop-again : tie.Need-loop-again Inv-loop μ-loop
 loop-again c = down-turn (c .before .loop .left) (c .before .loop .mask) (omega arith) ∙ c .before .loop .inv
@@ -34,4 +25,4 @@ returns c = let z : c .before .loop .left ≡ 0 = omega arith in sym (ap (λ (n 
 
 pub spread-spec : {M : Type 1} → statement M
 spread-spec =
-    tie.close (tie.spec Inv-loop μ-loop mul-mask loop-holds sub-left loop-less loop-again returns)
+    tie.close (tie.spec Inv-loop μ-loop (λ c. search needs) loop-holds (λ c. search needs) (λ c. search needs) loop-again returns)

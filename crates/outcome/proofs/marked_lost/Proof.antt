@@ -8,26 +8,11 @@ use Rattle.outcome.proofs.marked_lost.Lts as lts
 use Rattle.outcome.proofs.outcome_of.Reads as outcome-of-reads
 use Rattle.receiver.proofs.Receiver.mark_lost.Reads as mark-lost-reads
 
-mark-lost-requires : tie.Need-mark-lost-requires
-mark-lost-requires c κs = search needs
-
-outcome-of-requires : tie.Need-outcome-of-requires
-outcome-of-requires c κs = search needs
-
-same-length : tie.Need-same-length
-same-length c = search needs
-
 returns : tie.Need-returns
 returns c =
     let h = c .before .before .before .before .before .mark-lost in
     let a = c .before .before .before .before .before .before .before .before .args in
     (not-marked (now (a .log)) (a .receiver) (h .result) (h .ensures .0) (c .outcome-of .result) (c .before .if1 .taken) (c .outcome-of .ensures), h .ensures .1)
-
-outcome-of-requires-2 : tie.Need-outcome-of-requires-2
-outcome-of-requires-2 c κs = search needs
-
-same-length-2 : tie.Need-same-length-2
-same-length-2 c = search needs
 
 returns-2 : tie.Need-returns-2
 returns-2 c =
@@ -39,10 +24,7 @@ pub marked-lost-spec : {M : Type 1} → statement M
 marked-lost-spec =
     tie.close
     (tie.spec
-    mark-lost-requires
-    outcome-of-requires
-    same-length
+    (λ c κs. search needs) (λ c κs. search needs) (λ c. search needs)
     returns
-    outcome-of-requires-2
-    same-length-2
+    (λ c κs. search needs) (λ c. search needs)
     returns-2)

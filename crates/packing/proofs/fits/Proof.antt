@@ -15,19 +15,10 @@ use Rattle.packing.proofs.fits.Lts as lts
 use Rattle.packing.proofs.overhead.Reads as overhead-reads
 use Rattle.packing.proofs.within_limit.Reads as within-limit-reads
 
-within-limit-requires : tie.Need-within-limit-requires
-within-limit-requires c κs = search needs
-
 returns : tie.Need-returns
 returns c =
     let a = c .before .before .args in
     fit-past (a .width) (a .extra) (a .size) (a .k) (a .used) (sym (c .before .within-limit .ensures) ∙ not-true _ (c .if1 .taken))
-
-overhead-requires : tie.Need-overhead-requires
-overhead-requires c κs = search needs
-
-add-result : tie.Need-add-result
-add-result c = search needs
 
 returns-2 : tie.Need-returns-2
 returns-2 c =
@@ -37,4 +28,4 @@ returns-2 c =
 
 pub fits-spec : {M : Type 1} → statement M
 fits-spec =
-    tie.close (tie.spec within-limit-requires returns overhead-requires add-result returns-2)
+    tie.close (tie.spec (λ c κs. search needs) returns (λ c κs. search needs) (λ c. search needs) returns-2)

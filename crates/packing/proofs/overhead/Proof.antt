@@ -12,9 +12,6 @@ use Rattle.packing.proofs.overhead.Reads as reads
 use Rattle.packing.proofs.overhead.Lts as lts
 use Rattle.layout.proofs.locator_size.Reads as locator-size-reads
 
-locator-size-requires : tie.Need-locator-size-requires
-locator-size-requires c κs = search needs
-
 add-result : tie.Need-add-result
 add-result c = omega (arith, c .locator-size .ensures, size-small (c .before .args .width) (c .before .args .k), c .before .fits .k)
 
@@ -27,4 +24,4 @@ returns c =
     (rw e refl, omega (arith, e, size-small (c .before .args .width) (c .before .args .k), c .before .fits .k, c .before .pre))
 
 pub overhead-spec : {M : Type 1} → statement M
-overhead-spec = tie.close (tie.spec locator-size-requires add-result add-result-2 returns)
+overhead-spec = tie.close (tie.spec (λ c κs. search needs) add-result add-result-2 returns)

@@ -39,23 +39,8 @@ loop-holds c = (omega arith, refl, omega arith, refl, zero-add _, refl)
 cast-loop : tie.Need-cast-loop Inv-loop μ-loop
 cast-loop c = omega (arith, c .loop .inv .0)
 
-cast-remainder : tie.Need-cast-remainder Inv-loop μ-loop
-cast-remainder c = search needs
-
-mul-remainder : tie.Need-mul-remainder Inv-loop μ-loop
-mul-remainder c = search needs
-
-shared-slice-read-remainder : tie.Need-shared-slice-read-remainder Inv-loop μ-loop
-shared-slice-read-remainder c = search needs
-
-remainder-requires : tie.Need-remainder-requires Inv-loop μ-loop
-remainder-requires c κs = search needs
-
 add-fits : tie.Need-add-fits Inv-loop μ-loop
 add-fits c = omega (arith, c .before .before .before .loop .inv .0)
-
-cast-fits : tie.Need-cast-fits Inv-loop μ-loop
-cast-fits c = search needs
 
 add-fits-2 : tie.Need-add-fits-2 Inv-loop μ-loop
 add-fits-2 c = omega (arith, c .before .before .before .loop .inv .2, c .remainder .ensures .1, c .before .before .before .before .before .pre .1)
@@ -86,17 +71,8 @@ returns c =
     let q : c .before .part-after .result ≡ part (a .width) (a .extra) (a .size) (a .sent) ls = c .before .part-after .ensures ∙ sym (last-part (a .width) (a .extra) (a .size) ls k used (p .loop .gone) n h e t) ∙ p .loop .inv .5 in
     finished (p .loop .out) _ (wholes (a .width) (a .extra) (a .size) (a .sent) ls) (wholesLeft (a .width) (a .extra) (a .size) ls k used (p .loop .gone)) (c .with-part .result .lengths) k (part (a .width) (a .extra) (a .size) (a .sent) ls) (c .before .part-after .result) (c .with-part .result .ended) (c .with-part .result .part) (c .with-part .result .nop) (no-whole (a .width) (a .extra) (a .size) ls k used (p .loop .gone) n h e t) (p .loop .inv .3) (p .loop .inv .4) q (c .with-part .ensures)
 
-cast-out : tie.Need-cast-out Inv-loop μ-loop
-cast-out c = search needs
-
-mul-out : tie.Need-mul-out Inv-loop μ-loop
-mul-out c = search needs
-
 array-write-out : tie.Need-array-write-out Inv-loop μ-loop
 array-write-out c = omega (arith, c .before .before .before .before .before .loop .inv .0)
-
-cast-used : tie.Need-cast-used Inv-loop μ-loop
-cast-used c = search needs
 
 add-used : tie.Need-add-used Inv-loop μ-loop
 add-used c = omega (arith, c .before .before .before .before .before .loop .inv .2, c .before .before .remainder .ensures .1, c .before .before .before .before .before .before .before .pre .1)
@@ -126,9 +102,6 @@ loop-again c =
     let i4 : k + suc (length (wholesLeft (a .width) (a .extra) (a .size) ls (k + 1) (used + n + 1) 0)) ≡ length (wholes (a .width) (a .extra) (a .size) (a .sent) ls) = rw w at (p .loop .inv .4) in
     (omega (arith, fit-most (a .width) (a .extra) (a .size) (k + 1) (used + n + 1) t, most-small (a .width) (a .extra)), length-set (p .loop .out) k n ∙ p .loop .inv .1, omega (arith, fit-room (a .width) (a .extra) (a .size) (k + 1) (used + n + 1) t), put-cons (p .loop .out) (wholesLeft (a .width) (a .extra) (a .size) ls (k + 1) (used + n + 1) 0) k n (omega (arith, p .loop .inv .0, p .loop .inv .1)) ∙ i3, omega (arith, i4), sym (same-part (a .width) (a .extra) (a .size) ls k used (p .loop .gone) n h e t) ∙ p .loop .inv .5)
 
-with-part-requires-2 : tie.Need-with-part-requires-2 Inv-loop μ-loop
-with-part-requires-2 c κs = search needs
-
 returns-2 : tie.Need-returns-2 Inv-loop μ-loop
 returns-2 c =
     let p = c .before .before in
@@ -146,26 +119,22 @@ pack-spec =
     μ-loop
     loop-holds
     cast-loop
-    cast-remainder
-    mul-remainder
-    shared-slice-read-remainder
-    remainder-requires
+    (λ c. search needs) (λ c. search needs) (λ c. search needs) (λ c κs. search needs)
     add-fits
-    cast-fits
+    (λ c. search needs)
     add-fits-2
     add-fits-3
     fits-requires
     part-after-requires
     with-part-requires
     returns
-    cast-out
-    mul-out
+    (λ c. search needs) (λ c. search needs)
     array-write-out
-    cast-used
+    (λ c. search needs)
     add-used
     add-used-2
     add-k
     loop-less
     loop-again
-    with-part-requires-2
+    (λ c κs. search needs)
     returns-2)

@@ -18,15 +18,6 @@ returns c =
     let e : ifAny (a .part) ≡ [] = any-none (a .part) (c .if1 .taken) in
     ((refl, sym (c .if1 .taken)), (rw e (omega arith), rw e (sym (append-nil (take (a .k) (a .lengths))))))
 
-mul-out : tie.Need-mul-out
-mul-out c = search needs
-
-array-write-out : tie.Need-array-write-out
-array-write-out c = search needs
-
-add-t11 : tie.Need-add-t11
-add-t11 c = search needs
-
 returns-2 : tie.Need-returns-2
 returns-2 c =
     let a = c .before .args in
@@ -34,4 +25,4 @@ returns-2 c =
     ((refl, refl), (rw e refl, rw e (take-stored (a .lengths) (a .k) (a .part) (omega arith))))
 
 pub with-part-spec : {M : Type 1} → statement M
-with-part-spec = tie.close (tie.spec returns mul-out array-write-out add-t11 returns-2)
+with-part-spec = tie.close (tie.spec returns (λ c. search needs) (λ c. search needs) (λ c. search needs) returns-2)

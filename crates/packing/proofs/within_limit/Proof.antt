@@ -12,9 +12,6 @@ use Rattle.packing.proofs.overhead.Reads as overhead-reads
 returns : tie.Need-returns
 returns c = let a = c .before .args in past-63 (a .width) (a .extra) (a .k) (omega (arith, c .if1 .taken))
 
-overhead-requires : tie.Need-overhead-requires
-overhead-requires c κs = search needs
-
 returns-2 : tie.Need-returns-2
 returns-2 c = let a = c .before .before .before .args in past-la (a .width) (a .extra) (a .k) (omega arith) (omega (arith, c .if2 .taken, c .before .overhead .ensures .0))
 
@@ -24,4 +21,4 @@ returns-3 c =
     within (a .width) (a .extra) (a .k) (omega (arith, c .before .before .if1 .left)) (omega (arith, c .if2 .left, c .before .overhead .ensures .0))
 
 pub within-limit-spec : {M : Type 1} → statement M
-within-limit-spec = tie.close (tie.spec returns overhead-requires returns-2 returns-3)
+within-limit-spec = tie.close (tie.spec returns (λ c κs. search needs) returns-2 returns-3)

@@ -9,15 +9,6 @@ use Rattle.pair.proofs.after_la.Reads as reads
 use Rattle.pair.proofs.after_la.Lts as lts
 use Rattle.layout.proofs.control_word.Reads as control-word-reads
 
-control-word-requires : tie.Need-control-word-requires
-control-word-requires c κs = search needs
-
-cast-result : tie.Need-cast-result
-cast-result c = search needs
-
-add-result : tie.Need-add-result
-add-result c = search needs
-
 returns : tie.Need-returns
 returns c =
     let k = c .before in
@@ -25,4 +16,4 @@ returns c =
     (e, omega arith)
 
 pub after-la-spec : {M : Type 1} → statement M
-after-la-spec = tie.close (tie.spec control-word-requires cast-result add-result returns)
+after-la-spec = tie.close (tie.spec (λ c κs. search needs) (λ c. search needs) (λ c. search needs) returns)

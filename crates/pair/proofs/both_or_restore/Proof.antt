@@ -13,21 +13,6 @@ use Rattle.pair.proofs.both_or_restore.Lts as lts
 use Rattle.pair.proofs.receive_both.Reads as receive-both-reads
 use Rattle.header.proofs.put_front.Reads as put-front-reads
 
-receive-both-requires : tie.Need-receive-both-requires
-receive-both-requires c κs = search needs
-
-same-length : tie.Need-same-length
-same-length c = search needs
-
-same-length-2 : tie.Need-same-length-2
-same-length-2 c = search needs
-
-same-length-3 : tie.Need-same-length-3
-same-length-3 c = search needs
-
-same-length-4 : tie.Need-same-length-4
-same-length-4 c = search needs
-
 returns : tie.Need-returns
 returns c =
     let f = c .before .before .before .before .before .before .before .before .before .before in
@@ -41,24 +26,6 @@ returns c =
         h .ensures .1 .1 ∙ both-kept (a .m) (a .r) (now (a .carry)) (now (a .first)) (now (a .second)) (now (a .log)) (h .result) (h .last .1 .1 .0) (h .last .1 .1 .1 .1 .1 .0) (h .ensures .0) (now (a .second)) (frontReplaced (now (a .second)) (now (a .other))) z,
       ),
     )
-
-put-front-requires : tie.Need-put-front-requires
-put-front-requires c κs = search needs
-
-put-front-requires-2 : tie.Need-put-front-requires-2
-put-front-requires-2 c κs = search needs
-
-same-length-5 : tie.Need-same-length-5
-same-length-5 c = search needs
-
-same-length-6 : tie.Need-same-length-6
-same-length-6 c = search needs
-
-same-length-7 : tie.Need-same-length-7
-same-length-7 c = search needs
-
-same-length-8 : tie.Need-same-length-8
-same-length-8 c = search needs
 
 returns-2 : tie.Need-returns-2
 returns-2 c =
@@ -81,16 +48,7 @@ pub both-or-restore-spec : {M : Type 1} → statement M
 both-or-restore-spec =
     tie.close
     (tie.spec
-    receive-both-requires
-    same-length
-    same-length-2
-    same-length-3
-    same-length-4
+    (λ c κs. search needs) (λ c. search needs) (λ c. search needs) (λ c. search needs) (λ c. search needs)
     returns
-    put-front-requires
-    put-front-requires-2
-    same-length-5
-    same-length-6
-    same-length-7
-    same-length-8
+    (λ c κs. search needs) (λ c κs. search needs) (λ c. search needs) (λ c. search needs) (λ c. search needs) (λ c. search needs)
     returns-2)

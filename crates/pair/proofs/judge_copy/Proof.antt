@@ -9,21 +9,12 @@ use Rattle.layout.proofs.control_word.Reads as control-word-reads
 use Rattle.pdu.proofs.judge.Reads as judge-reads
 use Rattle.receiver.proofs.wrong_stream.Reads as wrong-stream-reads
 
-control-word-requires : tie.Need-control-word-requires
-control-word-requires c κs = search needs
-
-wrong-stream-requires : tie.Need-wrong-stream-requires
-wrong-stream-requires c κs = search needs
-
 returns : tie.Need-returns
 returns c =
     let w = c .before in
     let k = w .before in
     let s = k .before .before in
     stream-number (s .args .m) (s .args .r) (now (s .args .y)) (s .pre) (k .control-word .result) (k .control-word .ensures) (w .wrong-stream .result) (w .wrong-stream .ensures) (c .if1 .taken)
-
-judge-requires : tie.Need-judge-requires
-judge-requires c κs = search needs
 
 returns-2 : tie.Need-returns-2
 returns-2 c =
@@ -36,4 +27,4 @@ returns-2 c =
 pub judge-copy-spec : {M : Type 1} → statement M
 judge-copy-spec =
     tie.close
-    (tie.spec control-word-requires wrong-stream-requires returns judge-requires returns-2)
+    (tie.spec (λ c κs. search needs) (λ c κs. search needs) returns (λ c κs. search needs) returns-2)

@@ -8,15 +8,6 @@ use Rattle.pair.proofs.judge_pair.Lts as lts
 use Rattle.pair.proofs.judge_copy.Reads as judge-copy-reads
 use Rattle.pair.proofs.lower_of.Reads as lower-of-reads
 
-judge-copy-requires : tie.Need-judge-copy-requires
-judge-copy-requires c κs = search needs
-
-judge-copy-requires-2 : tie.Need-judge-copy-requires-2
-judge-copy-requires-2 c κs = search needs
-
-lower-of-requires : tie.Need-lower-of-requires
-lower-of-requires c κs = search needs
-
 returns : tie.Need-returns
 returns c =
     let b = c .before in
@@ -26,4 +17,4 @@ returns c =
 
 pub judge-pair-spec : {M : Type 1} → statement M
 judge-pair-spec =
-    tie.close (tie.spec judge-copy-requires judge-copy-requires-2 lower-of-requires returns)
+    tie.close (tie.spec (λ c κs. search needs) (λ c κs. search needs) (λ c κs. search needs) returns)

@@ -10,37 +10,10 @@ use Rattle.pair.proofs.receive_listed.Reads as receive-listed-reads
 use Rattle.modes.proofs.look_up.Reads as look-up-reads
 use Rattle.receiver.proofs.refused.Reads as refused-reads
 
-look-up-requires : tie.Need-look-up-requires
-look-up-requires c κs = search needs
-
-enum-known-m : tie.Need-enum-known-m
-enum-known-m c = search needs
-
 receive-listed-requires : tie.Need-receive-listed-requires
 receive-listed-requires c κs =
     let k = c .before .before .before .before .before in
     sym (k .before .before .look-up .ensures) ∙ k .m .given .1
-
-enum-told : tie.Need-enum-told
-enum-told c = search needs
-
-refused-requires : tie.Need-refused-requires
-refused-requires c κs = search needs
-
-same-length : tie.Need-same-length
-same-length c = search needs
-
-same-length-2 : tie.Need-same-length-2
-same-length-2 c = search needs
-
-same-length-3 : tie.Need-same-length-3
-same-length-3 c = search needs
-
-same-length-4 : tie.Need-same-length-4
-same-length-4 c = search needs
-
-returns : tie.Need-returns
-returns c = search needs
 
 returns-2 : tie.Need-returns-2
 returns-2 c =
@@ -52,14 +25,7 @@ pub receive-spec : {M : Type 1} → statement M
 receive-spec =
     tie.close
     (tie.spec
-    look-up-requires
-    enum-known-m
+    (λ c κs. search needs) (λ c. search needs)
     receive-listed-requires
-    enum-told
-    refused-requires
-    same-length
-    same-length-2
-    same-length-3
-    same-length-4
-    returns
+    (λ c. search needs) (λ c κs. search needs) (λ c. search needs) (λ c. search needs) (λ c. search needs) (λ c. search needs) (λ c. search needs)
     returns-2)

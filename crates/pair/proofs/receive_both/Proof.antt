@@ -13,21 +13,6 @@ use Rattle.pair.proofs.judge_pair.Reads as judge-pair-reads
 use Rattle.diversity.proofs.receive_alike.Reads as receive-alike-reads
 use Rattle.receiver.proofs.refused.Reads as refused-reads
 
-judge-pair-requires : tie.Need-judge-pair-requires
-judge-pair-requires c κs = search needs
-
-cast-refused : tie.Need-cast-refused
-cast-refused c = search needs
-
-refused-requires : tie.Need-refused-requires
-refused-requires c κs = search needs
-
-same-length : tie.Need-same-length
-same-length c = search needs
-
-same-length-2 : tie.Need-same-length-2
-same-length-2 c = search needs
-
 returns : tie.Need-returns
 returns c =
     let v = c .before .before .before .before in
@@ -44,15 +29,6 @@ differs-requires c κs =
     let none : v .judge-pair .result .number ≡ 0 = omega (arith, e .if1 .left) in
     let z = lower-is-zero _ _ (sym (v .judge-pair .ensures .0) ∙ none) in
     (la-inside (a .m) (a .r) (now (a .first)) (s .pre .0) (z .0), la-inside (a .m) (a .r) (now (a .second)) (s .pre .0) (z .1))
-
-refused-requires-2 : tie.Need-refused-requires-2
-refused-requires-2 c κs = search needs
-
-same-length-3 : tie.Need-same-length-3
-same-length-3 c = search needs
-
-same-length-4 : tie.Need-same-length-4
-same-length-4 c = search needs
 
 returns-2 : tie.Need-returns-2
 returns-2 c =
@@ -74,18 +50,6 @@ receive-alike-requires c κs =
     let z = lower-is-zero _ _ (sym (v .judge-pair .ensures .0) ∙ e .if1 .left) in
     (s .pre .1 .0, (s .pre .1 .1, (right-copy (a .m) (a .r) (now (a .first)) (s .pre .0) (z .0), sym (d .differs .ensures) ∙ i .if2 .left)))
 
-same-length-5 : tie.Need-same-length-5
-same-length-5 c = search needs
-
-same-length-6 : tie.Need-same-length-6
-same-length-6 c = search needs
-
-same-length-7 : tie.Need-same-length-7
-same-length-7 c = search needs
-
-same-length-8 : tie.Need-same-length-8
-same-length-8 c = search needs
-
 returns-3 : tie.Need-returns-3
 returns-3 c =
     let f = c .before .before .before .before .before .before .before .before in
@@ -101,20 +65,11 @@ pub receive-both-spec : {M : Type 1} → statement M
 receive-both-spec =
     tie.close
     (tie.spec
-    judge-pair-requires
-    cast-refused
-    refused-requires
-    same-length
-    same-length-2
+    (λ c κs. search needs) (λ c. search needs) (λ c κs. search needs) (λ c. search needs) (λ c. search needs)
     returns
     differs-requires
-    refused-requires-2
-    same-length-3
-    same-length-4
+    (λ c κs. search needs) (λ c. search needs) (λ c. search needs)
     returns-2
     receive-alike-requires
-    same-length-5
-    same-length-6
-    same-length-7
-    same-length-8
+    (λ c. search needs) (λ c. search needs) (λ c. search needs) (λ c. search needs)
     returns-3)

@@ -17,35 +17,11 @@ use Rattle.receiver.proofs.listed_refusal.Reads as listed-refusal-reads
 use Rattle.receiver.proofs.receive_or_restore.Reads as receive-or-restore-reads
 use Rattle.receiver.proofs.refused.Reads as refused-reads
 
-listed-refusal-requires : tie.Need-listed-refusal-requires
-listed-refusal-requires c κs = search needs
-
-refused-requires : tie.Need-refused-requires
-refused-requires c κs = search needs
-
 returns : tie.Need-returns
 returns c =
     let n = c .before .before in
     let a = n .before .before .before .before .before .args in
     early-call (now (a .carry)) (now (a .first)) (now (a .second)) (now (a .log)) (a .r) (n .listed-refusal .result) (c .before .if1 .taken) (n .listed-refusal .ensures) (c .refused .result) (c .refused .ensures)
-
-header-of-requires : tie.Need-header-of-requires
-header-of-requires c κs = search needs
-
-header-of-requires-2 : tie.Need-header-of-requires-2
-header-of-requires-2 c κs = search needs
-
-correct-requires : tie.Need-correct-requires
-correct-requires c κs = search needs
-
-is-corrected-requires : tie.Need-is-corrected-requires
-is-corrected-requires c κs = search needs
-
-correct-requires-2 : tie.Need-correct-requires-2
-correct-requires-2 c κs = search needs
-
-is-corrected-requires-2 : tie.Need-is-corrected-requires-2
-is-corrected-requires-2 c κs = search needs
 
 -- what is known once correction was tried on both
 known : (x : tie.After-is-corrected2)
@@ -98,18 +74,6 @@ both-or-restore-requires c κs =
     let k = known (w .before) in
     (k .listed, (fine k, first-long k (both-true (one (w .before)) (two (w .before)) _ (w .if2 .taken) (simp (either-way (w .before))) .0)))
 
-same-length : tie.Need-same-length
-same-length c = search needs
-
-same-length-2 : tie.Need-same-length-2
-same-length-2 c = search needs
-
-same-length-3 : tie.Need-same-length-3
-same-length-3 c = search needs
-
-same-length-4 : tie.Need-same-length-4
-same-length-4 c = search needs
-
 returns-2 : tie.Need-returns-2
 returns-2 c =
     let f = c .before .before .before .before .before .before .before .before in
@@ -122,18 +86,6 @@ receive-or-restore-requires c κs =
     let w = c .before .before .before .before in
     let k = known (w .before .before) in
     (k .listed, (fine k, first-long k (w .if3 .taken)))
-
-same-length-5 : tie.Need-same-length-5
-same-length-5 c = search needs
-
-same-length-6 : tie.Need-same-length-6
-same-length-6 c = search needs
-
-same-length-7 : tie.Need-same-length-7
-same-length-7 c = search needs
-
-same-length-8 : tie.Need-same-length-8
-same-length-8 c = search needs
 
 returns-3 : tie.Need-returns-3
 returns-3 c =
@@ -148,33 +100,12 @@ receive-or-restore-requires-2 c κs =
     let k = known (w .before .before .before) in
     (k .listed, (fine k, second-long k (w .if4 .taken)))
 
-same-length-9 : tie.Need-same-length-9
-same-length-9 c = search needs
-
-same-length-10 : tie.Need-same-length-10
-same-length-10 c = search needs
-
-same-length-11 : tie.Need-same-length-11
-same-length-11 c = search needs
-
-same-length-12 : tie.Need-same-length-12
-same-length-12 c = search needs
-
 returns-4 : tie.Need-returns-4
 returns-4 c =
     let f = c .before .before .before .before .before .before in
     let w = f .before .before .before .before .before in
     let b = f .receive-or-restore2 in
     second-call (known (w .before .before .before)) _ (b .result) (b .last .1 .1 .0) (b .last .1 .1 .1 .0) (b .last .1 .1 .1 .1 .0) (w .before .if3 .left) (w .if4 .taken) (b .ensures .0) (b .ensures .1)
-
-refused-requires-2 : tie.Need-refused-requires-2
-refused-requires-2 c κs = search needs
-
-same-length-13 : tie.Need-same-length-13
-same-length-13 c = search needs
-
-same-length-14 : tie.Need-same-length-14
-same-length-14 c = search needs
 
 returns-5 : tie.Need-returns-5
 returns-5 c =
@@ -185,34 +116,17 @@ pub receive-listed-spec : {M : Type 1} → statement M
 receive-listed-spec =
     tie.close
     (tie.spec
-    listed-refusal-requires
-    refused-requires
+    (λ c κs. search needs) (λ c κs. search needs)
     returns
-    header-of-requires
-    header-of-requires-2
-    correct-requires
-    is-corrected-requires
-    correct-requires-2
-    is-corrected-requires-2
+    (λ c κs. search needs) (λ c κs. search needs) (λ c κs. search needs) (λ c κs. search needs) (λ c κs. search needs) (λ c κs. search needs)
     both-or-restore-requires
-    same-length
-    same-length-2
-    same-length-3
-    same-length-4
+    (λ c. search needs) (λ c. search needs) (λ c. search needs) (λ c. search needs)
     returns-2
     receive-or-restore-requires
-    same-length-5
-    same-length-6
-    same-length-7
-    same-length-8
+    (λ c. search needs) (λ c. search needs) (λ c. search needs) (λ c. search needs)
     returns-3
     receive-or-restore-requires-2
-    same-length-9
-    same-length-10
-    same-length-11
-    same-length-12
+    (λ c. search needs) (λ c. search needs) (λ c. search needs) (λ c. search needs)
     returns-4
-    refused-requires-2
-    same-length-13
-    same-length-14
+    (λ c κs. search needs) (λ c. search needs) (λ c. search needs)
     returns-5)

@@ -17,26 +17,11 @@ mul-length c = let p = c .before .before in omega (arith, few _ (p .pre .0 .0) _
 element-copy-out-length : tie.Need-element-copy-out-length
 element-copy-out-length c = let p = c .before .before in omega (arith, few _ (p .pre .0 .0) _ (p .pre .0 .1) _ (p .pre .1))
 
-cast-a : tie.Need-cast-a
-cast-a c = search needs
-
-cast-e : tie.Need-cast-e
-cast-e c = search needs
-
 add-e : tie.Need-add-e
 add-e c = let p = c .before .before .before in omega (arith, inside _ (p .pre .0 .0) _ (p .pre .0 .1) _ (p .pre .1))
 
-sub-crc8-from : tie.Need-sub-crc8-from
-sub-crc8-from c = search needs
-
-part-crc8-from-start : tie.Need-part-crc8-from-start
-part-crc8-from-start c = search needs
-
 part-crc8-from-end : tie.Need-part-crc8-from-end
 part-crc8-from-end c = let p = c .before .before .before in omega (arith, inside _ (p .pre .0 .0) _ (p .pre .0 .1) _ (p .pre .1))
-
-crc8-from-requires : tie.Need-crc8-from-requires
-crc8-from-requires c κs = search needs
 
 shared-slice-read-t21 : tie.Need-shared-slice-read-t21
 shared-slice-read-t21 c = let p = c .before .before .before .before .before .before in omega (arith, inside _ (p .pre .0 .0) _ (p .pre .0 .1) _ (p .pre .1))
@@ -52,12 +37,10 @@ piece-at-spec =
     element-copy-out-start
     mul-length
     element-copy-out-length
-    cast-a
-    cast-e
+    (λ c. search needs) (λ c. search needs)
     add-e
-    sub-crc8-from
-    part-crc8-from-start
+    (λ c. search needs) (λ c. search needs)
     part-crc8-from-end
-    crc8-from-requires
+    (λ c κs. search needs)
     shared-slice-read-t21
     returns)

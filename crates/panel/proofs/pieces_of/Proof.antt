@@ -36,12 +36,6 @@ array-set-from-pieces c =
     let q = p .before .before .pre (omega arith) in
     omega (arith, few _ (q .0) _ (q .1) (p .loop .k) (omega (arith, q .2)))
 
-add-k : tie.Need-add-k Inv-loop μ-loop
-add-k c = search needs
-
-loop-less : tie.Need-loop-less Inv-loop μ-loop
-loop-less c = search needs
-
 loop-again : tie.Need-loop-again Inv-loop μ-loop
 loop-again c =
     let p = c .before .before in
@@ -65,7 +59,6 @@ pieces-of-spec =
     piece-at-requires
     mul-pieces
     array-set-from-pieces
-    add-k
-    loop-less
+    (λ c. search needs) (λ c. search needs)
     loop-again
     returns)

@@ -4,19 +4,10 @@ use Rattle.panel.proofs.Listing.{ready, nop-fits, nop-few, list-end}
 use Rattle.panel.proofs.read_pieces.Statement.{statement}
 use Rattle.panel.proofs.read_pieces.Tie as tie
 
-read-for-requires : tie.Need-read-for-requires
-read-for-requires c κs = search needs
-
-cast-nop : tie.Need-cast-nop
-cast-nop c = search needs
-
 pieces-of-requires : tie.Need-pieces-of-requires
 pieces-of-requires c κs =
     let f = c .before .before .before .before .before in
     ready _ _ (f .read-for .result) (f .read-for .last .0) (f .read-for .ensures .0) (f .read-for .ensures .1)
-
-same-length : tie.Need-same-length
-same-length c = search needs
 
 returns : tie.Need-returns
 returns c =
@@ -28,4 +19,4 @@ returns c =
 
 pub read-pieces-spec : {M : Type 1} → statement M
 read-pieces-spec =
-    tie.close (tie.spec read-for-requires cast-nop pieces-of-requires same-length returns)
+    tie.close (tie.spec (λ c κs. search needs) (λ c. search needs) pieces-of-requires (λ c. search needs) returns)

@@ -17,9 +17,6 @@ use Rattle.header.proofs.word.Reads as word-reads
 use Rattle.parity_share.proofs.place_refusal.Reads as place-refusal-reads
 use Rattle.parity_share.proofs.share_of_one.Reads as share-of-one-reads
 
-place-refusal-requires : tie.Need-place-refusal-requires
-place-refusal-requires c κs = search needs
-
 returns : tie.Need-returns
 returns c =
     let r = c .before .place-refusal in
@@ -28,21 +25,6 @@ returns c =
 
 share-of-one-requires : tie.Need-share-of-one-requires
 share-of-one-requires c κs = in-message (c .before .before .args .place) (sym (c .before .place-refusal .ensures) ∙ c .if1 .left)
-
-wide-requires : tie.Need-wide-requires
-wide-requires c κs = search needs
-
-by-byte-requires : tie.Need-by-byte-requires
-by-byte-requires c κs = search needs
-
-slice-aggregate-word : tie.Need-slice-aggregate-word
-slice-aggregate-word c = search needs
-
-word-requires : tie.Need-word-requires
-word-requires c κs = search needs
-
-unpack-requires : tie.Need-unpack-requires
-unpack-requires c κs = search needs
 
 returns-2 : tie.Need-returns-2
 returns-2 c =
@@ -64,12 +46,8 @@ pub add-share-spec : {M : Type 1} → statement M
 add-share-spec =
     tie.close
     (tie.spec
-    place-refusal-requires
+    (λ c κs. search needs)
     returns
     share-of-one-requires
-    wide-requires
-    by-byte-requires
-    slice-aggregate-word
-    word-requires
-    unpack-requires
+    (λ c κs. search needs) (λ c κs. search needs) (λ c. search needs) (λ c κs. search needs) (λ c κs. search needs)
     returns-2)

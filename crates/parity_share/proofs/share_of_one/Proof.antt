@@ -7,18 +7,9 @@ use Rattle.parity_share.proofs.share_of_one.Tie as tie
 use Rattle.parity_share.proofs.share_of_one.Reads as reads
 use Rattle.parity_share.proofs.share_of_one.Lts as lts
 
-sub-result : tie.Need-sub-result
-sub-result c = search needs
-
-mul-result : tie.Need-mul-result
-mul-result c = search needs
-
-array-read-result : tie.Need-array-read-result
-array-read-result c = search needs
-
 returns : tie.Need-returns
 unfolding shareTable
 returns c = table-share (c .args .place) (omega arith) (omega arith)
 
 pub share-of-one-spec : {M : Type 1} → statement M
-share-of-one-spec = tie.close (tie.spec sub-result mul-result array-read-result returns)
+share-of-one-spec = tie.close (tie.spec (λ c. search needs) (λ c. search needs) (λ c. search needs) returns)

@@ -16,27 +16,6 @@ use Rattle.pdu.proofs.expansion_of.Reads as expansion-of-reads
 use Rattle.pdu.proofs.piece_spans.Reads as piece-spans-reads
 use Rattle.pdu.proofs.psd_part.Reads as psd-part-reads
 
-expansion-of-requires : tie.Need-expansion-of-requires
-expansion-of-requires c κs = search needs
-
-answered-fields-requires : tie.Need-answered-fields-requires
-answered-fields-requires c κs = search needs
-
-after-locators-requires : tie.Need-after-locators-requires
-after-locators-requires c κs = search needs
-
-cast-start : tie.Need-cast-start
-cast-start c = search needs
-
-add-start : tie.Need-add-start
-add-start c = search needs
-
-psd-part-requires : tie.Need-psd-part-requires
-psd-part-requires c κs = search needs
-
-piece-spans-requires : tie.Need-piece-spans-requires
-piece-spans-requires c κs = search needs
-
 returns : tie.Need-returns
 returns c =
     let s = c .before .before in
@@ -52,11 +31,5 @@ pub accepted-reading-spec : {M : Type 1} → statement M
 accepted-reading-spec =
     tie.close
     (tie.spec
-    expansion-of-requires
-    answered-fields-requires
-    after-locators-requires
-    cast-start
-    add-start
-    psd-part-requires
-    piece-spans-requires
+    (λ c κs. search needs) (λ c κs. search needs) (λ c κs. search needs) (λ c. search needs) (λ c. search needs) (λ c κs. search needs) (λ c κs. search needs)
     returns)

@@ -12,17 +12,8 @@ use Rattle.pdu.proofs.after_locators.Reads as reads
 use Rattle.pdu.proofs.after_locators.Lts as lts
 use Rattle.layout.proofs.locator_size.Reads as locator-size-reads
 
-locator-size-requires : tie.Need-locator-size-requires
-locator-size-requires c κs = search needs
-
-add-result : tie.Need-add-result
-add-result c = search needs
-
-cast-result : tie.Need-cast-result
-cast-result c = search needs
-
 returns : tie.Need-returns
 returns c = let a = c .before .args in after-right (a .width) (a .nop) _ (c .before .fits .nop .fits) (c .locator-size .ensures)
 
 pub after-locators-spec : {M : Type 1} → statement M
-after-locators-spec = tie.close (tie.spec locator-size-requires add-result cast-result returns)
+after-locators-spec = tie.close (tie.spec (λ c κs. search needs) (λ c. search needs) (λ c. search needs) returns)

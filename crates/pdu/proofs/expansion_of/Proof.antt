@@ -14,17 +14,8 @@ use Rattle.expansion.proofs.nothing.Reads as nothing-reads
 use Rattle.expansion.proofs.read_expansion.Reads as read-expansion-reads
 use Rattle.pdu.proofs.after_locators.Reads as after-locators-reads
 
-after-locators-requires : tie.Need-after-locators-requires
-after-locators-requires c κs = search needs
-
-read-expansion-requires : tie.Need-read-expansion-requires
-read-expansion-requires c κs = search needs
-
 returns : tie.Need-returns
 returns c = let a = c .before .before .before .before .args in flagged (a .width) (a .c) (now (a .y)) (c .before .before .if1 .taken) _ _ _ (c .before .after-locators .ensures .0) (c .read-expansion .ensures .0 .0) (c .read-expansion .ensures .1) (c .read-expansion .ensures .0 .1)
-
-nothing-requires : tie.Need-nothing-requires
-nothing-requires c κs = search needs
 
 returns-2 : tie.Need-returns-2
 returns-2 c = let a = c .before .before .before .args in unflagged (a .width) (a .c) (now (a .y)) (c .before .if1 .left) _ (c .nothing .ensures)
@@ -32,4 +23,4 @@ returns-2 c = let a = c .before .before .before .args in unflagged (a .width) (a
 pub expansion-of-spec : {M : Type 1} → statement M
 expansion-of-spec =
     tie.close
-    (tie.spec after-locators-requires read-expansion-requires returns nothing-requires returns-2)
+    (tie.spec (λ c κs. search needs) (λ c κs. search needs) returns (λ c κs. search needs) returns-2)

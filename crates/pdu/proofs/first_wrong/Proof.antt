@@ -24,21 +24,12 @@ abbrev μ-loop : tie.MeasureT-loop
 loop-holds : tie.Need-loop-holds Inv-loop μ-loop
 loop-holds c = (omega arith, any-start _)
 
-wrong-locator-requires : tie.Need-wrong-locator-requires Inv-loop μ-loop
-wrong-locator-requires c κs = search needs
-
 returns : tie.Need-returns Inv-loop μ-loop
 returns c =
     let p = c .before .before .before in
     let a = p .before .before .args in
     let e : wrongLocator (a .width) (a .c) (now (a .y)) (p .loop .k) ≡ true = sym (c .before .wrong-locator .ensures) ∙ c .if1 .taken in
     lowest-found (wrongLocator (a .width) (a .c) (now (a .y))) (a .c .nop) (p .loop .k) (omega arith) e (p .loop .inv .1)
-
-add-k : tie.Need-add-k Inv-loop μ-loop
-add-k c = search needs
-
-loop-less : tie.Need-loop-less Inv-loop μ-loop
-loop-less c = search needs
 
 loop-again : tie.Need-loop-again Inv-loop μ-loop
 loop-again c =
@@ -59,9 +50,8 @@ first-wrong-spec =
     Inv-loop
     μ-loop
     loop-holds
-    wrong-locator-requires
+    (λ c κs. search needs)
     returns
-    add-k
-    loop-less
+    (λ c. search needs) (λ c. search needs)
     loop-again
     returns-2)

@@ -45,39 +45,18 @@ none-wrong e =
     let w = e .before .before .first-wrong in
     any-lowest (wrongLocator (a .m .width) (a .c) (now (a .y))) (a .c .nop) ∙ ap (λ (k : ℕ). ltb k (a .c .nop)) (sym (w .ensures)) ∙ le-ltb (w .result) (a .c .nop) (e .if5 .left)
 
-plain-requires : tie.Need-plain-requires
-plain-requires c κs = search needs
-
 returns : tie.Need-returns
 returns c = let a = c .before .before .before .before .before .args in number-7 (a .m) (a .c) (now (a .y)) (le-leb (a .m .sequences) (a .c .sequence) (omega (arith, c .before .if1 .taken))) _ _ (c .plain .ensures .0) (c .plain .ensures .1)
-
-wrong-flags-requires : tie.Need-wrong-flags-requires
-wrong-flags-requires c κs = search needs
-
-plain-requires-2 : tie.Need-plain-requires-2
-plain-requires-2 c κs = search needs
 
 returns-2 : tie.Need-returns-2
 returns-2 c = let a = c .before .before .before .before .before .before .before .args in
     let e1 = c .before .before .before in
     number-8 (a .m) (a .c) (now (a .y)) (sequence-right e1) (sym (c .before .before .wrong-flags .ensures) ∙ c .before .if2 .taken) _ _ (c .plain2 .ensures .0) (c .plain2 .ensures .1)
 
-wrong-la-requires : tie.Need-wrong-la-requires
-wrong-la-requires c κs = search needs
-
-plain-requires-3 : tie.Need-plain-requires-3
-plain-requires-3 c κs = search needs
-
 returns-3 : tie.Need-returns-3
 returns-3 c = let a = c .before .before .before .before .before .before .before .before .before .args in
     let e2 = c .before .before .before in
     number-9 (a .m) (a .c) (now (a .y)) (sequence-right (e2 .before .before)) (flags-right e2) (sym (c .before .before .wrong-la .ensures) ∙ c .before .if3 .taken) _ _ (c .plain3 .ensures .0) (c .plain3 .ensures .1)
-
-expansion-of-requires : tie.Need-expansion-of-requires
-expansion-of-requires c κs = search needs
-
-plain-requires-4 : tie.Need-plain-requires-4
-plain-requires-4 c κs = search needs
 
 returns-4 : tie.Need-returns-4
 returns-4 c = let a = c .before .before .before .before .before .before .before .before .before .before .before .before .before .args in
@@ -85,9 +64,6 @@ returns-4 c = let a = c .before .before .before .before .before .before .before 
     let e2 = e3 .before .before in
     number-10 (a .m) (a .c) (now (a .y)) (sequence-right (e2 .before .before)) (flags-right e2) (la-right e3)
     (ap (λ (x : Interpreted). x .right) (sym (fields-same (c .before .before))) ∙ not-true _ (c .before .if4 .taken)) _ _ (c .plain4 .ensures .0) (c .plain4 .ensures .1)
-
-first-wrong-requires : tie.Need-first-wrong-requires
-first-wrong-requires c κs = search needs
 
 returns-5 : tie.Need-returns-5
 returns-5 c = let a = c .before .before .before .before .before .before .before .before .before .before .before .before .before .before .before .args in
@@ -98,12 +74,6 @@ returns-5 c = let a = c .before .before .before .before .before .before .before 
     number-11 (a .m) (a .c) (now (a .y)) (sequence-right (e2 .before .before)) (flags-right e2) (la-right e3) (fields-right e4)
     (any-lowest (wrongLocator (a .m .width) (a .c) (now (a .y))) (a .c .nop) ∙ ap (λ (k : ℕ). ltb k (a .c .nop)) (sym (w .ensures)) ∙ lt-ltb (w .result) (a .c .nop) (c .if5 .taken)) (w .result) (w .ensures)
 
-wrong-displacement-requires : tie.Need-wrong-displacement-requires
-wrong-displacement-requires c κs = search needs
-
-plain-requires-5 : tie.Need-plain-requires-5
-plain-requires-5 c κs = search needs
-
 returns-6 : tie.Need-returns-6
 returns-6 c = let a = c .before .before .before .before .before .before .before .before .before .before .before .before .before .before .before .before .before .before .args in
     let e5 = c .before .before .before in
@@ -112,9 +82,6 @@ returns-6 c = let a = c .before .before .before .before .before .before .before 
     let e2 = e3 .before .before in
     number-12 (a .m) (a .c) (now (a .y)) (sequence-right (e2 .before .before)) (flags-right e2) (la-right e3) (fields-right e4) (none-wrong e5)
     (ap (wrongDisplacement (a .m .width) (a .c) (now (a .y))) (sym (fields-same (e4 .before))) ∙ sym (c .before .before .wrong-displacement .ensures) ∙ c .before .if6 .taken) _ _ (c .plain5 .ensures .0) (c .plain5 .ensures .1)
-
-plain-requires-6 : tie.Need-plain-requires-6
-plain-requires-6 c κs = search needs
 
 returns-7 : tie.Need-returns-7
 returns-7 c = let a = c .before .before .before .before .before .before .before .before .before .before .before .before .before .before .before .before .before .before .args in
@@ -129,21 +96,17 @@ pub judge-spec : {M : Type 1} → statement M
 judge-spec =
     tie.close
     (tie.spec
-    plain-requires
+    (λ c κs. search needs)
     returns
-    wrong-flags-requires
-    plain-requires-2
+    (λ c κs. search needs) (λ c κs. search needs)
     returns-2
-    wrong-la-requires
-    plain-requires-3
+    (λ c κs. search needs) (λ c κs. search needs)
     returns-3
-    expansion-of-requires
-    plain-requires-4
+    (λ c κs. search needs) (λ c κs. search needs)
     returns-4
-    first-wrong-requires
+    (λ c κs. search needs)
     returns-5
-    wrong-displacement-requires
-    plain-requires-5
+    (λ c κs. search needs) (λ c κs. search needs)
     returns-6
-    plain-requires-6
+    (λ c κs. search needs)
     returns-7)

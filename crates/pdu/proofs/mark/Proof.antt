@@ -12,20 +12,11 @@ use Rattle.pdu.proofs.mark.Reads as reads
 use Rattle.pdu.proofs.mark.Lts as lts
 use Rattle.layout.proofs.locator.Reads as locator-reads
 
-cast-result : tie.Need-cast-result
-cast-result c = search needs
-
 returns : tie.Need-returns
 returns c = let a = c .before .before .before .args in mark-first (a .width) (a .c) (now (a .y)) (a .k) (c .before .if1 .taken)
-
-sub-locator : tie.Need-sub-locator
-sub-locator c = search needs
-
-locator-requires : tie.Need-locator-requires
-locator-requires c κs = search needs
 
 returns-2 : tie.Need-returns-2
 returns-2 c = let a = c .before .before .before .args in mark-later (a .width) (a .c) (now (a .y)) (a .k) _ (c .before .if1 .left) (c .locator .ensures)
 
 pub mark-spec : {M : Type 1} → statement M
-mark-spec = tie.close (tie.spec cast-result returns sub-locator locator-requires returns-2)
+mark-spec = tie.close (tie.spec (λ c. search needs) returns (λ c. search needs) (λ c κs. search needs) returns-2)

@@ -36,12 +36,6 @@ inside c = omega (arith, c .before .before .loop-test .taken, c .before .before 
 loop-holds : tie.Need-loop-holds Inv-loop μ-loop
 loop-holds c = (omega arith, filled-start _, filled-start _)
 
-locator-requires : tie.Need-locator-requires Inv-loop μ-loop
-locator-requires c κs = search needs
-
-mark-requires : tie.Need-mark-requires Inv-loop μ-loop
-mark-requires c κs = search needs
-
 cast-i : tie.Need-cast-i Inv-loop μ-loop
 cast-i c = omega (arith, inside c)
 
@@ -66,12 +60,6 @@ mul-lengths c = omega (arith, inside c)
 array-write-lengths : tie.Need-array-write-lengths Inv-loop μ-loop
 array-write-lengths c = omega (arith, inside c)
 
-add-k : tie.Need-add-k Inv-loop μ-loop
-add-k c = search needs
-
-loop-less : tie.Need-loop-less Inv-loop μ-loop
-loop-less c = search needs
-
 loop-again : tie.Need-loop-again Inv-loop μ-loop
 loop-again c =
     let p = c .before .before .before in
@@ -95,8 +83,7 @@ piece-spans-spec =
     Inv-loop
     μ-loop
     loop-holds
-    locator-requires
-    mark-requires
+    (λ c κs. search needs) (λ c κs. search needs)
     cast-i
     add-starts
     mul-starts
@@ -105,7 +92,6 @@ piece-spans-spec =
     sub-lengths
     mul-lengths
     array-write-lengths
-    add-k
-    loop-less
+    (λ c. search needs) (λ c. search needs)
     loop-again
     returns)

@@ -15,27 +15,6 @@ use Rattle.header.proofs.header_of.Reads as header-of-reads
 use Rattle.pdu.proofs.read_or_restore.Reads as read-or-restore-reads
 use Rattle.pdu.proofs.refused_reading.Reads as refused-reading-reads
 
-header-of-requires : tie.Need-header-of-requires
-header-of-requires c κs = search needs
-
-correct-requires : tie.Need-correct-requires
-correct-requires c κs = search needs
-
-enum-told : tie.Need-enum-told
-enum-told c = search needs
-
-read-or-restore-requires : tie.Need-read-or-restore-requires
-read-or-restore-requires c κs = search needs
-
-enum-known-answer : tie.Need-enum-known-answer
-enum-known-answer c = search needs
-
-refused-reading-requires : tie.Need-refused-reading-requires
-refused-reading-requires c κs = search needs
-
-same-length : tie.Need-same-length
-same-length c = search needs
-
 returns : tie.Need-returns
 returns c =
     let f = c .before .before in
@@ -44,9 +23,6 @@ returns c =
     let h = k .before .before in
     taken _ _ _ _ _ _ (λ i. h .before .before .slice-known .given i .fits) (sym (k .correct .ensures .0) ∙ g .enum-told .given .1) (h .header-of .ensures) (k .correct .ensures .1)
     (f .read-or-restore .ensures .0) (f .read-or-restore .ensures .1)
-
-same-length-2 : tie.Need-same-length-2
-same-length-2 c = search needs
 
 returns-2 : tie.Need-returns-2
 returns-2 c =
@@ -58,13 +34,7 @@ pub read-spec : {M : Type 1} → statement M
 read-spec =
     tie.close
     (tie.spec
-    header-of-requires
-    correct-requires
-    enum-told
-    read-or-restore-requires
-    enum-known-answer
-    refused-reading-requires
-    same-length
+    (λ c κs. search needs) (λ c κs. search needs) (λ c. search needs) (λ c κs. search needs) (λ c. search needs) (λ c κs. search needs) (λ c. search needs)
     returns
-    same-length-2
+    (λ c. search needs)
     returns-2)

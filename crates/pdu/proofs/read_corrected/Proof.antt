@@ -29,26 +29,11 @@ listed-here y c l x ec el ex = ap (λ (w : ControlWord). listing (w .mode) (w .s
 same-word : (y : List ℕ) (c : ControlWord) (m : Mode) (r : Reading) → c ≡ controlAt y → r ≡ listedReading m c y → r ≡ listedReading m (controlAt y) y
 same-word y c m r e q = q ∙ ap (λ (w : ControlWord). listedReading m w y) e
 
-control-word-requires : tie.Need-control-word-requires
-control-word-requires c κs = search needs
-
-look-up-requires : tie.Need-look-up-requires
-look-up-requires c κs = search needs
-
-enum-known-listing : tie.Need-enum-known-listing
-enum-known-listing c = search needs
-
 read-listed-requires : tie.Need-read-listed-requires
 read-listed-requires c κs =
     let w = c .before .before .before .before in
     let y : List ℕ = now (w .before .before .args .y) in
     subst (λ (x : ControlWord). x .nop < 64) (sym (w .control-word .ensures)) (nop-small y)
-
-enum-known-listing-2 : tie.Need-enum-known-listing-2
-enum-known-listing-2 c = search needs
-
-refused-reading-requires : tie.Need-refused-reading-requires
-refused-reading-requires c κs = search needs
 
 returns : tie.Need-returns
 returns c =
@@ -70,11 +55,8 @@ pub read-corrected-spec : {M : Type 1} → statement M
 read-corrected-spec =
     tie.close
     (tie.spec
-    control-word-requires
-    look-up-requires
-    enum-known-listing
+    (λ c κs. search needs) (λ c κs. search needs) (λ c. search needs)
     read-listed-requires
-    enum-known-listing-2
-    refused-reading-requires
+    (λ c. search needs) (λ c κs. search needs)
     returns
     returns-2)

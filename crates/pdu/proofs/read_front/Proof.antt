@@ -9,18 +9,6 @@ use Rattle.pdu.proofs.read_front.Lts as lts
 use Rattle.pdu.proofs.after_locators.Reads as after-locators-reads
 use Rattle.pdu.proofs.expansion_of.Reads as expansion-of-reads
 
-expansion-of-requires : tie.Need-expansion-of-requires
-expansion-of-requires c κs = search needs
-
-after-locators-requires : tie.Need-after-locators-requires
-after-locators-requires c κs = search needs
-
-cast-t7 : tie.Need-cast-t7
-cast-t7 c = search needs
-
-add-t8 : tie.Need-add-t8
-add-t8 c = search needs
-
 returns : tie.Need-returns
 returns c =
     let x = c .before .before .before .expansion-of in (
@@ -30,4 +18,4 @@ returns c =
 
 pub read-front-spec : {M : Type 1} → statement M
 read-front-spec =
-    tie.close (tie.spec expansion-of-requires after-locators-requires cast-t7 add-t8 returns)
+    tie.close (tie.spec (λ c κs. search needs) (λ c κs. search needs) (λ c. search needs) (λ c. search needs) returns)

@@ -14,9 +14,6 @@ use Rattle.pdu.proofs.accepted_reading.Reads as accepted-reading-reads
 use Rattle.pdu.proofs.judge.Reads as judge-reads
 use Rattle.pdu.proofs.refused_reading.Reads as refused-reading-reads
 
-judge-requires : tie.Need-judge-requires
-judge-requires c κs = search needs
-
 accepted-reading-requires : tie.Need-accepted-reading-requires
 accepted-reading-requires c κs =
     let j = c .before .before in
@@ -29,12 +26,6 @@ returns c =
     let a = j .before .before .args in
     listed-accepted (a .m) (a .c) (now (a .y)) _ (sym (j .judge .ensures .0) ∙ c .before .if1 .taken) (c .accepted-reading .ensures)
 
-cast-refused-reading : tie.Need-cast-refused-reading
-cast-refused-reading c = search needs
-
-refused-reading-requires : tie.Need-refused-reading-requires
-refused-reading-requires c κs = search needs
-
 returns-2 : tie.Need-returns-2
 returns-2 c =
     let j = c .before .before .before .before in
@@ -45,9 +36,8 @@ pub read-listed-spec : {M : Type 1} → statement M
 read-listed-spec =
     tie.close
     (tie.spec
-    judge-requires
+    (λ c κs. search needs)
     accepted-reading-requires
     returns
-    cast-refused-reading
-    refused-reading-requires
+    (λ c. search needs) (λ c κs. search needs)
     returns-2)

@@ -13,22 +13,10 @@ use Rattle.pdu.proofs.read_or_restore.Lts as lts
 use Rattle.header.proofs.put_front.Reads as put-front-reads
 use Rattle.pdu.proofs.read_corrected.Reads as read-corrected-reads
 
-read-corrected-requires : tie.Need-read-corrected-requires
-read-corrected-requires c κs = search needs
-
-same-length : tie.Need-same-length
-same-length c = search needs
-
 returns : tie.Need-returns
 returns c =
     let j = c .before .before in
     (j .read-corrected .ensures, kept _ _ _ (j .read-corrected .ensures) (omega (arith, c .if1 .taken)))
-
-put-front-requires : tie.Need-put-front-requires
-put-front-requires c κs = search needs
-
-same-length-2 : tie.Need-same-length-2
-same-length-2 c = search needs
 
 returns-2 : tie.Need-returns-2
 returns-2 c =
@@ -40,9 +28,7 @@ pub read-or-restore-spec : {M : Type 1} → statement M
 read-or-restore-spec =
     tie.close
     (tie.spec
-    read-corrected-requires
-    same-length
+    (λ c κs. search needs) (λ c. search needs)
     returns
-    put-front-requires
-    same-length-2
+    (λ c κs. search needs) (λ c. search needs)
     returns-2)

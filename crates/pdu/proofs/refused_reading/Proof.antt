@@ -13,18 +13,9 @@ use Rattle.expansion.proofs.nothing.Reads as nothing-reads
 use Rattle.pdu.proofs.answered_fields.Reads as answered-fields-reads
 use Rattle.pdu.proofs.no_control.Reads as no-control-reads
 
-nothing-requires : tie.Need-nothing-requires
-nothing-requires c κs = search needs
-
-answered-fields-requires : tie.Need-answered-fields-requires
-answered-fields-requires c κs = search needs
-
-no-control-requires : tie.Need-no-control-requires
-no-control-requires c κs = search needs
-
 returns : tie.Need-returns
 returns c = refused-parts _ _ _ _ _ (c .no-control .ensures) (c .before .before .nothing .ensures) (c .before .answered-fields .ensures)
 
 pub refused-reading-spec : {M : Type 1} → statement M
 refused-reading-spec =
-    tie.close (tie.spec nothing-requires answered-fields-requires no-control-requires returns)
+    tie.close (tie.spec (λ c κs. search needs) (λ c κs. search needs) (λ c κs. search needs) returns)

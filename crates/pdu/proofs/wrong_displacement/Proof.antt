@@ -12,14 +12,8 @@ use Rattle.pdu.proofs.wrong_displacement.Reads as reads
 use Rattle.pdu.proofs.wrong_displacement.Lts as lts
 use Rattle.pdu.proofs.mark.Reads as mark-reads
 
-mark-requires : tie.Need-mark-requires
-mark-requires c κs = search needs
-
 returns : tie.Need-returns
 returns c = let a = c .before .before .before .before .before .args in displaced-low (a .width) (a .c) (now (a .y)) (a .x) (c .before .before .before .if1 .taken) _ (c .before .before .mark .ensures) (c .if2 .taken)
-
-cast-result : tie.Need-cast-result
-cast-result c = search needs
 
 returns-2 : tie.Need-returns-2
 returns-2 c = let a = c .before .before .before .before .before .before .args in displaced-high (a .width) (a .c) (now (a .y)) (a .x) (c .before .before .before .before .if1 .taken) _ (c .before .before .before .mark .ensures) (c .before .if2 .left)
@@ -29,4 +23,4 @@ returns-3 c = let a = c .before .before .args in not-displaced (a .width) (a .c)
 
 pub wrong-displacement-spec : {M : Type 1} → statement M
 wrong-displacement-spec =
-    tie.close (tie.spec mark-requires returns cast-result returns-2 returns-3)
+    tie.close (tie.spec (λ c κs. search needs) returns (λ c. search needs) returns-2 returns-3)

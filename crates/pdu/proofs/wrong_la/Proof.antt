@@ -12,18 +12,6 @@ use Rattle.pdu.proofs.wrong_la.Reads as reads
 use Rattle.pdu.proofs.wrong_la.Lts as lts
 use Rattle.pdu.proofs.after_locators.Reads as after-locators-reads
 
-cast-la : tie.Need-cast-la
-cast-la c = search needs
-
-add-if1 : tie.Need-add-if1
-add-if1 c = search needs
-
-after-locators-requires : tie.Need-after-locators-requires
-after-locators-requires c κs = search needs
-
-cast-if1 : tie.Need-cast-if1
-cast-if1 c = search needs
-
 returns : tie.Need-returns
 returns c = let a = c .before .before .before .before .args in la-low (a .width) (a .c) (now (a .y)) _ (c .before .after-locators .ensures .0) (omega (arith, c .if1 .taken))
 
@@ -32,4 +20,4 @@ returns-2 c = let a = c .before .before .before .before .args in la-high (a .wid
 
 pub wrong-la-spec : {M : Type 1} → statement M
 wrong-la-spec =
-    tie.close (tie.spec cast-la add-if1 after-locators-requires cast-if1 returns returns-2)
+    tie.close (tie.spec (λ c. search needs) (λ c. search needs) (λ c κs. search needs) (λ c. search needs) returns returns-2)

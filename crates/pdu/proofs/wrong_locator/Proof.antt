@@ -13,24 +13,6 @@ use Rattle.pdu.proofs.wrong_locator.Lts as lts
 use Rattle.layout.proofs.locator.Reads as locator-reads
 use Rattle.pdu.proofs.mark.Reads as mark-reads
 
-locator-requires : tie.Need-locator-requires
-locator-requires c κs = search needs
-
-cast-l : tie.Need-cast-l
-cast-l c = search needs
-
-mark-requires : tie.Need-mark-requires
-mark-requires c κs = search needs
-
-cast-before : tie.Need-cast-before
-cast-before c = search needs
-
-add-if1 : tie.Need-add-if1
-add-if1 c = search needs
-
-add-if1-2 : tie.Need-add-if1-2
-add-if1-2 c = search needs
-
 returns : tie.Need-returns
 returns c = let a = c .before .before .before .before .args in locator-low (a .width) (a .c) (now (a .y)) (a .k) _ _ (c .before .before .locator .ensures) (c .before .mark .ensures) (omega (arith, c .if1 .taken))
 
@@ -41,11 +23,6 @@ pub wrong-locator-spec : {M : Type 1} → statement M
 wrong-locator-spec =
     tie.close
     (tie.spec
-    locator-requires
-    cast-l
-    mark-requires
-    cast-before
-    add-if1
-    add-if1-2
+    (λ c κs. search needs) (λ c. search needs) (λ c κs. search needs) (λ c. search needs) (λ c. search needs) (λ c. search needs)
     returns
     returns-2)

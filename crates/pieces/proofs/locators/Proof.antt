@@ -23,35 +23,17 @@ abbrev μ-loop : tie.MeasureT-loop
 loop-holds : tie.Need-loop-holds Inv-loop μ-loop
 loop-holds c = (omega arith, refl, omega (arith, c .pre .1), refl)
 
-mul-place : tie.Need-mul-place Inv-loop μ-loop
-mul-place c = search needs
-
-shared-slice-read-place : tie.Need-shared-slice-read-place Inv-loop μ-loop
-shared-slice-read-place c = search needs
-
 add-place : tie.Need-add-place Inv-loop μ-loop
 add-place c =
     let p = c .before .before in
     let t = total-drop (now (p .before .args .lengths)) (p .loop .k) (c .before .loop-test .taken) in
     omega (arith, t, p .loop .inv .2)
 
-mul-out : tie.Need-mul-out Inv-loop μ-loop
-mul-out c = search needs
-
-array-write-out : tie.Need-array-write-out Inv-loop μ-loop
-array-write-out c = search needs
-
 add-place-2 : tie.Need-add-place-2 Inv-loop μ-loop
 add-place-2 c =
     let p = c .before .before in
     let t = total-drop (now (p .before .args .lengths)) (p .loop .k) (c .before .loop-test .taken) in
     omega (arith, t, p .loop .inv .2)
-
-add-k : tie.Need-add-k Inv-loop μ-loop
-add-k c = search needs
-
-loop-less : tie.Need-loop-less Inv-loop μ-loop
-loop-less c = search needs
 
 loop-again : tie.Need-loop-again Inv-loop μ-loop
 loop-again c =
@@ -75,13 +57,10 @@ locators-spec =
     Inv-loop
     μ-loop
     loop-holds
-    mul-place
-    shared-slice-read-place
+    (λ c. search needs) (λ c. search needs)
     add-place
-    mul-out
-    array-write-out
+    (λ c. search needs) (λ c. search needs)
     add-place-2
-    add-k
-    loop-less
+    (λ c. search needs) (λ c. search needs)
     loop-again
     returns)

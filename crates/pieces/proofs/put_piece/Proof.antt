@@ -16,33 +16,6 @@ use Rattle.pieces.proofs.put_piece.Lts as lts
 use Rattle.buffer.proofs.put_bytes.Reads as put-bytes-reads
 use Rattle.pieces.proofs.crc_of.Reads as crc-of-reads
 
-sub-put-bytes : tie.Need-sub-put-bytes
-sub-put-bytes c = search needs
-
-part-put-bytes-start : tie.Need-part-put-bytes-start
-part-put-bytes-start c = search needs
-
-part-put-bytes-end : tie.Need-part-put-bytes-end
-part-put-bytes-end c = search needs
-
-put-bytes-requires : tie.Need-put-bytes-requires
-put-bytes-requires c κs = search needs
-
-crc-of-requires : tie.Need-crc-of-requires
-crc-of-requires c κs = search needs
-
-sub-pdu : tie.Need-sub-pdu
-sub-pdu c = search needs
-
-add-pdu : tie.Need-add-pdu
-add-pdu c = search needs
-
-slice-write-pdu : tie.Need-slice-write-pdu
-slice-write-pdu c = search needs
-
-same-length : tie.Need-same-length
-same-length c = search needs
-
 returns : tie.Need-returns
 returns c =
     let a = c .before .before .before .before .before .before .before .before .args in
@@ -61,13 +34,6 @@ pub put-piece-spec : {M : Type 1} → statement M
 put-piece-spec =
     tie.close
     (tie.spec
-    sub-put-bytes
-    part-put-bytes-start
-    part-put-bytes-end
-    put-bytes-requires
-    crc-of-requires
-    sub-pdu
-    add-pdu
-    slice-write-pdu
-    same-length
+    (λ c. search needs) (λ c. search needs) (λ c. search needs) (λ c κs. search needs) (λ c κs. search needs) (λ c. search needs) (λ c. search needs)
+    (λ c. search needs) (λ c. search needs)
     returns)

@@ -35,12 +35,6 @@ left e =
 loop-holds : tie.Need-loop-holds Inv-loop μ-loop
 loop-holds c = (omega arith, refl, omega (arith, c .before .before .before .pre .0), omega (arith, c .before .before .before .pre .1), refl)
 
-mul-n : tie.Need-mul-n Inv-loop μ-loop
-mul-n c = search needs
-
-shared-slice-read-n : tie.Need-shared-slice-read-n Inv-loop μ-loop
-shared-slice-read-n c = search needs
-
 cast-n : tie.Need-cast-n Inv-loop μ-loop
 cast-n c = let h = left (c .before) in omega (arith, h .0, h .1)
 
@@ -58,12 +52,6 @@ add-place-2 c = let h = left (c .before .before .before .before .before) in omeg
 
 add-from : tie.Need-add-from Inv-loop μ-loop
 add-from c = let h = left (c .before .before .before .before .before) in omega (arith, h .0, h .1)
-
-add-k : tie.Need-add-k Inv-loop μ-loop
-add-k c = search needs
-
-loop-less : tie.Need-loop-less Inv-loop μ-loop
-loop-less c = search needs
 
 loop-again : tie.Need-loop-again Inv-loop μ-loop
 loop-again c =
@@ -84,9 +72,6 @@ loop-again c =
     let k : length l2 ≡ length (p .loop .pdu) = ap length e ∙ put-length (p .loop .pdu) (p .loop .place) (withCrc (a .register) w) (omega (arith, z, h .0, p .loop .inv .1)) in
     (omega (arith, c .before .before .before .before .before .loop-test .taken), k ∙ p .loop .inv .1, omega (arith, h .0), omega (arith, h .1), turn (a .register) (p .loop .pdu) l2 ls (now (a .bytes)) (putAt (now (a .pdu)) (a .at) (pieceBytes (a .register) (cutBy ls (drop (a .sent) (now (a .bytes)))))) (p .loop .place) from (p .loop .k) n (c .before .before .before .before .before .loop-test .taken) refl (omega (arith, h .1)) (omega (arith, h .0, p .loop .inv .1)) e (p .loop .inv .4))
 
-same-length : tie.Need-same-length Inv-loop μ-loop
-same-length c = search needs
-
 returns : tie.Need-returns Inv-loop μ-loop
 returns c =
     let p = c .before in
@@ -100,16 +85,14 @@ put-pieces-spec =
     Inv-loop
     μ-loop
     loop-holds
-    mul-n
-    shared-slice-read-n
+    (λ c. search needs) (λ c. search needs)
     cast-n
     add-put-piece
     put-piece-requires
     add-place
     add-place-2
     add-from
-    add-k
-    loop-less
+    (λ c. search needs) (λ c. search needs)
     loop-again
-    same-length
+    (λ c. search needs)
     returns)

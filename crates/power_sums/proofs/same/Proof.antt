@@ -19,37 +19,13 @@ Inv-loop header one other k₀ k = (k ≤ 8) × (one ≡ other)
 abbrev μ-loop : tie.MeasureT-loop
 μ-loop header one other k₀ k = 8 - k
 
-sums-requires : tie.Need-sums-requires Inv-loop μ-loop
-sums-requires c κs = search needs
-
-syndromes-requires : tie.Need-syndromes-requires Inv-loop μ-loop
-syndromes-requires c κs = search needs
-
 loop-holds : tie.Need-loop-holds Inv-loop μ-loop
 loop-holds c = (omega arith, same-sums (c .before .before .args .header .now) (c .before .sums .result) (c .syndromes .result) (c .before .sums .ensures) (c .syndromes .ensures))
-
-array-read-if1 : tie.Need-array-read-if1 Inv-loop μ-loop
-array-read-if1 c = search needs
-
-array-read-if1-2 : tie.Need-array-read-if1-2 Inv-loop μ-loop
-array-read-if1-2 c = search needs
 
 returns : tie.Need-returns Inv-loop μ-loop
 returns c =
     let l = c .before .before in
     absurd (c .if1 .taken (ap (λ (s : List ℕ). getD s (l .loop .k) 0) (l .loop .inv .1)))
-
-add-k : tie.Need-add-k Inv-loop μ-loop
-add-k c = search needs
-
-loop-less : tie.Need-loop-less Inv-loop μ-loop
-loop-less c = search needs
-
-loop-again : tie.Need-loop-again Inv-loop μ-loop
-loop-again c = search needs
-
-returns-2 : tie.Need-returns-2 Inv-loop μ-loop
-returns-2 c = search needs
 
 pub same-spec : {M : Type 1} → statement M
 same-spec =
@@ -57,13 +33,8 @@ same-spec =
     (tie.spec
     Inv-loop
     μ-loop
-    sums-requires
-    syndromes-requires
+    (λ c κs. search needs) (λ c κs. search needs)
     loop-holds
-    array-read-if1
-    array-read-if1-2
+    (λ c. search needs) (λ c. search needs)
     returns
-    add-k
-    loop-less
-    loop-again
-    returns-2)
+    (λ c. search needs) (λ c. search needs) (λ c. search needs) (λ c. search needs))

@@ -24,23 +24,8 @@ loop-holds : tie.Need-loop-holds Inv-loop μ-loop
 unfolding sumUp
 loop-holds c = (omega arith, refl)
 
-element-copy-out-product-by : tie.Need-element-copy-out-product-by Inv-loop μ-loop
-element-copy-out-product-by c = search needs
-
 mul-power-by : tie.Need-mul-power-by Inv-loop μ-loop
 mul-power-by c = omega (arith, mul-le-mul (c .before .before .loop .inv .0) (c .before .before .before .pre .1 .1))
-
-power-by-requires : tie.Need-power-by-requires Inv-loop μ-loop
-power-by-requires c κs = search needs
-
-product-by-requires : tie.Need-product-by-requires Inv-loop μ-loop
-product-by-requires c κs = search needs
-
-add-i : tie.Need-add-i Inv-loop μ-loop
-add-i c = search needs
-
-loop-less : tie.Need-loop-less Inv-loop μ-loop
-loop-less c = search needs
 
 loop-again : tie.Need-loop-again Inv-loop μ-loop
 unfolding sumUp term
@@ -67,11 +52,8 @@ sum-spec =
     Inv-loop
     μ-loop
     loop-holds
-    element-copy-out-product-by
+    (λ c. search needs)
     mul-power-by
-    power-by-requires
-    product-by-requires
-    add-i
-    loop-less
+    (λ c κs. search needs) (λ c κs. search needs) (λ c. search needs) (λ c. search needs)
     loop-again
     returns)

@@ -31,9 +31,6 @@ drop-noted-requires c κs =
     let q = c .before .before .first-cause in
     (omega arith, same-room 0 (now (a .log)) (begun-some (firstCause (a .state) (a .range) (a .head)) (q .result) nothing (q .ensures) (c .before .if1 .left)) (p .pre .1))
 
-same-length : tie.Need-same-length
-same-length c = search needs
-
 returns-2 : tie.Need-returns-2
 returns-2 c =
     let p = c .before .before .before .before .before .before .before in
@@ -43,4 +40,4 @@ returns-2 c =
 
 pub begin-spec : {M : Type 1} → statement M
 begin-spec =
-    tie.close (tie.spec first-cause-requires returns drop-noted-requires same-length returns-2)
+    tie.close (tie.spec first-cause-requires returns drop-noted-requires (λ c. search needs) returns-2)

@@ -20,9 +20,6 @@ use Rattle.reassembly.proofs.put_extra.Reads as put-extra-reads
 array-read-place : tie.Need-array-read-place
 array-read-place c = omega arith
 
-place-requires : tie.Need-place-requires
-place-requires c κs = search needs
-
 add-end : tie.Need-add-end
 add-end c = omega (arith, c .place .ensures .1)
 
@@ -102,7 +99,7 @@ contents-spec =
     tie.close
     (tie.spec
     array-read-place
-    place-requires
+    (λ c κs. search needs)
     add-end
     sub-put-extra
     part-put-extra-start

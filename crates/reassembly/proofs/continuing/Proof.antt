@@ -33,12 +33,6 @@ piece-at-requires c κs =
     let some = c .before .before .if2 .left in
     (p .pre .0 .0, (p .pre .1 .0, (p .pre .1 .1 .0, ((omega (arith, some), p .pre .1 .1 .1 .0), same-room (a .run .at) (now (a .log)) (one-piece (pieceNumber (a .head .pfirst) (a .head .start) 0) (a .head .plast) (a .run .held) (a .run .number) (a .head .nop) (now (a .carry)) (now (a .pdu)) (a .marks) (a .t4) (omega (arith, c .before .before .before .before .if1 .left)) some) (p .pre .1 .1 .1 .1)))))
 
-same-length : tie.Need-same-length
-same-length c = search needs
-
-same-length-2 : tie.Need-same-length-2
-same-length-2 c = search needs
-
 returns-3 : tie.Need-returns-3
 returns-3 c =
     let p = c .before .before .before .before .before .before .before .before .before .before .before .before .before .before in
@@ -48,4 +42,4 @@ returns-3 c =
 pub continuing-spec : {M : Type 1} → statement M
 continuing-spec =
     tie.close
-    (tie.spec returns returns-2 array-read-piece-at piece-at-requires same-length same-length-2 returns-3)
+    (tie.spec returns returns-2 array-read-piece-at piece-at-requires (λ c. search needs) (λ c. search needs) returns-3)

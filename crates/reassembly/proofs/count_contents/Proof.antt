@@ -32,9 +32,6 @@ returns c =
 array-read-place : tie.Need-array-read-place
 array-read-place c = omega arith
 
-place-requires : tie.Need-place-requires
-place-requires c κs = search needs
-
 add-count-psd : tie.Need-add-count-psd
 add-count-psd c = omega (arith, c .place .ensures .1)
 
@@ -70,7 +67,7 @@ count-contents-spec =
     count-continuing-requires
     returns
     array-read-place
-    place-requires
+    (λ c κs. search needs)
     add-count-psd
     sub-count-psd
     count-psd-requires

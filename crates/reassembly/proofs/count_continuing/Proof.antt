@@ -29,23 +29,11 @@ returns-2 c =
 array-read-place : tie.Need-array-read-place
 array-read-place c = omega arith
 
-place-requires : tie.Need-place-requires
-place-requires c κs = search needs
-
 add-a : tie.Need-add-a
 add-a c = omega (arith, c .place .ensures .1)
 
 array-read-place-2 : tie.Need-array-read-place-2
 array-read-place-2 c = omega arith
-
-place-requires-2 : tie.Need-place-requires-2
-place-requires-2 c κs = search needs
-
-sub-ends-here : tie.Need-sub-ends-here
-sub-ends-here c = search needs
-
-ends-here-requires : tie.Need-ends-here-requires
-ends-here-requires c κs = search needs
 
 array-read-count-piece : tie.Need-array-read-count-piece
 array-read-count-piece c = omega arith
@@ -90,12 +78,10 @@ count-continuing-spec =
     returns
     returns-2
     array-read-place
-    place-requires
+    (λ c κs. search needs)
     add-a
     array-read-place-2
-    place-requires-2
-    sub-ends-here
-    ends-here-requires
+    (λ c κs. search needs) (λ c. search needs) (λ c κs. search needs)
     array-read-count-piece
     sub-count-piece
     count-piece-requires

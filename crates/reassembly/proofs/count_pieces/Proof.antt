@@ -48,9 +48,6 @@ array-read-place c =
     let more : k < a .head .nop = c .if1 .taken in
     omega (arith, more, s .pre .0 .1)
 
-place-requires : tie.Need-place-requires Inv-loop μ-loop
-place-requires c κs = search needs
-
 add-a : tie.Need-add-a Inv-loop μ-loop
 add-a c = omega (arith, c .place .ensures .1)
 
@@ -81,9 +78,6 @@ array-read-place-2 c =
     let more : k < a .head .nop = c .before .if1 .taken in
     omega (arith, more, s .pre .0 .1)
 
-place-requires-2 : tie.Need-place-requires-2 Inv-loop μ-loop
-place-requires-2 c κs = search needs
-
 add-ends-here : tie.Need-add-ends-here Inv-loop μ-loop
 add-ends-here c =
     let i = c .before .before .before .before in
@@ -101,9 +95,6 @@ sub-ends-here c =
     let k : ℕ = i .loop .k in
     let more : k < a .head .nop = c .before .before .before .if1 .taken in
     omega (arith, more)
-
-ends-here-requires : tie.Need-ends-here-requires Inv-loop μ-loop
-ends-here-requires c κs = search needs
 
 array-read-count-piece : tie.Need-array-read-count-piece Inv-loop μ-loop
 array-read-count-piece c =
@@ -187,15 +178,15 @@ count-pieces-spec =
     loop-holds
     mul-place
     array-read-place
-    place-requires
+    (λ c κs. search needs)
     add-a
     add-place
     mul-place-2
     array-read-place-2
-    place-requires-2
+    (λ c κs. search needs)
     add-ends-here
     sub-ends-here
-    ends-here-requires
+    (λ c κs. search needs)
     array-read-count-piece
     sub-count-piece
     count-piece-requires

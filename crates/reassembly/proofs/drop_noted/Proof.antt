@@ -23,9 +23,6 @@ add-t8 c =
     let a = p .args in
     omega (arith, c .before .before .put-note .ensures .0, room-entry (dropped (a .cause) (a .piece)) (note (a .cause) (a .piece)) (a .at) (now (a .log)) refl (p .pre .1))
 
-same-length : tie.Need-same-length
-same-length c = search needs
-
 returns : tie.Need-returns
 returns c =
     let p = c .before .before .before .before .before in
@@ -34,4 +31,4 @@ returns c =
     λ cs. did-log (note (a .cause) (a .piece)) (a .at) (q .result) cs (now (a .log)) _ (q .ensures .0) (q .ensures .1)
 
 pub drop-noted-spec : {M : Type 1} → statement M
-drop-noted-spec = tie.close (tie.spec put-note-requires add-t8 same-length returns)
+drop-noted-spec = tie.close (tie.spec put-note-requires add-t8 (λ c. search needs) returns)

@@ -13,17 +13,11 @@ use Rattle.buffer.proofs.put_bytes.Reads as put-bytes-reads
 use Rattle.log.proofs.put_packet.Reads as put-packet-reads
 use Rattle.reassembly.proofs.drop_noted.Reads as drop-noted-reads
 
-add-total : tie.Need-add-total
-add-total c = search needs
-
 drop-noted-requires : tie.Need-drop-noted-requires
 drop-noted-requires c κs =
     let p = c .before .before .before .before .before in
     let a = p .args in
     (omega arith, long-room (a .n) (a .k) (a .ends) (a .from) (a .at) (now (a .carry)) (now (a .piece)) (now (a .log)) (p .pre .0) (p .pre .1 .0) (omega arith) (p .pre .1 .1 .1 .1))
-
-same-length : tie.Need-same-length
-same-length c = search needs
 
 returns : tie.Need-returns
 returns c =
@@ -31,9 +25,6 @@ returns c =
     let a = p .args in
     let q = c .before .before .drop-noted in
     long-did (a .n) (a .k) (a .ends) (a .from) (a .at) (now (a .carry)) (now (a .piece)) (now (a .log)) (p .pre .0) (p .pre .1 .0) _ (q .result) (omega arith) (q .ensures (now (a .carry)))
-
-slice-reshare-prefix-put-packet : tie.Need-slice-reshare-prefix-put-packet
-slice-reshare-prefix-put-packet c = search needs
 
 slice-aggregate-put-packet : tie.Need-slice-aggregate-put-packet
 slice-aggregate-put-packet c =
@@ -54,24 +45,12 @@ add-t19 c =
     let a = p .args in
     omega (arith, c .before .before .put-packet .ensures .0, ended-room (a .n) (a .k) (a .ends) (a .from) (a .at) (now (a .carry)) (now (a .piece)) (now (a .log)) (p .pre .0) (p .pre .1 .0) (c .before .before .before .before .before .if2 .taken) (omega arith) (p .pre .1 .1 .1 .1))
 
-same-length-2 : tie.Need-same-length-2
-same-length-2 c = search needs
-
-same-length-3 : tie.Need-same-length-3
-same-length-3 c = search needs
-
 returns-2 : tie.Need-returns-2
 returns-2 c =
     let p = c .before .before .before .before .before .before .before .before .before .before in
     let a = p .args in
     let q = c .before .before .put-packet in
     ended-did (a .n) (a .k) (a .ends) (a .from) (a .at) (now (a .carry)) (now (a .piece)) (now (a .log)) (p .pre .0) (p .pre .1 .0) (q .result) _ (c .before .before .before .before .before .if2 .taken) (omega arith) (q .ensures .0) (q .ensures .1)
-
-put-bytes-requires : tie.Need-put-bytes-requires
-put-bytes-requires c κs = search needs
-
-same-length-4 : tie.Need-same-length-4
-same-length-4 c = search needs
 
 returns-3 : tie.Need-returns-3
 returns-3 c =
@@ -83,17 +62,15 @@ pub finish-spec : {M : Type 1} → statement M
 finish-spec =
     tie.close
     (tie.spec
-    add-total
+    (λ c. search needs)
     drop-noted-requires
-    same-length
+    (λ c. search needs)
     returns
-    slice-reshare-prefix-put-packet
+    (λ c. search needs)
     slice-aggregate-put-packet
     put-packet-requires
     add-t19
-    same-length-2
-    same-length-3
+    (λ c. search needs) (λ c. search needs)
     returns-2
-    put-bytes-requires
-    same-length-4
+    (λ c κs. search needs) (λ c. search needs)
     returns-3)

@@ -8,12 +8,6 @@ use Rattle.reassembly.proofs.first_cause.Lts as lts
 use Rattle.reassembly.proofs.continued.Reads as continued-reads
 use Rattle.reassembly.proofs.in_sequence.Reads as in-sequence-reads
 
-in-sequence-requires : tie.Need-in-sequence-requires
-in-sequence-requires c κs = search needs
-
-continued-requires : tie.Need-continued-requires
-continued-requires c κs = search needs
-
 returns : tie.Need-returns
 unfolding firstCause
 returns c =
@@ -38,4 +32,4 @@ returns-3 c =
 
 pub first-cause-spec : {M : Type 1} → statement M
 first-cause-spec =
-    tie.close (tie.spec in-sequence-requires continued-requires returns returns-2 returns-3)
+    tie.close (tie.spec (λ c κs. search needs) (λ c κs. search needs) returns returns-2 returns-3)

@@ -6,9 +6,6 @@ use Rattle.reassembly.proofs.in_sequence.Reads as reads
 use Rattle.reassembly.proofs.in_sequence.Lts as lts
 use Rattle.reassembly.proofs.next_sequence.Reads as next-sequence-reads
 
-next-sequence-requires : tie.Need-next-sequence-requires
-next-sequence-requires c κs = search needs
-
 returns : tie.Need-returns
 returns c = rw (c .before .if1 .taken, c .next-sequence .ensures) refl
 
@@ -16,4 +13,4 @@ returns-2 : tie.Need-returns-2
 returns-2 c = rw (c .if1 .left) refl
 
 pub in-sequence-spec : {M : Type 1} → statement M
-in-sequence-spec = tie.close (tie.spec next-sequence-requires returns returns-2)
+in-sequence-spec = tie.close (tie.spec (λ c κs. search needs) returns returns-2)

@@ -9,9 +9,6 @@ use Rattle.reassembly.proofs.next_sequence.Tie as tie
 use Rattle.reassembly.proofs.next_sequence.Reads as reads
 use Rattle.reassembly.proofs.next_sequence.Lts as lts
 
-add-next : tie.Need-add-next
-add-next c = search needs
-
 returns : tie.Need-returns
 returns c =
     let e : suc (c .before .args .last) ≡ c .before .args .range = omega (arith, c .if1 .taken) in
@@ -23,4 +20,4 @@ returns-2 c =
     simp (ne-eqb _ _ e, add-one)
 
 pub next-sequence-spec : {M : Type 1} → statement M
-next-sequence-spec = tie.close (tie.spec add-next returns returns-2)
+next-sequence-spec = tie.close (tie.spec (λ c. search needs) returns returns-2)

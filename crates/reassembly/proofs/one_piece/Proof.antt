@@ -17,9 +17,6 @@ drop-noted-requires c κs =
     let a = p .args in
     (omega arith, same-room (a .run .at) (now (a .log)) (not-taken (a .n) (a .k) (a .continues) (a .ends) (partialOf (a .run .held) (a .run .number) (now (a .carry))) (now (a .piece)) (a .cause) (c .before .if1 .taken)) (p .pre .1 .1 .1 .1))
 
-same-length : tie.Need-same-length
-same-length c = search needs
-
 returns : tie.Need-returns
 returns c =
     let p = c .before .before .before .before .before .before .before .before in
@@ -31,12 +28,6 @@ finish-requires c κs =
     let p = c .before .before .before .before .before .before .before in
     let a = p .args in
     (omega arith, (omega arith, (omega arith, (omega arith, same-room (a .run .at) (now (a .log)) (alone (a .n) (a .k) (a .continues) (a .ends) (partialOf (a .run .held) (a .run .number) (now (a .carry))) (now (a .piece)) (a .cause) (c .before .before .before .if1 .left) (not-true (a .continues) (c .before .before .if2 .taken))) (p .pre .1 .1 .1 .1)))))
-
-same-length-2 : tie.Need-same-length-2
-same-length-2 c = search needs
-
-same-length-3 : tie.Need-same-length-3
-same-length-3 c = search needs
 
 returns-2 : tie.Need-returns-2
 returns-2 c =
@@ -50,9 +41,6 @@ drop-noted-requires-2 c κs =
     let a = p .args in
     (omega arith, same-room (a .run .at) (now (a .log)) (missing (a .n) (a .k) (a .run .number) (a .continues) (a .ends) (a .cause) (a .run .held) (now (a .carry)) (now (a .piece)) (c .before .before .before .if1 .left) (not-false (a .continues) (c .before .before .if2 .left)) (c .before .if3 .taken)) (p .pre .1 .1 .1 .1))
 
-same-length-4 : tie.Need-same-length-4
-same-length-4 c = search needs
-
 returns-3 : tie.Need-returns-3
 returns-3 c =
     let p = c .before .before .before .before .before .before .before .before .before .before in
@@ -65,12 +53,6 @@ finish-requires-2 c κs =
     let a = p .args in
     (omega arith, (omega arith, (omega arith, (omega arith, same-room (a .run .at) (now (a .log)) (together (a .n) (a .k) (a .run .number) (a .continues) (a .ends) (a .cause) (a .run .held) (now (a .carry)) (now (a .piece)) (c .before .before .before .before .if1 .left) (not-false (a .continues) (c .before .before .before .if2 .left)) (c .before .before .if3 .left)) (p .pre .1 .1 .1 .1)))))
 
-same-length-5 : tie.Need-same-length-5
-same-length-5 c = search needs
-
-same-length-6 : tie.Need-same-length-6
-same-length-6 c = search needs
-
 returns-4 : tie.Need-returns-4
 returns-4 c =
     let p = c .before .before .before .before .before .before .before .before .before .before .before .before .before in
@@ -82,16 +64,14 @@ one-piece-spec =
     tie.close
     (tie.spec
     drop-noted-requires
-    same-length
+    (λ c. search needs)
     returns
     finish-requires
-    same-length-2
-    same-length-3
+    (λ c. search needs) (λ c. search needs)
     returns-2
     drop-noted-requires-2
-    same-length-4
+    (λ c. search needs)
     returns-3
     finish-requires-2
-    same-length-5
-    same-length-6
+    (λ c. search needs) (λ c. search needs)
     returns-4)

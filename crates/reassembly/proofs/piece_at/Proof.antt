@@ -33,9 +33,6 @@ array-read-place c =
     let w : Marked (now (a .pdu)) m (a .head .nop) = p .pre .1 .1 .1 .0 .1 in
     omega (arith, w .few)
 
-place-requires : tie.Need-place-requires
-place-requires c κs = search needs
-
 add-a : tie.Need-add-a
 add-a c =
     let p = c .before .before .before .before in
@@ -69,9 +66,6 @@ array-read-place-2 c =
     let w : Marked (now (a .pdu)) m (a .head .nop) = p .pre .1 .1 .1 .0 .1 in
     omega (arith, w .few)
 
-place-requires-2 : tie.Need-place-requires-2
-place-requires-2 c κs = search needs
-
 piece-number-requires : tie.Need-piece-number-requires
 piece-number-requires c κs =
     let p = c .before .before .before .before .before in
@@ -90,9 +84,6 @@ add-ends-here c =
 
 sub-ends-here : tie.Need-sub-ends-here
 sub-ends-here c = omega (arith, c .before .before .before .before .before .before .before .pre .1 .1 .1 .0 .0)
-
-ends-here-requires : tie.Need-ends-here-requires
-ends-here-requires c κs = search needs
 
 sub-one-piece : tie.Need-sub-one-piece
 sub-one-piece c =
@@ -136,12 +127,6 @@ one-piece-requires c κs =
     let len = part-small (now (a .pdu)) m (a .head .nop) (a .k) (l .result) (r .result) w more (l .ensures .0) (r .ensures .0) in
     (p .pre .0, (p .pre .1 .0, (omega (arith, w .few), (omega (arith, len, p .pre .1 .1 .0), same-room (a .run .at) (now (a .log)) (sym same) (p .pre .1 .1 .1 .1)))))
 
-same-length : tie.Need-same-length
-same-length c = search needs
-
-same-length-2 : tie.Need-same-length-2
-same-length-2 c = search needs
-
 returns : tie.Need-returns
 returns c =
     let p = c .before .before .before .before .before .before .before .before .before .before .before .before .before .before .before .before in
@@ -160,20 +145,19 @@ piece-at-spec =
     (tie.spec
     mul-place
     array-read-place
-    place-requires
+    (λ c κs. search needs)
     add-a
     add-place
     mul-place-2
     array-read-place-2
-    place-requires-2
+    (λ c κs. search needs)
     piece-number-requires
     add-ends-here
     sub-ends-here
-    ends-here-requires
+    (λ c κs. search needs)
     sub-one-piece
     part-one-piece-start
     part-one-piece-end
     one-piece-requires
-    same-length
-    same-length-2
+    (λ c. search needs) (λ c. search needs)
     returns)

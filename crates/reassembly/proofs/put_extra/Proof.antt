@@ -21,13 +21,10 @@ put-psd-requires c κs =
     let a = p .args in
     (omega arith, rw (psd-some (now (a .bytes)) (c .before .if1 .left)) at (p .pre .1))
 
-same-length : tie.Need-same-length
-same-length c = search needs
-
 returns-2 : tie.Need-returns-2
 returns-2 c =
     let a = c .before .before .before .before .before .before .before .args in
     rw (psd-some (now (a .bytes)) (c .before .before .before .before .if1 .left)) (c .before .before .put-psd .ensures)
 
 pub put-extra-spec : {M : Type 1} → statement M
-put-extra-spec = tie.close (tie.spec returns put-psd-requires same-length returns-2)
+put-extra-spec = tie.close (tie.spec returns put-psd-requires (λ c. search needs) returns-2)

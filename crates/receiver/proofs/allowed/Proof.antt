@@ -22,36 +22,15 @@ abbrev μ-loop : tie.MeasureT-loop
 loop-holds : tie.Need-loop-holds Inv-loop μ-loop
 loop-holds c = (omega arith, refl)
 
-shared-slice-read-p : tie.Need-shared-slice-read-p Inv-loop μ-loop
-shared-slice-read-p c = search needs
-
 returns : tie.Need-returns Inv-loop μ-loop
 returns c =
     let l = c .before .before .before in
     over-seven (l .before .before .args .programs .now) (l .loop .i) (l .loop .inv .1) (omega arith) (omega (arith, c .if1 .taken))
 
-add-next : tie.Need-add-next Inv-loop μ-loop
-add-next c = search needs
-
-sub-is-listed : tie.Need-sub-is-listed Inv-loop μ-loop
-sub-is-listed c = search needs
-
-part-is-listed-start : tie.Need-part-is-listed-start Inv-loop μ-loop
-part-is-listed-start c = search needs
-
-part-is-listed-end : tie.Need-part-is-listed-end Inv-loop μ-loop
-part-is-listed-end c = search needs
-
-is-listed-requires : tie.Need-is-listed-requires Inv-loop μ-loop
-is-listed-requires c κs = search needs
-
 returns-2 : tie.Need-returns-2 Inv-loop μ-loop
 returns-2 c =
     let l = c .before .before .before .before .before .before in
     repeated (l .before .before .args .programs .now) (l .loop .i) (l .loop .inv .1) (omega arith) (omega (arith, c .before .before .before .if1 .left)) (sym (sym (c .if2 .taken) ∙ c .before .is-listed .ensures ∙ ap (λ (ms : List ℕ). isListed ms (getD (l .before .before .args .programs .now) (l .loop .i) 0)) (marks-from (l .before .before .args .programs .now) (l .loop .i + 1))))
-
-loop-less : tie.Need-loop-less Inv-loop μ-loop
-loop-less c = search needs
 
 loop-again : tie.Need-loop-again Inv-loop μ-loop
 loop-again c =
@@ -68,14 +47,10 @@ allowed-spec =
     Inv-loop
     μ-loop
     loop-holds
-    shared-slice-read-p
+    (λ c. search needs)
     returns
-    add-next
-    sub-is-listed
-    part-is-listed-start
-    part-is-listed-end
-    is-listed-requires
+    (λ c. search needs) (λ c. search needs) (λ c. search needs) (λ c. search needs) (λ c κs. search needs)
     returns-2
-    loop-less
+    (λ c. search needs)
     loop-again
     returns-3)

@@ -8,9 +8,6 @@ use Rattle.receiver.proofs.bit_of.Reads as reads
 use Rattle.receiver.proofs.bit_of.Lts as lts
 use Rattle.receiver.proofs.is_listed.Reads as is-listed-reads
 
-is-listed-requires : tie.Need-is-listed-requires
-is-listed-requires c κs = search needs
-
 returns : tie.Need-returns
 returns c = (ap (λ (b : Bool). cond b (c .before .before .before .args .bit) 0) (sym (c .if1 .taken) ∙ c .before .is-listed .ensures), omega arith)
 
@@ -21,6 +18,6 @@ pub bit-of-spec : {M : Type 1} → statement M
 bit-of-spec =
     tie.close
     (tie.spec
-    is-listed-requires
+    (λ c κs. search needs)
     returns
     returns-2)

@@ -26,15 +26,6 @@ cause-at-requires c κs =
     let w = p .before .before .pre in
     (omega (arith, w .few), w .rising (p .loop .k) (c .loop-test .taken), w .within (p .loop .k) (c .loop-test .taken))
 
-array-write-causes : tie.Need-array-write-causes Inv-loop μ-loop
-array-write-causes c = search needs
-
-add-k : tie.Need-add-k Inv-loop μ-loop
-add-k c = search needs
-
-loop-less : tie.Need-loop-less Inv-loop μ-loop
-loop-less c = search needs
-
 loop-again : tie.Need-loop-again Inv-loop μ-loop
 loop-again c =
     let p = c .before .before in
@@ -55,8 +46,6 @@ causes-of-spec =
     μ-loop
     loop-holds
     cause-at-requires
-    array-write-causes
-    add-k
-    loop-less
+    (λ c. search needs) (λ c. search needs) (λ c. search needs)
     loop-again
     returns)

@@ -5,11 +5,8 @@ use Rattle.receiver.proofs.forgotten.Tie as tie
 use Rattle.receiver.proofs.forgotten.Reads as reads
 use Rattle.receiver.proofs.forgotten.Lts as lts
 
-cast-t4 : tie.Need-cast-t4
-cast-t4 c = search needs
-
 returns : tie.Need-returns
 returns c = refl
 
 pub forgotten-spec : {M : Type 1} → statement M
-forgotten-spec = tie.close (tie.spec cast-t4 returns)
+forgotten-spec = tie.close (tie.spec (λ c. search needs) returns)

@@ -5,12 +5,6 @@ use Rattle.receiver.proofs.head_of.Reads as reads
 use Rattle.receiver.proofs.head_of.Lts as lts
 use Rattle.pdu.proofs.read_front.Reads as read-front-reads
 
-read-front-requires : tie.Need-read-front-requires
-read-front-requires c κs = search needs
-
-cast-t5 : tie.Need-cast-t5
-cast-t5 c = search needs
-
 returns : tie.Need-returns
 returns c =
     let k = c .before .before .before .args .c in
@@ -30,6 +24,5 @@ pub head-of-spec : {M : Type 1} → statement M
 head-of-spec =
     tie.close
     (tie.spec
-    read-front-requires
-    cast-t5
+    (λ c κs. search needs) (λ c. search needs)
     returns)

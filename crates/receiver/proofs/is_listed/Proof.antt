@@ -9,12 +9,6 @@ use Rattle.receiver.proofs.is_listed.Lts as lts
 use Rattle.correction.proofs.is_marked.Reads as is-marked-reads
 use Rattle.receiver.proofs.wide.Reads as wide-reads
 
-wide-requires : tie.Need-wide-requires
-wide-requires c κs = search needs
-
-is-marked-requires : tie.Need-is-marked-requires
-is-marked-requires c κs = search needs
-
 returns : tie.Need-returns
 returns c = c .is-marked .ensures ∙ ap (isListed (now (c .before .before .before .args .programs))) (c .before .wide .ensures)
 
@@ -22,6 +16,5 @@ pub is-listed-spec : {M : Type 1} → statement M
 is-listed-spec =
     tie.close
     (tie.spec
-    wide-requires
-    is-marked-requires
+    (λ c κs. search needs) (λ c κs. search needs)
     returns)

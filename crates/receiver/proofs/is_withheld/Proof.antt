@@ -6,9 +6,6 @@ use Rattle.receiver.proofs.is_withheld.Reads as reads
 use Rattle.receiver.proofs.is_withheld.Lts as lts
 use Rattle.receiver.proofs.is_entitled.Reads as is-entitled-reads
 
-is-entitled-requires : tie.Need-is-entitled-requires
-is-entitled-requires c κs = search needs
-
 returns : tie.Need-returns
 returns c =
     let a = c .before .before .args in
@@ -31,7 +28,7 @@ pub is-withheld-spec : {M : Type 1} → statement M
 is-withheld-spec =
     tie.close
     (tie.spec
-    is-entitled-requires
+    (λ c κs. search needs)
     returns
     returns-2
     returns-3)

@@ -13,9 +13,6 @@ use Rattle.receiver.proofs.listed_refusal.Reads as reads
 use Rattle.receiver.proofs.listed_refusal.Lts as lts
 use Rattle.receiver.proofs.wrong_state.Reads as wrong-state-reads
 
-wrong-state-requires : tie.Need-wrong-state-requires
-wrong-state-requires c κs = search needs
-
 returns : tie.Need-returns
 returns c =
     let w = c .before in
@@ -35,4 +32,4 @@ returns-3 c =
     rw (state-listed (s .args .r) (s .args .m) (s .pre) ∙ sym (w .wrong-state .ensures) ∙ c .before .if1 .left, le-ltb (s .args .carry) 4096 (omega (arith, c .if2 .left)))
 
 pub listed-refusal-spec : {M : Type 1} → statement M
-listed-refusal-spec = tie.close (tie.spec wrong-state-requires returns returns-2 returns-3)
+listed-refusal-spec = tie.close (tie.spec (λ c κs. search needs) returns returns-2 returns-3)

@@ -11,21 +11,12 @@ use Rattle.receiver.proofs.forgotten.Reads as forgotten-reads
 use Rattle.receiver.proofs.refused.Reads as refused-reads
 use Rattle.receiver.proofs.wrong_state.Reads as wrong-state-reads
 
-wrong-state-requires : tie.Need-wrong-state-requires
-wrong-state-requires c κs = search needs
-
-refused-requires : tie.Need-refused-requires
-refused-requires c κs = search needs
-
 returns : tie.Need-returns
 returns c =
     let w = c .before .before in
     let s = w .before .before in
     let a = s .args in
     state-lost (now (a .log)) (a .r) (a .m) (s .pre) (w .wrong-state .result) (w .wrong-state .ensures) (c .refused .result) (c .before .if1 .taken) (c .refused .ensures)
-
-refused-requires-2 : tie.Need-refused-requires-2
-refused-requires-2 c κs = search needs
 
 returns-2 : tie.Need-returns-2
 returns-2 c =
@@ -42,9 +33,6 @@ put-note-requires c κs =
 forgotten-requires : tie.Need-forgotten-requires
 forgotten-requires c κs = let h = one-word _ _ (c .before .before .put-note .ensures .0) in omega (arith, h)
 
-same-length : tie.Need-same-length
-same-length c = search needs
-
 returns-3 : tie.Need-returns-3
 returns-3 c =
     let p = c .before .before .before in
@@ -58,12 +46,11 @@ pub lose-listed-spec : {M : Type 1} → statement M
 lose-listed-spec =
     tie.close
     (tie.spec
-    wrong-state-requires
-    refused-requires
+    (λ c κs. search needs) (λ c κs. search needs)
     returns
-    refused-requires-2
+    (λ c κs. search needs)
     returns-2
     put-note-requires
     forgotten-requires
-    same-length
+    (λ c. search needs)
     returns-3)

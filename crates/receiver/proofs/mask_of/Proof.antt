@@ -7,44 +7,20 @@ use Rattle.receiver.proofs.mask_of.Reads as reads
 use Rattle.receiver.proofs.mask_of.Lts as lts
 use Rattle.receiver.proofs.bit_of.Reads as bit-of-reads
 
-bit-of-requires : tie.Need-bit-of-requires
-bit-of-requires c κs = search needs
-
-bit-of-requires-2 : tie.Need-bit-of-requires-2
-bit-of-requires-2 c κs = search needs
-
 add-low : tie.Need-add-low
 add-low c = omega (arith, c .before .bit-of .ensures .1, c .bit-of2 .ensures .1)
-
-bit-of-requires-3 : tie.Need-bit-of-requires-3
-bit-of-requires-3 c κs = search needs
 
 add-low-2 : tie.Need-add-low-2
 add-low-2 c = omega (arith, c .before .before .bit-of .ensures .1, c .before .bit-of2 .ensures .1, c .bit-of3 .ensures .1)
 
-bit-of-requires-4 : tie.Need-bit-of-requires-4
-bit-of-requires-4 c κs = search needs
-
 add-low-3 : tie.Need-add-low-3
 add-low-3 c = omega (arith, c .before .before .before .bit-of .ensures .1, c .before .before .bit-of2 .ensures .1, c .before .bit-of3 .ensures .1, c .bit-of4 .ensures .1)
-
-bit-of-requires-5 : tie.Need-bit-of-requires-5
-bit-of-requires-5 c κs = search needs
-
-bit-of-requires-6 : tie.Need-bit-of-requires-6
-bit-of-requires-6 c κs = search needs
 
 add-high : tie.Need-add-high
 add-high c = omega (arith, c .before .before .before .before .before .bit-of .ensures .1, c .before .before .before .before .bit-of2 .ensures .1, c .before .before .before .bit-of3 .ensures .1, c .before .before .bit-of4 .ensures .1, c .before .bit-of5 .ensures .1, c .bit-of6 .ensures .1)
 
-bit-of-requires-7 : tie.Need-bit-of-requires-7
-bit-of-requires-7 c κs = search needs
-
 add-high-2 : tie.Need-add-high-2
 add-high-2 c = omega (arith, c .before .before .before .before .before .before .bit-of .ensures .1, c .before .before .before .before .before .bit-of2 .ensures .1, c .before .before .before .before .bit-of3 .ensures .1, c .before .before .before .bit-of4 .ensures .1, c .before .before .bit-of5 .ensures .1, c .before .bit-of6 .ensures .1, c .bit-of7 .ensures .1)
-
-bit-of-requires-8 : tie.Need-bit-of-requires-8
-bit-of-requires-8 c κs = search needs
 
 add-high-3 : tie.Need-add-high-3
 add-high-3 c = omega (arith, c .before .before .before .before .before .before .before .bit-of .ensures .1, c .before .before .before .before .before .before .bit-of2 .ensures .1, c .before .before .before .before .before .bit-of3 .ensures .1, c .before .before .before .before .bit-of4 .ensures .1, c .before .before .before .bit-of5 .ensures .1, c .before .before .bit-of6 .ensures .1, c .before .bit-of7 .ensures .1, c .bit-of8 .ensures .1)
@@ -60,19 +36,17 @@ pub mask-of-spec : {M : Type 1} → statement M
 mask-of-spec =
     tie.close
     (tie.spec
-    bit-of-requires
-    bit-of-requires-2
+    (λ c κs. search needs) (λ c κs. search needs)
     add-low
-    bit-of-requires-3
+    (λ c κs. search needs)
     add-low-2
-    bit-of-requires-4
+    (λ c κs. search needs)
     add-low-3
-    bit-of-requires-5
-    bit-of-requires-6
+    (λ c κs. search needs) (λ c κs. search needs)
     add-high
-    bit-of-requires-7
+    (λ c κs. search needs)
     add-high-2
-    bit-of-requires-8
+    (λ c κs. search needs)
     add-high-3
     add-result
     returns)

@@ -7,9 +7,6 @@ use Rattle.receiver.proofs.not_opened.Reads as reads
 use Rattle.receiver.proofs.not_opened.Lts as lts
 use Rattle.receiver.proofs.fresh.Reads as fresh-reads
 
-fresh-requires : tie.Need-fresh-requires
-fresh-requires c κs = search needs
-
 returns : tie.Need-returns
 returns c = ap (λ (x : Receiver). record { refusal = c .before .args .number; receiver = x }) (c .fresh .ensures)
 
@@ -17,5 +14,5 @@ pub not-opened-spec : {M : Type 1} → statement M
 not-opened-spec =
     tie.close
     (tie.spec
-    fresh-requires
+    (λ c κs. search needs)
     returns)

@@ -6,12 +6,6 @@ use Rattle.receiver.proofs.open.Reads as reads
 use Rattle.receiver.proofs.open.Lts as lts
 use Rattle.receiver.proofs.open_entitled.Reads as open-entitled-reads
 
-slice-aggregate-open-entitled : tie.Need-slice-aggregate-open-entitled
-slice-aggregate-open-entitled c = search needs
-
-open-entitled-requires : tie.Need-open-entitled-requires
-open-entitled-requires c κs = search needs
-
 returns : tie.Need-returns
 unfolding receiverOpened
 returns c = c .open-entitled .ensures
@@ -20,6 +14,5 @@ pub open-spec : {M : Type 1} → statement M
 open-spec =
     tie.close
     (tie.spec
-    slice-aggregate-open-entitled
-    open-entitled-requires
+    (λ c. search needs) (λ c κs. search needs)
     returns)

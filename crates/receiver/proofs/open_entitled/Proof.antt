@@ -13,36 +13,12 @@ use Rattle.receiver.proofs.fresh.Reads as fresh-reads
 use Rattle.receiver.proofs.mask_of.Reads as mask-of-reads
 use Rattle.receiver.proofs.not_opened.Reads as not-opened-reads
 
-look-up-requires : tie.Need-look-up-requires
-look-up-requires c κs = search needs
-
-enum-told : tie.Need-enum-told
-enum-told c = search needs
-
-allowed-requires : tie.Need-allowed-requires
-allowed-requires c κs = search needs
-
-mask-of-requires : tie.Need-mask-of-requires
-mask-of-requires c κs = search needs
-
-fresh-requires : tie.Need-fresh-requires
-fresh-requires c κs = search needs
-
 returns : tie.Need-returns
 returns c =
     let a = c .before .before .before .before .before .before .before .before .args in
     let k = c .before .before .before .allowed in
     ap (λ (x : Receiver). record { refusal = 0; receiver = x }) (c .fresh .ensures)
     ∙ opens (a .mode) (a .stream) (a .register) (now (a .programs)) _ (c .before .before .before .before .before .before .look-up .ensures) _ (c .before .mask-of .result) (c .before .before .before .before .enum-told .given .1) (sym (k .ensures) ∙ c .before .before .if1 .taken) (c .before .mask-of .ensures)
-
-not-opened-requires : tie.Need-not-opened-requires
-not-opened-requires c κs = search needs
-
-enum-known-n : tie.Need-enum-known-n
-enum-known-n c = search needs
-
-not-opened-requires-2 : tie.Need-not-opened-requires-2
-not-opened-requires-2 c κs = search needs
 
 returns-2 : tie.Need-returns-2
 returns-2 c =
@@ -59,14 +35,8 @@ pub open-entitled-spec : {M : Type 1} → statement M
 open-entitled-spec =
     tie.close
     (tie.spec
-    look-up-requires
-    enum-told
-    allowed-requires
-    mask-of-requires
-    fresh-requires
+    (λ c κs. search needs) (λ c. search needs) (λ c κs. search needs) (λ c κs. search needs) (λ c κs. search needs)
     returns
-    not-opened-requires
-    enum-known-n
-    not-opened-requires-2
+    (λ c κs. search needs) (λ c. search needs) (λ c κs. search needs)
     returns-2
     returns-3)

@@ -15,30 +15,12 @@ use Rattle.receiver.proofs.receive_read.Reads as receive-read-reads
 use Rattle.receiver.proofs.refused.Reads as refused-reads
 use Rattle.receiver.proofs.wrong_stream.Reads as wrong-stream-reads
 
-control-word-requires : tie.Need-control-word-requires
-control-word-requires c κs = search needs
-
-wrong-stream-requires : tie.Need-wrong-stream-requires
-wrong-stream-requires c κs = search needs
-
-refused-requires : tie.Need-refused-requires
-refused-requires c κs = search needs
-
 returns : tie.Need-returns
 returns c =
     let w = c .before .before in
     let s = w .before .before .before .before .before in
     let a = s .args in
     stream-call (a .m) (a .r) (now (a .carry)) (now (a .y)) (now (a .log)) (w .before .control-word .result) (w .before .control-word .ensures) (w .wrong-stream .result) (c .refused .result) (w .wrong-stream .ensures) (c .before .if1 .taken) (c .refused .ensures)
-
-judge-requires : tie.Need-judge-requires
-judge-requires c κs = search needs
-
-cast-refused : tie.Need-cast-refused
-cast-refused c = search needs
-
-refused-requires-2 : tie.Need-refused-requires-2
-refused-requires-2 c κs = search needs
 
 returns-2 : tie.Need-returns-2
 returns-2 c =
@@ -56,12 +38,6 @@ receive-read-requires c κs =
     let few = subst (λ (d : ControlWord). d .nop < 64) (sym (w .before .control-word .ensures)) (nop-small (now (s .args .y))) in
     (s .pre .1 .0, ((s .pre .1 .1, few), sym (j .judge .ensures .0) ∙ c .before .before .if2 .left))
 
-same-length : tie.Need-same-length
-same-length c = search needs
-
-same-length-2 : tie.Need-same-length-2
-same-length-2 c = search needs
-
 returns-3 : tie.Need-returns-3
 returns-3 c =
     let f = c .before .before .before .before in
@@ -76,15 +52,10 @@ pub receive-corrected-spec : {M : Type 1} → statement M
 receive-corrected-spec =
     tie.close
     (tie.spec
-    control-word-requires
-    wrong-stream-requires
-    refused-requires
+    (λ c κs. search needs) (λ c κs. search needs) (λ c κs. search needs)
     returns
-    judge-requires
-    cast-refused
-    refused-requires-2
+    (λ c κs. search needs) (λ c. search needs) (λ c κs. search needs)
     returns-2
     receive-read-requires
-    same-length
-    same-length-2
+    (λ c. search needs) (λ c. search needs)
     returns-3)

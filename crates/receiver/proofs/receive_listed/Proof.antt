@@ -17,12 +17,6 @@ use Rattle.receiver.proofs.receive_or_restore.Reads as receive-or-resto
 use Rattle.receiver.proofs.refused.Reads as refused-reads
 use Rattle.receiver.proofs.wrong_state.Reads as wrong-state-reads
 
-wrong-state-requires : tie.Need-wrong-state-requires
-wrong-state-requires c κs = search needs
-
-refused-requires : tie.Need-refused-requires
-refused-requires c κs = search needs
-
 returns : tie.Need-returns
 returns c =
     let w = c .before .before in
@@ -30,24 +24,12 @@ returns c =
     let a = s .args in
     state-call (a .marks .now) (now (a .carry)) (now (a .pdu)) (now (a .log)) (a .r) (a .m) (s .pre) (w .wrong-state .result) (w .wrong-state .ensures) (c .refused .result) (c .before .if1 .taken) (c .refused .ensures)
 
-refused-requires-2 : tie.Need-refused-requires-2
-refused-requires-2 c κs = search needs
-
 returns-2 : tie.Need-returns-2
 returns-2 c =
     let w = c .before .before .before in
     let s = w .before .before .before .before .before in
     let a = s .args in
     carry-call (a .marks .now) (now (a .carry)) (now (a .pdu)) (now (a .log)) (a .r) (a .m) (s .pre) (w .wrong-state .result) (w .wrong-state .ensures) (c .before .before .if1 .left) (c .refused2 .result) (omega (arith, c .before .if2 .taken)) (c .refused2 .ensures)
-
-header-of-requires : tie.Need-header-of-requires
-header-of-requires c κs = search needs
-
-correct-marked-requires : tie.Need-correct-marked-requires
-correct-marked-requires c κs = search needs
-
-enum-told : tie.Need-enum-told
-enum-told c = search needs
 
 receive-or-restore-requires : tie.Need-receive-or-restore-requires
 receive-or-restore-requires c κs =
@@ -60,21 +42,6 @@ receive-or-restore-requires c κs =
     let size : length (k .correct-marked .last .0) ≤ 20480 = omega (arith, k .correct-marked .kept .0, corrected-allowed-with (a .marks .now) (now (a .pdu)) _ (sym (k .correct-marked .ensures .0) ∙ g .enum-told .given .1)) in
     (s .pre, (usable (a .r) (a .m) (now (a .carry)) (s .pre) (sym (w .wrong-state .ensures) ∙ e .before .if1 .left) (e .if2 .left), size))
 
-enum-known-answer : tie.Need-enum-known-answer
-enum-known-answer c = search needs
-
-refused-requires-3 : tie.Need-refused-requires-3
-refused-requires-3 c κs = search needs
-
-same-length : tie.Need-same-length
-same-length c = search needs
-
-same-length-2 : tie.Need-same-length-2
-same-length-2 c = search needs
-
-same-length-3 : tie.Need-same-length-3
-same-length-3 c = search needs
-
 returns-3 : tie.Need-returns-3
 returns-3 c =
     let f = c .before .before .before .before .before .before in
@@ -86,9 +53,6 @@ returns-3 c =
     let s = w .before .before .before .before .before in
     let a = s .args in
     corrected-call (a .marks .now) (now (a .carry)) (now (a .pdu)) (now (a .log)) (a .r) (a .m) (s .pre) (w .wrong-state .result) (w .wrong-state .ensures) (e .before .if1 .left) (e .if2 .left) _ (f .receive-or-restore .result) (k .correct-marked .last .0) (h .header-of .result) (f .receive-or-restore .last .1 .1 .0) (f .receive-or-restore .last .1 .1 .1 .0) (f .receive-or-restore .last .1 .1 .1 .1 .0) (λ i. w .before .before .before .slice-known2 .given i .fits) (sym (k .correct-marked .ensures .0) ∙ g .enum-told .given .1) (h .header-of .ensures) (k .correct-marked .ensures .1) (f .receive-or-restore .ensures .0) (f .receive-or-restore .ensures .1)
-
-same-length-4 : tie.Need-same-length-4
-same-length-4 c = search needs
 
 returns-4 : tie.Need-returns-4
 returns-4 c =
@@ -105,20 +69,13 @@ pub receive-listed-spec : {M : Type 1} → statement M
 receive-listed-spec =
     tie.close
     (tie.spec
-    wrong-state-requires
-    refused-requires
+    (λ c κs. search needs) (λ c κs. search needs)
     returns
-    refused-requires-2
+    (λ c κs. search needs)
     returns-2
-    header-of-requires
-    correct-marked-requires
-    enum-told
+    (λ c κs. search needs) (λ c κs. search needs) (λ c. search needs)
     receive-or-restore-requires
-    enum-known-answer
-    refused-requires-3
-    same-length
-    same-length-2
-    same-length-3
+    (λ c. search needs) (λ c κs. search needs) (λ c. search needs) (λ c. search needs) (λ c. search needs)
     returns-3
-    same-length-4
+    (λ c. search needs)
     returns-4)

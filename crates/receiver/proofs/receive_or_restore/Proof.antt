@@ -11,18 +11,6 @@ use Rattle.receiver.proofs.receive_or_restore.Lts as lts
 use Rattle.header.proofs.put_front.Reads as put-front-reads
 use Rattle.receiver.proofs.receive_corrected.Reads as receive-corrected-reads
 
-receive-corrected-requires : tie.Need-receive-corrected-requires
-receive-corrected-requires c κs = search needs
-
-same-length : tie.Need-same-length
-same-length c = search needs
-
-same-length-2 : tie.Need-same-length-2
-same-length-2 c = search needs
-
-same-length-3 : tie.Need-same-length-3
-same-length-3 c = search needs
-
 returns : tie.Need-returns
 returns c =
     let f = c .before .before .before .before .before .before in
@@ -30,18 +18,6 @@ returns c =
     let a = s .args in
     let h = f .receive-corrected in
     (h .ensures, kept (a .m) (a .r) (now (a .carry)) (now (a .pdu)) (now (a .log)) (h .result) (h .last .1 .1 .0) (h .last .1 .1 .1 .1 .0) (h .ensures) (frontReplaced (now (a .pdu)) (now (a .before))) (omega (arith, c .if1 .taken)))
-
-put-front-requires : tie.Need-put-front-requires
-put-front-requires c κs = search needs
-
-same-length-4 : tie.Need-same-length-4
-same-length-4 c = search needs
-
-same-length-5 : tie.Need-same-length-5
-same-length-5 c = search needs
-
-same-length-6 : tie.Need-same-length-6
-same-length-6 c = search needs
 
 returns-2 : tie.Need-returns-2
 returns-2 c =
@@ -57,13 +33,7 @@ pub receive-or-restore-spec : {M : Type 1} → statement M
 receive-or-restore-spec =
     tie.close
     (tie.spec
-    receive-corrected-requires
-    same-length
-    same-length-2
-    same-length-3
+    (λ c κs. search needs) (λ c. search needs) (λ c. search needs) (λ c. search needs)
     returns
-    put-front-requires
-    same-length-4
-    same-length-5
-    same-length-6
+    (λ c κs. search needs) (λ c. search needs) (λ c. search needs) (λ c. search needs)
     returns-2)

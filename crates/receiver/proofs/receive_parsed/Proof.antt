@@ -40,23 +40,11 @@ weighed f =
       forecast = f .forecast-for .ensures;
     }
 
-state-of-requires : tie.Need-state-of-requires
-state-of-requires c κs = search needs
-
 services-at-requires : tie.Need-services-at-requires
 services-at-requires c κs = let p = c .before .before .before .before .pre in (p .0 .sequence, p .0 .services)
 
-is-withheld-requires : tie.Need-is-withheld-requires
-is-withheld-requires c κs = search needs
-
-tally-of-requires : tie.Need-tally-of-requires
-tally-of-requires c κs = search needs
-
 forecast-for-requires : tie.Need-forecast-for-requires
 forecast-for-requires c κs = needed (ready (c .before .before .before)) (c .tally-of .result) (c .tally-of .ensures)
-
-refused-requires : tie.Need-refused-requires
-refused-requires c κs = search needs
 
 returns : tie.Need-returns
 returns c =
@@ -64,12 +52,6 @@ returns c =
     let t = f .before .before .before .before in
     let a = t .before .before .before .before .args in
     too-short (ready t) (weighed f) (now (a .log)) (c .refused .result) (omega (arith, c .before .if1 .taken)) (c .refused .ensures)
-
-passes-limit-requires : tie.Need-passes-limit-requires
-passes-limit-requires c κs = search needs
-
-refused-requires-2 : tie.Need-refused-requires-2
-refused-requires-2 c κs = search needs
 
 returns-2 : tie.Need-returns-2
 returns-2 c =
@@ -87,9 +69,6 @@ accept-requires c κs =
     let a = t .before .before .before .before .args in
     accepts (ready t) (weighed f) (now (a .log)) (omega (arith, p .before .if1 .left)) (p .passes-limit .result) (p .passes-limit .ensures)
 
-services-after-requires : tie.Need-services-after-requires
-services-after-requires c κs = search needs
-
 accepted-requires : tie.Need-accepted-requires
 accepted-requires c κs =
     let d = c .before .before .before .before .before in
@@ -102,12 +81,6 @@ accepted-requires c κs =
       run-fits (ready t) (weighed f) (now (a .log)) room (p .passes-limit .result) (p .passes-limit .ensures) (e .if2 .left) (d .accept .last .1 .1 .1 .1 .1 .1 .1 .0) (d .accept .last .1 .1 .1 .1 .1 .1 .1 .1 .0) (d .accept .result) (d .accept .ensures),
       tally-fits (ready t) (weighed f) (now (a .log)) room (p .passes-limit .result) (p .passes-limit .ensures) (e .if2 .left) (d .accept .last .1 .1 .1 .1 .1 .1 .1 .0) (d .accept .last .1 .1 .1 .1 .1 .1 .1 .1 .0) (d .accept .result) (d .accept .ensures),
     )
-
-same-length : tie.Need-same-length
-same-length c = search needs
-
-same-length-2 : tie.Need-same-length-2
-same-length-2 c = search needs
 
 returns-3 : tie.Need-returns-3
 returns-3 c =
@@ -124,19 +97,16 @@ pub receive-parsed-spec : {M : Type 1} → statement M
 receive-parsed-spec =
     tie.close
     (tie.spec
-    state-of-requires
+    (λ c κs. search needs)
     services-at-requires
-    is-withheld-requires
-    tally-of-requires
+    (λ c κs. search needs) (λ c κs. search needs)
     forecast-for-requires
-    refused-requires
+    (λ c κs. search needs)
     returns
-    passes-limit-requires
-    refused-requires-2
+    (λ c κs. search needs) (λ c κs. search needs)
     returns-2
     accept-requires
-    services-after-requires
+    (λ c κs. search needs)
     accepted-requires
-    same-length
-    same-length-2
+    (λ c. search needs) (λ c. search needs)
     returns-3)

@@ -19,16 +19,10 @@ use Rattle.receiver.proofs.receive_parsed.Reads as receive-parsed-reads
 marks-of-requires : tie.Need-marks-of-requires
 marks-of-requires c κs = c .before .before .before .pre .1 .0 .1
 
-cast-causes-of : tie.Need-cast-causes-of
-cast-causes-of c = search needs
-
 causes-of-requires : tie.Need-causes-of-requires
 causes-of-requires c κs =
     let s = c .before .before .before .before .before in
     all-marked (s .args .m) (s .args .c) (now (s .args .y)) (s .pre .1 .0 .1) (s .pre .1 .1) (c .before .marks-of .result) (c .before .marks-of .ensures)
-
-head-of-requires : tie.Need-head-of-requires
-head-of-requires c κs = search needs
 
 receive-parsed-requires : tie.Need-receive-parsed-requires
 receive-parsed-requires c κs =
@@ -38,12 +32,6 @@ receive-parsed-requires c κs =
     let a = s .args in
     let marks = k .marks-of .result in
     (s .pre .0, subst (λ (x : Head). Parsed x (now (a .y)) marks) (sym (h .head-of .ensures)) (parsed (a .m) (a .c) (now (a .y)) (s .pre .1 .0 .1) (s .pre .1 .1) marks (k .marks-of .ensures) (s .pre .1 .0 .0)))
-
-same-length : tie.Need-same-length
-same-length c = search needs
-
-same-length-2 : tie.Need-same-length-2
-same-length-2 c = search needs
 
 returns : tie.Need-returns
 returns c =
@@ -60,10 +48,9 @@ receive-read-spec =
     tie.close
     (tie.spec
     marks-of-requires
-    cast-causes-of
+    (λ c. search needs)
     causes-of-requires
-    head-of-requires
+    (λ c κs. search needs)
     receive-parsed-requires
-    same-length
-    same-length-2
+    (λ c. search needs) (λ c. search needs)
     returns)

@@ -9,17 +9,11 @@ use Rattle.receiver.proofs.services_after.Lts as lts
 use Rattle.receiver.proofs.keeps_services.Reads as keeps-services-reads
 use Rattle.receiver.proofs.unknown_services.Reads as unknown-services-reads
 
-keeps-services-requires : tie.Need-keeps-services-requires
-keeps-services-requires c κs = search needs
-
 returns : tie.Need-returns
 returns c =
     let a = c .before .before .args in
     let k = c .before .keeps-services in
     services-kept (k .result) (keepsServices (a .range) (a .r)) (a .services) (k .ensures) (c .if1 .taken)
-
-unknown-services-requires : tie.Need-unknown-services-requires
-unknown-services-requires c κs = search needs
 
 returns-2 : tie.Need-returns-2
 returns-2 c =
@@ -31,7 +25,7 @@ pub services-after-spec : {M : Type 1} → statement M
 services-after-spec =
     tie.close
     (tie.spec
-    keeps-services-requires
+    (λ c κs. search needs)
     returns
-    unknown-services-requires
+    (λ c κs. search needs)
     returns-2)

@@ -11,20 +11,11 @@ use Rattle.receiver.proofs.keeps_services.Reads as keeps-services-reads
 use Rattle.receiver.proofs.known_services.Reads as known-services-reads
 use Rattle.receiver.proofs.unknown_services.Reads as unknown-services-reads
 
-keeps-services-requires : tie.Need-keeps-services-requires
-keeps-services-requires c κs = search needs
-
-known-services-requires : tie.Need-known-services-requires
-known-services-requires c κs = search needs
-
 returns : tie.Need-returns
 returns c =
     let a = c .before .before .before .args in
     let k = c .before .before .keeps-services in
     c .known-services .ensures ∙ own-value (a .range) (a .r) (a .head) (k .result) (k .ensures) (c .before .if1 .taken)
-
-known-services-requires-2 : tie.Need-known-services-requires-2
-known-services-requires-2 c κs = search needs
 
 returns-2 : tie.Need-returns-2
 returns-2 c =
@@ -43,9 +34,6 @@ returns-3 c =
     let s = c .before .in-sequence in
     kept-value (a .range) (a .r) (a .head) (k .result) (k .ensures) (c .before .before .before .before .if1 .left) (omega (arith, c .before .before .if2 .left)) (s .result) (s .ensures) (c .if3 .taken) (p .pre .1)
 
-unknown-services-requires : tie.Need-unknown-services-requires
-unknown-services-requires c κs = search needs
-
 returns-4 : tie.Need-returns-4
 returns-4 c =
     let a = c .before .before .before .before .before .before .before .args in
@@ -57,12 +45,11 @@ pub services-at-spec : {M : Type 1} → statement M
 services-at-spec =
     tie.close
     (tie.spec
-    keeps-services-requires
-    known-services-requires
+    (λ c κs. search needs) (λ c κs. search needs)
     returns
-    known-services-requires-2
+    (λ c κs. search needs)
     returns-2
     in-sequence-requires
     returns-3
-    unknown-services-requires
+    (λ c κs. search needs)
     returns-4)

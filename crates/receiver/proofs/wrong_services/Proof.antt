@@ -8,9 +8,6 @@ use Rattle.receiver.proofs.wrong_services.Reads as reads
 use Rattle.receiver.proofs.wrong_services.Lts as lts
 use Rattle.receiver.proofs.keeps_services.Reads as keeps-services-reads
 
-keeps-services-requires : tie.Need-keeps-services-requires
-keeps-services-requires c κs = search needs
-
 returns : tie.Need-returns
 returns c =
     let r = c .before .before .before .before .before .args .r in
@@ -20,5 +17,5 @@ pub wrong-services-spec : {M : Type 1} → statement M
 wrong-services-spec =
     tie.close
     (tie.spec
-    keeps-services-requires
+    (λ c κs. search needs)
     returns)

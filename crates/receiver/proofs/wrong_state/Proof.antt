@@ -12,12 +12,6 @@ use Rattle.receiver.proofs.wrong_state.Lts as lts
 use Rattle.receiver.proofs.wrong_counts.Reads as wrong-counts-reads
 use Rattle.receiver.proofs.wrong_services.Reads as wrong-services-reads
 
-wrong-services-requires : tie.Need-wrong-services-requires
-wrong-services-requires c κs = search needs
-
-wrong-counts-requires : tie.Need-wrong-counts-requires
-wrong-counts-requires c κs = search needs
-
 returns : tie.Need-returns
 returns c =
     let n = c .before .before .before .before .before .before .before .before in
@@ -32,6 +26,5 @@ pub wrong-state-spec : {M : Type 1} → statement M
 wrong-state-spec =
     tie.close
     (tie.spec
-    wrong-services-requires
-    wrong-counts-requires
+    (λ c κs. search needs) (λ c κs. search needs)
     returns)

@@ -8,22 +8,10 @@ use Rattle.receiver.proofs.wrong_stream.Lts as lts
 use Rattle.modes.proofs.look_up.Reads as look-up-reads
 use Rattle.receiver.proofs.other_stream.Reads as other-stream-reads
 
-look-up-requires : tie.Need-look-up-requires
-look-up-requires c κs = search needs
-
-enum-told : tie.Need-enum-told
-enum-told c = search needs
-
-other-stream-requires : tie.Need-other-stream-requires
-other-stream-requires c κs = search needs
-
 returns : tie.Need-returns
 returns c =
     let s = c .before .before .before .before .before in
     sym (stream-listed (s .args .r) (s .args .c) _ _ (c .before .before .before .before .look-up .ensures) (c .before .before .enum-told .given .1) ∙ rw (sym (c .before .other-stream .ensures) ∙ c .if1 .taken))
-
-enum-known-listing : tie.Need-enum-known-listing
-enum-known-listing c = search needs
 
 returns-2 : tie.Need-returns-2
 returns-2 c =
@@ -39,10 +27,8 @@ pub wrong-stream-spec : {M : Type 1} → statement M
 wrong-stream-spec =
     tie.close
     (tie.spec
-    look-up-requires
-    enum-told
-    other-stream-requires
+    (λ c κs. search needs) (λ c. search needs) (λ c κs. search needs)
     returns
-    enum-known-listing
+    (λ c. search needs)
     returns-2
     returns-3)

@@ -12,18 +12,9 @@ use Rattle.settings.proofs.access_one.Reads as access-one-reads
 use Rattle.settings.proofs.class_one.Reads as class-one-reads
 use Rattle.settings.proofs.program_of.Reads as program-of-reads
 
-program-of-requires : tie.Need-program-of-requires
-program-of-requires c κs = search needs
-
-class-one-requires : tie.Need-class-one-requires
-class-one-requires c κs = search needs
-
-access-one-requires : tie.Need-access-one-requires
-access-one-requires c κs = search needs
-
 returns : tie.Need-returns
 returns c = rw (c .before .before .before .before .before .before .before .before .before .before .before .program-of .ensures, c .before .before .before .before .before .before .before .before .before .before .class-one .ensures, c .before .before .before .before .before .before .before .before .before .access-one .ensures)
 
 pub breaks-rules-spec : {M : Type 1} → statement M
 breaks-rules-spec =
-    tie.close (tie.spec program-of-requires class-one-requires access-one-requires returns)
+    tie.close (tie.spec (λ c κs. search needs) (λ c κs. search needs) (λ c κs. search needs) returns)

@@ -11,15 +11,9 @@ use Rattle.settings.proofs.fields_for.Reads as reads
 use Rattle.settings.proofs.fields_for.Lts as lts
 use Rattle.settings.proofs.program_of.Reads as program-of-reads
 
-program-of-requires : tie.Need-program-of-requires
-program-of-requires c κs = search needs
-
-sub-t8 : tie.Need-sub-t8
-sub-t8 c = search needs
-
 returns : tie.Need-returns
 unfolding fieldsFor
 returns c = rw (c .before .before .before .before .program-of .ensures)
 
 pub fields-for-spec : {M : Type 1} → statement M
-fields-for-spec = tie.close (tie.spec program-of-requires sub-t8 returns)
+fields-for-spec = tie.close (tie.spec (λ c κs. search needs) (λ c. search needs) returns)

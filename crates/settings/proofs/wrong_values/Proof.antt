@@ -10,11 +10,8 @@ use Rattle.settings.proofs.wrong_values.Reads as reads
 use Rattle.settings.proofs.wrong_values.Lts as lts
 use Rattle.settings.proofs.program_of.Reads as program-of-reads
 
-program-of-requires : tie.Need-program-of-requires
-program-of-requires c κs = search needs
-
 returns : tie.Need-returns
 returns c = rw (c .before .before .before .before .before .before .before .before .before .before .before .before .before .before .before .before .before .before .before .program-of .ensures)
 
 pub wrong-values-spec : {M : Type 1} → statement M
-wrong-values-spec = tie.close (tie.spec program-of-requires returns)
+wrong-values-spec = tie.close (tie.spec (λ c κs. search needs) returns)

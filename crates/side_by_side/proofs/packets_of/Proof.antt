@@ -10,45 +10,11 @@ Inv-loop row packets₀ i₀ packets i = i ≤ length row
 abbrev μ-loop : tie.MeasureT-loop
 μ-loop row packets₀ i₀ packets i = length row - i
 
-loop-holds : tie.Need-loop-holds Inv-loop μ-loop
-loop-holds c = search needs
-
-mul-split : tie.Need-mul-split Inv-loop μ-loop
-mul-split c = search needs
-
-shared-slice-read-split : tie.Need-shared-slice-read-split Inv-loop μ-loop
-shared-slice-read-split c = search needs
-
-split-requires : tie.Need-split-requires Inv-loop μ-loop
-split-requires c κs = search needs
-
-with-word-requires : tie.Need-with-word-requires Inv-loop μ-loop
-with-word-requires c κs = search needs
-
-add-i : tie.Need-add-i Inv-loop μ-loop
-add-i c = search needs
-
-loop-less : tie.Need-loop-less Inv-loop μ-loop
-loop-less c = search needs
-
-loop-again : tie.Need-loop-again Inv-loop μ-loop
-loop-again c = search needs
-
-returns : tie.Need-returns Inv-loop μ-loop
-returns c = search needs
-
 pub packets-of-spec : {M : Type 1} → statement M
 packets-of-spec =
     tie.close
     (tie.spec
     Inv-loop
     μ-loop
-    loop-holds
-    mul-split
-    shared-slice-read-split
-    split-requires
-    with-word-requires
-    add-i
-    loop-less
-    loop-again
-    returns)
+    (λ c. search needs) (λ c. search needs) (λ c. search needs) (λ c κs. search needs) (λ c κs. search needs) (λ c. search needs) (λ c. search needs)
+    (λ c. search needs) (λ c. search needs))

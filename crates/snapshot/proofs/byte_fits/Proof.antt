@@ -8,17 +8,11 @@ use Rattle.snapshot.proofs.byte_fits.Reads as reads
 use Rattle.snapshot.proofs.byte_fits.Lts as lts
 use Rattle.snapshot.proofs.unused_zero.Reads as unused-zero-reads
 
-add-if1 : tie.Need-add-if1
-add-if1 c = search needs
-
 returns : tie.Need-returns
 returns c = other-word (c .before .args .w) (c .before .args .n) (λ e. omega arith)
-
-unused-zero-requires : tie.Need-unused-zero-requires
-unused-zero-requires c κs = search needs
 
 returns-2 : tie.Need-returns-2
 returns-2 c = c .unused-zero .ensures ∙ right-word (c .before .before .args .w) (c .before .before .args .n) (omega arith)
 
 pub byte-fits-spec : {M : Type 1} → statement M
-byte-fits-spec = tie.close (tie.spec add-if1 returns unused-zero-requires returns-2)
+byte-fits-spec = tie.close (tie.spec (λ c. search needs) returns (λ c κs. search needs) returns-2)

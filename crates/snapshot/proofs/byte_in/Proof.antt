@@ -5,24 +5,15 @@ use Rattle.snapshot.proofs.byte_in.Tie as tie
 use Rattle.snapshot.proofs.byte_in.Reads as reads
 use Rattle.snapshot.proofs.byte_in.Lts as lts
 
-cast-result : tie.Need-cast-result
-cast-result c = search needs
-
 returns : tie.Need-returns
 returns c = byte-first (c .before .args .w) (c .before .args .k) (c .if1 .taken)
 
-cast-result-2 : tie.Need-cast-result-2
-cast-result-2 c = search needs
-
 returns-2 : tie.Need-returns-2
 returns-2 c = byte-second (c .before .before .args .w) (c .before .before .args .k) (c .before .if1 .left) (c .if2 .taken)
-
-cast-result-3 : tie.Need-cast-result-3
-cast-result-3 c = search needs
 
 returns-3 : tie.Need-returns-3
 returns-3 c = byte-third (c .before .before .args .w) (c .before .before .args .k) (c .before .if1 .left) (c .if2 .left)
 
 pub byte-in-spec : {M : Type 1} → statement M
 byte-in-spec =
-    tie.close (tie.spec cast-result returns cast-result-2 returns-2 cast-result-3 returns-3)
+    tie.close (tie.spec (λ c. search needs) returns (λ c. search needs) returns-2 (λ c. search needs) returns-3)

@@ -13,16 +13,10 @@ use Rattle.snapshot.proofs.count_of.Reads as count-of-reads
 returns : tie.Need-returns
 returns c = none-to-come (c .before .args .w) (c .before .args .left) (c .if1 .taken)
 
-count-of-requires : tie.Need-count-of-requires
-count-of-requires c κs = search needs
-
-byte-fits-requires : tie.Need-byte-fits-requires
-byte-fits-requires c κs = search needs
-
 returns-2 : tie.Need-returns-2
 returns-2 c =
     let a = c .before .before .before .args in
     c .byte-fits .ensures ∙ ap (λ (n : ℕ). byteFits n (a .w)) (c .before .count-of .ensures .0) ∙ some-to-come (a .w) (a .left) (c .before .before .if1 .left)
 
 pub fits-spec : {M : Type 1} → statement M
-fits-spec = tie.close (tie.spec returns count-of-requires byte-fits-requires returns-2)
+fits-spec = tie.close (tie.spec returns (λ c κs. search needs) (λ c κs. search needs) returns-2)

@@ -12,14 +12,8 @@ use Rattle.snapshot.proofs.half_at.Lts as lts
 returns : tie.Need-returns
 returns c = (ap (λ (n : ℕ). n % 0x10000) (sym (List·getD-eq-default (now (c .before .args .words)) 0 (c .if1 .taken))), omega arith)
 
-mul-result : tie.Need-mul-result
-mul-result c = search needs
-
-shared-slice-read-result : tie.Need-shared-slice-read-result
-shared-slice-read-result c = search needs
-
 returns-2 : tie.Need-returns-2
 returns-2 c = (refl, omega arith)
 
 pub half-at-spec : {M : Type 1} → statement M
-half-at-spec = tie.close (tie.spec returns mul-result shared-slice-read-result returns-2)
+half-at-spec = tie.close (tie.spec returns (λ c. search needs) (λ c. search needs) returns-2)

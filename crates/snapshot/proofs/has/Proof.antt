@@ -8,9 +8,6 @@ use Rattle.snapshot.proofs.has.Reads as reads
 use Rattle.snapshot.proofs.has.Lts as lts
 use Rattle.snapshot.proofs.place_of.Reads as place-of-reads
 
-place-of-requires : tie.Need-place-of-requires
-place-of-requires c κs = search needs
-
 returns : tie.Need-returns
 returns c =
     let p = c .before .place-of in
@@ -24,4 +21,4 @@ returns-2 c =
     has-one (a .kind) (p .result) (now (a .words)) (p .ensures .0) (omega (arith, c .if1 .left))
 
 pub has-spec : {M : Type 1} → statement M
-has-spec = tie.close (tie.spec place-of-requires returns returns-2)
+has-spec = tie.close (tie.spec (λ c κs. search needs) returns returns-2)

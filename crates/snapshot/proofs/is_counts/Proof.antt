@@ -23,14 +23,8 @@ begun c = c .before .before .before .before .before
 written : (c : tie.After-counts-length) → take (c .counts-length .result) (c .before .before .put-counts .last .0) ≡ countWords (begun c .args .r)
 written c = taken-back _ (c .before .before .put-counts .last .0) (countWords (begun c .args .r)) (c .counts-length .result) (c .counts-length .ensures .0) (c .before .before .put-counts .ensures)
 
-slice-aggregate-put-counts : tie.Need-slice-aggregate-put-counts
-slice-aggregate-put-counts c = search needs
-
 put-counts-requires : tie.Need-put-counts-requires
 put-counts-requires c κs = omega (arith, counts-few (c .before .before .args .r))
-
-counts-length-requires : tie.Need-counts-length-requires
-counts-length-requires c κs = search needs
 
 returns : tie.Need-returns
 returns c =
@@ -38,16 +32,10 @@ returns c =
     let a = begun n .args in
     same-not (countWords (a .r)) (now (a .words)) (λ e. omega (arith, c .if1 .taken, n .counts-length .ensures .0))
 
-array-share-prefix-counts : tie.Need-array-share-prefix-counts
-array-share-prefix-counts c = search needs
-
 slice-aggregate-begins : tie.Need-slice-aggregate-begins
 slice-aggregate-begins c =
     let n = c .before .before in
     n .counts-length .ensures .0 ∙ ap length (sym (written n))
-
-begins-requires : tie.Need-begins-requires
-begins-requires c κs = search needs
 
 returns-2 : tie.Need-returns-2
 returns-2 c =
@@ -61,11 +49,11 @@ pub is-counts-spec : {M : Type 1} → statement M
 is-counts-spec =
     tie.close
     (tie.spec
-    slice-aggregate-put-counts
+    (λ c. search needs)
     put-counts-requires
-    counts-length-requires
+    (λ c κs. search needs)
     returns
-    array-share-prefix-counts
+    (λ c. search needs)
     slice-aggregate-begins
-    begins-requires
+    (λ c κs. search needs)
     returns-2)

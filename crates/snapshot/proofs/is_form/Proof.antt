@@ -19,24 +19,6 @@ use Rattle.snapshot.proofs.is_counts.Reads as is-counts-reads
 use Rattle.snapshot.proofs.is_front.Reads as is-front-reads
 use Rattle.snapshot.proofs.place_of.Reads as place-of-reads
 
-place-of-requires : tie.Need-place-of-requires
-place-of-requires c κs = search needs
-
-mul-is-counts : tie.Need-mul-is-counts
-mul-is-counts c = search needs
-
-sub-is-counts : tie.Need-sub-is-counts
-sub-is-counts c = search needs
-
-part-is-counts-start : tie.Need-part-is-counts-start
-part-is-counts-start c = search needs
-
-part-is-counts-end : tie.Need-part-is-counts-end
-part-is-counts-end c = search needs
-
-is-counts-requires : tie.Need-is-counts-requires
-is-counts-requires c κs = search needs
-
 -- the words from the place on
 counts-test : (c : tie.After-is-counts)
     → c .is-counts .result ≡ sameList (countWords (c .before .before .before .before .args .r)) (drop (c .before .before .place-of .result) (now (c .before .before .before .before .args .words)))
@@ -58,15 +40,6 @@ slice-aggregate-is-front c =
     let p = c .before .before .before .before in
     sym (length-take-le (p .place-of .result) (now (p .before .before .args .words)) (p .place-of .ensures .1))
 
-has-requires : tie.Need-has-requires
-has-requires c κs = search needs
-
-has-requires-2 : tie.Need-has-requires-2
-has-requires-2 c κs = search needs
-
-is-front-requires : tie.Need-is-front-requires
-is-front-requires c κs = search needs
-
 returns-2 : tie.Need-returns-2
 returns-2 c =
     let h = c .before in
@@ -80,15 +53,8 @@ pub is-form-spec : {M : Type 1} → statement M
 is-form-spec =
     tie.close
     (tie.spec
-    place-of-requires
-    mul-is-counts
-    sub-is-counts
-    part-is-counts-start
-    part-is-counts-end
-    is-counts-requires
+    (λ c κs. search needs) (λ c. search needs) (λ c. search needs) (λ c. search needs) (λ c. search needs) (λ c κs. search needs)
     returns
     slice-aggregate-is-front
-    has-requires
-    has-requires-2
-    is-front-requires
+    (λ c κs. search needs) (λ c κs. search needs) (λ c κs. search needs)
     returns-2)

@@ -24,9 +24,6 @@ begun p = p .before .before .before
 written : (p : tie.After-put-head) → take (p .put-head .result) (p .put-head .last .0) ≡ head (begun p)
 written p = taken-back _ (p .put-head .last .0) (head (begun p)) (p .put-head .result) (p .put-head .ensures .0) (p .put-head .ensures .1)
 
-slice-aggregate-put-head : tie.Need-slice-aggregate-put-head
-slice-aggregate-put-head c = search needs
-
 put-head-requires : tie.Need-put-head-requires
 put-head-requires c κs = head-few (kinds (c .before .before .args .register) (c .before .before .args .programs)) (c .before .before .args .r)
 
@@ -40,21 +37,12 @@ slice-aggregate-begins c =
     let p = c .before .before in
     p .put-head .ensures .0 ∙ ap length (sym (written p))
 
-begins-requires : tie.Need-begins-requires
-begins-requires c κs = search needs
-
 returns : tie.Need-returns
 returns c =
     let g = c .before in
     let p = g .before .before .before in
     let a = begun p .args in
     front-not (now (a .words)) (kinds (a .register) (a .programs)) (a .r) (take (p .put-head .result) (p .put-head .last .0)) (written p) (g .begins .result) (g .begins .ensures) (not-true _ (c .if1 .taken))
-
-cast-is-rest : tie.Need-cast-is-rest
-cast-is-rest c = search needs
-
-is-rest-requires : tie.Need-is-rest-requires
-is-rest-requires c κs = search needs
 
 returns-2 : tie.Need-returns-2
 returns-2 c =
@@ -67,12 +55,11 @@ pub is-front-spec : {M : Type 1} → statement M
 is-front-spec =
     tie.close
     (tie.spec
-    slice-aggregate-put-head
+    (λ c. search needs)
     put-head-requires
     array-share-prefix-head
     slice-aggregate-begins
-    begins-requires
+    (λ c κs. search needs)
     returns
-    cast-is-rest
-    is-rest-requires
+    (λ c. search needs) (λ c κs. search needs)
     returns-2)

@@ -9,17 +9,11 @@ use Rattle.snapshot.proofs.is_wrong.Tie as tie
 use Rattle.snapshot.proofs.is_wrong.Reads as reads
 use Rattle.snapshot.proofs.is_wrong.Lts as lts
 
-is-form-requires : tie.Need-is-form-requires
-is-form-requires c κs = search needs
-
 returns : tie.Need-returns
 returns c =
     let q = c .before in
     let s = q .before .before in
     wrong-form (now (s .args .words)) (s .args .r) (has 3 (now (s .args .words))) (has 4 (now (s .args .words))) (s .pre) refl refl (q .is-form .result) (q .is-form .ensures) (not-true _ (c .if1 .taken))
-
-state-refusal-requires : tie.Need-state-refusal-requires
-state-refusal-requires c κs = search needs
 
 returns-2 : tie.Need-returns-2
 returns-2 c =
@@ -28,4 +22,4 @@ returns-2 c =
     wrong-state (now (s .args .words)) (s .args .r) (has 3 (now (s .args .words))) (has 4 (now (s .args .words))) (s .pre) refl refl (q .is-form .result) (q .is-form .ensures) (c .state-refusal .result) (not-false _ (c .before .if1 .left)) (c .state-refusal .ensures)
 
 pub is-wrong-spec : {M : Type 1} → statement M
-is-wrong-spec = tie.close (tie.spec is-form-requires returns state-refusal-requires returns-2)
+is-wrong-spec = tie.close (tie.spec (λ c κs. search needs) returns (λ c κs. search needs) returns-2)

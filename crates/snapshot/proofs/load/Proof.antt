@@ -14,22 +14,10 @@ use Rattle.snapshot.proofs.load.Lts as lts
 abbrev begun : tie.After-place-of → tie.Start
 begun p = p .before .before .before .before .before .before .before .before .before .before
 
-not-loaded-requires : tie.Need-not-loaded-requires
-not-loaded-requires c κs = search needs
-
 returns : tie.Need-returns
 returns c =
     let a = c .before .before .before .before .args in
     load-refused (now (a .words)) (now (a .carry)) 2 (c .not-loaded .result) (carry-short (now (a .words)) (now (a .carry)) (omega arith)) (λ z. omega arith) (c .not-loaded .ensures)
-
-receiver-in-requires : tie.Need-receiver-in-requires
-receiver-in-requires c κs = search needs
-
-is-wrong-requires : tie.Need-is-wrong-requires
-is-wrong-requires c κs = search needs
-
-not-loaded-requires-2 : tie.Need-not-loaded-requires-2
-not-loaded-requires-2 c κs = search needs
 
 returns-2 : tie.Need-returns-2
 returns-2 c =
@@ -38,25 +26,10 @@ returns-2 c =
     let a = o .before .before .before .args in
     load-refused (now (a .words)) (now (a .carry)) 25 (c .not-loaded2 .result) (words-wrong (now (a .words)) (now (a .carry)) (omega arith) (sym (w .is-wrong .ensures) ∙ c .before .if2 .taken)) (λ z. omega arith) (c .not-loaded2 .ensures)
 
-has-requires : tie.Need-has-requires
-has-requires c κs = search needs
-
-has-requires-2 : tie.Need-has-requires-2
-has-requires-2 c κs = search needs
-
-head-length-requires : tie.Need-head-length-requires
-head-length-requires c κs = search needs
-
-place-of-requires : tie.Need-place-of-requires
-place-of-requires c κs = search needs
-
 slice-aggregate-take-bytes : tie.Need-slice-aggregate-take-bytes
 slice-aggregate-take-bytes c =
     let p = c .before .before in
     sym (length-take-le (p .place-of .result) (now (begun p .args .words)) (p .place-of .ensures .1))
-
-cast-take-bytes : tie.Need-cast-take-bytes
-cast-take-bytes c = search needs
 
 take-bytes-requires : tie.Need-take-bytes-requires
 take-bytes-requires c κs =
@@ -67,9 +40,6 @@ take-bytes-requires c κs =
     let o = w .before .before in
     let a = begun p .args in
     (load-held (now (a .words)) (w .before .receiver-in .result) (x .has .result) (l .before .has2 .result) (w .before .receiver-in .ensures) (x .has .ensures) (l .before .has2 .ensures) (now (a .carry)) (omega arith) (sym (w .is-wrong .ensures) ∙ x .before .if2 .left) (l .head-length .result) (l .head-length .ensures .0) (p .place-of .result) (p .place-of .ensures .0) (p .place-of .ensures .1), load-rest (now (a .words)) (w .before .receiver-in .result) (x .has .result) (l .before .has2 .result) (w .before .receiver-in .ensures) (x .has .ensures) (l .before .has2 .ensures) (now (a .carry)) (omega arith) (sym (w .is-wrong .ensures) ∙ x .before .if2 .left) (l .head-length .result) (l .head-length .ensures .0) (p .place-of .result) (p .place-of .ensures .0) (p .place-of .ensures .1))
-
-same-length : tie.Need-same-length
-same-length c = search needs
 
 returns-3 : tie.Need-returns-3
 returns-3 c =
@@ -86,18 +56,13 @@ pub load-spec : {M : Type 1} → statement M
 load-spec =
     tie.close
     (tie.spec
-    not-loaded-requires
+    (λ c κs. search needs)
     returns
-    receiver-in-requires
-    is-wrong-requires
-    not-loaded-requires-2
+    (λ c κs. search needs) (λ c κs. search needs) (λ c κs. search needs)
     returns-2
-    has-requires
-    has-requires-2
-    head-length-requires
-    place-of-requires
+    (λ c κs. search needs) (λ c κs. search needs) (λ c κs. search needs) (λ c κs. search needs)
     slice-aggregate-take-bytes
-    cast-take-bytes
+    (λ c. search needs)
     take-bytes-requires
-    same-length
+    (λ c. search needs)
     returns-3)

@@ -31,9 +31,6 @@ room c =
 loop-holds : tie.Need-loop-holds Inv-loop μ-loop
 loop-holds c = (omega arith, omega arith, rw add-zero refl, refl)
 
-byte-word-requires : tie.Need-byte-word-requires Inv-loop μ-loop
-byte-word-requires c κs = search needs
-
 add-words : tie.Need-add-words Inv-loop μ-loop
 add-words c = omega (arith, room c)
 
@@ -43,14 +40,8 @@ mul-words c = omega (arith, room c)
 slice-write-words : tie.Need-slice-write-words Inv-loop μ-loop
 slice-write-words c = omega (arith, room c)
 
-add-i : tie.Need-add-i Inv-loop μ-loop
-add-i c = search needs
-
 add-j : tie.Need-add-j Inv-loop μ-loop
 add-j c = omega (arith, room c)
-
-loop-less : tie.Need-loop-less Inv-loop μ-loop
-loop-less c = search needs
 
 loop-again : tie.Need-loop-again Inv-loop μ-loop
 loop-again c =
@@ -62,9 +53,6 @@ loop-again c =
       turn (p .loop .words) b (putAt (a .words .now) (a .at) (byteWords b)) (a .at) (p .loop .i) (p .loop .j) (c .byte-word .result) (c .before .loop-test .taken) (room c) (c .byte-word .ensures) (p .loop .inv .2),
       simp length-set (p .loop .inv .3),
     )
-
-same-length : tie.Need-same-length Inv-loop μ-loop
-same-length c = search needs
 
 returns : tie.Need-returns Inv-loop μ-loop
 returns c =
@@ -79,13 +67,13 @@ put-bytes-spec =
     Inv-loop
     μ-loop
     loop-holds
-    byte-word-requires
+    (λ c κs. search needs)
     add-words
     mul-words
     slice-write-words
-    add-i
+    (λ c. search needs)
     add-j
-    loop-less
+    (λ c. search needs)
     loop-again
-    same-length
+    (λ c. search needs)
     returns)

@@ -36,17 +36,11 @@ returns c =
     let a = c .before .before .before .args in
     sym (ap (putAt (now (a .words)) (a .at)) (counts-none (a .r) (omega (arith, c .if1 .taken))) ∙ put-nil (now (a .words)) (a .at))
 
-high-word-requires : tie.Need-high-word-requires
-high-word-requires c κs = search needs
-
 mul-words : tie.Need-mul-words
 mul-words c = omega (arith, room (c .before))
 
 slice-write-words : tie.Need-slice-write-words
 slice-write-words c = omega (arith, room (c .before))
-
-low-word-requires : tie.Need-low-word-requires
-low-word-requires c κs = search needs
 
 add-words : tie.Need-add-words
 add-words c = omega (arith, room (c .before .before))
@@ -57,9 +51,6 @@ mul-words-2 c = omega (arith, room (c .before .before))
 slice-write-words-2 : tie.Need-slice-write-words-2
 slice-write-words-2 c = simp length-set (fit (c .before .before) 1 (omega arith))
 
-high-word-requires-2 : tie.Need-high-word-requires-2
-high-word-requires-2 c κs = search needs
-
 add-words-2 : tie.Need-add-words-2
 add-words-2 c = omega (arith, room (c .before .before .before))
 
@@ -68,9 +59,6 @@ mul-words-3 c = omega (arith, room (c .before .before .before))
 
 slice-write-words-3 : tie.Need-slice-write-words-3
 slice-write-words-3 c = simp length-set (fit (c .before .before .before) 2 (omega arith))
-
-low-word-requires-2 : tie.Need-low-word-requires-2
-low-word-requires-2 c κs = search needs
 
 add-words-3 : tie.Need-add-words-3
 add-words-3 c = omega (arith, room (c .before .before .before .before))
@@ -81,9 +69,6 @@ mul-words-4 c = omega (arith, room (c .before .before .before .before))
 slice-write-words-4 : tie.Need-slice-write-words-4
 slice-write-words-4 c = simp length-set (fit (c .before .before .before .before) 3 (omega arith))
 
-last-word-requires : tie.Need-last-word-requires
-last-word-requires c κs = search needs
-
 add-words-4 : tie.Need-add-words-4
 add-words-4 c = omega (arith, room (c .before .before .before .before .before))
 
@@ -92,9 +77,6 @@ mul-words-5 c = omega (arith, room (c .before .before .before .before .before))
 
 slice-write-words-5 : tie.Need-slice-write-words-5
 slice-write-words-5 c = simp length-set (fit (c .before .before .before .before .before) 4 (omega arith))
-
-same-length : tie.Need-same-length
-same-length c = search needs
 
 returns-2 : tie.Need-returns-2
 returns-2 c =
@@ -114,24 +96,24 @@ put-counts-spec =
     tie.close
     (tie.spec
     returns
-    high-word-requires
+    (λ c κs. search needs)
     mul-words
     slice-write-words
-    low-word-requires
+    (λ c κs. search needs)
     add-words
     mul-words-2
     slice-write-words-2
-    high-word-requires-2
+    (λ c κs. search needs)
     add-words-2
     mul-words-3
     slice-write-words-3
-    low-word-requires-2
+    (λ c κs. search needs)
     add-words-3
     mul-words-4
     slice-write-words-4
-    last-word-requires
+    (λ c κs. search needs)
     add-words-4
     mul-words-5
     slice-write-words-5
-    same-length
+    (λ c. search needs)
     returns-2)

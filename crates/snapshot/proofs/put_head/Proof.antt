@@ -82,16 +82,10 @@ register-written c =
     let p = c .before .before .before .before .before in
     one-less (first s) (whole s) (s .pre) (p .put-word3 .last .0) (after3 s) (p .put-word3 .result) (c .before .register-word .result) (registerWord (s .args .r)) (s .args .register) (held-written p) (c .before .register-word .ensures) (c .put-word4 .last .0) (c .put-word4 .result) (c .put-word4 .ensures .0) (c .put-word4 .ensures .1)
 
-mode-word-requires : tie.Need-mode-word-requires
-mode-word-requires c κs = search needs
-
 put-word-requires : tie.Need-put-word-requires
 put-word-requires c κs =
     let s = one c in
     has-room (first s) (whole s) (s .pre) (first s) (after0 s) 0 (c .mode-word .result) (modeWord (s .args .r)) true (none-yet s) (c .mode-word .ensures)
-
-sequence-word-requires : tie.Need-sequence-word-requires
-sequence-word-requires c κs = search needs
 
 put-word-requires-2 : tie.Need-put-word-requires-2
 put-word-requires-2 c κs =
@@ -99,17 +93,11 @@ put-word-requires-2 c κs =
     let p = c .before .before .before .before in
     has-room (first s) (whole s) (s .pre) (p .put-word .last .0) (after1 s) (p .put-word .result) (c .sequence-word .result) (sequenceWord (s .args .r)) (s .args .r .known) (mode-written p) (c .sequence-word .ensures)
 
-held-word-requires : tie.Need-held-word-requires
-held-word-requires c κs = search needs
-
 put-word-requires-3 : tie.Need-put-word-requires-3
 put-word-requires-3 c κs =
     let s = three c in
     let p = c .before .before .before .before .before in
     has-room (first s) (whole s) (s .pre) (p .put-word2 .last .0) (after2 s) (p .put-word2 .result) (c .held-word .result) (heldWord (s .args .r)) (not (eqb (s .args .r .held) 0)) (sequence-written p) (c .held-word .ensures)
-
-register-word-requires : tie.Need-register-word-requires
-register-word-requires c κs = search needs
 
 put-word-requires-4 : tie.Need-put-word-requires-4
 put-word-requires-4 c κs =
@@ -117,17 +105,11 @@ put-word-requires-4 c κs =
     let p = c .before .before .before .before in
     has-room (first s) (whole s) (s .pre) (p .put-word3 .last .0) (after3 s) (p .put-word3 .result) (c .register-word .result) (registerWord (s .args .r)) (s .args .register) (held-written p) (c .register-word .ensures)
 
-programs-word-requires : tie.Need-programs-word-requires
-programs-word-requires c κs = search needs
-
 put-word-requires-5 : tie.Need-put-word-requires-5
 put-word-requires-5 c κs =
     let s = five c in
     let p = c .before .before .before .before in
     last-room (first s) (whole s) (s .pre) (p .put-word4 .last .0) (p .put-word4 .result) (c .programs-word .result) (programsWord (s .args .r)) (s .args .programs) (register-written p) (c .programs-word .ensures)
-
-same-length : tie.Need-same-length
-same-length c = search needs
 
 returns : tie.Need-returns
 returns c =
@@ -140,15 +122,15 @@ pub put-head-spec : {M : Type 1} → statement M
 put-head-spec =
     tie.close
     (tie.spec
-    mode-word-requires
+    (λ c κs. search needs)
     put-word-requires
-    sequence-word-requires
+    (λ c κs. search needs)
     put-word-requires-2
-    held-word-requires
+    (λ c κs. search needs)
     put-word-requires-3
-    register-word-requires
+    (λ c κs. search needs)
     put-word-requires-4
-    programs-word-requires
+    (λ c κs. search needs)
     put-word-requires-5
-    same-length
+    (λ c. search needs)
     returns)

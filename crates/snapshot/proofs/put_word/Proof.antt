@@ -28,17 +28,8 @@ room c =
     let l : length (optional (a .there) (a .word)) ≡ 1 = ap (λ (t : Bool). length (optional t (a .word))) e in
     omega (arith, c .before .pre, l)
 
-mul-words : tie.Need-mul-words
-mul-words c = search needs
-
 slice-write-words : tie.Need-slice-write-words
 slice-write-words c = omega (arith, room c)
-
-add-result : tie.Need-add-result
-add-result c = search needs
-
-same-length : tie.Need-same-length
-same-length c = search needs
 
 returns-2 : tie.Need-returns-2
 returns-2 c =
@@ -48,4 +39,4 @@ returns-2 c =
 
 pub put-word-spec : {M : Type 1} → statement M
 put-word-spec =
-    tie.close (tie.spec returns mul-words slice-write-words add-result same-length returns-2)
+    tie.close (tie.spec returns (λ c. search needs) slice-write-words (λ c. search needs) (λ c. search needs) returns-2)

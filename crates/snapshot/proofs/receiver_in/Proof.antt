@@ -13,75 +13,6 @@ use Rattle.snapshot.proofs.receiver_in.Tie as tie
 use Rattle.snapshot.proofs.receiver_in.Reads as reads
 use Rattle.snapshot.proofs.receiver_in.Lts as lts
 
-value-of-requires : tie.Need-value-of-requires
-value-of-requires c κs = search needs
-
-value-of-requires-2 : tie.Need-value-of-requires-2
-value-of-requires-2 c κs = search needs
-
-value-of-requires-3 : tie.Need-value-of-requires-3
-value-of-requires-3 c κs = search needs
-
-value-of-requires-4 : tie.Need-value-of-requires-4
-value-of-requires-4 c κs = search needs
-
-value-of-requires-5 : tie.Need-value-of-requires-5
-value-of-requires-5 c κs = search needs
-
-place-of-requires : tie.Need-place-of-requires
-place-of-requires c κs = search needs
-
-mul-counts : tie.Need-mul-counts
-mul-counts c = search needs
-
-sub-counts : tie.Need-sub-counts
-sub-counts c = search needs
-
-part-counts-start : tie.Need-part-counts-start
-part-counts-start c = search needs
-
-part-counts-end : tie.Need-part-counts-end
-part-counts-end c = search needs
-
-cast-t14 : tie.Need-cast-t14
-cast-t14 c = search needs
-
-cast-t17 : tie.Need-cast-t17
-cast-t17 c = search needs
-
-cast-t19 : tie.Need-cast-t19
-cast-t19 c = search needs
-
-cast-t21 : tie.Need-cast-t21
-cast-t21 c = search needs
-
-has-requires : tie.Need-has-requires
-has-requires c κs = search needs
-
-cast-t24 : tie.Need-cast-t24
-cast-t24 c = search needs
-
-cast-t26 : tie.Need-cast-t26
-cast-t26 c = search needs
-
-cast-t29 : tie.Need-cast-t29
-cast-t29 c = search needs
-
-cast-t35 : tie.Need-cast-t35
-cast-t35 c = search needs
-
-count-at-requires : tie.Need-count-at-requires
-count-at-requires c κs = search needs
-
-count-at-requires-2 : tie.Need-count-at-requires-2
-count-at-requires-2 c κs = search needs
-
-half-at-requires : tie.Need-half-at-requires
-half-at-requires c κs = search needs
-
-cast-t40 : tie.Need-cast-t40
-cast-t40 c = search needs
-
 -- the words from the first of kind 6 on
 counts-from : (c : tie.After-place-of)
     → take (length (now (c .before .before .before .before .before .before .before .args .words)) - c .place-of .result) (drop (c .place-of .result) (now (c .before .before .before .before .before .before .before .args .words)))
@@ -120,27 +51,8 @@ pub receiver-in-spec : {M : Type 1} → statement M
 receiver-in-spec =
     tie.close
     (tie.spec
-    value-of-requires
-    value-of-requires-2
-    value-of-requires-3
-    value-of-requires-4
-    value-of-requires-5
-    place-of-requires
-    mul-counts
-    sub-counts
-    part-counts-start
-    part-counts-end
-    cast-t14
-    cast-t17
-    cast-t19
-    cast-t21
-    has-requires
-    cast-t24
-    cast-t26
-    cast-t29
-    cast-t35
-    count-at-requires
-    count-at-requires-2
-    half-at-requires
-    cast-t40
+    (λ c κs. search needs) (λ c κs. search needs) (λ c κs. search needs) (λ c κs. search needs) (λ c κs. search needs) (λ c κs. search needs)
+    (λ c. search needs) (λ c. search needs) (λ c. search needs) (λ c. search needs) (λ c. search needs) (λ c. search needs) (λ c. search needs)
+    (λ c. search needs) (λ c κs. search needs) (λ c. search needs) (λ c. search needs) (λ c. search needs) (λ c. search needs) (λ c κs. search needs)
+    (λ c κs. search needs) (λ c κs. search needs) (λ c. search needs)
     returns)

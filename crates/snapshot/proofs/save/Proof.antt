@@ -35,38 +35,11 @@ held n =
     let a = begun q .args in
     held-fits (now (a .carry)) (now (a .words)) (a .r) (q .state-refusal .result) (q .state-refusal .ensures) (n .before .before .before .if1 .left)
 
-state-refusal-requires : tie.Need-state-refusal-requires
-state-refusal-requires c κs = search needs
-
-not-saved-requires : tie.Need-not-saved-requires
-not-saved-requires c κs = search needs
-
 returns : tie.Need-returns
 returns c =
     let q = c .before .before in
     let a = q .before .before .before .args in
     save-refused (now (a .carry)) (now (a .words)) (a .r) (q .state-refusal .result) (c .not-saved .result) (save-early (now (a .carry)) (now (a .words)) (a .r) (q .state-refusal .result) (q .state-refusal .ensures) (c .before .if1 .taken)) (c .before .if1 .taken) (c .not-saved .ensures)
-
-cast-held : tie.Need-cast-held
-cast-held c = search needs
-
-head-length-requires : tie.Need-head-length-requires
-head-length-requires c κs = search needs
-
-add-bytes : tie.Need-add-bytes
-add-bytes c = search needs
-
-add-count : tie.Need-add-count
-add-count c = search needs
-
-counts-length-requires : tie.Need-counts-length-requires
-counts-length-requires c κs = search needs
-
-add-count-2 : tie.Need-add-count-2
-add-count-2 c = search needs
-
-not-saved-requires-2 : tie.Need-not-saved-requires-2
-not-saved-requires-2 c κs = search needs
 
 returns-2 : tie.Need-returns-2
 returns-2 c =
@@ -74,9 +47,6 @@ returns-2 c =
     let q = state n in
     let a = begun q .args in
     save-refused (now (a .carry)) (now (a .words)) (a .r) 26 (c .not-saved2 .result) (save-short (now (a .carry)) (now (a .words)) (a .r) (q .state-refusal .result) (q .state-refusal .ensures) (n .before .before .before .if1 .left) (omega (arith, c .before .if2 .taken, n .before .head-length .ensures .0, n .counts-length .ensures .0))) (λ z. omega arith) (c .not-saved2 .ensures)
-
-put-head-requires : tie.Need-put-head-requires
-put-head-requires c κs = search needs
 
 slice-aggregate-put-bytes : tie.Need-slice-aggregate-put-bytes
 slice-aggregate-put-bytes c = sym (held (counted (c .before .before .before .before)))
@@ -87,21 +57,12 @@ put-bytes-requires c κs =
     let n = counted p in
     omega (arith, p .put-head .ensures .0, p .put-head .kept .0, n .before .head-length .ensures .0, p .before .before .if2 .left, held n)
 
-add-put-counts : tie.Need-add-put-counts
-add-put-counts c = search needs
-
 put-counts-requires : tie.Need-put-counts-requires
 put-counts-requires c κs =
     let b = c .before .before .before in
     let p = b .before .before .before .before .before in
     let n = counted p in
     omega (arith, p .put-head .ensures .0, p .put-head .kept .0, b .put-bytes .kept .0, n .before .head-length .ensures .0, n .counts-length .ensures .0, p .before .before .if2 .left)
-
-cast-t22 : tie.Need-cast-t22
-cast-t22 c = search needs
-
-same-length : tie.Need-same-length
-same-length c = search needs
 
 returns-3 : tie.Need-returns-3
 returns-3 c =
@@ -130,22 +91,14 @@ pub save-spec : {M : Type 1} → statement M
 save-spec =
     tie.close
     (tie.spec
-    state-refusal-requires
-    not-saved-requires
+    (λ c κs. search needs) (λ c κs. search needs)
     returns
-    cast-held
-    head-length-requires
-    add-bytes
-    add-count
-    counts-length-requires
-    add-count-2
-    not-saved-requires-2
+    (λ c. search needs) (λ c κs. search needs) (λ c. search needs) (λ c. search needs) (λ c κs. search needs) (λ c. search needs) (λ c κs. search needs)
     returns-2
-    put-head-requires
+    (λ c κs. search needs)
     slice-aggregate-put-bytes
     put-bytes-requires
-    add-put-counts
+    (λ c. search needs)
     put-counts-requires
-    cast-t22
-    same-length
+    (λ c. search needs) (λ c. search needs)
     returns-3)

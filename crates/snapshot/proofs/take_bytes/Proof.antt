@@ -44,19 +44,10 @@ shared-slice-read-byte-in c =
     let e = p .before .before .before .pre .1 in
     omega (arith, rest-room (a .held) (a .from) (now (a .words)) e (p .loop .j) (c .before .loop-test .taken))
 
-byte-in-requires : tie.Need-byte-in-requires Inv-loop μ-loop
-byte-in-requires c κs = search needs
-
 slice-write-carry : tie.Need-slice-write-carry Inv-loop μ-loop
 slice-write-carry c =
     let p = c .before .before .before in
     omega (arith, p .before .before .before .pre .0, p .loop .inv .2, c .before .before .loop-test .taken)
-
-add-j : tie.Need-add-j Inv-loop μ-loop
-add-j c = search needs
-
-loop-less : tie.Need-loop-less Inv-loop μ-loop
-loop-less c = search needs
 
 loop-again : tie.Need-loop-again Inv-loop μ-loop
 loop-again c =
@@ -68,9 +59,6 @@ loop-again c =
       copy-turn (now (a .carry)) (p .loop .carry) (bytesIn (drop (a .from) (now (a .words)))) (p .loop .j) (c .byte-in .result) (omega (arith, p .before .before .before .pre .0, p .loop .inv .2, t)) (omega (arith, rest-count (a .held) (a .from) (now (a .words)) e, t)) (c .byte-in .ensures ∙ byte-from (a .held) (a .from) (now (a .words)) e (p .loop .j) t) (p .loop .inv .1),
       length-set (p .loop .carry) (p .loop .j) (c .byte-in .result) ∙ p .loop .inv .2,
     )
-
-same-length : tie.Need-same-length Inv-loop μ-loop
-same-length c = search needs
 
 returns : tie.Need-returns Inv-loop μ-loop
 returns c =
@@ -89,10 +77,9 @@ take-bytes-spec =
     add-byte-in
     mul-byte-in
     shared-slice-read-byte-in
-    byte-in-requires
+    (λ c κs. search needs)
     slice-write-carry
-    add-j
-    loop-less
+    (λ c. search needs) (λ c. search needs)
     loop-again
-    same-length
+    (λ c. search needs)
     returns)

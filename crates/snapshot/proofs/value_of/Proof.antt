@@ -8,20 +8,11 @@ use Rattle.snapshot.proofs.value_of.Reads as reads
 use Rattle.snapshot.proofs.value_of.Lts as lts
 use Rattle.snapshot.proofs.place_of.Reads as place-of-reads
 
-place-of-requires : tie.Need-place-of-requires
-place-of-requires c κs = search needs
-
 returns : tie.Need-returns
 returns c =
     let p = c .before .place-of in
     let a = c .before .before .before .args in
     value-none (a .kind) (p .result) (now (a .words)) (p .ensures .0) (omega (arith, c .if1 .taken))
-
-mul-result : tie.Need-mul-result
-mul-result c = search needs
-
-shared-slice-read-result : tie.Need-shared-slice-read-result
-shared-slice-read-result c = search needs
 
 returns-2 : tie.Need-returns-2
 returns-2 c =
@@ -30,4 +21,4 @@ returns-2 c =
     value-one (a .kind) (p .result) (now (a .words)) (p .ensures .0) (omega (arith, c .before .if1 .left))
 
 pub value-of-spec : {M : Type 1} → statement M
-value-of-spec = tie.close (tie.spec place-of-requires returns mul-result shared-slice-read-result returns-2)
+value-of-spec = tie.close (tie.spec (λ c κs. search needs) returns (λ c. search needs) (λ c. search needs) returns-2)

@@ -17,23 +17,11 @@ Inv-loop text value₀ i₀ value i =
 abbrev μ-loop : tie.MeasureT-loop
 μ-loop text value₀ i₀ value i = length text - i
 
-no-number-requires : tie.Need-no-number-requires Inv-loop μ-loop
-no-number-requires c κs = search needs
-
 returns : tie.Need-returns Inv-loop μ-loop
 returns c = c .no-number .ensures ∙ sym (no-text (now (c .before .before .before .args .text)) (omega arith))
 
 loop-holds : tie.Need-loop-holds Inv-loop μ-loop
 loop-holds c = (omega arith, omega arith, omega arith, refl)
-
-shared-slice-read-with-digit : tie.Need-shared-slice-read-with-digit Inv-loop μ-loop
-shared-slice-read-with-digit c = search needs
-
-with-digit-requires : tie.Need-with-digit-requires Inv-loop μ-loop
-with-digit-requires c κs = search needs
-
-no-number-requires-2 : tie.Need-no-number-requires-2 Inv-loop μ-loop
-no-number-requires-2 c κs = search needs
 
 returns-2 : tie.Need-returns-2 Inv-loop μ-loop
 returns-2 c =
@@ -44,12 +32,6 @@ returns-2 c =
     let past = read-past t (p .loop .value) (p .loop .i) h (rw (← (d .with-digit .ensures)) (omega arith)) in
     c .no-number2 .ensures ∙ sym past ∙ p .loop .inv .3 ∙ sym (some-text t (omega arith))
 
-add-i : tie.Need-add-i Inv-loop μ-loop
-add-i c = search needs
-
-loop-less : tie.Need-loop-less Inv-loop μ-loop
-loop-less c = search needs
-
 loop-again : tie.Need-loop-again Inv-loop μ-loop
 loop-again c =
     let p = c .before .before .before .before in
@@ -57,9 +39,6 @@ loop-again c =
     let h : p .loop .i < length t = omega arith in
     let on = read-on t (p .loop .value) (p .loop .i) h (rw (← (c .before .with-digit .ensures)) (omega arith)) in
     (omega arith, omega arith, omega arith, rw (c .before .with-digit .ensures) (sym on ∙ p .loop .inv .3))
-
-cast-t11 : tie.Need-cast-t11 Inv-loop μ-loop
-cast-t11 c = search needs
 
 returns-3 : tie.Need-returns-3 Inv-loop μ-loop
 returns-3 c =
@@ -73,15 +52,12 @@ parse-spec =
     (tie.spec
     Inv-loop
     μ-loop
-    no-number-requires
+    (λ c κs. search needs)
     returns
     loop-holds
-    shared-slice-read-with-digit
-    with-digit-requires
-    no-number-requires-2
+    (λ c. search needs) (λ c κs. search needs) (λ c κs. search needs)
     returns-2
-    add-i
-    loop-less
+    (λ c. search needs) (λ c. search needs)
     loop-again
-    cast-t11
+    (λ c. search needs)
     returns-3)

@@ -8,15 +8,6 @@ use lib.Seq.{length-take-le}
 use Rattle.text.proofs.put.Statement.{statement}
 use Rattle.text.proofs.put.Tie as tie
 
-least-requires : tie.Need-least-requires
-least-requires c κs = search needs
-
-sub-least : tie.Need-sub-least
-sub-least c = search needs
-
-least-requires-2 : tie.Need-least-requires-2
-least-requires-2 c κs = search needs
-
 slice-aggregate-put-bytes : tie.Need-slice-aggregate-put-bytes
 slice-aggregate-put-bytes c = sym (length-take-le _ _ (omega arith))
 
@@ -24,12 +15,6 @@ put-bytes-requires : tie.Need-put-bytes-requires
 put-bytes-requires c κs =
     let h = length-take-le (c .before .before .least2 .result) (now (c .before .before .before .before .before .before .args .bytes)) (omega arith) in
     omega arith
-
-add-result : tie.Need-add-result
-add-result c = search needs
-
-same-length : tie.Need-same-length
-same-length c = search needs
 
 returns : tie.Need-returns
 returns c =
@@ -43,11 +28,8 @@ pub put-spec : {M : Type 1} → statement M
 put-spec =
     tie.close
     (tie.spec
-    least-requires
-    sub-least
-    least-requires-2
+    (λ c κs. search needs) (λ c. search needs) (λ c κs. search needs)
     slice-aggregate-put-bytes
     put-bytes-requires
-    add-result
-    same-length
+    (λ c. search needs) (λ c. search needs)
     returns)

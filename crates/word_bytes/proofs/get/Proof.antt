@@ -22,12 +22,6 @@ returns-2 c =
     let a = c .before .before .before .before .args in
     (counts 0 (now (a .words)) (omega arith), no-words (now (a .words)) (now (a .bytes)) (no-room (now (a .words)) (now (a .bytes)) (c .before .if1 .left) (c .if2 .taken)))
 
-get-words-requires : tie.Need-get-words-requires
-get-words-requires c κs = search needs
-
-same-length : tie.Need-same-length
-same-length c = search needs
-
 returns-3 : tie.Need-returns-3
 returns-3 c =
     let q = c .before .before in
@@ -36,4 +30,4 @@ returns-3 c =
     (counts _ _ (omega (arith, q .get-words .kept .1 .0, e .if2 .left)), all-words (now (a .words)) _ (now (a .bytes)) (e .before .if1 .left) (e .if2 .left) (q .get-words .ensures))
 
 pub get-spec : {M : Type 1} → statement M
-get-spec = tie.close (tie.spec returns returns-2 get-words-requires same-length returns-3)
+get-spec = tie.close (tie.spec returns returns-2 (λ c κs. search needs) (λ c. search needs) returns-3)

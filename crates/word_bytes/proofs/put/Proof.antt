@@ -17,15 +17,6 @@ returns c =
     let a = c .before .before .before .args in
     (counts 0 (now (a .out)) (omega arith), no-bytes (now (a .out)) (now (a .words)) (c .if1 .taken))
 
-put-words-requires : tie.Need-put-words-requires
-put-words-requires c κs = search needs
-
-mul-result : tie.Need-mul-result
-mul-result c = search needs
-
-same-length : tie.Need-same-length
-same-length c = search needs
-
 returns-2 : tie.Need-returns-2
 returns-2 c =
     let q = c .before .before in
@@ -34,4 +25,4 @@ returns-2 c =
     (counts _ _ (omega (arith, q .put-words .kept .1 .0, e .if1 .left)), all-bytes (now (a .out)) _ (now (a .words)) (e .if1 .left) (q .put-words .ensures))
 
 pub put-spec : {M : Type 1} → statement M
-put-spec = tie.close (tie.spec returns put-words-requires mul-result same-length returns-2)
+put-spec = tie.close (tie.spec returns (λ c κs. search needs) (λ c. search needs) (λ c. search needs) returns-2)

@@ -14,53 +14,26 @@ use Rattle.word_bytes.proofs.put_word.Reads as reads
 use Rattle.word_bytes.proofs.put_word.Lts as lts
 
 -- src/lib.rt:14:15
-cast-out : tie.Need-cast-out
-cast-out c = search needs
-
 -- src/lib.rt:14:5
-slice-write-out : tie.Need-slice-write-out
-slice-write-out c = search needs
-
 -- src/lib.rt:15:19
-cast-out-2 : tie.Need-cast-out-2
-cast-out-2 c = search needs
-
 -- src/lib.rt:15:9
-add-out : tie.Need-add-out
-add-out c = search needs
-
 -- src/lib.rt:15:5
 slice-write-out-2 : tie.Need-slice-write-out-2
 slice-write-out-2 c = simp length-set (omega arith)
 
 -- src/lib.rt:16:19
-cast-out-3 : tie.Need-cast-out-3
-cast-out-3 c = search needs
-
 -- src/lib.rt:16:9
-add-out-2 : tie.Need-add-out-2
-add-out-2 c = search needs
-
 -- src/lib.rt:16:5
 slice-write-out-3 : tie.Need-slice-write-out-3
 slice-write-out-3 c = simp length-set (omega arith)
 
 -- src/lib.rt:17:19
-cast-out-4 : tie.Need-cast-out-4
-cast-out-4 c = search needs
-
 -- src/lib.rt:17:9
-add-out-3 : tie.Need-add-out-3
-add-out-3 c = search needs
-
 -- src/lib.rt:17:5
 slice-write-out-4 : tie.Need-slice-write-out-4
 slice-write-out-4 c = simp length-set (omega arith)
 
 -- src/lib.rt:10:1
-same-length : tie.Need-same-length
-same-length c = search needs
-
 -- src/lib.rt:10:1
 returns : tie.Need-returns
 returns c = four-put (now (c .args .out)) (c .args .at) _ _ _ _ (c .pre)
@@ -69,16 +42,11 @@ pub put-word-spec : {M : Type 1} → statement M
 put-word-spec =
     tie.close
     (tie.spec
-    cast-out
-    slice-write-out
-    cast-out-2
-    add-out
+    (λ c. search needs) (λ c. search needs) (λ c. search needs) (λ c. search needs)
     slice-write-out-2
-    cast-out-3
-    add-out-2
+    (λ c. search needs) (λ c. search needs)
     slice-write-out-3
-    cast-out-4
-    add-out-3
+    (λ c. search needs) (λ c. search needs)
     slice-write-out-4
-    same-length
+    (λ c. search needs)
     returns)

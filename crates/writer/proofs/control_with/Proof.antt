@@ -10,14 +10,8 @@ use Rattle.writer.proofs.control_with.Reads as reads
 use Rattle.writer.proofs.control_with.Lts as lts
 use Rattle.writer.proofs.bit_of.Reads as bit-of-reads
 
-bit-of-requires : tie.Need-bit-of-requires
-bit-of-requires c κs = search needs
-
-add-t10 : tie.Need-add-t10
-add-t10 c = search needs
-
 returns : tie.Need-returns
 returns c = rw (c .before .before .bit-of .ensures .0)
 
 pub control-with-spec : {M : Type 1} → statement M
-control-with-spec = tie.close (tie.spec bit-of-requires add-t10 returns)
+control-with-spec = tie.close (tie.spec (λ c κs. search needs) (λ c. search needs) returns)

@@ -12,21 +12,12 @@ use Rattle.writer.proofs.no_room.Reads as reads
 use Rattle.writer.proofs.no_room.Lts as lts
 use Rattle.packing.proofs.overhead.Reads as overhead-reads
 
-overhead-requires : tie.Need-overhead-requires
-overhead-requires c κs = search needs
-
 returns : tie.Need-returns
 returns c = let a = c .before .before .before .args in room-none (a .m) (a .extra) (a .size) (c .overhead .result) (now (a .lengths)) (c .before .if1 .taken) (c .overhead .ensures .0)
-
-overhead-requires-2 : tie.Need-overhead-requires-2
-overhead-requires-2 c κs = search needs
-
-add-result : tie.Need-add-result
-add-result c = search needs
 
 returns-2 : tie.Need-returns-2
 returns-2 c = let a = c .before .before .before .args in room-some (a .m) (a .extra) (a .size) (c .overhead2 .result) (now (a .lengths)) (c .before .if1 .left) (c .overhead2 .ensures .0)
 
 pub no-room-spec : {M : Type 1} → statement M
 no-room-spec =
-    tie.close (tie.spec overhead-requires returns overhead-requires-2 add-result returns-2)
+    tie.close (tie.spec (λ c κs. search needs) returns (λ c κs. search needs) (λ c. search needs) returns-2)

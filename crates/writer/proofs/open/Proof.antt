@@ -11,15 +11,6 @@ use Rattle.writer.proofs.open.Reads as reads
 use Rattle.writer.proofs.open.Lts as lts
 use Rattle.modes.proofs.look_up.Reads as look-up-reads
 
-look-up-requires : tie.Need-look-up-requires
-look-up-requires c κs = search needs
-
-enum-told : tie.Need-enum-told
-enum-told c = search needs
-
-enum-known-n : tie.Need-enum-known-n
-enum-known-n c = search needs
-
 returns : tie.Need-returns
 returns c = opened-by _ _ (c .before .before .before .args .mode) (c .before .before .before .args .stream) (c .before .before .before .args .register) (c .before .before .look-up .ensures) (c .enum-told .given .1)
 
@@ -27,4 +18,4 @@ returns-2 : tie.Need-returns-2
 returns-2 c = opened-by _ _ (c .before .before .before .before .args .mode) (c .before .before .before .before .args .stream) (c .before .before .before .before .args .register) (c .before .before .before .look-up .ensures) (c .before .n .given .1)
 
 pub open-spec : {M : Type 1} → statement M
-open-spec = tie.close (tie.spec look-up-requires enum-told enum-known-n returns returns-2)
+open-spec = tie.close (tie.spec (λ c κs. search needs) (λ c. search needs) (λ c. search needs) returns returns-2)

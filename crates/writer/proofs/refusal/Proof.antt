@@ -48,17 +48,11 @@ x-length e = e .expansion-bytes .ensures .0 .0 ∙ ap (λ (y : Fields). length (
 not6 : (e : tie.Else6) → let a = e .before .before .before .before .before .before .before .before .before .before .before .before .before .before .before .before .before .args in anyOf (wrongExtra (a .m) (length (expansionOf (a .s) (now (a .psd)) (now (a .lengths)) (now (a .bytes)) (a .size))) (length (now (a .psd)))) ≡ false
 not6 e = let a = e .before .before .before .before .before .before .before .before .before .before .before .before .before .before .before .before .before .args in ap (λ (k : ℕ). anyOf (wrongExtra (a .m) k (length (now (a .psd))))) (sym (x-length (e .before .before))) ∙ sym (e .before .wrong-extra .ensures .0) ∙ e .if6 .left
 
-wrong-state-requires : tie.Need-wrong-state-requires
-wrong-state-requires c κs = search needs
-
 returns : tie.Need-returns
 returns c =
     let a = c .before .before .before .before .before .args in
     let t : anyOf (wrongWriter (a .m) (a .w)) ≡ true = sym (c .before .wrong-state .ensures) ∙ c .if1 .taken in
     rw (t)
-
-wrong-size-requires : tie.Need-wrong-size-requires
-wrong-size-requires c κs = search needs
 
 returns-2 : tie.Need-returns-2
 returns-2 c =
@@ -66,26 +60,17 @@ returns-2 c =
     let t : anyOf (wrongSize (a .m) (a .size)) ≡ true = sym (c .before .wrong-size .ensures) ∙ c .if2 .taken in
     rw (not1 (c .before .before), t)
 
-breaks-rules-requires : tie.Need-breaks-rules-requires
-breaks-rules-requires c κs = search needs
-
 returns-3 : tie.Need-returns-3
 returns-3 c =
     let a = c .before .before .before .before .before .before .before .before .before .args in
     let t : anyOf (brokenRules (a .s) (a .size)) ≡ true = sym (c .before .breaks-rules .ensures) ∙ c .if3 .taken in
     rw (not1 (c .before .before .before .before), not2 (c .before .before), t)
 
-wrong-values-requires : tie.Need-wrong-values-requires
-wrong-values-requires c κs = search needs
-
 returns-4 : tie.Need-returns-4
 returns-4 c =
     let a = c .before .before .before .before .before .before .before .before .before .before .before .args in
     let t : anyOf (wrongValues (a .w .stream) (a .s)) ≡ true = sym (c .before .wrong-values .ensures) ∙ c .if4 .taken in
     rw (not1 (c .before .before .before .before .before .before), not2 (c .before .before .before .before), not3 (c .before .before), t)
-
-wrong-packets-requires : tie.Need-wrong-packets-requires
-wrong-packets-requires c κs = search needs
 
 returns-5 : tie.Need-returns-5
 returns-5 c =
@@ -98,12 +83,6 @@ cast-fields-for c = let a = c .before .before .before .before .before .before .b
 
 fields-for-requires : tie.Need-fields-for-requires
 fields-for-requires c κs = let a = c .before .before .before .before .before .before .before .before .before .before .before .before .before .args in let h = size-right (a .m) (a .size) (not2 (c .before .before .before .before .before .before)) in omega (arith, h .0, h .1)
-
-expansion-bytes-requires : tie.Need-expansion-bytes-requires
-expansion-bytes-requires c κs = search needs
-
-wrong-extra-requires : tie.Need-wrong-extra-requires
-wrong-extra-requires c κs = search needs
 
 returns-6 : tie.Need-returns-6
 returns-6 c =
@@ -133,20 +112,19 @@ pub refusal-spec : {M : Type 1} → statement M
 refusal-spec =
     tie.close
     (tie.spec
-    wrong-state-requires
+    (λ c κs. search needs)
     returns
-    wrong-size-requires
+    (λ c κs. search needs)
     returns-2
-    breaks-rules-requires
+    (λ c κs. search needs)
     returns-3
-    wrong-values-requires
+    (λ c κs. search needs)
     returns-4
-    wrong-packets-requires
+    (λ c κs. search needs)
     returns-5
     cast-fields-for
     fields-for-requires
-    expansion-bytes-requires
-    wrong-extra-requires
+    (λ c κs. search needs) (λ c κs. search needs)
     returns-6
     add-no-room
     no-room-requires

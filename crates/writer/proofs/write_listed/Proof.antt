@@ -74,12 +74,6 @@ cast-fields-for c = let h = fine-at (c .before .before .before .before) .short i
 fields-for-requires : tie.Need-fields-for-requires
 fields-for-requires c κs = let h = fine-at (c .before .before .before .before) .long in omega (arith, h)
 
-expansion-bytes-requires : tie.Need-expansion-bytes-requires
-expansion-bytes-requires c κs = search needs
-
-add-pack : tie.Need-add-pack
-add-pack c = search needs
-
 pack-requires : tie.Need-pack-requires
 pack-requires c κs = let h = x-small (c .before) in (omega (arith, h), fine-at (c .before .before .before .before .before .before .before) .short)
 
@@ -88,9 +82,6 @@ add-overhead c = let h = x-small (c .before .before .before) in omega (arith, h)
 
 overhead-requires : tie.Need-overhead-requires
 overhead-requires c κs = let h = x-small (c .before .before .before) in omega (arith, h)
-
-sub-control-with : tie.Need-sub-control-with
-sub-control-with c = search needs
 
 cast-control-with : tie.Need-cast-control-with
 cast-control-with c =
@@ -101,26 +92,17 @@ cast-control-with c =
 control-with-requires : tie.Need-control-with-requires
 control-with-requires c κs = fine-at (c .before .before .before .before .before .before .before .before .before .before .before) .number
 
-control-bytes-requires : tie.Need-control-bytes-requires
-control-bytes-requires c κs = search needs
-
 array-share-prefix-expansion : tie.Need-array-share-prefix-expansion
 array-share-prefix-expansion c = prefix-long _ _ _ (x-bytes (c .before .before .before .before .before .before .before .before .before .before)) (x-length (c .before .before .before .before .before .before .before .before .before .before))
 
 slice-aggregate-put-contents : tie.Need-slice-aggregate-put-contents
 slice-aggregate-put-contents c = x-length (c .before .before .before .before .before .before .before .before .before .before .before) ∙ sym (ap length (x-bytes (c .before .before .before .before .before .before .before .before .before .before .before)))
 
-cast-placed : tie.Need-cast-placed
-cast-placed c = search needs
-
 array-share-prefix-placed : tie.Need-array-share-prefix-placed
 array-share-prefix-placed c = prefix-long _ _ _ (p-lengths (c .before .before .before .before .before .before .before .before .before .before)) (p-nop (c .before .before .before .before .before .before .before .before .before .before))
 
 slice-aggregate-put-contents-2 : tie.Need-slice-aggregate-put-contents-2
 slice-aggregate-put-contents-2 c = p-nop (c .before .before .before .before .before .before .before .before .before .before .before) ∙ sym (ap length (p-lengths (c .before .before .before .before .before .before .before .before .before .before .before)))
-
-cast-put-contents : tie.Need-cast-put-contents
-cast-put-contents c = search needs
 
 put-contents-requires : tie.Need-put-contents-requires
 put-contents-requires c κs =
@@ -135,9 +117,6 @@ put-contents-requires c κs =
     let t : a .w .sent + total (take (p .nop) (p .lengths)) ≤ length (now (a .bytes)) = rw pl (omega (arith, enough (a .s) (now (a .psd)) (now (a .lengths)) (now (a .bytes)) (length (now (a .pdu))) (a .m) (a .w) f, length-drop (a .w .sent) (now (a .bytes)), sent-within (a .s) (now (a .psd)) (now (a .lengths)) (now (a .bytes)) (length (now (a .pdu))) (a .m) (a .w) f)) in
     (r, (n, omega (arith, f .short), t))
 
-write-parity-requires : tie.Need-write-parity-requires
-write-parity-requires c κs = search needs
-
 advance-requires : tie.Need-advance-requires
 advance-requires c κs =
     let a = c .before .before .before .before .before .before .before .before .before .before .before .before .before .before .before .before .before .before .before .before .before .before .before .before .before .before .before .args in
@@ -145,12 +124,6 @@ advance-requires c κs =
     let e = ended-few (a .s) (now (a .psd)) (now (a .lengths)) (now (a .bytes)) (length (now (a .pdu))) (a .m) (a .w) f in
     let p = part-small (a .s) (now (a .psd)) (now (a .lengths)) (now (a .bytes)) (length (now (a .pdu))) (a .m) (a .w) f in
     ((f .sequence, listed-at (c .before .before .before .before .before .before .before .before .before .before .before .before .before .before .before .before .before .before .before .before .before .before .before .before .before .before .before) .most, f .number, f .sent), (omega (arith, e, p-ended (c .before .before .before .before .before .before .before .before .before .before .before .before .before .before .before .before .before .before .before)), omega (arith, p, p-part (c .before .before .before .before .before .before .before .before .before .before .before .before .before .before .before .before .before .before .before))))
-
-cast-t30 : tie.Need-cast-t30
-cast-t30 c = search needs
-
-same-length : tie.Need-same-length
-same-length c = search needs
 
 returns : tie.Need-returns
 returns c =
@@ -169,24 +142,22 @@ write-listed-spec =
     (tie.spec
     cast-fields-for
     fields-for-requires
-    expansion-bytes-requires
-    add-pack
+    (λ c κs. search needs) (λ c. search needs)
     pack-requires
     add-overhead
     overhead-requires
-    sub-control-with
+    (λ c. search needs)
     cast-control-with
     control-with-requires
-    control-bytes-requires
+    (λ c κs. search needs)
     array-share-prefix-expansion
     slice-aggregate-put-contents
-    cast-placed
+    (λ c. search needs)
     array-share-prefix-placed
     slice-aggregate-put-contents-2
-    cast-put-contents
+    (λ c. search needs)
     put-contents-requires
-    write-parity-requires
+    (λ c κs. search needs)
     advance-requires
-    cast-t30
-    same-length
+    (λ c. search needs) (λ c. search needs)
     returns)

@@ -14,22 +14,10 @@ use Rattle.writer.proofs.refusal.Reads as refusal-reads
 use Rattle.writer.proofs.refused.Reads as refused-reads
 use Rattle.writer.proofs.write_listed.Reads as write-listed-reads
 
-refusal-requires : tie.Need-refusal-requires
-refusal-requires c κs = search needs
-
-write-listed-requires : tie.Need-write-listed-requires
-write-listed-requires c κs = search needs
-
-same-length : tie.Need-same-length
-same-length c = search needs
-
 returns : tie.Need-returns
 returns c =
     let a = c .before .before .before .before .before .before .before .before .before .before .args in
     accepted-call (a .s) (now (a .psd)) (now (a .lengths)) (now (a .bytes)) (length (now (a .pdu))) (a .w) (now (a .pdu)) (a .m) (c .before .before .write-listed .result) (c .before .before .write-listed .last .1 .1 .1 .1 .1 .1 .0) (sym (c .before .before .before .before .before .refusal .ensures) ∙ c .before .before .before .before .if1 .taken) (c .before .before .write-listed .ensures .0) (c .before .before .write-listed .ensures .1)
-
-refused-requires : tie.Need-refused-requires
-refused-requires c κs = search needs
 
 returns-2 : tie.Need-returns-2
 returns-2 c =
@@ -40,9 +28,7 @@ pub write-or-refuse-spec : {M : Type 1} → statement M
 write-or-refuse-spec =
     tie.close
     (tie.spec
-    refusal-requires
-    write-listed-requires
-    same-length
+    (λ c κs. search needs) (λ c κs. search needs) (λ c. search needs)
     returns
-    refused-requires
+    (λ c κs. search needs)
     returns-2)

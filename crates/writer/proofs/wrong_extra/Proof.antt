@@ -15,14 +15,8 @@ use Rattle.writer.proofs.wrong_extra.Reads as reads
 use Rattle.writer.proofs.wrong_extra.Lts as lts
 use Rattle.writer.proofs.limit_of.Reads as limit-of-reads
 
-limit-of-requires : tie.Need-limit-of-requires
-limit-of-requires c κs = search needs
-
 returns : tie.Need-returns
 returns c = let a = c .before .before .args in (psd-past (a .m) (c .before .limit-of .result) (a .expansion) (a .psd) (c .before .limit-of .ensures .0) (c .if1 .taken), λ e. never e)
-
-add-result : tie.Need-add-result
-add-result c = search needs
 
 returns-2 : tie.Need-returns-2
 returns-2 c =
@@ -31,4 +25,4 @@ returns-2 c =
     (rw (l .ensures .0), λ e. let h = ltb-false (l .result) (a .expansion + a .psd) (first-fails (ltb (l .result) (a .expansion + a .psd)) (not (a .m .psd) && ltb 0 (a .psd)) e) in omega (arith, h, l .ensures .1))
 
 pub wrong-extra-spec : {M : Type 1} → statement M
-wrong-extra-spec = tie.close (tie.spec limit-of-requires returns add-result returns-2)
+wrong-extra-spec = tie.close (tie.spec (λ c κs. search needs) returns (λ c. search needs) returns-2)

@@ -22,15 +22,6 @@ abbrev μ-loop : tie.MeasureT-loop
 loop-holds : tie.Need-loop-holds Inv-loop μ-loop
 loop-holds c = refl
 
-mul-wide : tie.Need-mul-wide Inv-loop μ-loop
-mul-wide c = search needs
-
-shared-slice-read-wide : tie.Need-shared-slice-read-wide Inv-loop μ-loop
-shared-slice-read-wide c = search needs
-
-wide-requires : tie.Need-wide-requires Inv-loop μ-loop
-wide-requires c κs = search needs
-
 returns : tie.Need-returns Inv-loop μ-loop
 returns c =
     let p = c .before .before .before .before in
@@ -40,9 +31,6 @@ returns c =
 
 sub-left : tie.Need-sub-left Inv-loop μ-loop
 sub-left c = not-more (c .before .wide .result) (c .before .before .before .before .loop .left) (c .if1 .left)
-
-add-k : tie.Need-add-k Inv-loop μ-loop
-add-k c = search needs
 
 loop-less : tie.Need-loop-less Inv-loop μ-loop
 loop-less c = let h : c .before .before .before .before .loop .k < length (now (c .before .before .before .before .before .before .args .lengths)) = c .before .before .before .loop-test .taken in omega (arith, h)
@@ -67,12 +55,10 @@ wrong-lengths-spec =
     Inv-loop
     μ-loop
     loop-holds
-    mul-wide
-    shared-slice-read-wide
-    wide-requires
+    (λ c. search needs) (λ c. search needs) (λ c κs. search needs)
     returns
     sub-left
-    add-k
+    (λ c. search needs)
     loop-less
     loop-again
     returns-2)

@@ -11,14 +11,8 @@ use Rattle.writer.proofs.wrong_packets.Lts as lts
 use Rattle.writer.proofs.wrong_lengths.Reads as wrong-lengths-reads
 use Rattle.writer.proofs.wrong_unfinished.Reads as wrong-unfinished-reads
 
-wrong-lengths-requires : tie.Need-wrong-lengths-requires
-wrong-lengths-requires c κs = search needs
-
-wrong-unfinished-requires : tie.Need-wrong-unfinished-requires
-wrong-unfinished-requires c κs = search needs
-
 returns : tie.Need-returns
 returns c = rw (c .before .wrong-lengths .ensures, c .wrong-unfinished .ensures)
 
 pub wrong-packets-spec : {M : Type 1} → statement M
-wrong-packets-spec = tie.close (tie.spec wrong-lengths-requires wrong-unfinished-requires returns)
+wrong-packets-spec = tie.close (tie.spec (λ c κs. search needs) (λ c κs. search needs) returns)

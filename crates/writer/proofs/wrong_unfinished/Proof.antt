@@ -14,11 +14,8 @@ use Rattle.writer.proofs.wrong_unfinished.Lts as lts
 returns : tie.Need-returns
 returns c = none-offered (c .before .args .sent) (now (c .before .args .lengths)) (c .if1 .taken)
 
-shared-slice-read-result : tie.Need-shared-slice-read-result
-shared-slice-read-result c = search needs
-
 returns-2 : tie.Need-returns-2
 returns-2 c = first-offered (c .before .before .args .sent) (now (c .before .before .args .lengths)) (c .before .if1 .left)
 
 pub wrong-unfinished-spec : {M : Type 1} → statement M
-wrong-unfinished-spec = tie.close (tie.spec returns shared-slice-read-result returns-2)
+wrong-unfinished-spec = tie.close (tie.spec returns (λ c. search needs) returns-2)

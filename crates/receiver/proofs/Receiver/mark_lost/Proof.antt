@@ -10,25 +10,10 @@ use Rattle.modes.proofs.look_up.Reads as look-up-reads
 use Rattle.receiver.proofs.lose_listed.Reads as lose-listed-reads
 use Rattle.receiver.proofs.refused.Reads as refused-reads
 
-look-up-requires : tie.Need-look-up-requires
-look-up-requires c κs = search needs
-
-enum-known-m : tie.Need-enum-known-m
-enum-known-m c = search needs
-
 lose-listed-requires : tie.Need-lose-listed-requires
 lose-listed-requires c κs =
     let g = c .before .before in
     sym (g .before .before .look-up .ensures) ∙ g .m .given .1
-
-enum-told : tie.Need-enum-told
-enum-told c = search needs
-
-refused-requires : tie.Need-refused-requires
-refused-requires c κs = search needs
-
-same-length : tie.Need-same-length
-same-length c = search needs
 
 returns : tie.Need-returns
 returns c = c .before .before .lose-listed .ensures
@@ -43,11 +28,8 @@ pub mark-lost-spec : {M : Type 1} → statement M
 mark-lost-spec =
     tie.close
     (tie.spec
-    look-up-requires
-    enum-known-m
+    (λ c κs. search needs) (λ c. search needs)
     lose-listed-requires
-    enum-told
-    refused-requires
-    same-length
+    (λ c. search needs) (λ c κs. search needs) (λ c. search needs)
     returns
     returns-2)

@@ -8,20 +8,8 @@ use Rattle.receiver.proofs.Receiver.state_refusal.Lts as lts
 use Rattle.modes.proofs.look_up.Reads as look-up-reads
 use Rattle.receiver.proofs.listed_refusal.Reads as listed-refusal-reads
 
-look-up-requires : tie.Need-look-up-requires
-look-up-requires c κs = search needs
-
-enum-known-m : tie.Need-enum-known-m
-enum-known-m c = search needs
-
 listed-refusal-requires : tie.Need-listed-refusal-requires
 listed-refusal-requires c κs = sym (c .before .before .before .look-up .ensures) ∙ c .before .m .given .1
-
-enum-told : tie.Need-enum-told
-enum-told c = search needs
-
-returns : tie.Need-returns
-returns c = search needs
 
 returns-2 : tie.Need-returns-2
 returns-2 c =
@@ -31,4 +19,4 @@ returns-2 c =
 pub state-refusal-spec : {M : Type 1} → statement M
 state-refusal-spec =
     tie.close
-    (tie.spec look-up-requires enum-known-m listed-refusal-requires enum-told returns returns-2)
+    (tie.spec (λ c κs. search needs) (λ c. search needs) listed-refusal-requires (λ c. search needs) (λ c. search needs) returns-2)

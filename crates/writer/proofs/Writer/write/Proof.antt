@@ -14,23 +14,8 @@ use Rattle.modes.proofs.look_up.Reads as look-up-reads
 use Rattle.writer.proofs.refused.Reads as refused-reads
 use Rattle.writer.proofs.write_or_refuse.Reads as write-or-refuse-reads
 
-look-up-requires : tie.Need-look-up-requires
-look-up-requires c κs = search needs
-
-enum-known-m : tie.Need-enum-known-m
-enum-known-m c = search needs
-
 write-or-refuse-requires : tie.Need-write-or-refuse-requires
 write-or-refuse-requires c κs = sym (c .before .before .before .before .look-up .ensures) ∙ c .before .before .m .given .1
-
-enum-told : tie.Need-enum-told
-enum-told c = search needs
-
-refused-requires : tie.Need-refused-requires
-refused-requires c κs = search needs
-
-same-length : tie.Need-same-length
-same-length c = search needs
 
 returns : tie.Need-returns
 returns c =
@@ -46,11 +31,8 @@ pub write-spec : {M : Type 1} → statement M
 write-spec =
     tie.close
     (tie.spec
-    look-up-requires
-    enum-known-m
+    (λ c κs. search needs) (λ c. search needs)
     write-or-refuse-requires
-    enum-told
-    refused-requires
-    same-length
+    (λ c. search needs) (λ c κs. search needs) (λ c. search needs)
     returns
     returns-2)
