@@ -428,6 +428,23 @@ check_progress_live() {
     same "progress once a second on a terminal" "$first" "$(tr '\r' '\n' <terminal | grep -x "$first" | sort -u || true)"
 }
 
+# The picture of a log shows how far it is once a second: here a long one, of which a second begins while it is read.
+check_progress_read() {
+    local line
+    run coverage --in many.csv
+    same "a picture, no progress where nobody looks on" 0 "$(tr -cd '\r' <err | wc -c)"
+    if ! command -v script >/dev/null; then
+        return
+    fi
+    { echo "$older_title"; seq 0 599999 | sed 's/$/,lost,,,,0,0/'; } >many.csv
+    while [ "$(date +%N | cut -c 1)" != 9 ]; do
+        sleep 0.02
+    done
+    script -qec "$program coverage --in many.csv --rows 1 2>&1 >/dev/null" /dev/null >terminal </dev/null
+    line=$(tr '\r' '\n' <terminal | sed -n 's/^barzhilup coverage: lines [1-9][0-9]*$/lines/p' | sed -n 1p)
+    same "a picture, progress once a second on a terminal" lines "$line"
+}
+
 check_terminals() {
     local copy
     for ((copy = 0; copy < 60; copy += 1)); do
@@ -443,5 +460,5 @@ check_terminals() {
     check_progress "barzhilup channel: PDUs 1000" channel --in many
     check_progress "barzhilup log: PDUs 1000" log --in many --batch 1
     check_progress_live
-    check_progress "barzhilup coverage: lines 1000" coverage --in many.csv
+    check_progress_read
 }

@@ -57,11 +57,12 @@ loses() { # WHAT LOSS FILE OPTION...
     same "$about, the line of totals" "$(loss_said "$wanted")" "$(said_least)"
     if said_loss | grep 'missing about' >/dev/null; then
         same "$about, the picture's figures" "${wanted% *} ${wanted#* }" "$(figure 'packets delivered') $(figure 'missing, at least')"
+        same "$about, ticks are of the estimate" "$(said_about) about" "$(ticks | tr ' ' '\n' | awk '{ sum += $1 } END { print sum + 0 }') $(sed -n 's/.*>packets missing before, \(about\)<.*/\1/p' out)"
     else
         same "$about, when it is exact" "$(exact_line)" "$(tail -n 1 err)"
         same "$about, the picture's figures" "${wanted% *} ${wanted#* }" "$(figure 'packets delivered') $(figure missing)"
+        same "$about, ticks" "$(growth loss.csv)" "$(ticks)"
     fi
-    same "$about, ticks" "$(growth loss.csv)" "$(ticks)"
 }
 
 # What the line of totals says of delivered and missing, without an estimate.

@@ -1,5 +1,5 @@
-# The picture of a drive as it is handed on: the estimate of what is missing, PDUs that came twice, the HTML page with its head, overview and pages, and times.
-# Sourced by run.sh.
+# The picture of a drive as it is handed on: the estimate of what is missing, PDUs that came twice or out of turn, the HTML page with its head, overview and
+# pages, and times. Sourced by run.sh.
 
 # The first line of the logs that are made here, of seven columns.
 seven=pdu,kind,number,length,cause,delivered,missing
@@ -33,21 +33,90 @@ check_page_estimate() {
     same "drives with far gaps" yes "$([ "$far" -ge 2 ] && echo yes || echo no)"
 }
 
-# A PDU that comes twice is marked and said; one drive without such has neither.
-check_page_twice() {
-    { steps 0 1 2 2 3 4 4 5; } >came
+# What is said of PDUs that came twice and out of turn, and of what the record has.
+turns_said() { # TWICE LATE "DELIVERED MISSING"
+    echo "barzhilup coverage: PDUs that look as if they came twice: $1, out of turn: $2; their packets are counted once here, by what they look like; the receiver's record counts them again: delivered ${3% *}, missing ${3#* }"
+}
+
+# Draws the PDUs of the file steps in an order, which end a packet each: those that came twice and out of turn are marked, said and counted once.
+draws_turns() { # "NUMBER..." TWICE LATE "DELIVERED MISSING"
+    local about="PDUs $1" numbers
+    read -r -a numbers <<<"$1"
+    steps "${numbers[@]}" >came
     run log --in came --mode 1 --format csv
-    cp out twice.csv
-    run coverage --in twice.csv
-    ended "PDUs that came twice" 0 coverage
-    same "PDUs that came twice, what is said" "barzhilup coverage: PDUs that look as if they came twice: 2; each may add up to 63 to missing, so that figure is not certain" "$(tail -n 1 err)"
-    same "PDUs that came twice, marks, and one in the legend" 3 "$(grep -c 'class="d"' out || true)"
+    cp out turns.csv
+    run coverage --in turns.csv
+    ended "$about" 0 coverage
+    same "$about, delivered and missing" "$(loss_said "$4")" "$(said_loss)"
+    same "$about, what is said" "$(turns_said "$2" "$3" "$(last_loss turns.csv)")" "$(tail -n 1 err)"
+    same "$about, marks, and those of the legend" "$(($2 + 1)) $(($3 + 1))" "$(grep -c '<text class="d"' out || true) $(grep -c '<path class="d"' out || true)"
+    same "$about, the legend" "looks as if it came twice: $2, out of turn: $3. Counted once here; the record has delivered $(last_loss turns.csv | sed 's/ /, missing /')." \
+        "$(sed -n 's/.*>\(looks as if .*\)<.*/\1/p' out)"
+    same "$about, no tick is a wrap" "" "$(ticks | tr ' ' '\n' | awk '$1 > 8')"
+}
+
+# PDUs that come twice, out of turn, and both; a drive without such has no mark and no line.
+check_page_turns() {
+    draws_turns "0 1 2 2 3 4 4 5" 2 0 "6 0"
+    draws_turns "0 0 1 2 3" 1 0 "4 0"
+    draws_turns "0 1 3 2 4 5" 0 1 "6 0"
+    draws_turns "0 1 3 2 2 4 5" 1 1 "6 0"
+    draws_turns "0 1 3 3 2 4 5" 1 1 "6 0"
+    draws_turns "0 2 1 4 3 5" 0 2 "6 0"
+    draws_turns "1 0 2 3" 0 1 "4 0"
     steps 0 1 2 3 4 5 >came
     run log --in came --mode 1 --format csv
-    cp out twice.csv
-    run coverage --in twice.csv
-    same "no PDU came twice" 0 "$(cat out err | grep -c 'class="d"\|twice' || true)"
+    cp out turns.csv
+    run coverage --in turns.csv
+    same "no PDU came twice or out of turn" 0 "$(cat out err | grep -c 'class="d"\|twice\|out of turn' || true)"
+    check_page_turns_lost
+    check_page_turns_drives
 }
+
+# A PDU that is not the next one and nothing comes of later: what is before it is missing. A PDU with the number of the last one and another CRC-32 is not it again.
+check_page_turns_lost() {
+    steps 0 1 3 4 5 >came
+    run log --in came --mode 1 --format csv
+    cp out turns.csv
+    run coverage --in turns.csv
+    same "a PDU that is not marked lost" "$(loss_said "5 1")" "$(said_loss)"
+    same "a PDU that is not marked lost, no marks" 0 "$(grep -c 'class="d"' out || true)"
+    steps 0 1 2 2 3 >came
+    run log --in came --mode 1 --format csv
+    sed '/^3,packet,/s/,[0-9a-f]*,,$/,0badf00d,,/' out >turns.csv
+    run coverage --in turns.csv
+    same "another packet of the same number" "$(loss_said "$(last_loss turns.csv)")" "$(said_loss)"
+    same "another packet of the same number, no marks" 0 "$(grep -c 'class="d"' out || true)"
+    older turns.csv >counted.csv
+    run coverage --in counted.csv
+    same "the same number in a log without CRC-32" "$(loss_said "4 0")" "$(said_loss)"
+}
+
+# Drives in which PDUs come twice and out of turn, of many packets, some lost: delivered and missing are those of the packets sent, each counted once.
+check_page_turns_drives() {
+    local seed wanted twice=0 late=0
+    numbered 900 >row
+    run generate --in row --length 300 --mode 1
+    cp out numbered
+    run log --in numbered --mode 1 --format words
+    logged_packets out >row.packets
+    for seed in 1 2 3 4 5 6; do
+        run channel --in numbered --seed "$seed" --loss 20 --burst 3 --damage 0 --twice 40 --swap 40
+        cp out came
+        run log --in came --mode 1 --format words
+        wanted=$(places_logged out | sort -n -u | loss_by_places)
+        run log --in came --mode 1 --format csv
+        cp out turns.csv
+        run coverage --in turns.csv
+        same "PDUs twice and out of turn, seed $seed" "$(loss_said "$wanted")" "$(said_loss)"
+        twice=$((twice + $(grep -c '<text class="d"' out || true) - 1))
+        late=$((late + $(grep -c '<path class="d"' out || true) - 1))
+    done
+    same "PDUs twice and out of turn in these drives" yes "$([ "$twice" -ge 20 ] && [ "$late" -ge 20 ] && echo yes || echo no)"
+}
+
+# What is said of a mode and stream that are not in the table.
+unlisted="refused with 5: --mode, --stream: not in the table: stream 0 has modes 0, 1, 2, 3, 10 and 13, stream 1 has modes 1, 2, 3 and 10"
 
 # Wrong usage, and what is only known with the drive.
 check_page_asked() {
@@ -63,8 +132,9 @@ check_page_asked() {
         wrong "barzhilup coverage: --$option: over 200 bytes, or not UTF-8" coverage --in log.csv --format html "--$option" "$(printf 'a\xff')"
     done
     wrong "barzhilup coverage: --note: over 4000 bytes, or not UTF-8" coverage --in log.csv --format html --note "$(head -c 4001 /dev/zero | tr '\0' x)"
-    stops "barzhilup coverage: refused with 5: mode and stream not in the table" coverage --in log.csv --out new --mode 4
-    stops "barzhilup coverage: refused with 5: mode and stream not in the table" coverage --in log.csv --out new --stream 1
+    stops "barzhilup coverage: $unlisted" coverage --in log.csv --out new --mode 4
+    stops "barzhilup coverage: $unlisted" coverage --in log.csv --out new --stream 1
+    stops "barzhilup generate: $unlisted" generate --in packets --out new --mode 4
     stops "barzhilup coverage: --page: there are only so many pages: 1" coverage --in log.csv --out new --page 2
     there "a page that there is not" no new
     run coverage --in log.csv --format svg
@@ -123,12 +193,12 @@ row_times() {
 # Pages of rows: each PDU stands on one of them, and a page by itself has its own.
 check_page_rows() {
     local page all=
-    run coverage --in long.csv --columns 20 --rows 2 --format html
+    run coverage --in long.csv --columns 20 --rows 2 --format html --title 'Up & down'
     ended "pages of two rows" 0 coverage
-    same "pages of two rows" "PDU 0 to 39, page 1 of 4
-PDU 40 to 79, page 2 of 4
-PDU 80 to 119, page 3 of 4
-PDU 120 to 129, page 4 of 4" "$(sed -n 's/<h2>\(PDU .*\)<\/h2>/\1/p' out)"
+    same "pages of two rows" "Up &amp; down: PDU 0 to 39, page 1 of 4
+Up &amp; down: PDU 40 to 79, page 2 of 4
+Up &amp; down: PDU 80 to 119, page 3 of 4
+Up &amp; down: PDU 120 to 129, page 4 of 4" "$(sed -n 's/<h2>\(.*PDU .* to .*\)<\/h2>/\1/p' out)"
     same "pages of two rows, their rows" "0 20 40 60 80 100 120 " "$(row_numbers)"
     same "pages of two rows, their cells" 130 "$(sed -n '/<section>/,$p' out | grep -c '<rect class="l"' || true)"
     check_page_whole "pages of two rows"
@@ -143,8 +213,25 @@ PDU 120 to 129, page 4 of 4" "$(sed -n 's/<h2>\(PDU .*\)<\/h2>/\1/p' out)"
     same "pages by themselves, their rows" "0 20 40 60 80 100 120 " "$all"
     run coverage --in long.csv --columns 20 --rows 2 --format html --page 3
     same "one page of HTML, its rows" "80 100 " "$(row_numbers)"
+    run coverage --in long.csv --columns 20 --rows 2 --format html
+    same "pages of two rows without a title" "Coverage: PDU 0 to 39, page 1 of 4" "$(sed -n 's/<h2>\(.*PDU .* to .*\)<\/h2>/\1/p' out | sed -n 1p)"
     run coverage --in long.csv --columns 20
     same "all rows on one page" 0 "$(grep -c '>page ' out || true)"
+    check_page_long
+}
+
+# A picture of over 60 rows is said to be one, and how there are pages; others are not.
+check_page_long() {
+    local pdu rows
+    { echo "$seven"; for ((pdu = 0; pdu < 1201; pdu += 1)); do echo "$pdu,lost,,,,0,0"; done; } >tall.csv
+    run coverage --in tall.csv --columns 20
+    ended "a picture of 61 rows" 0 coverage
+    has_line "a picture of 61 rows" "barzhilup coverage: --rows: not given, so the picture has all rows: 61; --rows N draws a page of N rows, --page K another one, --format html pages to print" err
+    for rows in "--columns 21" "--columns 20 --rows 61" "--columns 20 --format html"; do
+        # shellcheck disable=SC2086
+        run coverage --in tall.csv $rows
+        same "a picture of 1201 PDUs with $rows, nothing is said of rows" 0 "$(grep -c -e '--rows' err || true)"
+    done
 }
 
 row_numbers() {

@@ -123,7 +123,7 @@ check_loss_second
 check_loss_ticks
 check_loss_older
 check_page_estimate
-check_page_twice
+check_page_turns
 check_page_asked
 check_page_texts
 check_page_lengths

@@ -1,5 +1,5 @@
-// A PDU in the picture: its cell, which is hollow where it was withheld, the copies that it is taken from, its bar, and the tick where packets are missing; on
-// `page`, `drive` and `clock`.
+// A PDU in the picture: its cell, hollow where it was withheld, with a mark where it came twice or out of turn, the copies that it is taken from, its bar, and the
+// tick where packets are missing; on `page`, `drive` and `clock`.
 use clock::Clock;
 use csv::entry;
 use drive::Pdu;
@@ -65,18 +65,28 @@ fn put_hollow(out: &mut [u8], at: usize, withheld: bool, x: u64, y: u64) -> usiz
     )
 }
 
-// The mark of a PDU that looks as if it came twice: a 2.
-fn put_twice(out: &mut [u8], at: usize, twice: bool, x: u64, y: u64) -> usize
-    requires { ⌜ (x < 1000000000000) × (y < 1000000000000) ⌝ }
+// By how much two marks of one cell move apart: that of a wrong CRC up by two of these, and the other one down by one.
+fn apart(pdu: Pdu, turn: u32) -> u64
+    ensures { λ r. ⌜ r ≤ 2 ⌝ }
 {
-    if !twice {
-        return at;
+    if (pdu.crcs == 0) | (turn == 0) {
+        return 0;
     }
+    2
+}
+
+// The mark of a PDU that looks as if it came twice, a 2, or out of turn, an arrow to the left; nothing for others.
+fn put_turn(out: &mut [u8], at: usize, turn: u32, down: u64, x: u64, y: u64) -> usize
+    requires { ⌜ (x < 1000000000000) × (y < 1000000000000) × (down ≤ 2) ⌝ }
+{
     text::fill(
         out,
         at,
-        b"<text class=\"d\" x=\"@.5\" y=\"@\">2</text>\n",
-        &[x + 4, y + 11],
+        text::entry(
+            b"\0<text class=\"d\" x=\"@.5\" y=\"@\">2</text>\n\0<path class=\"d\" d=\"M@.5 @m3 0v-8l-6 4z\"/>\n\0",
+            turn,
+        ),
+        &[x + 4, y + 11 + down],
     )
 }
 
@@ -123,8 +133,8 @@ fn put_bar(out: &mut [u8], at: usize, shape: Shape, packets: u32, x: u64, y: u64
 }
 
 // The mark of a PDU that has pieces with a wrong CRC.
-fn put_wrong(out: &mut [u8], at: usize, crcs: u32, x: u64, y: u64) -> usize
-    requires { ⌜ (x < 1000000000000) × (y < 1000000000000) ⌝ }
+fn put_wrong(out: &mut [u8], at: usize, crcs: u32, up: u64, x: u64, y: u64) -> usize
+    requires { ⌜ (x < 1000000000000) × (y < 1000000000000) × (up ≤ 2) ⌝ }
 {
     if crcs == 0 {
         return at;
@@ -133,7 +143,7 @@ fn put_wrong(out: &mut [u8], at: usize, crcs: u32, x: u64, y: u64) -> usize
         out,
         at,
         b"<circle class=\"w\" cx=\"@.5\" cy=\"@\" r=\"2.5\"/>\n",
-        &[x + 4, y + 7],
+        &[x + 4, y + 7 - up - up],
     )
 }
 
@@ -203,17 +213,18 @@ fn put_row(out: &mut [u8], at: usize, shape: Shape, c: Clock, number: u32, x: u6
 }
 
 // A PDU's cell, with what stands in it.
-fn put_face(out: &mut [u8], at: usize, pdu: Pdu, twice: bool, x: u64, y: u64) -> usize
+fn put_face(out: &mut [u8], at: usize, pdu: Pdu, turn: u32, x: u64, y: u64) -> usize
     requires { ⌜ (x < 1000000000000) × (y < 1000000000000) ⌝ }
 {
+    let by = apart(pdu, turn);
     let mut n = put_cell(out, at, pdu, x, y);
     n = put_hollow(out, n, pdu.withheld, x, y);
     n = put_copy(out, n, pdu.copy, x, y);
-    n = put_twice(out, n, twice, x, y);
-    put_wrong(out, n, pdu.crcs, x, y)
+    n = put_turn(out, n, turn, by, x, y);
+    put_wrong(out, n, pdu.crcs, by, x, y)
 }
 
-// A PDU, which may look as if it came twice, after the beginning of its row where it is the first there.
+// A PDU, which may look as if it came twice or out of turn, after the beginning of its row where it is the first there.
 pub fn put_pdu(
     out: &mut [u8],
     at: usize,
@@ -221,11 +232,11 @@ pub fn put_pdu(
     c: Clock,
     number: u32,
     pdu: Pdu,
-    twice: bool,
+    turn: u32,
 ) -> usize {
     let p = page::place_of(shape, number);
     let mut n = put_row(out, at, shape, c, number, p.x, p.y);
-    n = put_face(out, n, pdu, twice, p.x, p.y);
+    n = put_face(out, n, pdu, turn, p.x, p.y);
     n = put_bar(out, n, shape, pdu.packets, p.x, p.y);
     put_tick(out, n, pdu.missing, p.x, p.y)
 }

@@ -1,4 +1,4 @@
-// Draws a drive: from the CSV of its log to a strip of its PDUs, as an SVG picture or an HTML page; on `commission` and `printing`.
+// Draws a drive: from the CSV of its log to a strip of its PDUs, as an SVG picture or an HTML page; on `commission`, `printing` and `limits`.
 //
 // The file is read more than once. The first time counts: the picture's height stands in its first tag. The last time draws.
 mod report;
@@ -29,10 +29,7 @@ pub fn program() -> i32 {
 // Opens the CSV. Answers whether all is done; what went wrong is said.
 fn with_options(asked: Asked) -> bool {
     if commission::is_unlisted() {
-        files::say(
-            &NAME,
-            b": refused with 5: mode and stream not in the table\n",
-        );
+        report::say_unlisted();
         return false;
     }
     let mut from = files::label_buffer();
@@ -112,7 +109,15 @@ fn with_input(asked: Asked, from: &[u8], input: i32, start: i64) -> bool {
         report::say_pages(leaf::count(book));
         return false;
     }
+    said_of_rows(page::rows(leaf::shape(book, 0)), asked.rows);
     with_task(next, from, &mut buf)
+}
+
+// Says that a page has more rows than are read on one, where no count of them is given.
+fn said_of_rows(rows: u32, given: u32) {
+    if (given == 0) & (60 < rows) {
+        report::say_rows(rows);
+    }
 }
 
 // Makes the picture's file.

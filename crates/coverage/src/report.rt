@@ -17,6 +17,24 @@ pub fn say_pages(pages: u32) {
     );
 }
 
+// That mode and stream are not in the table.
+pub fn say_unlisted() {
+    let mut line = [0u8; 512];
+    let mut n = text::put(&mut line, 0, &NAME);
+    n = limits::put_unlisted(&mut line, n);
+    say(&line[..n]);
+}
+
+// That a picture by itself has more rows than are read on a page, and how there are pages.
+pub fn say_rows(rows: u32) {
+    files::say_number(
+        &NAME,
+        b": --rows: not given, so the picture has all rows: ",
+        rows as u64,
+        b"; --rows N draws a page of N rows, --page K another one, --format html pages to print\n",
+    );
+}
+
 // What is wrong with a line of a file, counted from 1.
 fn wrong_line(label: &[u8], number: u64, wrong: u8) {
     let mut line = [0u8; 4800];
@@ -55,12 +73,13 @@ Draws a drive as SVG or HTML from the CSV of barzhilup log: a cell for each PDU,
 received, received with a corrected header, lost or refused, with a mark where
 a CRC is wrong; under it a bar for the packets that it delivered, and a tick
 where packets are missing before those; and totals. A withheld PDU (log
---entitled) has a hollow cell, one that looks as if it came twice a 2. In the
-log of two recordings (log --second) a stroke at a cell's upper edge tells that
-pieces are taken from the first copy, one at its lower edge that they are from
-the second. An HTML page has a head with the PDU length, an overview of the
-share of PDUs lost or refused, the totals, the text of PSD where it changes, and
-then pages of rows; it prints on paper laid across.
+--entitled) has a hollow cell, one that looks as if it came twice a 2, one that
+looks as if it came out of turn an arrow. In the log of two recordings (log
+--second) a stroke at a cell's upper edge tells that pieces are taken from the
+first copy, one at its lower edge that they are from the second. An HTML page
+has a head with the PDU length, an overview of the share of PDUs lost or
+refused, the totals, the text of PSD where it changes, and then pages of rows;
+it prints on paper laid across.
 
 Delivered and missing are those of the receiver's record, as the CSV has them;
 a tick stands where missing grew. Withheld packets and those with a damaged
@@ -68,7 +87,10 @@ piece count as missing; what is missing before the first one delivered, or
 after the last, does not. Missing is exact where each PDU comes or is marked
 lost once, in turn, and fewer than 64 packets are missing between two
 delivered. Where more may be missing, it is given twice: at least, which is the
-record's, and about. A CSV without these two columns is drawn without them.
+record's, and about, which ticks have too. Packets of PDUs that look as if they
+came twice or out of turn count once, where the record counts them again: then
+standard error and the picture have the record's figures besides. A CSV without
+these two columns is drawn without them.
 
   --in FILE       the CSV (standard input, also for -); it is read more than
                   once, so no pipe
@@ -84,7 +106,8 @@ record's, and about. A CSV without these two columns is drawn without them.
   --stream N      stand beside the numbers of PDUs, by the PDU time of the mode
   --pdu-ms N      the time of a PDU in ms instead, 1 to 60000
   --columns N     how many PDUs stand in a row, 20 to 200 (100)
-  --rows N        how many rows stand on a page, 1 to 1000 (svg all, html 12)
+  --rows N        how many rows stand on a page, 1 to 1000 (svg all, html 12);
+                  a picture of over 60 rows is said to have so many
   --page N        the page that is drawn, 1 to 1000000 (svg 1, html all)
   --help          prints this and does nothing else (also -h)
 

@@ -3,6 +3,7 @@ use crate::fields;
 use crate::fields::Fields;
 use crate::lines;
 use text::Number;
+ghost use Prim.Native.Nat.{_<_};
 
 // The columns, and those of an older log, which lacks the last two if it has no loss column (document 02, Ask 14).
 const COLUMNS: [u8; 97] =
@@ -82,8 +83,8 @@ pub const MANY_FIELDS: u8 = 13;
 
 // A line: what is wrong with it, its kind, the number of its PDU, and another: how many header bytes were corrected, the refusal's number, the packet's, the
 // piece of a note, or in the last line how many PDUs there are; the cause of a note, or the copy of a received PDU, 0 for one that is not known; its loss
-// column, if the log has one: what the receiver's record has after the PDU; the length of the PDU, the packet or the PSD; and where in the line the PSD's
-// text stands.
+// column, if the log has one: what the receiver's record has after the PDU; the length of the PDU, the packet or the PSD; the CRC-32 of the packet or the PSD, 0
+// where there is none; and where in the line the PSD's text stands.
 pub struct Entry {
     pub wrong: u8,
     pub kind: u32,
@@ -94,6 +95,7 @@ pub struct Entry {
     pub delivered: u32,
     pub missing: u32,
     pub length: u32,
+    pub crc32: u32,
     pub text_from: usize,
     pub text_to: usize,
 }
@@ -280,6 +282,27 @@ fn loss_of(line: &[u8], f: Fields, counted: bool, kind: u32, at: usize) -> Loss 
     }
 }
 
+// The number that digits to the base 16 are, modulo 2^32.
+fn hexadecimal(digits: &[u8]) -> u32 {
+    let mut value: u32 = 0;
+    let mut i: usize = 0;
+    while i < digits.len() {
+        value = value % 0x10000000 * 16 + digit(digits[i]);
+        i += 1;
+    }
+    value
+}
+
+// The value of a digit to the base 16.
+fn digit(byte: u8) -> u32
+    ensures { λ r. ⌜ r < 16 ⌝ }
+{
+    if byte < 64 {
+        return (byte % 16) as u32;
+    }
+    ((byte % 16) as u32 + 9) % 16
+}
+
 // A line between the first and the last.
 fn of_pdu(line: &[u8], f: Fields, counted: bool) -> Entry {
     let kind = number_in(&KINDS, 6, fields::field(line, f, 1));
@@ -306,6 +329,7 @@ fn of_pdu(line: &[u8], f: Fields, counted: bool) -> Entry {
         delivered: loss.delivered,
         missing: loss.missing,
         length: length.value,
+        crc32: hexadecimal(fields::field(line, f, 12)),
         text_from: text.from,
         text_to: text.to,
     }
@@ -328,6 +352,7 @@ fn outer(right: bool, wrong: u8, kind: u32, number: u32, counted: bool) -> Entry
         delivered: 0,
         missing: 0,
         length: 0,
+        crc32: 0,
         text_from: 0,
         text_to: 0,
     }

@@ -1,4 +1,5 @@
-// What a PDU adds to the overview strip and to the rows, as a reading of the CSV goes over it; on `cells`, `overview` and `sheet`.
+// What a PDU adds to the overview strip and to the rows, as a reading of the CSV goes over it; on `cells`, `overview`,
+// `sheet` and `commission`.
 use clock::Clock;
 use csv::lines;
 use drive::Pdu;
@@ -63,9 +64,10 @@ fn opened(task: Task, block: &mut [u8], at: usize, number: u32) -> usize {
     if !task.html | !leaf::is_first(book, number) {
         return at;
     }
+    let n = sheet::put_page_start(block, at, &commission::KNOWN);
     picture::frame::put_page_head(
         block,
-        at,
+        n,
         leaf::shape(book, number),
         c,
         leaf::number_of(book, number),
@@ -83,14 +85,14 @@ fn closed(task: Task, block: &mut [u8], at: usize, number: u32) -> usize {
 }
 
 // Draws a PDU into its row, if its page is asked for.
-fn drawn(task: Task, block: &mut [u8], number: u32, pdu: Pdu, twice: bool, at: usize) -> Waiting {
+fn drawn(task: Task, block: &mut [u8], number: u32, pdu: Pdu, turn: u32, at: usize) -> Waiting {
     let book = task.book;
     let c = task.clock;
     if (task.only != 0) & (task.only != leaf::number_of(book, number)) {
         return Waiting { ok: true, at: at };
     }
     let mut n = opened(task, block, at, number);
-    n = cells::put_pdu(block, n, leaf::shape(book, number), c, number, pdu, twice);
+    n = cells::put_pdu(block, n, leaf::shape(book, number), c, number, pdu, turn);
     n = closed(task, block, n, number);
     written_if_full(task.output, block, n)
 }
@@ -111,7 +113,7 @@ pub fn stretch_drawn(task: Task, block: &mut [u8], s: Stretch, at: usize) -> Wai
     written_if_full(task.output, block, n)
 }
 
-// Draws what a PDU adds: its cell, where it may look as if it came twice, or the stretch before it.
+// Draws what a PDU adds: its cell, which has a mark where it looks as if it came twice or out of turn, or the stretch before it.
 pub fn put(
     task: Task,
     block: &mut [u8],
@@ -119,10 +121,10 @@ pub fn put(
     s: Stretch,
     number: u32,
     pdu: Pdu,
-    twice: bool,
+    turn: u32,
 ) -> Waiting {
     if task.draws == ROWS {
-        return drawn(task, block, number, pdu, twice, at);
+        return drawn(task, block, number, pdu, turn, at);
     }
     if is_beyond(task, s, number) {
         return stretch_drawn(task, block, s, at);

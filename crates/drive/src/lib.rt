@@ -7,16 +7,20 @@ const SEQUENCE: u32 = 1;
 
 const NOTHING_HELD: u32 = 3;
 
+const NOT_CONTINUED: u32 = 4;
+
 const TOO_LONG: u32 = 5;
 
 // A PDU: what became of it, the copy that its pieces are taken from, 0 where it came as one, whether it was withheld (document 02, Ask 10), whether its
-// sequence does not follow, how many bytes of its header were corrected, how many notes it has, how many of its pieces have a wrong CRC, how many packets it
-// delivered, and how many are missing before these: by so many the loss column grew (document 02, Ask 14).
+// sequence does not follow, whether a packet that was held or continued has no other part, how many bytes of its header were corrected, how many notes it has,
+// how many of its pieces have a wrong CRC, how many packets it delivered, and how many are missing before these: by so many the loss column grew (document 02,
+// Ask 14).
 pub struct Pdu {
     pub kind: u32,
     pub copy: u32,
     pub withheld: bool,
     pub broken: bool,
+    pub parted: bool,
     pub corrected: u32,
     pub notes: u32,
     pub crcs: u32,
@@ -25,11 +29,12 @@ pub struct Pdu {
     pub edges: Edges,
 }
 
-// The numbers of a PDU's first packet and of its last, 0 where it delivered none; and how many notes tell of a packet that was not delivered before the first,
-// and after the last, all of them where there is none.
+// The numbers of a PDU's first packet and of its last, and the CRC-32 of the last, 0 where it delivered none; and how many notes tell of a packet that was not
+// delivered before the first, and after the last, all of them where there is none.
 pub struct Edges {
     pub first: u32,
     pub last: u32,
+    pub crc32: u32,
     pub before: u32,
     pub after: u32,
 }
@@ -99,6 +104,7 @@ fn fresh(kind: u32, copy: u32, corrected: u32, missing: u32) -> Pdu {
         copy: copy,
         withheld: false,
         broken: false,
+        parted: false,
         corrected: corrected,
         notes: 0,
         crcs: 0,
@@ -107,6 +113,7 @@ fn fresh(kind: u32, copy: u32, corrected: u32, missing: u32) -> Pdu {
         edges: Edges {
             first: 0,
             last: 0,
+            crc32: 0,
             before: 0,
             after: 0,
         },
@@ -188,7 +195,7 @@ pub fn taken(d: Drive, e: Entry) -> Drive {
     let kind = e.kind;
     match kind {
         entry::RECEIVED | entry::LOST | entry::REFUSED => begun(d, e),
-        entry::PACKET => delivered(d, e.number),
+        entry::PACKET => delivered(d, e.number, e.crc32),
         entry::NOTE => noted(d, e.cause),
         entry::TITLE => titled(d, e.counted),
         entry::END => ended(d),
@@ -281,12 +288,13 @@ fn begun(d: Drive, e: Entry) -> Drive {
 }
 
 // A PDU's edges with one more packet after so many.
-fn with_packet(e: Edges, packets: u32, number: u32) -> Edges {
+fn with_packet(e: Edges, packets: u32, number: u32, crc32: u32) -> Edges {
     let mut next = e;
     if packets == 0 {
         next.first = number;
     }
     next.last = number;
+    next.crc32 = crc32;
     next.after = 0;
     next
 }
@@ -302,12 +310,12 @@ fn with_note(e: Edges, packets: u32, cause: u32) -> Edges {
     next
 }
 
-// The drive with one more packet, of a number.
-fn delivered(d: Drive, number: u32) -> Drive {
+// The drive with one more packet, of a number and with a CRC-32.
+fn delivered(d: Drive, number: u32, crc32: u32) -> Drive {
     let mut p = d.pdu;
     let mut t = d.totals;
     let edges = p.edges;
-    p.edges = with_packet(edges, p.packets, number);
+    p.edges = with_packet(edges, p.packets, number, crc32);
     p.packets = more(p.packets, 1);
     t.most = greatest(t.most, p.packets);
     let mut next = d;
@@ -331,6 +339,7 @@ fn noted(d: Drive, cause: u32) -> Drive {
     p.edges = with_note(edges, p.packets, cause);
     p.notes = more(p.notes, 1);
     p.broken = p.broken | (cause == SEQUENCE);
+    p.parted = p.parted | (cause == NOTHING_HELD) | (cause == NOT_CONTINUED);
     p.crcs = more(p.crcs, wrong);
     p.withheld = p.withheld | withheld;
     t.crcs = add(t.crcs, wrong);

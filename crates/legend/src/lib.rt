@@ -112,7 +112,7 @@ fn put_exact(out: &mut [u8], at: usize, t: Totals) -> usize {
         b"<text class=\"t\" x=\"404\" y=\"154\">missing</text>
 <text class=\"e\" x=\"580\" y=\"154\">@</text>
 <text class=\"t\" x=\"64\" y=\"190\">Withheld packets and those with a damaged piece count as missing; those before the first one delivered and after the last do not.</text>
-<text class=\"t\" x=\"64\" y=\"204\">Missing is exact where each PDU comes or is marked lost once, in turn, and fewer than 64 packets are missing between two delivered.</text>
+<text class=\"t\" x=\"64\" y=\"204\">Exact where each PDU comes or is marked lost once, in turn, and fewer than 64 packets are missing between two delivered.</text>
 ",
         &[t.missing as u64],
     );
@@ -156,20 +156,21 @@ fn put_loss(out: &mut [u8], at: usize, counted: bool, t: Totals, g: Gaps) -> usi
             b"<text class=\"z\" x=\"404\" y=\"136\">the log has no loss column</text>\n",
         );
     }
-    let n = text::fill(
+    let mut n = text::fill(
         out,
         at,
         b"<path class=\"m\" d=\"M69 125v14\"/>
 <text class=\"n\" x=\"80\" y=\"136\">12</text>
-<text class=\"t\" x=\"114\" y=\"136\">packets missing before</text>
 <text class=\"t\" x=\"404\" y=\"136\">packets delivered</text>
 <text class=\"e\" x=\"580\" y=\"136\">@</text>
-",
+<text class=\"t\" x=\"114\" y=\"136\">packets missing before",
         &[t.delivered as u64],
     );
     if g.hidden == 0 {
+        n = text::put(out, n, b"</text>\n");
         return put_exact(out, n, t);
     }
+    n = text::put(out, n, b", about</text>\n");
     put_about(out, n, t, g)
 }
 
@@ -223,19 +224,25 @@ fn put_span(out: &mut [u8], at: usize, r: Row, c: Clock) -> usize {
     clock::put_tenths(out, n, b", for @.@ s", clock::ms(c, r.count))
 }
 
-// What a 2 in a cell means; nothing where no PDU has one.
-fn put_twice(out: &mut [u8], at: usize, twice: u32) -> usize {
-    if twice == 0 {
+// What a 2 and an arrow in a cell mean, and what the record has, which counts their packets again; nothing where no PDU has one.
+fn put_turns(out: &mut [u8], at: usize, t: Totals, g: Gaps) -> usize {
+    if (g.twice == 0) & (g.late == 0) {
         return at;
     }
     text::fill(
         out,
         at,
-        b"<path class=\"r\" d=\"M64 237h9v14h-9z\"/>
+        b"<path class=\"r\" d=\"M64 237h9v14h-9zm10 0h9v14h-9z\"/>
 <text class=\"d\" x=\"68.5\" y=\"248\">2</text>
-<text class=\"t\" x=\"114\" y=\"248\">looks as if it came twice: @. Each may add up to 63 to missing, so that figure is not certain.</text>
+<path class=\"d\" d=\"M81.5 248v-8l-6 4z\"/>
+<text class=\"t\" x=\"90\" y=\"248\">looks as if it came twice: @, out of turn: @. Counted once here; the record has delivered @, missing @.</text>
 ",
-        &[twice as u64],
+        &[
+            g.twice as u64,
+            g.late as u64,
+            std::num::wrapping_add_u64(t.delivered as u64, g.again),
+            std::num::wrapping_add_u64(t.missing as u64, g.excess),
+        ],
     )
 }
 
@@ -277,6 +284,6 @@ pub fn put(out: &mut [u8], at: usize, ground: Ground, d: Drive, g: Gaps, c: Cloc
     let mut n = put_pdus(out, at, ground, d);
     n = put_loss(out, n, d.counted, t, g);
     n = put_longest(out, n, longest, c);
-    n = put_twice(out, n, g.twice);
+    n = put_turns(out, n, t, g);
     put_end(out, n, d.whole)
 }

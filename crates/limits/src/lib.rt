@@ -185,3 +185,11 @@ pub fn put(
         &[room_for(mode, stream, s) as u64],
     )
 }
+
+// The words for a mode and stream that are not in the table, as `text::put` puts bytes.
+pub fn put_unlisted(out: &mut [u8], at: usize) -> usize
+    ensures { λ r. ⌜ Counts r (now (out .exit)) ⌝ }
+{
+    let n = text::put(out, at, b": refused with 5: ");
+    text::put(out, n, text::entry(&TEXTS, TABLE))
+}

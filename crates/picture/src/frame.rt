@@ -14,8 +14,8 @@ fn put_tag(out: &mut [u8], width: u64, height: u64) -> usize {
     )
 }
 
-// The classes. Cells r received, c1 to c4 corrected, l lost, f refused; x their marks, w that of a wrong CRC, d that of a PDU that looks as if it came twice, i
-// the inside of a withheld one; b bars, s their ground; m ticks, n, o and k their numbers; h the title, q numbers of rows, u times, g numbers of columns, t
+// The classes. Cells r received, c1 to c4 corrected, l lost, f refused; x their marks, w that of a wrong CRC, d those of a PDU that looks as if it came twice or
+// out of turn, i the inside of a withheld one; b bars, s their ground; m ticks, n, o and k their numbers; h the title, q numbers of rows, u times, g numbers of columns, t
 // words, e numbers of totals, z a warning, v a line. The cells' colours grow darker in this order, so that they stay apart in grey.
 pub fn put_colours(out: &mut [u8], at: usize) -> usize {
     text::put(
@@ -128,7 +128,7 @@ pub fn put_head(
     put_ruler(out, n, shape.columns, c)
 }
 
-// All that stands above the rows of one of so many pages in HTML.
+// All that stands above the rows of one of so many pages in HTML, after the title.
 pub fn put_page_head(
     out: &mut [u8],
     at: usize,
@@ -140,7 +140,7 @@ pub fn put_page_head(
     let n = text::fill(
         out,
         at,
-        b"<section>\n<h2>PDU @ to @, page @ of @</h2>\n<svg class=\"rows\" viewBox=\"0 44 @ @\" font-size=\"10\">\n",
+        b": PDU @ to @, page @ of @</h2>\n<svg class=\"rows\" viewBox=\"0 44 @ @\" font-size=\"10\">\n",
         &[
             shape.from as u64,
             page::last(shape),

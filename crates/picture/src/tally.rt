@@ -99,11 +99,11 @@ pub fn say(d: Drive, g: Gaps) {
     n = put_loss(&mut line, n, d.counted, t, g.hidden);
     let end = put_end(&mut line, n, copies);
     io::write_all(STDERR_FILENO, &line[..end]);
-    say_missing(d.counted, g);
+    say_missing(d.counted, t, g);
 }
 
 // What counts as missing, and when the count is exact, where there is one.
-fn say_missing(counted: bool, g: Gaps) {
+fn say_missing(counted: bool, t: Totals, g: Gaps) {
     if !counted {
         return;
     }
@@ -115,7 +115,7 @@ fn say_missing(counted: bool, g: Gaps) {
     } else {
         say_about(g);
     }
-    say_twice(g.twice);
+    say_turns(t, g);
 }
 
 // What the estimate is, and what is certain.
@@ -132,17 +132,22 @@ fn say_about(g: Gaps) {
     io::write_all(STDERR_FILENO, &line[..n]);
 }
 
-// How many PDUs look as if they came twice, where there are any.
-fn say_twice(twice: u32) {
-    if twice == 0 {
+// How many PDUs look as if they came twice or out of turn, where there are any, and what the record has, which counts their packets again.
+fn say_turns(t: Totals, g: Gaps) {
+    if (g.twice == 0) & (g.late == 0) {
         return;
     }
-    let mut line = [0u8; 256];
+    let mut line = [0u8; 512];
     let n = text::fill(
         &mut line,
         0,
-        b"barzhilup coverage: PDUs that look as if they came twice: @; each may add up to 63 to missing, so that figure is not certain\n",
-        &[twice as u64],
+        b"barzhilup coverage: PDUs that look as if they came twice: @, out of turn: @; their packets are counted once here, by what they look like; the receiver's record counts them again: delivered @, missing @\n",
+        &[
+            g.twice as u64,
+            g.late as u64,
+            std::num::wrapping_add_u64(t.delivered as u64, g.again),
+            std::num::wrapping_add_u64(t.missing as u64, g.excess),
+        ],
     );
     io::write_all(STDERR_FILENO, &line[..n]);
 }

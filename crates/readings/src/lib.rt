@@ -83,8 +83,8 @@ fn passed(task: Task, block: &mut [u8], run: Run) -> Run {
         run.waiting,
         s,
         number,
-        pdu,
-        gaps::is_twice(g, pdu),
+        gaps::estimated(g, pdu, pace),
+        gaps::turn_of(g, pdu),
     );
     let mut next = run;
     next.state = state_of(w.ok, GOING);
@@ -125,11 +125,16 @@ fn taken(task: Task, block: &mut [u8], run: Run, ahead: Lines, e: Entry) -> Run 
     onward(after, ahead, next)
 }
 
-// Draws the last stretch.
+// Draws the last stretch, and settles the totals.
 fn finished(task: Task, block: &mut [u8], run: Run) -> Run {
     let s = run.stretch;
     let w = drawing::stretch_drawn(task, block, s, run.waiting);
+    let g = run.gaps;
+    let mut d = run.drive;
+    let totals = gaps::settled(d.totals, g);
+    d.totals = totals;
     let mut next = run;
+    next.drive = d;
     next.state = state_of(w.ok & (run.state == GOING), READ);
     next.waiting = w.at;
     next
@@ -199,14 +204,15 @@ fn turn(task: Task, buf: &mut [u8], block: &mut [u8], run: Run) -> Run {
     )
 }
 
-// How far the work is, where somebody looks on.
-fn progress(count: u64) {
-    files::progress(b"barzhilup coverage", b": lines ", count);
+// How far the work is, once a second where somebody looks on. Answers the second that it is.
+fn progress(count: u64, shown: i64) -> i64 {
+    files::show_progress(b"barzhilup coverage", b": lines ", count, shown)
 }
 
 // All lines. They are counted down from a number that no file uses up, since a proved loop has to end, and nothing says that a file does.
 fn all_lines(task: Task, buf: &mut [u8], block: &mut [u8], start: Run) -> Run {
     let mut run = start;
+    let mut shown = files::second();
     let mut turns = u64::MAX;
     while 0 < turns {
         let next = turn(task, buf, block, run);
@@ -214,7 +220,7 @@ fn all_lines(task: Task, buf: &mut [u8], block: &mut [u8], start: Run) -> Run {
         if run.state != GOING {
             return run;
         }
-        progress(run.count);
+        shown = progress(run.count, shown);
         turns -= 1;
     }
     run

@@ -176,6 +176,12 @@ pub fn put_legend_head(out: &mut [u8], at: usize) -> usize {
     )
 }
 
+// The beginning of a page of rows, up to the title.
+pub fn put_page_start(out: &mut [u8], at: usize, known: &[u8]) -> usize {
+    let n = text::put(out, at, b"<section>\n<h2>");
+    put_title(out, n, known)
+}
+
 // The end of a page of rows, and that of all.
 pub fn put_page_end(out: &mut [u8], at: usize) -> usize {
     text::put(out, at, b"</svg>\n</section>\n")

@@ -5,10 +5,13 @@ use Rattle.readings.proofs.all_lines.Statement.{statement}
 use Rattle.readings.proofs.all_lines.Tie as tie
 
 abbrev Inv-loop : tie.InvT-loop
-Inv-loop task buf₀ block₀ run₀ turns₀ buf block run turns = (length buf ≡ length buf₀) × (length block ≡ length block₀)
+Inv-loop task buf₀ block₀ run₀ shown₀ turns₀ buf block run shown turns = (length buf ≡ length buf₀) × (length block ≡ length block₀)
 
 abbrev μ-loop : tie.MeasureT-loop
-μ-loop task buf₀ block₀ run₀ turns₀ buf block run turns = turns
+μ-loop task buf₀ block₀ run₀ shown₀ turns₀ buf block run shown turns = turns
+
+second-requires : tie.Need-second-requires Inv-loop μ-loop
+second-requires c κs = search needs
 
 loop-holds : tie.Need-loop-holds Inv-loop μ-loop
 loop-holds c = search needs
@@ -52,6 +55,7 @@ all-lines-spec =
     (tie.spec
     Inv-loop
     μ-loop
+    second-requires
     loop-holds
     turn-requires
     same-length
