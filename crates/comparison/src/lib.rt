@@ -57,6 +57,9 @@ const AGAIN: usize = 163847;
 
 const NEVER: usize = 163848;
 
+// How many packets have the number and the bytes of the one 64 before.
+const ALIKE: usize = 163849;
+
 // The place in a row of a word that a comparison keeps.
 fn place(row: &[u64], word: usize) -> usize {
     std::num::wrapping_add_usize(std::num::wrapping_sub_usize(row.len(), WORDS), word)
@@ -208,6 +211,22 @@ pub fn end(sent: Sent, row: &[u64]) -> u8 {
     list::end(sent, at(row, SENT))
 }
 
+// The line for packets that are alike, if there are any.
+fn put_alike(out: &mut [u8], place: usize, row: &[u64]) -> usize
+    ensures { λ r. ⌜ Counts r (now (out .exit)) ⌝ }
+{
+    let alike = at(row, ALIKE);
+    if alike == 0 {
+        return text::put(out, place, b"");
+    }
+    text::fill(
+        out,
+        place,
+        b"barzhilup log: packets sent that cannot be told apart from the one 64 before @\n",
+        &[alike],
+    )
+}
+
 // The counts, as lines.
 pub fn put_summary(out: &mut [u8], row: &[u64]) -> usize
     ensures { λ r. ⌜ Counts r (now (out .exit)) ⌝ }
@@ -221,7 +240,7 @@ pub fn put_summary(out: &mut [u8], row: &[u64]) -> usize
         &[all, std::num::wrapping_sub_u64(all, missing), missing],
     );
     let k = list::put_share(out, n, missing, all);
-    text::fill(
+    let end = text::fill(
         out,
         k,
         b", of these before the first delivered @, after the last @
@@ -233,5 +252,6 @@ barzhilup log: packets delivered out of turn @, delivered again @, never sent @\
             at(row, AGAIN),
             at(row, NEVER),
         ],
-    )
+    );
+    put_alike(out, end, row)
 }

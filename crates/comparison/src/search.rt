@@ -77,44 +77,6 @@ fn keep(row: &mut [u64], index: u64, byte: u64, checksum: u64) {
     }
 }
 
-// Keeps what a search needs of the packet with an index, whose record or frame begins at a byte. Answers where it stands.
-fn learn(sent: Sent, row: &mut [u64], index: u64, byte: u64) -> Span {
-    let mut bytes = [0u8; 4608];
-    let n = read(sent.fd, &mut bytes, byte);
-    let s = sent_packets::span_of(&bytes[..n], sent.adts);
-    let packet = sent_packets::packet_of(&bytes[..n], s.from, s.to);
-    keep(row, index, byte, sent_packets::checksum(packet) as u64);
-    s
-}
-
-// Goes once through the file. Answers whether all packets are there.
-fn learn_all(sent: Sent, row: &mut [u64]) -> bool {
-    let all = crate::at(row, crate::SENT);
-    let mut index: u64 = 0;
-    let mut byte: u64 = 0;
-    while index < all {
-        let s = learn(sent, row, index, byte);
-        if s.to == 0 {
-            return false;
-        }
-        byte = after(byte, s);
-        index += 1;
-    }
-    true
-}
-
-// Whether what a search needs is kept; the first time, goes through the file for it.
-pub fn is_ready(sent: Sent, row: &mut [u64]) -> bool {
-    if crate::at(row, crate::READY) != 0 {
-        return true;
-    }
-    if !learn_all(sent, row) {
-        return false;
-    }
-    crate::set(row, crate::READY, 1);
-    crate::at(row, crate::READY) != 0
-}
-
 // A packet, by its index and the byte of the file at which it begins.
 struct Place {
     index: u64,
@@ -169,6 +131,66 @@ fn tried(sent: Sent, row: &[u64], index: u64, how: u8, number: u64, packet: &[u8
     }
 }
 
+// The checksum that is kept of the packet with an index.
+fn checksum_at(row: &[u64], index: u64) -> u64 {
+    (crate::at(row, word_of(index)) >> (index % 8 * 8)) % 256
+}
+
+// Counts a packet that is the same as the one 64 before, which has the same number.
+fn count_alike(sent: Sent, row: &mut [u64], index: u64, packet: &[u8], checksum: u64) {
+    if index < 64 {
+        return;
+    }
+    if checksum_at(row, index - 64) != checksum {
+        return;
+    }
+    let number = sent_packets::number_at(index);
+    let f = tried(sent, row, index - 64, OLD, number, packet);
+    if f.how == OLD {
+        crate::add(row, crate::ALIKE);
+    }
+}
+
+// Keeps what a search needs of the packet with an index, whose record or frame begins at a byte. Answers where it stands.
+fn learn(sent: Sent, row: &mut [u64], index: u64, byte: u64) -> Span {
+    let mut bytes = [0u8; 4608];
+    let n = read(sent.fd, &mut bytes, byte);
+    let s = sent_packets::span_of(&bytes[..n], sent.adts);
+    let packet = sent_packets::packet_of(&bytes[..n], s.from, s.to);
+    let checksum = sent_packets::checksum(packet) as u64;
+    keep(row, index, byte, checksum);
+    count_alike(sent, row, index, packet, checksum);
+    s
+}
+
+// Goes once through the file. Answers whether all packets are there.
+fn learn_all(sent: Sent, row: &mut [u64]) -> bool {
+    let all = crate::at(row, crate::SENT);
+    let mut index: u64 = 0;
+    let mut byte: u64 = 0;
+    while index < all {
+        let s = learn(sent, row, index, byte);
+        if s.to == 0 {
+            return false;
+        }
+        byte = after(byte, s);
+        index += 1;
+    }
+    true
+}
+
+// Whether what a search needs is kept; the first time, goes through the file for it.
+pub fn is_ready(sent: Sent, row: &mut [u64]) -> bool {
+    if crate::at(row, crate::READY) != 0 {
+        return true;
+    }
+    if !learn_all(sent, row) {
+        return false;
+    }
+    crate::set(row, crate::READY, 1);
+    crate::at(row, crate::READY) != 0
+}
+
 // Whether the packet with an index has a checksum, and is delivered or not as is asked.
 fn may_be(row: &[u64], index: u64, how: u8, checksum: u64) -> bool {
     if crate::at(row, crate::SENT) <= index {
@@ -177,7 +199,7 @@ fn may_be(row: &[u64], index: u64, how: u8, checksum: u64) -> bool {
     if sent_packets::bitmap::at(crate::bitmap(row), index) != how as u64 {
         return false;
     }
-    (crate::at(row, word_of(index)) >> (index % 8 * 8)) % 256 == checksum
+    checksum_at(row, index) == checksum
 }
 
 // How many times the numbers begin in the file.
