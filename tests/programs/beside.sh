@@ -148,9 +148,14 @@ check_beside_output() {
 }
 
 # The lines of a comparison.
-compared_lines() { # SENT DELIVERED MISSING SHARE BEFORE AFTER AGAIN NEVER
+compared_lines() { # SENT DELIVERED MISSING SHARE BEFORE AFTER LATE AGAIN NEVER
     echo "barzhilup log: packets sent $1: delivered $2, missing $3 ($4 % of those sent), of these before the first delivered $5, after the last $6
-barzhilup log: packets that came again or out of turn $7, that were never sent $8"
+barzhilup log: packets delivered out of turn $7, delivered again $8, never sent $9"
+}
+
+# The lines of packets that were sent, in the order of the file.
+list_in_order() {
+    grep ',delivered,\|,missing,' beside.list | sort -t , -n -k 1,1
 }
 
 # Logs a file against the packets of another, with a list; the log is that without the comparison.
@@ -166,7 +171,7 @@ compared() { # SENT FILE OPTION...
 # A check of the list: the packets sent stand in it each once, by index, number and length, delivered or missing; the delivered ones are those of the log.
 right_list() { # WHAT SENT
     same "$1, the list's first line" index,number,length,state,pdu "$(head -n 1 beside.list)"
-    same "$1, the packets sent" "$(lengths_of "$2" | awk '{ print NR - 1 "," (NR - 1) % 64 "," $1 }')" "$(grep ',delivered,\|,missing,' beside.list | cut -d , -f 1-3)"
+    same "$1, the packets sent" "$(lengths_of "$2" | awk '{ print NR - 1 "," (NR - 1) % 64 "," $1 }')" "$(list_in_order | cut -d , -f 1-3)"
     same "$1, those that came" "$(awk -F , '$2 == "packet" { print $6 "," $7 "," $1 }' beside.log)" "$(grep ',delivered,\|,again,\|,never sent,' beside.list | cut -d , -f 2,3,5)"
     same "$1, the list's last line" ",end,$(lengths_of "$2" | wc -l),,whole" "$(tail -n 1 beside.list)"
 }
@@ -186,12 +191,12 @@ check_sent_drives() {
             same "compared, seed $seed $options, exit status" 0 "$status"
             right_list "compared, seed $seed $options" all
             delivered=$(grep -c ,delivered, beside.list)
-            has_line "compared, seed $seed $options, the counts" "$(compared_lines 600 "$delivered" $((600 - delivered)) "$(awk -v n=$((600 - delivered)) 'BEGIN { t = int((n * 1000 + 300) / 600); print int(t / 10) "." t % 10 }')" "$(awk -F , 'NR > 1 && $4 == "delivered" { print $1; exit }' beside.list)" "$(awk -F , '$4 == "delivered" { n = 0 } $4 == "missing" { n++ } END { print n + 0 }' beside.list)" 0 0 | sed -n 1p)" err
-            has_line "compared, seed $seed $options, none was never sent" "$(compared_lines 0 0 0 0 0 0 0 0 | tail -n 1)" err
+            has_line "compared, seed $seed $options, the counts" "$(compared_lines 600 "$delivered" $((600 - delivered)) "$(awk -v n=$((600 - delivered)) 'BEGIN { t = int((n * 1000 + 300) / 600); print int(t / 10) "." t % 10 }')" "$(list_in_order | awk -F , '$4 == "delivered" && !n++ { print $1 }')" "$(list_in_order | awk -F , '$4 == "delivered" { n = 0 } $4 == "missing" { n++ } END { print n + 0 }')" 0 0 0 | sed -n 1p)" err
+            has_line "compared, seed $seed $options, none was never sent" "$(compared_lines 0 0 0 0 0 0 0 0 0 | tail -n 1)" err
         done
     done
     compared all all.sent
-    has_line "compared, all come" "$(compared_lines 600 600 0 0.0 0 0 0 0 | sed -n 1p)" err
+    has_line "compared, all come" "$(compared_lines 600 600 0 0.0 0 0 0 0 0 | sed -n 1p)" err
     ended "compared, all come" 0 log
 }
 
@@ -217,14 +222,87 @@ check_sent_again() {
     ended "PDUs again and out of turn" 0 log
     right_list "PDUs again and out of turn" all
     same "PDUs again and out of turn, which" "2 4" "$(grep ,again, beside.list | cut -d , -f 5 | uniq | tr '\n' ' ' | sed 's/ $//')"
-    same "PDUs again: as many as the counts say" "barzhilup log: packets that came again or out of turn $(grep -c ,again, beside.list), that were never sent 0" "$(tail -n 1 err)"
+    same "PDUs again: as many as the counts say" "$(compared_lines 0 0 0 0 0 0 0 "$(grep -c ,again, beside.list)" 0 | tail -n 1)" "$(tail -n 1 err)"
     cat all.sent all.sent >road
     compared all road
     ended "a drive twice" 0 log
-    has_line "a drive twice" "$(compared_lines 0 0 0 0 0 0 600 0 | tail -n 1)" err
+    has_line "a drive twice" "$(compared_lines 0 0 0 0 0 0 0 600 0 | tail -n 1)" err
 }
 
-# Gaps of more packets than there are numbers, and of more than are near.
+# What a comparison has to say of packets that `told` made, by the indices that the delivered ones have in their bytes: the lines of those that came, of those that
+# are missing, and the two lines of counts.
+truth_told() { # COUNT
+    tr '\0' ' ' <beside.packets | fold -b -w 52 | cut -b 3-27 | awk -v n="$1" '
+        { i = $1 + 0 }
+        i in seen { again++; print i "," i % 64 ",50,again"; next }
+        { seen[i] = 1; came++; print i "," i % 64 ",50,delivered"; if (i < top) late++; else top = i + 1; if (came == 1 || i < first) first = i }
+        END {
+            for (i = 0; i < n; i++) if (!(i in seen)) print i "," i % 64 ",50,missing"
+            t = int(((n - came) * 1000 + int(n / 2)) / n)
+            print "barzhilup log: packets sent " n ": delivered " came + 0 ", missing " n - came " (" int(t / 10) "." t % 10 " % of those sent), of these before the first delivered " first + 0 ", after the last " n - top
+            print "barzhilup log: packets delivered out of turn " late + 0 ", delivered again " again + 0 ", never sent 0"
+        }'
+}
+
+# Compares a road with packets that `told` made, and holds list and counts to the truth.
+right_told() { # WHAT COUNT FILE OPTION...
+    rm -f beside.packets
+    compared "${@:3}" --packets beside.packets
+    ended "$1" 0 log
+    truth_told "$2" >truth
+    same "$1, the list" "$(grep -v '^barz' truth)" "$(sed '1d;$d' beside.list | cut -d , -f 1-4)"
+    same "$1, the counts" "$(grep '^barz' truth)" "$(tail -n 2 err)"
+    right_list "$1" "$3"
+}
+
+# PDUs lost in long bursts, twice in a row, twice later and out of turn, in every mixture: what is missing is just what never came.
+check_sent_disorder() {
+    local seed late=0 again=0
+    for seed in 1 2 3 4 5 6; do
+        run channel --in all.sent --seed "$seed" --loss $((seed % 3 * 60)) --burst 30 --damage 0 --twice $((seed % 2 * 300 + 50)) --swap 200 --cut $((seed % 4 * 10))
+        cp out road
+        right_told "disorder, seed $seed" 600 all road
+        right_told "disorder by frames, seed $seed" 600 all road --batch 8
+        right_told "disorder by pairs, seed $seed" 600 all road --second road
+        late=$((late + $(sed -n 's/.* out of turn \([0-9]*\),.*/\1/p' truth)))
+        again=$((again + $(sed -n 's/.* again \([0-9]*\),.*/\1/p' truth)))
+    done
+    same "disorder reaches packets out of turn and again" "yes yes" "$([ "$late" -gt 100 ] && echo yes) $([ "$again" -gt 100 ] && echo yes)"
+    { all_pdus 40 41 42; records 1 0; all_pdus 3 4 5 6; records 1 0; all_pdus 41 42 43 4 5 7 0 1 2; } >road
+    right_told "parts of a drive in another order" 600 all road
+    cp beside.list wanted
+    beside_files
+    run log --in all.sent --adts all.adts
+    run log --in road --out beside.log --sent all.adts --sent-adts --compared beside.list
+    ended "parts of a drive in another order, ADTS" 0 log
+    same_file "parts of a drive in another order, ADTS" wanted beside.list
+}
+
+# Packets that are alike: of those with the same number and bytes as many are delivered as came, up to all that were sent.
+check_sent_alike() {
+    local i count
+    for ((i = 0; i < 700; i += 1)); do
+        printf '\62\0%50s' silence
+    done >quiet
+    run generate --in quiet --length 512
+    cp out quiet.sent
+    { head -c $((514 * 6)) quiet.sent; tail -c +$((514 * 5 + 1)) quiet.sent; } >road
+    compared quiet road
+    ended "a PDU twice in silence" 0 log
+    right_list "a PDU twice in silence" quiet
+    count=$(($(grep -c '^[0-9]*,packet,' beside.log) - 700))
+    has_line "a PDU twice in silence" "$(compared_lines 700 700 0 0.0 0 0 0 0 0 | sed -n 1p)" err
+    same "a PDU twice in silence, again" "$count" "$(sed -n 's/.* delivered again \([0-9]*\),.*/\1/p' err)"
+    same "a PDU twice in silence, what is said last" "barzhilup log: packets sent that cannot be told apart from the one 64 before 636" "$(tail -n 1 err)"
+    { head -c $((514 * 5)) quiet.sent; records 1 0; tail -c +$((514 * 20 + 1)) quiet.sent; } >road
+    compared quiet road
+    ended "a gap in silence" 0 log
+    right_list "a gap in silence" quiet
+    same "a gap in silence, missing" $((700 - $(grep -c '^[0-9]*,packet,' beside.log))) "$(grep -c ,missing, beside.list)"
+    rm -f quiet quiet.sent
+}
+
+# Gaps of many packets, up to nearly all.
 check_sent_far() {
     local gap
     told 0 3000 >long
@@ -232,9 +310,7 @@ check_sent_far() {
     cp out long.sent
     for gap in 10 70 140; do
         { head -c $((1026 * 5)) long.sent; records 1 0; tail -c +$((1026 * (5 + gap) + 1)) long.sent; } >road
-        compared long road
-        ended "a gap of $gap PDUs" 0 log
-        right_list "a gap of $gap PDUs" long
+        right_told "a gap of $gap PDUs" 3000 long road
     done
     rm -f long long.sent
 }
@@ -247,8 +323,8 @@ check_sent_never() {
     same "packets of another drive, exit status" 1 "$status"
     right_list "packets of another drive" other.all
     same "packets of another drive, lines" "5 1" "$(grep -c 'was never sent$' err) $(grep -cx 'barzhilup log: further packets that were never sent are counted only' err)"
-    has_line "packets of another drive, counts" "$(compared_lines 600 0 600 100.0 0 600 0 0 | sed -n 1p)" err
-    has_line "packets of another drive, never sent" "$(compared_lines 0 0 0 0 0 0 0 600 | tail -n 1)" err
+    has_line "packets of another drive, counts" "$(compared_lines 600 0 600 100.0 0 600 0 0 0 | sed -n 1p)" err
+    has_line "packets of another drive, never sent" "$(compared_lines 0 0 0 0 0 0 0 0 600 | tail -n 1)" err
     same "packets of another drive, the last line" "barzhilup log: all PDUs are logged, but packets came that were never sent: is the file of --sent that of this drive?" "$(tail -n 1 err)"
     run generate --in other.all --length 512
     { all_pdus 0 1; head -c $((514 * 3)) out | tail -c 514; tail -c +$((514 * 3 + 1)) all.sent; } >road
@@ -262,13 +338,28 @@ check_sent_never() {
     printf 'x' | dd of=spoiled bs=1 seek=$((52 * 100 + 30)) conv=notrunc 2>dd.err
     compared spoiled all.sent
     same "a byte altered, exit status" 1 "$status"
-    has_line "a byte altered" "$(compared_lines 600 599 1 0.2 0 0 0 1 | sed -n 1p)" err
+    has_line "a byte altered" "$(compared_lines 600 599 1 0.2 0 0 0 0 1 | sed -n 1p)" err
     same "a byte altered, the packet" "100,36,50,missing," "$(grep ,missing, beside.list)"
     same "a byte altered, what came" ",36,50,never sent" "$(grep ',never sent,' beside.list | cut -d , -f 1-4)"
     tail -c +53 all >spoiled
     compared spoiled all.sent
     same "numbers that are shifted by one, exit status" 1 "$status"
-    has_line "numbers that are shifted by one" "$(compared_lines 0 0 0 0 0 0 0 600 | tail -n 1)" err
+    has_line "numbers that are shifted by one" "$(compared_lines 0 0 0 0 0 0 0 0 600 | tail -n 1)" err
+}
+
+# A packet of one byte, 1,048,577 times.
+many_packets() {
+    local i
+    printf '\1\0x' >half
+    for ((i = 0; i < 10; i += 1)); do
+        cat half half >whole
+        mv whole half
+    done
+    for ((i = 0; i < 1024; i += 1)); do
+        cat half
+    done
+    printf '\1\0x'
+    rm half
 }
 
 # The file of the packets that were sent: in ADTS frames, empty, cut, with a packet that none is, and one that cannot be gone back in.
@@ -295,6 +386,8 @@ check_sent_files() {
     stops "barzhilup log: cut.sent: refused with 15: packet 1 has over 4,096 bytes" log --in sent --sent cut.sent --out beside.log
     stops "barzhilup log: packets: no ADTS frame at packet 0" log --in sent --sent packets --sent-adts --out beside.log
     stops "barzhilup log: none: No such file or directory" log --in sent --sent none --out beside.log
+    many_packets >cut.sent
+    stops "barzhilup log: cut.sent: has over 1,048,576 packets, more than can be compared with" log --in sent --sent cut.sent --out beside.log
     rm cut.sent
     same "sent that cannot be compared with: nothing is made" "$before" "$(ls)"
     status=0

@@ -161,6 +161,8 @@ check_beside_made
 check_beside_output
 check_sent_drives
 check_sent_again
+check_sent_disorder
+check_sent_alike
 check_sent_far
 check_sent_never
 check_sent_files

@@ -94,7 +94,7 @@ fn not_compared() -> Compared {
     }
 }
 
-// Counts the packets of an open file, which begins with one; where it cannot be gone back in, or has something else than packets, says so.
+// Counts the packets of an open file, which begins with one; where it cannot be gone back in, has something else than packets, or too many, says so.
 fn with_sent(known: &[u8], fd: i32, label: &[u8]) -> Compared {
     if !files::go_back(fd, 0) {
         files::say(
@@ -110,6 +110,13 @@ fn with_sent(known: &[u8], fd: i32, label: &[u8]) -> Compared {
     };
     let c = count(source, &mut buf);
     packets::say_end(label, c.status, c.many);
+    if comparison::MOST < c.many {
+        files::say(
+            label,
+            b": has over 1,048,576 packets, more than can be compared with\n",
+        );
+        return not_compared();
+    }
     Compared {
         ok: c.status == records::END,
         fd: fd,

@@ -1,5 +1,5 @@
 // The packets that a log delivers, held against the file of those that were sent: which were delivered, which are missing, and which were never sent; on
-// `sent_packets` and `packet_files`.
+// `sent_packets` and `packet_files`. A row of counts has room at its end for what a comparison keeps.
 pub mod list;
 mod search;
 
@@ -22,48 +22,61 @@ pub const UNREAD: u8 = 1;
 
 pub const UNLISTED: u8 = 2;
 
-// How many numbers a comparison keeps: they are the last ones of a row of counts.
-const NUMBERS: usize = 16;
+// The most packets that can be compared with.
+pub const MOST: u64 = 1048576;
 
-// How many packets were sent.
-const SENT: usize = 0;
+// The words that a comparison keeps, the last ones of a row: a bitmap of the packets that were delivered; of each 64th packet the byte of the file at which it
+// begins; a checksum of each packet, eight to a word; and numbers.
+const WORDS: usize = 163856;
 
-// Places among the sent packets, each an index and a byte of the file: the one after the last packet that was delivered in turn, the one after the last that came
-// again, one at least `search::NEAR` packets before the first of these, and one after that.
-const NEXT: usize = 1;
+const BITMAP: usize = 16384;
 
-const AGAIN: usize = 3;
+const BYTES: usize = 16384;
 
-const BEFORE: usize = 5;
+const CHECKSUMS: usize = 32768;
 
-const MARK: usize = 7;
+// How many packets were sent, and 1 where bytes and checksums are kept.
+const SENT: usize = 163840;
 
-// Packets delivered in turn, and the index of the first of them; those that came again or out of turn; those that were never sent.
-const DELIVERED: usize = 9;
+const READY: usize = 163841;
 
-const FIRST: usize = 10;
+// The place after the last packet that was found: its index, and its byte of the file.
+const NEXT: usize = 163842;
 
-const REPEATED: usize = 11;
+const NEXT_BYTE: usize = 163843;
 
-const NEVER: usize = 12;
+// The indices of the first packet that was delivered, and after the last one; how many of those that were came out of turn; packets that came again, and those
+// that were never sent.
+const FIRST: usize = 163844;
 
-// The place of a number in a row.
-fn place(row: &[u64], number: usize) -> usize {
-    std::num::wrapping_add_usize(std::num::wrapping_sub_usize(row.len(), NUMBERS), number)
+const END: usize = 163845;
+
+const LATE: usize = 163846;
+
+const AGAIN: usize = 163847;
+
+const NEVER: usize = 163848;
+
+// How many packets have the number and the bytes of the one 64 before.
+const ALIKE: usize = 163849;
+
+// The place in a row of a word that a comparison keeps.
+fn place(row: &[u64], word: usize) -> usize {
+    std::num::wrapping_add_usize(std::num::wrapping_sub_usize(row.len(), WORDS), word)
 }
 
-// A number of a row, 0 where it is too short.
-fn at(row: &[u64], number: usize) -> u64 {
-    let k = place(row, number);
+// A word that a comparison keeps, 0 where the row is too short.
+fn at(row: &[u64], word: usize) -> u64 {
+    let k = place(row, word);
     if row.len() <= k {
         return 0;
     }
     row[k]
 }
 
-// Keeps a number in a row, if there is room.
-fn set(row: &mut [u64], number: usize, value: u64) {
-    let k = place(row, number);
+// Keeps a word, if there is room.
+fn set(row: &mut [u64], word: usize, value: u64) {
+    let k = place(row, word);
     if row.len() <= k {
         return;
     }
@@ -71,24 +84,18 @@ fn set(row: &mut [u64], number: usize, value: u64) {
 }
 
 // Counts one more.
-fn add(row: &mut [u64], number: usize) {
-    let n = at(row, number);
-    set(row, number, std::num::wrapping_add_u64(n, 1));
+fn add(row: &mut [u64], word: usize) {
+    let n = at(row, word);
+    set(row, word, std::num::wrapping_add_u64(n, 1));
 }
 
-// The index and the byte of a place.
-fn index_of(row: &[u64], number: usize) -> u64 {
-    at(row, number)
-}
-
-fn byte_of(row: &[u64], number: usize) -> u64 {
-    at(row, std::num::wrapping_add_usize(number, 1))
-}
-
-// Keeps a place.
-fn keep(row: &mut [u64], number: usize, index: u64, byte: u64) {
-    set(row, number, index);
-    set(row, std::num::wrapping_add_usize(number, 1), byte);
+// The bitmap of the packets that were delivered.
+fn bitmap(row: &[u64]) -> &[u64] {
+    if row.len() < WORDS {
+        return &row[0..0];
+    }
+    let start = row.len() - WORDS;
+    &row[start..start + BITMAP]
 }
 
 // Begins a comparison with so many packets that were sent.
@@ -101,49 +108,51 @@ pub fn never_sent(row: &[u64]) -> u64 {
     at(row, NEVER)
 }
 
-// Moves the places behind the next one up, each time that so many packets more are delivered.
-fn move_up(row: &mut [u64], index: u64, byte: u64) {
-    let mark = index_of(row, MARK);
-    if index < std::num::wrapping_add_u64(mark, search::NEAR) {
+// Sets the bit of a packet that is delivered.
+fn deliver(row: &mut [u64], index: u64) {
+    if row.len() < WORDS {
         return;
     }
-    let from = byte_of(row, MARK);
-    keep(row, BEFORE, mark, from);
-    keep(row, MARK, index, byte);
+    let start = row.len() - WORDS;
+    sent_packets::bitmap::set(&mut row[start..start + BITMAP], index)
 }
 
-// Counts a packet that is delivered in turn, by its index.
-fn count_delivered(row: &mut [u64], index: u64) {
-    if at(row, DELIVERED) != 0 {
-        add(row, DELIVERED);
+// Keeps the index of the first of the packets that were delivered; none was where their end is 0.
+fn keep_first(row: &mut [u64], index: u64) {
+    if (at(row, END) != 0) & (at(row, FIRST) <= index) {
         return;
     }
-    set(row, DELIVERED, 1);
     set(row, FIRST, index);
 }
 
-// Goes on after a packet that is delivered in turn.
-fn advance(row: &mut [u64], f: Found) {
-    let index = std::num::wrapping_add_u64(f.index, 1);
-    count_delivered(row, f.index);
-    keep(row, NEXT, index, f.next);
-    move_up(row, index, f.next);
+// Keeps the end of the packets that were delivered; one before it comes out of turn.
+fn keep_end(row: &mut [u64], index: u64) {
+    if index < at(row, END) {
+        add(row, LATE);
+        return;
+    }
+    set(row, END, std::num::wrapping_add_u64(index, 1));
 }
 
-// Takes a packet that is delivered in turn: those that are passed over are missing.
-fn in_turn(sent: Sent, row: &mut [u64], f: Found, pdu: u64) -> u8 {
-    let status = list::missing(sent, index_of(row, NEXT), byte_of(row, NEXT), f.index);
-    advance(row, f);
-    if status != COMPARED {
-        return status;
-    }
+// Goes on after a packet that is found.
+fn go_on(row: &mut [u64], f: Found) {
+    set(row, NEXT, std::num::wrapping_add_u64(f.index, 1));
+    set(row, NEXT_BYTE, f.next);
+}
+
+// Takes a packet that is delivered.
+fn delivered(sent: Sent, row: &mut [u64], f: Found, pdu: u64) -> u8 {
+    deliver(row, f.index);
+    keep_first(row, f.index);
+    keep_end(row, f.index);
+    go_on(row, f);
     list::came(sent, list::DELIVERED, f.index, f.length, pdu)
 }
 
-// Counts a packet that came again, or out of turn.
+// Counts a packet that came again.
 fn again(sent: Sent, row: &mut [u64], f: Found, pdu: u64) -> u8 {
-    add(row, REPEATED);
-    keep(row, AGAIN, std::num::wrapping_add_u64(f.index, 1), f.next);
+    add(row, AGAIN);
+    go_on(row, f);
     list::came(sent, list::AGAIN, f.index, f.length, pdu)
 }
 
@@ -159,8 +168,8 @@ fn packet_came(sent: Sent, row: &mut [u64], pdu: u64, number: u64, packet: &[u8]
     let f = search::looked_for(sent, row, number, packet);
     let how = f.how;
     match how {
-        search::AHEAD => in_turn(sent, row, f, pdu),
-        search::BEHIND => again(sent, row, f, pdu),
+        search::NEW => delivered(sent, row, f, pdu),
+        search::OLD => again(sent, row, f, pdu),
         search::NOWHERE => never(sent, row, number, packet.len(), pdu),
         _ => UNREAD,
     }
@@ -179,6 +188,9 @@ fn word_came(sent: Sent, row: &mut [u64], pdu: u64, log: &[u32], i: usize, word:
 
 // Compares the packets of a PDU's log, the PDU counted from 0.
 pub fn compare(sent: Sent, row: &mut [u64], pdu: u64, log: &[u32]) -> u8 {
+    if !search::is_ready(sent, row) {
+        return UNREAD;
+    }
     let mut i: usize = 0;
     while i < log.len() {
         let status = word_came(sent, row, pdu, log, i, log[i]);
@@ -190,14 +202,29 @@ pub fn compare(sent: Sent, row: &mut [u64], pdu: u64, log: &[u32]) -> u8 {
     COMPARED
 }
 
-// Writes the lines of the packets after the last that was delivered, and the last line, where all PDUs are logged.
+// Writes the lines of the packets that are missing, and the last line, where all PDUs are logged.
 pub fn end(sent: Sent, row: &[u64]) -> u8 {
-    let all = at(row, SENT);
-    let status = list::missing(sent, index_of(row, NEXT), byte_of(row, NEXT), all);
+    let status = list::missing(sent, row);
     if status != COMPARED {
         return status;
     }
-    list::end(sent, all)
+    list::end(sent, at(row, SENT))
+}
+
+// The line for packets that are alike, if there are any.
+fn put_alike(out: &mut [u8], place: usize, row: &[u64]) -> usize
+    ensures { λ r. ⌜ Counts r (now (out .exit)) ⌝ }
+{
+    let alike = at(row, ALIKE);
+    if alike == 0 {
+        return text::put(out, place, b"");
+    }
+    text::fill(
+        out,
+        place,
+        b"barzhilup log: packets sent that cannot be told apart from the one 64 before @\n",
+        &[alike],
+    )
 }
 
 // The counts, as lines.
@@ -205,24 +232,26 @@ pub fn put_summary(out: &mut [u8], row: &[u64]) -> usize
     ensures { λ r. ⌜ Counts r (now (out .exit)) ⌝ }
 {
     let all = at(row, SENT);
-    let missing = std::num::wrapping_sub_u64(all, at(row, DELIVERED));
+    let missing = sent_packets::bitmap::zeros(bitmap(row), all);
     let n = text::fill(
         out,
         0,
         b"barzhilup log: packets sent @: delivered @, missing @",
-        &[all, at(row, DELIVERED), missing],
+        &[all, std::num::wrapping_sub_u64(all, missing), missing],
     );
     let k = list::put_share(out, n, missing, all);
-    text::fill(
+    let end = text::fill(
         out,
         k,
         b", of these before the first delivered @, after the last @
-barzhilup log: packets that came again or out of turn @, that were never sent @\n",
+barzhilup log: packets delivered out of turn @, delivered again @, never sent @\n",
         &[
             at(row, FIRST),
-            std::num::wrapping_sub_u64(all, index_of(row, NEXT)),
-            at(row, REPEATED),
+            std::num::wrapping_sub_u64(all, at(row, END)),
+            at(row, LATE),
+            at(row, AGAIN),
             at(row, NEVER),
         ],
-    )
+    );
+    put_alike(out, end, row)
 }

@@ -3,7 +3,7 @@ use crate::Sent;
 use crate::search;
 ghost use Rattle.io.specs.Counts.{Counts};
 
-// What came of a packet: it is delivered, missing, or came again or out of turn.
+// What came of a packet: it is delivered, missing, or came again.
 pub const DELIVERED: u32 = 0;
 
 pub const MISSING: u32 = 1;
@@ -61,23 +61,32 @@ pub fn end(sent: Sent, packets: u64) -> u8 {
     write(sent, END, &[packets])
 }
 
-// The lines of the packets from an index and its byte on, up to before another index: they are missing.
-pub fn missing(sent: Sent, from: u64, start: u64, until: u64) -> u8 {
+// The line of the packet with an index and a length, if it is missing.
+fn missed(sent: Sent, row: &[u64], index: u64, length: usize) -> u8 {
+    if sent_packets::bitmap::at(crate::bitmap(row), index) != 0 {
+        return crate::COMPARED;
+    }
+    came(sent, MISSING, index, length, 0)
+}
+
+// The lines of the packets that are missing.
+pub fn missing(sent: Sent, row: &[u64]) -> u8 {
     if sent.list < 0 {
         return crate::COMPARED;
     }
-    let mut index = from;
-    let mut byte = start;
-    while index < until {
+    let all = crate::at(row, crate::SENT);
+    let mut index: u64 = 0;
+    let mut byte: u64 = 0;
+    while index < all {
         let s = search::span_at(sent, byte);
         if s.to == 0 {
             return crate::UNREAD;
         }
-        let status = came(sent, MISSING, index, search::length_of(s), 0);
+        let status = missed(sent, row, index, search::length_of(s));
         if status != crate::COMPARED {
             return status;
         }
-        byte = std::num::wrapping_add_u64(byte, s.to as u64);
+        byte = search::after(byte, s);
         index += 1;
     }
     crate::COMPARED

@@ -1,5 +1,5 @@
-// The gaps of a drive: packets that may be missing beyond what numbers tell, the longest run of PDUs that did not come, and PDUs that look as if they came twice
-// or out of turn, whose packets count once; on `csv` and `drive`.
+// The gaps of a drive: packets that may be missing beyond what numbers tell, the longest run of PDUs that did not come, and PDUs that look as if they came
+// twice or out of turn, whose packets count once; on `csv` and `drive`.
 //
 // Packet numbers repeat after 64. So where packets are missing between two that were delivered, the numbers tell how many, but for a multiple of 64: the
 // record's missing (document 02, Ask 14) has the least of the counts that fit. How many PDUs lie between the two, and how many packets end in a PDU, tells

@@ -1,9 +1,11 @@
-// The packets of a file that was sent, each by its index, counted from 0: where it stands, which number it has, and whether it is one that was delivered; on
-// `frames` and the toolchain's `check`.
+// The packets of a file that was sent, by their indices: where each stands, which number it has, whether it is one that was delivered, and a bitmap of those that
+// were; on `frames`, `bits` and the toolchain's `check`.
+pub mod bitmap;
+
 ghost use mathlib.Core.Path.{_≡_};
 ghost use mathlib.Core.Bool.{true};
 ghost use Prim.Native.Nat.{_<_};
-ghost use Rattle.sent_packets.specs.Sent.{numberAt};
+ghost use Rattle.sent_packets.specs.Sent.{numberAt, checksumFrom};
 
 // Where a packet stands, counted from the first byte of its record or frame: from a byte to before another, at which the next record begins. Both are 0 where
 // no packet begins.
@@ -74,6 +76,19 @@ pub fn number_at(index: u64) -> u64
     ensures { λ r. ⌜ r ≡ numberAt index ⌝ }
 {
     index % 64
+}
+
+// A checksum of a packet, below 251: packets whose checksums differ are not the same.
+pub fn checksum(packet: &[u8]) -> usize
+    ensures { λ r. ⌜ (r ≡ checksumFrom 0 (now (packet .entry))) × (r < 251) ⌝ }
+{
+    let mut sum: usize = 0;
+    let mut i: usize = 0;
+    while i < packet.len() {
+        sum = (sum * 31 + wide(packet[i])) % 251;
+        i += 1;
+    }
+    sum
 }
 
 // Whether a packet that was sent with an index is one that was delivered with a number: the numbers are the same, and the bytes.

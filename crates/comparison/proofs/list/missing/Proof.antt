@@ -4,13 +4,16 @@ use Rattle.comparison.proofs.list.missing.Statement.{statement}
 use Rattle.comparison.proofs.list.missing.Tie as tie
 
 abbrev Inv-loop : tie.InvT-loop
-Inv-loop sent from start until index₀ byte₀ index byte = Unit {0}
+Inv-loop sent row all index₀ byte₀ index byte = Unit {0}
 
 abbrev μ-loop : tie.MeasureT-loop
-μ-loop sent from start until index₀ byte₀ index byte = until - index
+μ-loop sent row all index₀ byte₀ index byte = all - index
 
 returns : tie.Need-returns Inv-loop μ-loop
 returns c = search needs
+
+at-requires : tie.Need-at-requires Inv-loop μ-loop
+at-requires c κs = search needs
 
 loop-holds : tie.Need-loop-holds Inv-loop μ-loop
 loop-holds c = search needs
@@ -24,14 +27,14 @@ returns-2 c = search needs
 length-of-requires : tie.Need-length-of-requires Inv-loop μ-loop
 length-of-requires c κs = search needs
 
-came-requires : tie.Need-came-requires Inv-loop μ-loop
-came-requires c κs = search needs
+missed-requires : tie.Need-missed-requires Inv-loop μ-loop
+missed-requires c κs = search needs
 
 returns-3 : tie.Need-returns-3 Inv-loop μ-loop
 returns-3 c = search needs
 
-wrapping-add-u64-requires : tie.Need-wrapping-add-u64-requires Inv-loop μ-loop
-wrapping-add-u64-requires c κs = search needs
+after-requires : tie.Need-after-requires Inv-loop μ-loop
+after-requires c κs = search needs
 
 add-index : tie.Need-add-index Inv-loop μ-loop
 add-index c = search needs
@@ -52,13 +55,14 @@ missing-spec =
     Inv-loop
     μ-loop
     returns
+    at-requires
     loop-holds
     span-at-requires
     returns-2
     length-of-requires
-    came-requires
+    missed-requires
     returns-3
-    wrapping-add-u64-requires
+    after-requires
     add-index
     loop-less
     loop-again

@@ -1,0 +1,73 @@
+use borrow.Author.Needs.{needs}
+use native.Mathlib.Omega.{arith}
+use native.Mathlib.Numerals.{add-one}
+use mathlib.Core.Path.{_≡_, refl, ap, sym, _∙_}
+use mathlib.Core.List.{List}
+use Prim.Native.Nat.{ℕ, _+_, _-_, _*_, _%_, _≤_, _<_}
+use lib.ListN.{length, drop, getD, drop-of-length-le}
+use lib.Seq.{drop-cons}
+use Rattle.sent_packets.specs.Sent.{checksumFrom}
+use Rattle.sent_packets.proofs.checksum.Statement.{statement}
+use Rattle.sent_packets.proofs.checksum.Tie as tie
+
+step : (bytes : List ℕ) (sum i : ℕ) → i < length bytes → checksumFrom sum (drop i bytes) ≡ checksumFrom ((sum * 31 + getD bytes i 0) % 251) (drop (i + 1) bytes)
+unfolding checksumFrom
+step bytes sum i h = rw (add-one, drop-cons bytes i 0 h)
+
+abbrev Inv-loop : tie.InvT-loop
+Inv-loop packet sum₀ i₀ sum i = (i ≤ length packet) × (sum < 251) × (checksumFrom sum (drop i packet) ≡ checksumFrom 0 packet)
+
+abbrev μ-loop : tie.MeasureT-loop
+μ-loop packet sum₀ i₀ sum i = length packet - i
+
+loop-holds : tie.Need-loop-holds Inv-loop μ-loop
+loop-holds c = (omega arith, omega arith, refl)
+
+mul-sum : tie.Need-mul-sum Inv-loop μ-loop
+mul-sum c = search needs
+
+shared-slice-read-wide : tie.Need-shared-slice-read-wide Inv-loop μ-loop
+shared-slice-read-wide c = search needs
+
+wide-requires : tie.Need-wide-requires Inv-loop μ-loop
+wide-requires c κs = search needs
+
+add-sum : tie.Need-add-sum Inv-loop μ-loop
+add-sum c = search needs
+
+add-i : tie.Need-add-i Inv-loop μ-loop
+add-i c = search needs
+
+loop-less : tie.Need-loop-less Inv-loop μ-loop
+loop-less c = search needs
+
+loop-again : tie.Need-loop-again Inv-loop μ-loop
+loop-again c =
+    let l = c .before .before .before .loop in let bytes = c .before .before .before .before .before .args .packet .now in (
+      omega arith,
+      omega arith,
+      ap (λ (x : ℕ). checksumFrom ((l .sum * 31 + x) % 251) (drop (l .i + 1) bytes)) (c .wide .ensures .0) ∙ sym (step bytes (l .sum) (l .i) (omega arith))
+          ∙ l .inv .2,
+    )
+
+returns : tie.Need-returns Inv-loop μ-loop
+unfolding checksumFrom
+returns c =
+    let l = c .before .loop in let bytes = c .before .before .before .args .packet .now in
+    (ap (λ (x : List ℕ). checksumFrom (l .sum) x) (sym (drop-of-length-le bytes {i = l .i} (omega arith))) ∙ l .inv .2, l .inv .1)
+
+pub checksum-spec : {M : Type 1} → statement M
+checksum-spec =
+    tie.close
+    (tie.spec
+    Inv-loop
+    μ-loop
+    loop-holds
+    mul-sum
+    shared-slice-read-wide
+    wide-requires
+    add-sum
+    add-i
+    loop-less
+    loop-again
+    returns)
