@@ -22,21 +22,6 @@ abbrev μ-loop : tie.MeasureT-loop
 loop-holds : tie.Need-loop-holds Inv-loop μ-loop
 loop-holds c = (omega arith, refl)
 
-mul-with-word : tie.Need-mul-with-word Inv-loop μ-loop
-mul-with-word c = search needs
-
-shared-slice-read-with-word : tie.Need-shared-slice-read-with-word Inv-loop μ-loop
-shared-slice-read-with-word c = search needs
-
-with-word-requires : tie.Need-with-word-requires Inv-loop μ-loop
-with-word-requires c κs = search needs
-
-add-i : tie.Need-add-i Inv-loop μ-loop
-add-i c = search needs
-
-loop-less : tie.Need-loop-less Inv-loop μ-loop
-loop-less c = search needs
-
 loop-again : tie.Need-loop-again Inv-loop μ-loop
 loop-again c =
     let p = c .before .before .before in
@@ -59,10 +44,6 @@ crc-by-spec =
     Inv-loop
     μ-loop
     loop-holds
-    mul-with-word
-    shared-slice-read-with-word
-    with-word-requires
-    add-i
-    loop-less
+    (λ c. search needs) (λ c. search needs) (λ c κs. search needs) (λ c. search needs) (λ c. search needs)
     loop-again
     returns)

@@ -11,19 +11,10 @@ use Rattle.crc32.proofs.with_byte.Reads as reads
 use Rattle.crc32.proofs.with_byte.Lts as lts
 use Rattle.crc32.proofs.place.Reads as place-reads
 
-place-requires : tie.Need-place-requires
-place-requires c κs = search needs
-
-mul-result : tie.Need-mul-result
-mul-result c = search needs
-
-element-copy-out-result : tie.Need-element-copy-out-result
-element-copy-out-result c = search needs
-
 returns : tie.Need-returns
 returns c =
     let e = c .before .before in
     looked-up (e .args .tables .now) (e .pre) (e .args .register) (e .args .byte) (c .before .place .result) (c .before .place .ensures .0)
 
 pub with-byte-spec : {M : Type 1} → statement M
-with-byte-spec = tie.close (tie.spec place-requires mul-result element-copy-out-result returns)
+with-byte-spec = tie.close (tie.spec (λ c κs. search needs) (λ c. search needs) (λ c. search needs) returns)

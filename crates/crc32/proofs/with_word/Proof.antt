@@ -14,19 +14,10 @@ use Rattle.crc32.proofs.with_word.Lts as lts
 use Rattle.crc32.proofs.with_byte.Reads as with-byte-reads
 use Rattle.crc32.proofs.with_three.Reads as with-three-reads
 
-with-three-requires : tie.Need-with-three-requires
-with-three-requires c κs = search needs
-
 returns : tie.Need-returns
 returns c =
     let a = c .before .before .args in
     c .with-three .ensures ∙ sym (three-in (a .register) (a .word) (c .before .if1 .taken))
-
-with-byte-requires : tie.Need-with-byte-requires
-with-byte-requires c κs = search needs
-
-with-byte-requires-2 : tie.Need-with-byte-requires-2
-with-byte-requires-2 c κs = search needs
 
 returns-2 : tie.Need-returns-2
 returns-2 c =
@@ -45,9 +36,8 @@ pub with-word-spec : {M : Type 1} → statement M
 with-word-spec =
     tie.close
     (tie.spec
-    with-three-requires
+    (λ c κs. search needs)
     returns
-    with-byte-requires
-    with-byte-requires-2
+    (λ c κs. search needs) (λ c κs. search needs)
     returns-2
     returns-3)

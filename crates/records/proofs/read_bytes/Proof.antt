@@ -7,26 +7,11 @@ use lib.Seq.{length-take-le}
 use Rattle.records.proofs.read_bytes.Statement.{statement}
 use Rattle.records.proofs.read_bytes.Tie as tie
 
-returns : tie.Need-returns
-returns c = search needs
-
 slice-relend-prefix-fill : tie.Need-slice-relend-prefix-fill
 slice-relend-prefix-fill c = search needs
 
 slice-aggregate-fill : tie.Need-slice-aggregate-fill
 slice-aggregate-fill c = sym (length-take-le _ (c .before .before .before .args .buf .now) (omega arith))
-
-fill-requires : tie.Need-fill-requires
-fill-requires c κs = search needs
-
-same-length : tie.Need-same-length
-same-length c = search needs
-
-returns-2 : tie.Need-returns-2
-returns-2 c = search needs
-
-same-length-2 : tie.Need-same-length-2
-same-length-2 c = search needs
 
 returns-3 : tie.Need-returns-3
 returns-3 c = counts _ _ (simp length-append (omega arith))
@@ -35,11 +20,8 @@ pub read-bytes-spec : {M : Type 1} → statement M
 read-bytes-spec =
     tie.close
     (tie.spec
-    returns
+    (λ c. search needs)
     slice-relend-prefix-fill
     slice-aggregate-fill
-    fill-requires
-    same-length
-    returns-2
-    same-length-2
+    (λ c κs. search needs) (λ c. search needs) (λ c. search needs) (λ c. search needs)
     returns-3)

@@ -18,48 +18,18 @@ abbrev μ-loop : tie.MeasureT-loop
 μ-loop table last name k₀ k = k
 
 -- src/entry.rt:80:5
-loop-holds : tie.Need-loop-holds Inv-loop μ-loop
-loop-holds c = search needs
-
 -- src/entry.rt:81:24
-entry-requires : tie.Need-entry-requires Inv-loop μ-loop
-entry-requires c κs = search needs
-
 -- src/entry.rt:81:12
-same-requires : tie.Need-same-requires Inv-loop μ-loop
-same-requires c κs = search needs
-
 -- src/entry.rt:82:13
-returns : tie.Need-returns Inv-loop μ-loop
-returns c = search needs
-
 -- src/entry.rt:84:9
-sub-k : tie.Need-sub-k Inv-loop μ-loop
-sub-k c = search needs
-
 -- src/entry.rt:80:5
-loop-less : tie.Need-loop-less Inv-loop μ-loop
-loop-less c = search needs
-
 -- src/entry.rt:80:5
-loop-again : tie.Need-loop-again Inv-loop μ-loop
-loop-again c = search needs
-
 -- src/entry.rt:78:1
-returns-2 : tie.Need-returns-2 Inv-loop μ-loop
-returns-2 c = search needs
-
 pub number-in-spec : {M : Type 1} → statement M
 number-in-spec =
     tie.close
     (tie.spec
     Inv-loop
     μ-loop
-    loop-holds
-    entry-requires
-    same-requires
-    returns
-    sub-k
-    loop-less
-    loop-again
-    returns-2)
+    (λ c. search needs) (λ c κs. search needs) (λ c κs. search needs) (λ c. search needs) (λ c. search needs) (λ c. search needs) (λ c. search needs)
+    (λ c. search needs))

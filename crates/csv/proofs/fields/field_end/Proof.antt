@@ -17,48 +17,18 @@ abbrev μ-loop : tie.MeasureT-loop
 μ-loop line from separator quoted₀ i₀ quoted i = length line - i
 
 -- src/fields.rt:42:5
-loop-holds : tie.Need-loop-holds Inv-loop μ-loop
-loop-holds c = search needs
-
 -- src/fields.rt:43:20
-shared-slice-read-byte : tie.Need-shared-slice-read-byte Inv-loop μ-loop
-shared-slice-read-byte c = search needs
-
 -- src/fields.rt:45:13
-returns : tie.Need-returns Inv-loop μ-loop
-returns c = search needs
-
 -- src/fields.rt:47:9
-quoted-after-requires : tie.Need-quoted-after-requires Inv-loop μ-loop
-quoted-after-requires c κs = search needs
-
 -- src/fields.rt:48:9
-add-i : tie.Need-add-i Inv-loop μ-loop
-add-i c = search needs
-
 -- src/fields.rt:42:5
-loop-less : tie.Need-loop-less Inv-loop μ-loop
-loop-less c = search needs
-
 -- src/fields.rt:42:5
-loop-again : tie.Need-loop-again Inv-loop μ-loop
-loop-again c = search needs
-
 -- src/fields.rt:36:1
-returns-2 : tie.Need-returns-2 Inv-loop μ-loop
-returns-2 c = search needs
-
 pub field-end-spec : {M : Type 1} → statement M
 field-end-spec =
     tie.close
     (tie.spec
     Inv-loop
     μ-loop
-    loop-holds
-    shared-slice-read-byte
-    returns
-    quoted-after-requires
-    add-i
-    loop-less
-    loop-again
-    returns-2)
+    (λ c. search needs) (λ c. search needs) (λ c. search needs) (λ c κs. search needs) (λ c. search needs) (λ c. search needs) (λ c. search needs)
+    (λ c. search needs))

@@ -10,17 +10,8 @@ use Rattle.sent_packets.proofs.bitmap.at.Tie as tie
 returns : tie.Need-returns
 returns c = let a = c .before .args in sym (bit-past (a .words .now) (a .index) (omega arith))
 
-mul-result : tie.Need-mul-result
-mul-result c = search needs
-
-shared-slice-read-result : tie.Need-shared-slice-read-result
-shared-slice-read-result c = search needs
-
-shr-result : tie.Need-shr-result
-shr-result c = search needs
-
 returns-2 : tie.Need-returns-2
 returns-2 c = omega arith
 
 pub at-spec : {M : Type 1} → statement M
-at-spec = tie.close (tie.spec returns mul-result shared-slice-read-result shr-result returns-2)
+at-spec = tie.close (tie.spec returns (λ c. search needs) (λ c. search needs) (λ c. search needs) returns-2)
