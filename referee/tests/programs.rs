@@ -1205,16 +1205,23 @@ fn crc32(bytes: &[u8]) -> u32 {
     !register
 }
 
-/// What of PSD is text, as a field of the CSV: runs of three printable
-/// characters or more, or all that there is, at most 200 characters.
+/// What of PSD is text, as a field of the CSV: runs of printable characters, of
+/// which three or more are ASCII, or all that there is, in UTF-8 or ISO 8859-1,
+/// at most 200 bytes.
 fn psd_text(bytes: &[u8]) -> String {
     let bytes = &bytes[..bytes.len().min(1024)];
+    let is_text = |run: &&[u8]| {
+        let plain = run.iter().filter(|byte| byte.is_ascii()).count();
+        plain >= 3 || (plain == bytes.len() && plain > 0)
+    };
     let runs: Vec<String> = bytes
-        .split(|byte| !(32..=126).contains(byte))
-        .filter(|run| run.len() >= 3 || (run.len() == bytes.len() && !run.is_empty()))
-        .map(|run| String::from_utf8_lossy(run).into_owned())
+        .split(|&byte| byte < 32 || byte == 127)
+        .filter(is_text)
+        .map(unicode)
         .collect();
-    let text: String = runs.join(" ").chars().take(200).collect();
+    let mut text = runs.join(" ");
+    let end = (0..=text.len().min(200)).rfind(|&end| text.is_char_boundary(end));
+    text.truncate(end.unwrap_or(0));
     if text.is_empty() {
         return text;
     }
@@ -1224,6 +1231,15 @@ fn psd_text(bytes: &[u8]) -> String {
         ""
     };
     format!("\"{blank}{}\"", text.replace('"', "\"\""))
+}
+
+/// A run of UTF-8, or else of ISO 8859-1, where 128 to 159 are no characters.
+fn unicode(run: &[u8]) -> String {
+    let letter = |&byte: &u8| match byte {
+        128..=159 => ' ',
+        _ => char::from(byte),
+    };
+    std::str::from_utf8(run).map_or_else(|_| run.iter().map(letter).collect(), str::to_string)
 }
 
 /// A number of things.
