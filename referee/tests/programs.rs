@@ -25,11 +25,12 @@ use referee::rng::Rng;
 use referee::settings::{Applied, ProgramType, Settings};
 use referee::writer::{self, Offer};
 use samples::{Sample, Wish};
-use std::collections::BTreeMap;
+use std::collections::{BTreeMap, BTreeSet};
 use std::env;
 use std::fmt::Display;
 use std::fs::{self, File};
 use std::io::Write;
+use std::ops::Range;
 use std::path::{Path, PathBuf};
 use std::process::{Command, Stdio};
 use std::thread;
@@ -1204,16 +1205,23 @@ fn crc32(bytes: &[u8]) -> u32 {
     !register
 }
 
-/// What of PSD is text, as a field of the CSV: runs of three printable
-/// characters or more, or all that there is, at most 200 characters.
+/// What of PSD is text, as a field of the CSV: runs of printable characters, of
+/// which three or more are ASCII, or all that there is, in UTF-8 or ISO 8859-1,
+/// at most 200 bytes.
 fn psd_text(bytes: &[u8]) -> String {
     let bytes = &bytes[..bytes.len().min(1024)];
+    let is_text = |run: &&[u8]| {
+        let plain = run.iter().filter(|byte| byte.is_ascii()).count();
+        plain >= 3 || (plain == bytes.len() && plain > 0)
+    };
     let runs: Vec<String> = bytes
-        .split(|byte| !(32..=126).contains(byte))
-        .filter(|run| run.len() >= 3 || (run.len() == bytes.len() && !run.is_empty()))
-        .map(|run| String::from_utf8_lossy(run).into_owned())
+        .split(|&byte| byte < 32 || byte == 127)
+        .filter(is_text)
+        .map(unicode)
         .collect();
-    let text: String = runs.join(" ").chars().take(200).collect();
+    let mut text = runs.join(" ");
+    let end = (0..=text.len().min(200)).rfind(|&end| text.is_char_boundary(end));
+    text.truncate(end.unwrap_or(0));
     if text.is_empty() {
         return text;
     }
@@ -1223,6 +1231,15 @@ fn psd_text(bytes: &[u8]) -> String {
         ""
     };
     format!("\"{blank}{}\"", text.replace('"', "\"\""))
+}
+
+/// A run of UTF-8, or else of ISO 8859-1, where 128 to 159 are no characters.
+fn unicode(run: &[u8]) -> String {
+    let letter = |&byte: &u8| match byte {
+        128..=159 => ' ',
+        _ => char::from(byte),
+    };
+    std::str::from_utf8(run).map_or_else(|_| run.iter().map(letter).collect(), str::to_string)
 }
 
 /// A number of things.
@@ -1542,6 +1559,9 @@ struct Picture {
     marks: Vec<usize>,
     /// Those with pieces that have a wrong CRC.
     wrong: Vec<usize>,
+    /// Those that are marked as having come twice, and out of turn.
+    twice: Vec<usize>,
+    late: Vec<usize>,
     bars: BTreeMap<usize, Rectangle>,
     /// What is written where packets are missing.
     missing: BTreeMap<usize, String>,
@@ -1580,6 +1600,8 @@ impl Picture {
             }
             ("<path", "x", false) => self.marks.push(pdu),
             ("<circle", "w", false) => self.wrong.push(pdu),
+            ("<text", "d", false) => self.twice.push(pdu),
+            ("<path", "d", false) => self.late.push(pdu),
             ("<text", "n" | "o" | "k", false) => {
                 assert!(self.missing.insert(pdu, content(line)).is_none());
             }
@@ -1608,16 +1630,28 @@ struct Shown {
     /// Pieces with a wrong CRC.
     wrong: Vec<usize>,
     packets: Vec<usize>,
-    /// By how much missing grew with each PDU.
-    missing: Vec<usize>,
-    /// After the last one.
+    /// After the last one, by the record, and with each packet counted once.
+    record: Loss,
     loss: Loss,
+    /// What the packets' places tell.
+    placed: Placed,
+}
+
+/// Where the packets of a log lie, by what its PDUs look like.
+#[derive(Default)]
+struct Placed {
     /// What is likely missing beyond what numbers tell, and the packets that
     /// end in ten PDUs, by which it is known.
     hidden: usize,
     pace: usize,
-    /// PDUs that look as if they came twice.
-    twice: usize,
+    /// PDUs that look as if they came twice, and out of turn.
+    twice: Vec<usize>,
+    late: Vec<usize>,
+    /// By how much the record's delivered and missing are too high for these.
+    again: usize,
+    excess: usize,
+    /// How many are missing before the packets of each PDU.
+    ticks: Vec<usize>,
 }
 
 /// What a PDU says of the gap that it lies in.
@@ -1625,12 +1659,16 @@ struct Beside {
     absent: bool,
     clean: bool,
     packets: Vec<usize>,
+    /// The bytes of the last packet.
+    bytes: Vec<u8>,
     /// Notes that tell of a packet that was not delivered, before the first
     /// that was, and after the last.
     before: usize,
     after: usize,
     /// Whether its sequence does not follow.
     broken: bool,
+    /// Whether a packet has no other part.
+    parted: bool,
 }
 
 impl Beside {
@@ -1639,14 +1677,17 @@ impl Beside {
             absent: !matches!(one.came, Came::Received(_)),
             clean: matches!(one.came, Came::Received(_)),
             packets: Vec::new(),
+            bytes: Vec::new(),
             before: 0,
             after: 0,
             broken: false,
+            parted: false,
         };
         for entry in &one.entries {
             match entry {
-                Entry::Packet(number, _) => {
+                Entry::Packet(number, bytes) => {
                     beside.packets.push(usize::from(*number));
+                    beside.bytes.clone_from(bytes);
                     beside.after = 0;
                 }
                 Entry::Psd(_) => {}
@@ -1659,6 +1700,7 @@ impl Beside {
     fn take_note(&mut self, cause: u32) {
         self.clean = false;
         self.broken |= cause == 1;
+        self.parted |= cause == 3 || cause == 4;
         self.absent |= cause == 8;
         if [2, 3, 5, 7].contains(&cause) {
             self.before += usize::from(self.packets.is_empty());
@@ -1673,38 +1715,160 @@ fn ended_in(pdus: usize, clean: usize, packets: usize) -> usize {
     ((pdus << 20) + slow / 2).checked_div(slow).unwrap_or(0)
 }
 
-/// What is likely missing beyond what numbers tell, the packets in ten PDUs,
-/// and the PDUs that look as if they came twice.
-fn estimate(logged: &[Logged]) -> (usize, usize, usize) {
-    let all: Vec<Beside> = logged.iter().map(Beside::of).collect();
-    let clean = all.iter().filter(|one| one.clean).count();
-    let packets = all.iter().filter(|one| one.clean);
-    let packets = packets.map(|one| one.packets.len()).sum();
-    let (mut last, mut absent, mut notes) = (None, 0, 0);
-    let (mut hidden, mut doubles) = (0, 0);
-    for one in &all {
-        let (Some(&first), Some(&end)) = (one.packets.first(), one.packets.last()) else {
-            absent += usize::from(one.absent);
-            notes += if one.absent { 0 } else { one.after };
-            continue;
-        };
-        if let Some(before) = last {
-            let told = (first + 127 - before) % 64;
-            let wanted = ended_in(absent, clean, packets) + notes + one.before;
-            let twice = one.broken && absent == 0 && end == before;
-            doubles += usize::from(twice);
-            let fits = (0..).map(|k| told + 64 * k);
-            let near = fits.take_while(|&fit| fit <= wanted.max(told) + 64);
-            let near = near.min_by_key(|&fit| (fit.abs_diff(wanted), usize::MAX - fit));
-            hidden += if twice {
-                0
-            } else {
-                near.unwrap_or(told) - told
-            };
-        }
-        (last, absent, notes) = (Some(end), 0, one.after);
+/// The count that fits what numbers tell and is nearest to a wanted one.
+fn nearest(told: usize, wanted: usize) -> usize {
+    let fits = (0..).map(|k| told + 64 * k);
+    let near = fits.take_while(|&fit| fit <= wanted.max(told) + 64);
+    let near = near.min_by_key(|&fit| (fit.abs_diff(wanted), usize::MAX - fit));
+    near.unwrap_or(told)
+}
+
+/// What is known before a PDU. Packets have places, which are numbers that go
+/// on after 63.
+struct Reached {
+    /// The places of the last packet and of the farthest, and the last's bytes.
+    last: usize,
+    front: usize,
+    bytes: Vec<u8>,
+    /// The places of a gap that lost PDUs do not account for.
+    hole: Range<usize>,
+}
+
+impl Reached {
+    /// The first place from one on that a number has.
+    fn place(from: usize, number: usize) -> usize {
+        from + (number + 64 - from % 64) % 64
     }
-    (hidden, ended_in(10, clean, packets), doubles)
+
+    /// Whether a PDU looks as if it came twice, after no absent one.
+    fn is_twice(&self, one: &Beside) -> bool {
+        let alike = one.packets.last() == Some(&(self.last % 64)) && one.bytes == self.bytes;
+        one.broken && alike
+    }
+
+    /// Where a PDU's packets begin and end that came out of turn, after no
+    /// absent one; nothing if it does not look like that.
+    fn late(&self, one: &Beside) -> Option<(usize, usize)> {
+        let (first, end) = (one.packets[0], one.packets[one.packets.len() - 1]);
+        let follows = (self.last + 1) % 64 == first;
+        let from = Reached::place(self.hole.start, first);
+        let to = Reached::place(from, end);
+        ((one.broken || one.parted || !follows) && to < self.hole.end).then_some((from, to))
+    }
+}
+
+/// Where the packets of a log lie (docs/USING.md, "About, and at least" and
+/// "PDUs that came twice or out of turn"), PDU by PDU.
+#[derive(Default)]
+struct Placing {
+    /// PDUs with nothing wrong, and the packets that end in them.
+    clean: usize,
+    packets: usize,
+    /// Absent PDUs and notes since the last packet.
+    absent: usize,
+    notes: usize,
+    reached: Option<Reached>,
+    delivered: BTreeSet<usize>,
+    placed: Placed,
+}
+
+impl Placing {
+    fn of(logged: &[Logged]) -> Placed {
+        let all: Vec<Beside> = logged.iter().map(Beside::of).collect();
+        let clean = all.iter().filter(|one| one.clean);
+        let mut placing = Placing {
+            clean: clean.clone().count(),
+            packets: clean.map(|one| one.packets.len()).sum(),
+            ..Placing::default()
+        };
+        for (pdu, one) in all.iter().enumerate() {
+            placing.take(pdu, one);
+        }
+        let mut placed = placing.placed;
+        placed.pace = ended_in(10, placing.clean, placing.packets);
+        placed.excess = excess(&placing.delivered, placed.hidden, last_loss(logged));
+        placed
+    }
+
+    fn take(&mut self, pdu: usize, one: &Beside) {
+        self.placed.ticks.push(0);
+        if one.packets.is_empty() {
+            self.absent += usize::from(one.absent);
+            self.notes += if one.absent { 0 } else { one.after };
+            return;
+        }
+        let alone = self.absent == 0;
+        match self.reached.take() {
+            None => self.begin(pdu, one),
+            Some(before) if alone && before.is_twice(one) => {
+                self.placed.twice.push(pdu);
+                self.placed.again += one.packets.len();
+                self.reached = Some(before);
+            }
+            Some(before) => match before.late(one).filter(|_| alone) {
+                Some((from, to)) => self.fill(pdu, one, before, from, to),
+                None => self.go_on(pdu, one, &before),
+            },
+        }
+        (self.absent, self.notes) = (0, one.after);
+    }
+
+    /// The first packets. There are places before them, for a PDU out of turn.
+    fn begin(&mut self, pdu: usize, one: &Beside) {
+        let (from, to) = span(128 + one.packets[0], one);
+        self.placed.ticks[pdu] = to - from + 1 - one.packets.len();
+        self.reach(one, from, to, to, from - 24..from);
+    }
+
+    /// Packets out of turn.
+    fn fill(&mut self, pdu: usize, one: &Beside, before: Reached, from: usize, to: usize) {
+        self.placed.late.push(pdu);
+        self.reach(one, from, to, before.front, to + 1..before.hole.end);
+    }
+
+    /// Packets after all others.
+    fn go_on(&mut self, pdu: usize, one: &Beside, before: &Reached) {
+        let lost = ended_in(self.absent, self.clean, self.packets);
+        let wanted = lost + self.notes + one.before;
+        let told = Reached::place(before.front + 1, one.packets[0]) - before.front - 1;
+        let near = nearest(told, wanted);
+        let (from, to) = span(before.front + 1 + near, one);
+        self.placed.hidden += near - told;
+        self.placed.ticks[pdu] = near + to - from + 1 - one.packets.len();
+        let is_hole = told > wanted + ended_in(1, self.clean, self.packets) / 2;
+        let hole = if is_hole { from - told..from } else { 0..0 };
+        self.reach(one, from, to, to, hole);
+    }
+
+    /// What is known after a PDU's packets.
+    fn reach(&mut self, one: &Beside, from: usize, to: usize, front: usize, hole: Range<usize>) {
+        let mut place = from;
+        for &number in &one.packets {
+            place = Reached::place(place, number);
+            self.delivered.insert(place);
+        }
+        self.reached = Some(Reached {
+            last: to,
+            front,
+            bytes: one.bytes.clone(),
+            hole,
+        });
+    }
+}
+
+/// The places of a PDU's packets, from a place on that is the first one's.
+fn span(from: usize, one: &Beside) -> (usize, usize) {
+    let end = one.packets[one.packets.len() - 1];
+    (from, Reached::place(from, end))
+}
+
+/// By how much the record's missing is higher than what is missing among
+/// places, without what is hidden.
+fn excess(delivered: &BTreeSet<usize>, hidden: usize, record: Loss) -> usize {
+    let (Some(first), Some(last)) = (delivered.first(), delivered.last()) else {
+        return 0;
+    };
+    record.missing + hidden - (last - first + 1 - delivered.len())
 }
 
 /// How many of a whole in per cent with one decimal; nothing of nothing.
@@ -1727,10 +1891,12 @@ impl Shown {
             });
             shown.wrong.push(wrong);
             shown.packets.push(one.loss.delivered - before.delivered);
-            shown.missing.push(one.loss.missing - before.missing);
             shown.loss = one.loss;
         }
-        (shown.hidden, shown.pace, shown.twice) = estimate(logged);
+        shown.record = shown.loss;
+        shown.placed = Placing::of(logged);
+        shown.loss.delivered -= shown.placed.again;
+        shown.loss.missing -= shown.placed.excess;
         shown
     }
 
@@ -1778,9 +1944,12 @@ impl Shown {
             ("missing", both),
         ];
         let mut rows: Vec<Vec<String>> = words.into_iter().zip(counts).map(total).collect();
-        if self.hidden > 0 {
-            let about = counts[7] + self.hidden;
-            rows[7] = total((("missing, about", (both.0 + self.hidden, both.1)), about));
+        if self.placed.hidden > 0 {
+            let about = counts[7] + self.placed.hidden;
+            rows[7] = total((
+                ("missing, about", (both.0 + self.placed.hidden, both.1)),
+                about,
+            ));
             rows.push(total((("missing, at least", both), counts[7])));
         }
         rows
@@ -1793,25 +1962,25 @@ impl Shown {
             share(part, whole).map_or(String::new(), |share| format!(" ({share} of both)"))
         };
         let certain = format!("{missing}{}", of(missing, both));
-        if self.hidden == 0 {
+        if self.placed.hidden == 0 {
             return [certain, EXACT.to_string()];
         }
-        let about = missing + self.hidden;
-        let share = of(about, both + self.hidden);
+        let about = missing + self.placed.hidden;
+        let share = of(about, both + self.placed.hidden);
         [
             format!("about {about}{share}, at least {certain}"),
             format!(
                 "at least is what packet numbers tell, which repeat after 64; about takes, \
                  between each two packets delivered, the count that fits the numbers and is \
                  nearest to {}.{} packets for each PDU lost, refused or withheld there",
-                self.pace / 10,
-                self.pace % 10
+                self.placed.pace / 10,
+                self.placed.pace % 10
             ),
         ]
     }
 
     /// What is said on standard error.
-    fn said(&self) -> Vec<String> {
+    fn said(&self, columns: usize) -> Vec<String> {
         let [all, received, corrected, lost, refused, crcs, delivered, _] = self.counts();
         let [missing, meaning] = self.said_missing();
         let of = |part, whole, words| {
@@ -1830,19 +1999,32 @@ impl Shown {
                  count as missing; {meaning}"
             ),
         ];
-        if self.twice > 0 {
+        let (twice, late) = (self.placed.twice.len(), self.placed.late.len());
+        if twice + late > 0 {
             lines.push(format!(
-                "barzhilup coverage: PDUs that look as if they came twice: {}; each may add up \
-                 to 63 to missing, so that figure is not certain",
-                self.twice
+                "barzhilup coverage: PDUs that look as if they came twice: {twice}, out of turn: \
+                 {late}; their packets are counted once here, by what they look like; the \
+                 receiver's record counts them again: delivered {}, missing {}",
+                self.record.delivered, self.record.missing
             ));
+        }
+        let rows = all.div_ceil(columns);
+        if rows > 60 {
+            lines.insert(
+                0,
+                format!(
+                    "barzhilup coverage: --rows: not given, so the picture has all rows: {rows}; \
+                     --rows N draws a page of N rows, --page K another one, --format html pages \
+                     to print"
+                ),
+            );
         }
         lines
     }
 
-    /// What is written at a PDU's tick: by how much missing grew.
+    /// What is written at a PDU's tick: how many are missing before it.
     fn tick(&self, pdu: usize) -> Option<String> {
-        let missing = self.missing[pdu];
+        let missing = self.placed.ticks[pdu];
         (missing > 0).then(|| missing.to_string())
     }
 
@@ -1857,6 +2039,8 @@ impl Shown {
             .filter(|&pdu| self.wrong[pdu] > 0)
             .collect();
         assert_eq!(picture.wrong, wrong);
+        assert_eq!(picture.twice, self.placed.twice);
+        assert_eq!(picture.late, self.placed.late);
         let marked = |&pdu: &usize| ["l", "f"].contains(&self.classes[pdu]);
         let marked: Vec<usize> = (0..classes.len()).filter(marked).collect();
         assert_eq!(picture.marks, marked);
@@ -1930,6 +2114,8 @@ struct Drawn {
     delivered: u64,
     missing: u64,
     wrong: u64,
+    twice: u64,
+    late: u64,
 }
 
 impl Drawn {
@@ -1943,6 +2129,8 @@ impl Drawn {
         self.delivered += shown.loss.delivered as u64;
         self.missing += shown.loss.missing as u64;
         self.wrong += shown.wrong.iter().sum::<usize>() as u64;
+        self.twice += shown.placed.twice.len() as u64;
+        self.late += shown.placed.late.len() as u64;
     }
 
     fn report(&self) {
@@ -1977,7 +2165,7 @@ fn covered(bench: &mut Bench, csv: &[u8], logged: &[Logged], seen: &mut Drawn) {
     shown.check_packets(&picture);
     let totals: Vec<_> = picture.totals.values().cloned().collect();
     assert_eq!(totals, shown.totals(), "{options:?}");
-    assert_eq!(ran.said, shown.said(), "{options:?}");
+    assert_eq!(ran.said, shown.said(columns), "{options:?}");
     seen.add(&shown, &picture);
 }
 

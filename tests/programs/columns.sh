@@ -14,8 +14,8 @@ differences() { # CSV JSON WORDS
     python3 - "$@" <<'PYTHON'
 import array, csv, json, sys, zlib
 
-rows = list(csv.DictReader(open(sys.argv[1], newline="")))
-objects = [json.loads(line) for line in open(sys.argv[2])]
+rows = list(csv.DictReader(open(sys.argv[1], newline="", encoding="utf-8")))
+objects = [json.loads(line) for line in open(sys.argv[2], encoding="utf-8")]
 texts = ("kind", "copy", "cause", "crc32", "text")
 wanted = [{name: text if name in texts else int(text) for name, text in row.items() if text} for row in rows]
 for row in wanted:
@@ -107,6 +107,13 @@ check_columns_text() {
     has_text "quotes, a comma and a backslash" 'a "b", c\\' '"a ""b"", c\"' ',"text":"a \"b\", c\\"'
     has_text "a tag" 'ID3\x03\x00\x00\x00TIT2\x00\x00\x00\x05\x00\x00\x00Song\x00TPE1\x00\x00\x00\x07\x00\x00\x00Singer' '"ID3 TIT2 Song TPE1 Singer"' ',"text":"ID3 TIT2 Song TPE1 Singer"'
     has_text "runs of one and two" 'ab\x00c\x00\xe9de\x7f' '' ''
+    has_text "letters of ISO 8859-1" 'Caf\xe9 \xc0 \xabla Cit\xe9\xbb' '"Café À «la Cité»"' ',"text":"Café À «la Cité»"'
+    has_text "letters in UTF-8" 'Caf\xc3\xa9 \xe2\x82\xac 5\x00d\xc3\xbcnn' '"Café € 5 dünn"' ',"text":"Café € 5 dünn"'
+    has_text "both, and what is no letter" 'Caf\xc3\xa9\x00Caf\xe9,\x80\x9fbar' '"Café Café,  bar"' ',"text":"Café Café,  bar"'
+    has_text "UTF-16" 'TIT2\x00\xff\xfeS\x00o\x00n\x00g\x00' '"TIT2"' ',"text":"TIT2"'
+    has_text "letters of no ASCII" '\xe9\xe8\xea\xeb' '' ''
+    long=$(printf '%0120d' 0 | sed 's/0/\\xe9/g')
+    has_text "letters that do not all fit" "abc$long" "\"abc$(printf '%098d' 0 | sed 's/0/é/g')\"" ",\"text\":\"abc$(printf '%098d' 0 | sed 's/0/é/g')\""
     has_text "line ends" 'one\r\ntwo\nthree' '"one two three"' ',"text":"one two three"'
     has_text "a formula" '=1+1' '" =1+1"' ',"text":"=1+1"'
     has_text "a sign" '-1' '" -1"' ',"text":"-1"'
