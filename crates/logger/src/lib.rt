@@ -19,10 +19,10 @@ ghost use Rattle.io.specs.Counts.{Counts};
 const NEVER_SENT: i32 = 3;
 
 // Every count 0, and after the counts what a comparison with the packets that were sent keeps.
-fn no_counts() -> [u64; 64]
-    ensures { λ r. ⌜ 64 ≡ length r ⌝ }
+fn no_counts() -> [u64; 163904]
+    ensures { λ r. ⌜ 163904 ≡ length r ⌝ }
 {
-    [0; 64]
+    [0; 163904]
 }
 
 // The exit status of a run that came to a status; where not all is done, the last line says so, and where packets were never sent, it is said already.

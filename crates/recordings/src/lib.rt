@@ -12,10 +12,10 @@ ghost use lib.ListN.{length};
 ghost use Rattle.io.specs.Counts.{Counts};
 
 // Every count 0, and nothing remembered: the rows of `apart`, and after them what a comparison with the packets that were sent keeps.
-pub fn no_counts() -> [u64; 183]
-    ensures { λ r. ⌜ 183 ≡ length r ⌝ }
+pub fn no_counts() -> [u64; 164023]
+    ensures { λ r. ⌜ 164023 ≡ length r ⌝ }
 {
-    [0; 183]
+    [0; 164023]
 }
 
 // Where the two copies come from, and where the log goes.
