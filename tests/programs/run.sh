@@ -166,6 +166,7 @@ check_sent_never
 check_sent_files
 check_sent_early
 check_long_records
+check_long_channel
 check_resync
 check_mode_auto
 check_latency_table
