@@ -52,6 +52,7 @@ check_dash_psd
 check_empty
 check_settings
 check_packets
+check_frames_resync
 check_example
 check_many_pieces
 check_unlisted
