@@ -2321,7 +2321,7 @@ fn cut_lines(
         Way::Named => file.to_str().expect("a name in UTF-8"),
         _ => "standard input",
     };
-    let first = format!("barzhilup {name}: {label}: ends inside {inside}");
+    let first = format!("barzhilup {name}: {label}: {inside}");
     [vec![first], counts, vec![stopped_early(name)]].concat()
 }
 
@@ -2362,7 +2362,8 @@ fn cut_sending(bench: &mut Bench, mut sending: Sending) -> bool {
     sending.packets.truncate(packets);
     let (pdus, _) = sending.pdus();
     let (way, said) = send(bench, &sending, (adts, &file[..cut]), &pdus);
-    let inside = (!is_end).then(|| format!("packet {packets}"));
+    let begin = parts[..packets].concat().len();
+    let inside = (!is_end).then(|| format!("at byte {begin}: ends inside packet {packets}"));
     let counts = vec![sending.said(packets, pdus.len())];
     assert_eq!(said, cut_lines(bench, ("generate", way), inside, counts));
     !is_end
@@ -2374,7 +2375,7 @@ fn cut_drive(bench: &mut Bench, end: &End, pdus: &[Vec<u8>]) -> bool {
     let file = parts.concat();
     let cut = bench.rng.below(file.len() + 1);
     let (many, is_end) = whole(&parts, cut);
-    let inside = (!is_end).then(|| format!("the record of PDU {many}"));
+    let inside = (!is_end).then(|| format!("ends inside the record of PDU {many}"));
     let road = Road::new(&mut bench.rng);
     let way = bench.way();
     let (all, _) = over(bench, &road, pdus, way);

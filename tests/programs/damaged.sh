@@ -35,6 +35,26 @@ check_longest() {
     same "PDUs of the greatest length, what is refused" 2 "$(grep -c ',refused,' out)"
 }
 
+# The channel stops at such a length too: what is before it comes through, from a pipe as well.
+check_long_channel() {
+    local length
+    for length in 20481 65535; do
+        { pdus 0 3; record "$length"; pdus 3 3; } >broken
+        run channel --in broken --loss 0 --damage 0
+        said "channel, a record of $length bytes" 1 channel "barzhilup channel: broken: the record of PDU 3, at byte 906, has a length over 20480, which no PDU has
+barzhilup channel: PDUs 3 (lost before 0), lost 0, damaged 0, bytes altered 0"
+        same_file "channel, what is before a record of $length bytes" <(pdus 0 3) out
+    done
+    status=0
+    cat broken | "$program" channel --loss 0 --damage 0 --swap 1000 >out 2>err || status=$?
+    ended "channel, a long record from a pipe" 1 channel
+    same "channel, a long record from a pipe" "barzhilup channel: standard input: the record of PDU 3, at byte 906, has a length over 20480, which no PDU has" "$(head -n 1 err)"
+    { pdus 0 1; record 20480; record 1; record 0; } >broken
+    run channel --in broken --loss 0 --damage 0
+    ended "channel, records of the greatest length and the least" 0 channel
+    same_file "channel, records of the greatest length and the least" broken out
+}
+
 # What is passed over, and the log of it: the file's bytes as given, which PDUs are lost, how many bytes are passed over, and from where to where.
 resynced() { # ABOUT LOST BYTES FROM TO
     run log --in broken --resync --format csv

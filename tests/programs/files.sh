@@ -295,11 +295,11 @@ barzhilup channel: PDUs 1 (lost before 0), lost 0, damaged 0, bytes altered 0"
     same_file "what channel sends of it" <(pdus 0 1) out
     head -c 103 packets >part
     run generate --in part
-    said "generate with a cut file" 1 generate "barzhilup generate: part: ends inside packet 1
+    said "generate with a cut file" 1 generate "barzhilup generate: part: at byte 102: ends inside packet 1
 barzhilup generate: packets 1 (bytes 100), PDUs 1 (bytes 1024)"
     head -c 110 dump >part
     run generate --in part --adts
-    said "generate with a cut dump" 1 generate "barzhilup generate: part: ends inside packet 1
+    said "generate with a cut dump" 1 generate "barzhilup generate: part: at byte 107: ends inside packet 1
 barzhilup generate: packets 1 (bytes 100), PDUs 1 (bytes 1024)"
 }
 
@@ -445,6 +445,21 @@ check_progress_read() {
     same "a picture, progress once a second on a terminal" lines "$line"
 }
 
+# Work whose input pauses shows how far it is once a second; not where nobody looks on.
+check_progress_paused() { # WHAT FIRST THEN ARGUMENTS
+    local what=$1
+    local first=$2
+    local rest=$3
+    shift 3
+    run "$@" <"$first"
+    same "$*, no progress where nobody looks on" 0 "$(tr -cd '\r' <err | wc -c)"
+    if ! command -v script >/dev/null; then
+        return
+    fi
+    script -qec "{ cat $first; sleep 1.1; cat $rest; } | $program $* 2>&1 >/dev/null" /dev/null >terminal </dev/null
+    same "$*, progress on a terminal" "barzhilup $what" "$(tr '\r' '\n' <terminal | grep -ox "barzhilup $what [0-9]*" | sed 's/ [0-9]*$//' | sort -u || true)"
+}
+
 check_terminals() {
     local copy
     for ((copy = 0; copy < 60; copy += 1)); do
@@ -456,8 +471,9 @@ check_terminals() {
     for ((copy = 0; copy < 15; copy += 1)); do
         cat packets
     done >many.packets
-    check_progress "barzhilup generate: PDUs 1000" generate --in many.packets --length 96
-    check_progress "barzhilup channel: PDUs 1000" channel --in many
+    check_progress_paused "generate: PDUs" many.packets packets generate --length 96
+    check_progress_paused "channel: PDUs" many sent channel
+    check_progress_paused "join: frames" log.records log.records join --enhanced log.records
     check_progress "barzhilup log: PDUs 1000" log --in many --batch 1
     check_progress_live
     check_progress_read

@@ -289,9 +289,9 @@ check_latency_packets_refused() {
     stops "barzhilup latency: none: No such file or directory" latency --packets --in none --out new
     stops "barzhilup latency: none: No such file or directory" latency --packets --in packets --psd none
     { record 100; record 0; } >zero
-    stops "barzhilup latency: zero: refused with 15: packet 1 has no bytes" latency --packets --in zero --out new
+    stops "barzhilup latency: zero: at byte 102: refused with 15: packet 1 has no bytes" latency --packets --in zero --out new
     head -c 110 packets >part
-    stops "barzhilup latency: part: ends inside packet 1" latency --packets --in part --svg new
+    stops "barzhilup latency: part: at byte 102: ends inside packet 1" latency --packets --in part --svg new
     stops "barzhilup latency: empty: refused with 21: no counts" latency --packets --in empty
     there "packets that are refused" no new
     wrong "barzhilup latency: --psd: standard input has the packets" latency --packets --psd -

@@ -52,6 +52,7 @@ check_dash_psd
 check_empty
 check_settings
 check_packets
+check_frames_resync
 check_example
 check_many_pieces
 check_unlisted
@@ -168,6 +169,7 @@ check_sent_never
 check_sent_files
 check_sent_early
 check_long_records
+check_long_channel
 check_resync
 check_mode_auto
 check_latency_table

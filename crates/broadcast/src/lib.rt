@@ -1,5 +1,4 @@
 // A run of the writer in which settings and PSD may change from PDU to PDU; on `sending`, `schedule` and `psd_stream`.
-use packets::Source;
 use packets::window;
 use packets::window::Window;
 use psd_stream::Supply;
@@ -8,12 +7,6 @@ use sending::Run;
 use sending::Task;
 use sending::trial;
 use writer::Writer;
-
-// Where packets come from, and where PDUs go.
-pub struct Job {
-    pub source: Source,
-    pub output: i32,
-}
 
 // A broadcast so far: its run; the settings of the last PDU, by their names, the change that comes next, and how many have come; and the supply of PSD.
 pub struct Broadcast {
@@ -24,10 +17,16 @@ pub struct Broadcast {
     pub supply: Supply,
 }
 
-// The broadcast before its first PDU, with the settings before the first change of a text.
-pub fn begin(writer: Writer, text: &[u8], row: [u32; 22], supply: Supply) -> Broadcast {
+// The broadcast before its first PDU, of the packets of a window, with the settings before the first change of a text.
+pub fn begin(
+    writer: Writer,
+    window: Window,
+    text: &[u8],
+    row: [u32; 22],
+    supply: Supply,
+) -> Broadcast {
     Broadcast {
-        run: sending::begin(writer),
+        run: sending::begin(writer, window),
         row: row,
         next: schedule::first(text, row),
         changes: 0,
@@ -35,9 +34,9 @@ pub fn begin(writer: Writer, text: &[u8], row: [u32; 22], supply: Supply) -> Bro
     }
 }
 
-// Sends all packets in PDUs of a length: those over 20,480 are refused. The text has the changes of settings, the buffer the PSD.
+// Sends all packets in PDUs of a length to a file: lengths over 20,480 are refused. The text has the changes of settings, the buffer the PSD.
 pub fn send(
-    job: Job,
+    output: i32,
     from: &[u8],
     onto: &[u8],
     text: &[u8],
@@ -50,7 +49,7 @@ pub fn send(
     let mut pdu = [0u8; trial::OVER];
     let size = trial::size_for(length);
     all_turns(
-        job,
+        output,
         from,
         onto,
         text,
@@ -64,7 +63,7 @@ pub fn send(
 
 // All turns. They are counted down from a number that no run uses up, since a proved loop has to end, and nothing says that a file does.
 fn all_turns(
-    job: Job,
+    output: i32,
     from: &[u8],
     onto: &[u8],
     text: &[u8],
@@ -75,30 +74,35 @@ fn all_turns(
     start: Broadcast,
 ) -> Broadcast {
     let mut now = start;
+    let mut shown = files::second();
     let mut turns = u64::MAX;
     while 0 < turns {
-        let next = turn(job, from, onto, text, psd, lengths, bytes, pdu, now);
+        let next = turn(output, from, onto, text, psd, lengths, bytes, pdu, now);
         now = next;
         if !is_going(now) {
             return now;
         }
+        shown = progress(now, shown);
         turns -= 1;
     }
     now
 }
 
-// Whether a broadcast goes on; shows how far it is, where somebody looks on.
+// Whether a broadcast goes on.
 fn is_going(b: Broadcast) -> bool {
     let run = b.run;
-    if run.going {
-        files::progress(b"barzhilup generate", b": PDUs ", run.pdus);
-    }
     run.going
+}
+
+// How far the work is, where somebody looks on, as `files::show_progress` has it.
+fn progress(b: Broadcast, shown: i64) -> i64 {
+    let run = b.run;
+    files::show_progress(b"barzhilup generate", b": PDUs ", run.pdus, shown)
 }
 
 // Reads ahead and sends a PDU; stops where no packet waits.
 fn turn(
-    job: Job,
+    output: i32,
     from: &[u8],
     onto: &[u8],
     text: &[u8],
@@ -108,16 +112,16 @@ fn turn(
     pdu: &mut [u8],
     b: Broadcast,
 ) -> Broadcast {
-    let source = job.source;
-    let w = window::filled(source, from, window_of(b), lengths, bytes);
+    let w = window::filled(from, window_of(b), lengths, bytes);
     if w.end <= w.first {
-        return stopped(b, !w.broken);
+        let run = b.run;
+        return with_run(b, sending::ended(run, w));
     }
-    due(job, onto, text, psd, w, lengths, bytes, pdu, b)
+    due(output, onto, text, psd, w, lengths, bytes, pdu, b)
 }
 
 // The packets that wait.
-fn window_of(b: Broadcast) -> Window {
+pub fn window_of(b: Broadcast) -> Window {
     let run = b.run;
     let window = run.window;
     window
@@ -131,7 +135,7 @@ fn stopped(b: Broadcast, ok: bool) -> Broadcast {
 
 // Sends a PDU from the packets that wait, with the settings and the PSD that are due; stops where its PSD cannot be read.
 fn due(
-    job: Job,
+    output: i32,
     onto: &[u8],
     text: &[u8],
     psd: &mut [u8],
@@ -146,7 +150,7 @@ fn due(
     if supply.status == records::FAILED {
         return stopped(ready, false);
     }
-    sent(job, onto, psd, w, lengths, bytes, pdu, ready)
+    sent(output, onto, psd, w, lengths, bytes, pdu, ready)
 }
 
 // The broadcast with the settings of its next PDU.
@@ -214,7 +218,7 @@ fn counted(b: Broadcast) -> Broadcast {
 
 // Sends a PDU from the packets that wait.
 fn sent(
-    job: Job,
+    output: i32,
     onto: &[u8],
     psd: &[u8],
     w: Window,
@@ -226,10 +230,8 @@ fn sent(
     let run = b.run;
     let row = b.row;
     let supply = b.supply;
-    let source = job.source;
     let task = Task {
-        source: source,
-        output: job.output,
+        output: output,
         settings: named_settings::of(row),
     };
     let bytes_of_psd = psd_stream::part(psd, supply.length);

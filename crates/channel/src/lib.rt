@@ -97,7 +97,7 @@ fn with_marks(job: Job, from: &[u8], input: i32, marking: &[u8], marks: i32) -> 
         channel: channel,
     };
     let run = passage::send_all(task, job.seed);
-    report::ends(run.status, from, &onto[..n], marking, run.pdus);
+    report::ends(run.status, from, &onto[..n], marking, run.pdus, run.bytes);
     finish(run, task, &onto[..n], marking)
 }
 

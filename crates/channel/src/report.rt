@@ -6,11 +6,24 @@ fn say(line: &[u8]) {
     io::write_all(STDERR_FILENO, line);
 }
 
-// Why no more PDUs are sent, after so many; nothing where all are. PDUs are counted from 0.
-pub fn ends(status: u8, from: &[u8], onto: &[u8], marking: &[u8], pdus: u64) {
+// A record has a length that no PDU has, after so many records of so many bytes.
+fn too_long(from: &[u8], pdus: u64, bytes: u64) {
+    let mut words = [0u8; 128];
+    let n = text::fill(
+        &mut words,
+        0,
+        b": the record of PDU @, at byte @, has a length over 20480, which no PDU has\n",
+        &[pdus, bytes],
+    );
+    files::say(from, &words[..n]);
+}
+
+// Why no more PDUs are sent, after so many, of so many bytes with their lengths; nothing where all are. PDUs and bytes are counted from 0.
+pub fn ends(status: u8, from: &[u8], onto: &[u8], marking: &[u8], pdus: u64, bytes: u64) {
     match status {
         records::END => {}
         records::CUT => files::say_number(from, b": ends inside the record of PDU ", pdus, b"\n"),
+        records::LONG => too_long(from, pdus, bytes),
         disorder::UNWRITTEN => os::fail(onto),
         disorder::UNMARKED => os::fail(marking),
         _ => os::fail(from),
@@ -66,7 +79,8 @@ Damages a file of PDUs: PDUs are lost in bursts, and of those that come through
 some have bytes of the header changed, or bits of pieces flipped, come twice or
 out of turn, or are cut. A record of either file is its length in two bytes, low
 byte first, and then its bytes; a record of length 0 is a PDU marked lost, and
-stays so. The same seed gives the same damage.
+stays so. The same seed gives the same damage. A length over 20480, which no PDU
+has, stops the channel there.
 
   --in FILE     PDUs (standard input, also for -)
   --out FILE    the PDUs that come through (standard output, also for -)

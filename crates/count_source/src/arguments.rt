@@ -7,8 +7,8 @@ ghost use Rattle.io.specs.Counts.{Counts};
 pub const NAME: [u8; 17] = *b"barzhilup latency";
 
 // The options that are known: its own, and then those of `generate` that say how packets are packed.
-pub const KNOWN: [u8; 187] =
-    *b"in=\0counts=\0packets\0out=\0svg=\0draw=\0force\0help\0mode=\0stream=\0adts\0length=\0psd=\0crc-start=\0blend=\0gain=\0common-delay=\0latency=\0class=\0program=\0displacement\0access=\0type=\0services=\0marker=\0";
+pub const KNOWN: [u8; 194] =
+    *b"in=\0counts=\0packets\0out=\0svg=\0draw=\0force\0help\0mode=\0stream=\0adts\0resync\0length=\0psd=\0crc-start=\0blend=\0gain=\0common-delay=\0latency=\0class=\0program=\0displacement\0access=\0type=\0services=\0marker=\0";
 
 pub fn given(name: &[u8]) -> bool {
     options::given(&KNOWN, name)

@@ -4,6 +4,9 @@ use crate::arguments::KNOWN;
 use crate::arguments::Listed;
 use crate::arguments::NAME;
 use packets::Source;
+use packets::window;
+use packets::window::Window;
+use sending::Run;
 use sending::Task;
 use sending::trial;
 use transmission::Transmission;
@@ -36,11 +39,23 @@ fn from_text(label: &[u8], input: i32, counts: &mut [u32]) -> Listed {
     }
 }
 
-// Stores how many packets ended in a PDU.
-fn note(counts: &mut [u32], at: usize, ended: u32) {
+// Stores a count at a place, if there is room.
+fn put(counts: &mut [u32], at: usize, count: u32) {
     if at < counts.len() {
-        counts[at] = ended;
+        counts[at] = count;
     }
+}
+
+// Stores how many packets ended in the last PDU of a run. Answers the place after it.
+fn note(counts: &mut [u32], at: usize, run: Run) -> usize {
+    put(counts, at, run.ended);
+    std::num::wrapping_add_usize(at, 1)
+}
+
+// The run after its last PDU, and how many counts are stored.
+struct Stored {
+    run: Run,
+    count: usize,
 }
 
 // Packs packets, and stores how many end in each PDU, until there are no more or no room is left.
@@ -51,29 +66,37 @@ fn packed(
     lengths: &mut [u16],
     bytes: &mut [u8],
     pdu: &mut [u8],
-    writer: Writer,
+    start: Run,
     counts: &mut [u32],
-) -> Listed {
-    let mut run = sending::begin(writer);
+) -> Stored {
+    let mut run = start;
     let mut count: usize = 0;
     let mut left = counts.len();
     while 0 < left {
         let next = sending::turn(task, label, &NAME, psd, lengths, bytes, pdu, run);
         run = next;
         if !run.going {
-            return Listed {
-                ok: run.ok,
+            return Stored {
+                run: run,
                 count: count,
             };
         }
-        note(counts, count, run.ended);
-        count = std::num::wrapping_add_usize(count, 1);
+        count = note(counts, count, run);
         left -= 1;
     }
-    Listed {
-        ok: true,
+    Stored {
+        run: run,
         count: count,
     }
+}
+
+// The packets of a file before the first is read: records, or ADTS frames.
+fn window_of(input: i32) -> Window {
+    let source = Source {
+        fd: input,
+        adts: arguments::given(b"adts"),
+    };
+    window::begin(source, arguments::given(b"resync"))
 }
 
 // Packs packets into PDUs of a length.
@@ -91,23 +114,25 @@ fn from_packets(
     let size = trial::size_for(asked.length);
     let settings = asked.settings;
     let task = Task {
-        source: Source {
-            fd: input,
-            adts: arguments::given(b"adts"),
-        },
         output: sending::NOWHERE,
         settings: settings,
     };
-    packed(
+    let done = packed(
         task,
         label,
         psd,
         &mut lengths,
         &mut bytes,
         &mut pdu[0..size],
-        writer,
+        sending::begin(writer, window_of(input)),
         counts,
-    )
+    );
+    let run = done.run;
+    window::say_places(&NAME, run.window);
+    Listed {
+        ok: run.ok,
+        count: done.count,
+    }
 }
 
 // Reads the PSD, tries the settings, and opens the file of packets.

@@ -2,9 +2,10 @@
 mod report;
 
 use broadcast::Broadcast;
-use broadcast::Job;
 use inputs::NAME;
 use packets::Source;
+use packets::window;
+use packets::window::Window;
 use psd_stream::Supply;
 use sending::trial;
 use transmission::KNOWN;
@@ -94,16 +95,17 @@ fn with_changes(
     if input < 0 {
         return false;
     }
-    let start = broadcast::begin(writer, text, row, supply);
-    with_input(asked.length, psd, text, label, &from[..n], input, start)
+    let start = broadcast::begin(writer, window_of(input), text, row, supply);
+    with_input(asked.length, psd, text, label, &from[..n], start)
 }
 
-// Where packets come from: records, or ADTS frames.
-fn source_of(input: i32) -> Source {
-    Source {
+// The packets of a file before the first is read: records, or ADTS frames.
+fn window_of(input: i32) -> Window {
+    let source = Source {
         fd: input,
         adts: options::given(&KNOWN, b"adts"),
-    }
+    };
+    window::begin(source, options::given(&KNOWN, b"resync"))
 }
 
 // Opens the file of PDUs.
@@ -113,7 +115,6 @@ fn with_input(
     text: &[u8],
     label: &[u8],
     from: &[u8],
-    input: i32,
     start: Broadcast,
 ) -> bool {
     let mut onto = files::label_buffer();
@@ -122,12 +123,7 @@ fn with_input(
     if output < 0 {
         return false;
     }
-    let source = source_of(input);
-    let job = Job {
-        source: source,
-        output: output,
-    };
-    with_output(length, psd, text, label, from, &onto[..n], job, start)
+    with_output(length, psd, text, label, from, &onto[..n], output, start)
 }
 
 // Sends, and closes the file of PDUs.
@@ -138,12 +134,12 @@ fn with_output(
     label: &[u8],
     from: &[u8],
     onto: &[u8],
-    job: Job,
+    output: i32,
     start: Broadcast,
 ) -> bool {
-    let done = broadcast::send(job, from, onto, text, psd, length, start);
+    let done = broadcast::send(output, from, onto, text, psd, length, start);
     report::psd_ends(done);
-    let closed = files::close(job.output, onto);
+    let closed = files::close(output, onto);
     finish(done, label) & closed
 }
 
@@ -151,6 +147,7 @@ fn with_output(
 fn finish(done: Broadcast, label: &[u8]) -> bool {
     let run = done.run;
     report::summary(run.packets, run.octets, run.pdus, run.size);
+    window::say_places(&NAME, broadcast::window_of(done));
     report::psd(done);
     report::changes(done, label);
     run.ok

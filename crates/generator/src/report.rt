@@ -78,6 +78,8 @@ length in two bytes, low byte first, and then its bytes.
 
   --in FILE         packets of 1 to 4096 bytes (standard input, also for -)
   --adts            the packets stand in ADTS frames, not in records
+  --resync          with --adts: bytes at which no frame begins are passed over
+                    up to the next frame behind which another begins, or the end
   --out FILE        PDUs (standard output, also for -)
   --force           an existing FILE of --out is renamed FILE~ first
   --mode N          0, 1, 2, 3, 10 or 13 (0)
@@ -114,7 +116,8 @@ options, as in \"120 gain=3 program=2 displacement\". A dash takes an expansion
 field away, \"program=-\"; access and type are one field, and so are services and
 marker. What follows a # is a comment. Each line is tried before a PDU is made.
 
-Standard error has what is sent, and if that is not all the last line
+Standard error has what is sent, a line for each of the first five places that
+are passed over and their count, and if not all is sent the last line
 \"barzhilup generate: stopped early\". The exit status is 0 if all is sent,
 1 if not, 2 if the usage is wrong.
 ",

@@ -98,9 +98,9 @@ fn ended(task: Task, block: &mut [u8], run: Run) -> Run {
     stopped(run, UNWRITTEN, records::WHOLE)
 }
 
-// How far the work is, where somebody looks on.
-fn progress(frames: u64) {
-    files::progress(b"barzhilup join", b": frames ", frames);
+// How far the work is, where somebody looks on, as `files::show_progress` has it.
+fn progress(frames: u64, shown: i64) -> i64 {
+    files::show_progress(b"barzhilup join", b": frames ", frames, shown)
 }
 
 // All turns. They are counted down from a number that no run uses up, since a proved loop has to end, and nothing says that a file does.
@@ -114,6 +114,7 @@ fn all_turns(
 ) -> Run {
     let mut run = begun;
     let mut buf = io::large_buffer();
+    let mut shown = files::second();
     let mut turns = u64::MAX;
     while 0 < turns {
         let next = turn(task, &mut buf, core, enhanced, result, block, run);
@@ -121,7 +122,7 @@ fn all_turns(
         if run.status != GOING {
             return run;
         }
-        progress(run.frames);
+        shown = progress(run.frames, shown);
         turns -= 1;
     }
     run

@@ -1,5 +1,6 @@
-// Packets from a file: a file of records, or an ADTS dump, as open HD Radio receivers write; on `frames`, `records` and `files`. In a dump each frame is a
+// Packets from a file: a file of records, or an ADTS dump, as open HD Radio receivers write; on `ahead`, `sent_packets` and `files`. In a dump each frame is a
 // header of 7 bytes, or of 9 with its check, and then a packet.
+pub mod next;
 pub mod window;
 
 use records::Record;
@@ -92,4 +93,16 @@ pub fn say_end(label: &[u8], status: u8, read: u64) {
         &[read],
     );
     files::say(label, &words[..n]);
+}
+
+// The same of a packet whose record or frame is to begin at a byte of the file, which is said too.
+pub fn say_end_at(label: &[u8], status: u8, read: u64, byte: u64) {
+    if (status == records::END) | (status == records::FAILED) {
+        say_end(label, status, read);
+        return;
+    }
+    let mut line = [0u8; 4800];
+    let n = text::put(&mut line, 0, label);
+    let k = text::fill(&mut line, n, b": at byte @", &[byte]);
+    say_end(&line[..k], status, read);
 }

@@ -27,13 +27,14 @@ pub struct Task {
 }
 
 // A run so far: what came of the last reading, with END where all PDUs are sent, or of writing; the dice,
-// those of the bits that are flipped, the road, and how many more PDUs the burst takes.
+// those of the bits that are flipped, the road, how many more PDUs the burst takes, and the bytes of the records that were read.
 pub struct Run {
     pub status: u8,
     pub dice: Dice,
     pub noise: Dice,
     pub road: Road,
     pub burst: u64,
+    pub bytes: u64,
     // How many PDUs there were, were marked lost before, were lost and were damaged, how many bytes were altered, and how many pieces hit.
     pub pdus: u64,
     pub missing: u64,
@@ -69,6 +70,7 @@ fn begin(seed: u32) -> Run {
         noise: noise,
         road: disorder::begin(seed),
         burst: 0,
+        bytes: 0,
         pdus: 0,
         missing: 0,
         lost: 0,
@@ -88,6 +90,7 @@ pub fn send_all(task: Task, seed: u32) -> Run {
 // All turns. They are counted down from a number that no run uses up, since a proved loop has to end, and nothing says that a file does.
 fn all_turns(task: Task, pdu: &mut [u8], held: &mut [u8], start: Run) -> Run {
     let mut run = start;
+    let mut shown = files::second();
     let mut turns = u64::MAX;
     while 0 < turns {
         let next = turn(task, pdu, held, run);
@@ -95,24 +98,36 @@ fn all_turns(task: Task, pdu: &mut [u8], held: &mut [u8], start: Run) -> Run {
         if run.status != records::WHOLE {
             return run;
         }
-        progress(run.pdus);
+        shown = progress(run.pdus, shown);
         turns -= 1;
     }
     run
 }
 
-// How far the work is, where somebody looks on.
-fn progress(pdus: u64) {
-    files::progress(b"barzhilup channel", b": PDUs ", pdus);
+// How far the work is, where somebody looks on, as `files::show_progress` has it.
+fn progress(pdus: u64, shown: i64) -> i64 {
+    files::show_progress(b"barzhilup channel", b": PDUs ", pdus, shown)
 }
 
 // Reads a PDU and sends it; stops where none can be read, after the one that is held back.
 fn turn(task: Task, buf: &mut [u8], held: &mut [u8], run: Run) -> Run {
-    let r = records::read(task.input, buf);
+    let r = records::read_pdu(task.input, buf);
     if r.status != records::WHOLE {
         return ended(task, held, run, r.status);
     }
-    sent(task, &mut buf[..r.length], held, run)
+    sent(
+        task,
+        &mut buf[..r.length],
+        held,
+        after_record(run, r.length),
+    )
+}
+
+// The run after a record of so many bytes is read.
+fn after_record(run: Run, length: usize) -> Run {
+    let mut next = run;
+    next.bytes = add(run.bytes, add(2, length as u64));
+    next
 }
 
 // The run where no more can be read: the record that is held back is written in its place.
@@ -255,6 +270,7 @@ fn after(run: Run, burst: u64, dice: Dice, noise: Dice, share: Share) -> Run {
         noise: noise,
         road: road,
         burst: fewer(burst),
+        bytes: run.bytes,
         pdus: add(run.pdus, 1),
         missing: add(run.missing, share.missing),
         lost: add(run.lost, share.lost),
@@ -280,39 +296,14 @@ fn kept(task: Task, pdu: &[u8], marks: &[u8], held: &mut [u8], before: Run, next
 
 // The run with another road.
 fn on_road(run: Run, road: Road) -> Run {
-    let dice = run.dice;
-    let noise = run.noise;
-    Run {
-        status: run.status,
-        dice: dice,
-        noise: noise,
-        road: road,
-        burst: run.burst,
-        pdus: run.pdus,
-        missing: run.missing,
-        lost: run.lost,
-        damaged: run.damaged,
-        altered: run.altered,
-        hit: run.hit,
-    }
+    let mut next = run;
+    next.road = road;
+    next
 }
 
 // The run at its end, and how it stands.
 fn stopped(run: Run, status: u8) -> Run {
-    let dice = run.dice;
-    let noise = run.noise;
-    let road = run.road;
-    Run {
-        status: status,
-        dice: dice,
-        noise: noise,
-        road: road,
-        burst: run.burst,
-        pdus: run.pdus,
-        missing: run.missing,
-        lost: run.lost,
-        damaged: run.damaged,
-        altered: run.altered,
-        hit: run.hit,
-    }
+    let mut next = run;
+    next.status = status;
+    next
 }

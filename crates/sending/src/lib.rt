@@ -1,7 +1,6 @@
 // A run of the writer: packets are read ahead, and each turn sends a PDU; on `writer`, `packets` and `limits`.
 pub mod trial;
 
-use packets::Source;
 use packets::window;
 use packets::window::Window;
 use settings::Settings;
@@ -11,9 +10,8 @@ use writer::Written;
 // Where PDUs go that are written to no file.
 pub const NOWHERE: i32 = -1;
 
-// Where packets come from, where PDUs go, and the settings of each PDU.
+// Where PDUs go, and the settings of each.
 pub struct Task {
-    pub source: Source,
     pub output: i32,
     pub settings: Settings,
 }
@@ -33,12 +31,13 @@ pub struct Run {
     pub size: u64,
 }
 
-pub fn begin(writer: Writer) -> Run {
+// A run before its first PDU, of the packets of a window.
+pub fn begin(writer: Writer, window: Window) -> Run {
     Run {
         going: true,
         ok: true,
         writer: writer,
-        window: window::empty(),
+        window: window,
         ended: 0,
         packets: 0,
         octets: 0,
@@ -58,11 +57,10 @@ pub fn turn(
     pdu: &mut [u8],
     run: Run,
 ) -> Run {
-    let source = task.source;
     let before = run.window;
-    let w = window::filled(source, from, before, lengths, bytes);
+    let w = window::filled(from, before, lengths, bytes);
     if w.end <= w.first {
-        return stopped(run, !w.broken);
+        return ended(run, w);
     }
     sent(task, onto, psd, w, lengths, bytes, pdu, run)
 }
@@ -128,6 +126,13 @@ pub fn stopped(run: Run, ok: bool) -> Run {
         pdus: run.pdus,
         size: run.size,
     }
+}
+
+// The run at its end, where no packet of a window waits: all went well if its file was read to its end.
+pub fn ended(run: Run, w: Window) -> Run {
+    let mut next = stopped(run, !w.broken);
+    next.window = w;
+    next
 }
 
 fn between(from: usize, to: usize) -> u64 {

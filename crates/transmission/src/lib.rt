@@ -5,8 +5,8 @@ pub mod psd;
 use settings::Settings;
 
 // The options of `generate`.
-pub const KNOWN: [u8; 204] =
-    *b"in=\0out=\0mode=\0stream=\0crc-start=\0length=\0psd=\0psd-stream=\0psd-bytes=\0psd-repeat\0settings=\0adts\0blend=\0gain=\0common-delay=\0latency=\0class=\0program=\0displacement\0access=\0type=\0services=\0marker=\0force\0help\0";
+pub const KNOWN: [u8; 211] =
+    *b"in=\0out=\0mode=\0stream=\0crc-start=\0length=\0psd=\0psd-stream=\0psd-bytes=\0psd-repeat\0settings=\0adts\0resync\0blend=\0gain=\0common-delay=\0latency=\0class=\0program=\0displacement\0access=\0type=\0services=\0marker=\0force\0help\0";
 
 // What is asked for; ok where every number is in its range.
 pub struct Transmission {
@@ -32,15 +32,26 @@ struct Named {
     row: [u32; 22],
 }
 
-// Whether every option is one that is known, with its value, and packets and PSD are not both on standard input; if not, says what is wrong.
+// Whether every option is one that is known, with its value, packets and PSD are not both on standard input, and frames are not looked for among records; if
+// not, says what is wrong.
 pub fn check(program: &[u8], known: &[u8]) -> bool {
-    files::check(
+    if !files::check(
         program,
         known,
         b"psd",
         b"in",
         b": --psd: standard input has the packets\n",
-    )
+    ) {
+        return false;
+    }
+    if options::given(known, b"resync") & !options::given(known, b"adts") {
+        files::say(
+            program,
+            b": --resync: nothing tells where a record of a packet begins (--adts)\n",
+        );
+        return false;
+    }
+    true
 }
 
 fn octet(program: &[u8], known: &[u8], name: &[u8]) -> Choice {

@@ -77,6 +77,7 @@ of them and the most packets that wait, and the smallest latency without one.
 
 With --packets, as for barzhilup generate, which says more of them:
   --adts            the packets stand in ADTS frames, not in records
+  --resync          with --adts: passes over bytes at which no frame begins
   --length N        the length of each PDU, 96 to 20480 (1024)
   --psd FILE        PSD of each PDU, at most 128 bytes (none)
   --class N         expansion fields, sent if an option of theirs is given

@@ -5,58 +5,10 @@ use Rattle.broadcast.proofs.all_turns.Statement.{statement}
 use Rattle.broadcast.proofs.all_turns.Tie as tie
 
 abbrev Inv-loop : tie.InvT-loop
-Inv-loop job from onto text psd₀ lengths₀ bytes₀ pdu₀ now₀ turns₀ psd lengths bytes pdu now turns = (length psd ≡ length psd₀) × (length lengths ≡ length lengths₀) × (length bytes ≡ length bytes₀) × (length pdu ≡ length pdu₀)
+Inv-loop output from onto text psd₀ lengths₀ bytes₀ pdu₀ now₀ shown₀ turns₀ psd lengths bytes pdu now shown turns = (length psd ≡ length psd₀) × (length lengths ≡ length lengths₀) × (length bytes ≡ length bytes₀) × (length pdu ≡ length pdu₀)
 
 abbrev μ-loop : tie.MeasureT-loop
-μ-loop job from onto text psd₀ lengths₀ bytes₀ pdu₀ now₀ turns₀ psd lengths bytes pdu now turns = turns
-
-loop-holds : tie.Need-loop-holds Inv-loop μ-loop
-loop-holds c = search needs
-
-turn-requires : tie.Need-turn-requires Inv-loop μ-loop
-turn-requires c κs = search needs
-
-is-going-requires : tie.Need-is-going-requires Inv-loop μ-loop
-is-going-requires c κs = search needs
-
-same-length : tie.Need-same-length Inv-loop μ-loop
-same-length c = search needs
-
-same-length-2 : tie.Need-same-length-2 Inv-loop μ-loop
-same-length-2 c = search needs
-
-same-length-3 : tie.Need-same-length-3 Inv-loop μ-loop
-same-length-3 c = search needs
-
-same-length-4 : tie.Need-same-length-4 Inv-loop μ-loop
-same-length-4 c = search needs
-
-returns : tie.Need-returns Inv-loop μ-loop
-returns c = search needs
-
-sub-turns : tie.Need-sub-turns Inv-loop μ-loop
-sub-turns c = search needs
-
-loop-less : tie.Need-loop-less Inv-loop μ-loop
-loop-less c = search needs
-
-loop-again : tie.Need-loop-again Inv-loop μ-loop
-loop-again c = search needs
-
-same-length-5 : tie.Need-same-length-5 Inv-loop μ-loop
-same-length-5 c = search needs
-
-same-length-6 : tie.Need-same-length-6 Inv-loop μ-loop
-same-length-6 c = search needs
-
-same-length-7 : tie.Need-same-length-7 Inv-loop μ-loop
-same-length-7 c = search needs
-
-same-length-8 : tie.Need-same-length-8 Inv-loop μ-loop
-same-length-8 c = search needs
-
-returns-2 : tie.Need-returns-2 Inv-loop μ-loop
-returns-2 c = search needs
+μ-loop output from onto text psd₀ lengths₀ bytes₀ pdu₀ now₀ shown₀ turns₀ psd lengths bytes pdu now shown turns = turns
 
 pub all-turns-spec : {M : Type 1} → statement M
 all-turns-spec =
@@ -64,19 +16,6 @@ all-turns-spec =
     (tie.spec
     Inv-loop
     μ-loop
-    loop-holds
-    turn-requires
-    is-going-requires
-    same-length
-    same-length-2
-    same-length-3
-    same-length-4
-    returns
-    sub-turns
-    loop-less
-    loop-again
-    same-length-5
-    same-length-6
-    same-length-7
-    same-length-8
-    returns-2)
+    (λ c κs. search needs) (λ c. search needs) (λ c κs. search needs) (λ c κs. search needs) (λ c. search needs) (λ c. search needs)
+    (λ c. search needs) (λ c. search needs) (λ c. search needs) (λ c κs. search needs) (λ c. search needs) (λ c. search needs) (λ c. search needs)
+    (λ c. search needs) (λ c. search needs) (λ c. search needs) (λ c. search needs) (λ c. search needs))

@@ -5,66 +5,12 @@ use Rattle.joining.proofs.all_turns.Statement.{statement}
 use Rattle.joining.proofs.all_turns.Tie as tie
 
 abbrev Inv-loop : tie.InvT-loop
-Inv-loop task core₀ enhanced₀ result₀ block₀ run₀ buf₀ turns₀ core enhanced result block run buf turns =
+Inv-loop task core₀ enhanced₀ result₀ block₀ run₀ buf₀ shown₀ turns₀ core enhanced result block run buf shown turns =
     (length core ≡ length core₀) × (length enhanced ≡ length enhanced₀) × (length result ≡ length result₀) × (length block ≡ length block₀) × (65536 ≡ length buf)
 
 abbrev μ-loop : tie.MeasureT-loop
-μ-loop task core₀ enhanced₀ result₀ block₀ run₀ buf₀ turns₀ core enhanced result block run buf turns =
+μ-loop task core₀ enhanced₀ result₀ block₀ run₀ buf₀ shown₀ turns₀ core enhanced result block run buf shown turns =
     turns
-
-large-buffer-requires : tie.Need-large-buffer-requires Inv-loop μ-loop
-large-buffer-requires c κs = search needs
-
-loop-holds : tie.Need-loop-holds Inv-loop μ-loop
-loop-holds c = search needs
-
-slice-aggregate-turn : tie.Need-slice-aggregate-turn Inv-loop μ-loop
-slice-aggregate-turn c = search needs
-
-turn-requires : tie.Need-turn-requires Inv-loop μ-loop
-turn-requires c κs = search needs
-
-same-length : tie.Need-same-length Inv-loop μ-loop
-same-length c = search needs
-
-same-length-2 : tie.Need-same-length-2 Inv-loop μ-loop
-same-length-2 c = search needs
-
-same-length-3 : tie.Need-same-length-3 Inv-loop μ-loop
-same-length-3 c = search needs
-
-same-length-4 : tie.Need-same-length-4 Inv-loop μ-loop
-same-length-4 c = search needs
-
-returns : tie.Need-returns Inv-loop μ-loop
-returns c = search needs
-
-progress-requires : tie.Need-progress-requires Inv-loop μ-loop
-progress-requires c κs = search needs
-
-sub-turns : tie.Need-sub-turns Inv-loop μ-loop
-sub-turns c = search needs
-
-loop-less : tie.Need-loop-less Inv-loop μ-loop
-loop-less c = search needs
-
-loop-again : tie.Need-loop-again Inv-loop μ-loop
-loop-again c = search needs
-
-same-length-5 : tie.Need-same-length-5 Inv-loop μ-loop
-same-length-5 c = search needs
-
-same-length-6 : tie.Need-same-length-6 Inv-loop μ-loop
-same-length-6 c = search needs
-
-same-length-7 : tie.Need-same-length-7 Inv-loop μ-loop
-same-length-7 c = search needs
-
-same-length-8 : tie.Need-same-length-8 Inv-loop μ-loop
-same-length-8 c = search needs
-
-returns-2 : tie.Need-returns-2 Inv-loop μ-loop
-returns-2 c = search needs
 
 pub all-turns-spec : {M : Type 1} → statement M
 all-turns-spec =
@@ -72,21 +18,6 @@ all-turns-spec =
     (tie.spec
     Inv-loop
     μ-loop
-    large-buffer-requires
-    loop-holds
-    slice-aggregate-turn
-    turn-requires
-    same-length
-    same-length-2
-    same-length-3
-    same-length-4
-    returns
-    progress-requires
-    sub-turns
-    loop-less
-    loop-again
-    same-length-5
-    same-length-6
-    same-length-7
-    same-length-8
-    returns-2)
+    (λ c κs. search needs) (λ c κs. search needs) (λ c. search needs) (λ c. search needs) (λ c κs. search needs) (λ c. search needs)
+    (λ c. search needs) (λ c. search needs) (λ c. search needs) (λ c. search needs) (λ c κs. search needs) (λ c. search needs) (λ c. search needs)
+    (λ c. search needs) (λ c. search needs) (λ c. search needs) (λ c. search needs) (λ c. search needs) (λ c. search needs))

@@ -5,46 +5,10 @@ use Rattle.passage.proofs.all_turns.Statement.{statement}
 use Rattle.passage.proofs.all_turns.Tie as tie
 
 abbrev Inv-loop : tie.InvT-loop
-Inv-loop task pdu₀ held₀ run₀ turns₀ pdu held run turns = (length pdu ≡ length pdu₀) × (length held ≡ length held₀)
+Inv-loop task pdu₀ held₀ run₀ shown₀ turns₀ pdu held run shown turns = (length pdu ≡ length pdu₀) × (length held ≡ length held₀)
 
 abbrev μ-loop : tie.MeasureT-loop
-μ-loop task pdu₀ held₀ run₀ turns₀ pdu held run turns = turns
-
-loop-holds : tie.Need-loop-holds Inv-loop μ-loop
-loop-holds c = search needs
-
-turn-requires : tie.Need-turn-requires Inv-loop μ-loop
-turn-requires c κs = search needs
-
-same-length : tie.Need-same-length Inv-loop μ-loop
-same-length c = search needs
-
-same-length-2 : tie.Need-same-length-2 Inv-loop μ-loop
-same-length-2 c = search needs
-
-returns : tie.Need-returns Inv-loop μ-loop
-returns c = search needs
-
-progress-requires : tie.Need-progress-requires Inv-loop μ-loop
-progress-requires c κs = search needs
-
-sub-turns : tie.Need-sub-turns Inv-loop μ-loop
-sub-turns c = search needs
-
-loop-less : tie.Need-loop-less Inv-loop μ-loop
-loop-less c = search needs
-
-loop-again : tie.Need-loop-again Inv-loop μ-loop
-loop-again c = search needs
-
-same-length-3 : tie.Need-same-length-3 Inv-loop μ-loop
-same-length-3 c = search needs
-
-same-length-4 : tie.Need-same-length-4 Inv-loop μ-loop
-same-length-4 c = search needs
-
-returns-2 : tie.Need-returns-2 Inv-loop μ-loop
-returns-2 c = search needs
+μ-loop task pdu₀ held₀ run₀ shown₀ turns₀ pdu held run shown turns = turns
 
 pub all-turns-spec : {M : Type 1} → statement M
 all-turns-spec =
@@ -52,15 +16,5 @@ all-turns-spec =
     (tie.spec
     Inv-loop
     μ-loop
-    loop-holds
-    turn-requires
-    same-length
-    same-length-2
-    returns
-    progress-requires
-    sub-turns
-    loop-less
-    loop-again
-    same-length-3
-    same-length-4
-    returns-2)
+    (λ c κs. search needs) (λ c. search needs) (λ c κs. search needs) (λ c. search needs) (λ c. search needs) (λ c. search needs)
+    (λ c κs. search needs) (λ c. search needs) (λ c. search needs) (λ c. search needs) (λ c. search needs) (λ c. search needs) (λ c. search needs))
