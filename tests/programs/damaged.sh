@@ -1,29 +1,103 @@
 # Files of PDUs that are damaged: lengths that no PDU has, records that were cut with others written behind them, and bytes that are no records; and files whose
 # mode and stream are not known. Sourced by run.sh.
 
-# Lengths over 20,480 stop the log at their record, which is named with its place in the file; what is before it is logged.
+# Lengths over 20,480 stop the log at their record, which is named with its place in the file; what is before it is logged. By frames and with marks it is the
+# same.
 check_long_records() {
-    local length
+    local length option
     pdus 0 3 >before
     run log --in before --format csv
     head -n -1 out >wanted
+    records 5 0 >places
     for length in 20481 32768 65535; do
         { pdus 0 3; record "$length"; pdus 3 3; } >broken
-        run log --in broken --format csv
-        ended "a record of $length bytes" 1 log
-        same_file "a record of $length bytes, what is before it" wanted out
-        same "a record of $length bytes, what is said" "barzhilup log: broken: the record of PDU 3, at byte 906, has a length over 20480, which no PDU has" "$(head -n 1 err)"
+        long_record "a record of $length bytes"
+        cp err wanted.err
+        for option in "--batch 1" "--batch 2" "--batch 3" "--batch 4" "--batch 64" "--marks places"; do
+            # shellcheck disable=SC2086
+            long_record "a record of $length bytes, $option" $option
+            same_file "a record of $length bytes, $option, all that is said" wanted.err err
+        done
     done
+    same_in_batches "a record of 65535 bytes" broken
     check_long_pipes
+    check_long_later
+    check_long_second
     check_longest
+}
+
+# The log of the file broken stops at PDU 3, after the log that is wanted.
+long_record() { # ABOUT OPTION...
+    run log --in broken --format csv "${@:2}"
+    ended "$1" 1 log
+    same_file "$1, what is before it" wanted out
+    same "$1, what is said" "$(long_line broken 3 906)" "$(head -n 1 err)"
+}
+
+# What is said of a record that is too long.
+long_line() { # FILE PDU BYTE
+    echo "barzhilup log: $1: the record of PDU $2, at byte $3, has a length over 20480, which no PDU has"
 }
 
 # The same where the file has no places.
 check_long_pipes() {
+    local option
+    for option in "" "--batch 2" "--batch 8" "--marks places"; do
+        status=0
+        # shellcheck disable=SC2086
+        cat broken | "$program" log $option >out 2>err || status=$?
+        ended "a long record from a pipe $option" 1 log
+        same "a long record from a pipe $option" "$(long_line "standard input" 3 906)" "$(head -n 1 err)"
+    done
+}
+
+# A place that is far on, after PDUs of several lengths and lost ones, and after PDUs that are logged already.
+check_long_later() {
+    local option
+    { cat damaged; record 0; record 95; cat damaged; } >before
+    { cat before; record 30000; } >broken
+    run log --in before --format words
+    cp err before.err
+    for option in "" "--batch 5" "--batch 64"; do
+        # shellcheck disable=SC2086
+        run log --in broken $option
+        same "a long record far on $option" "$(long_line broken "$(pdus_logged before.err)" "$(stat -c %s before)")" "$(grep 'has a length' err)"
+    done
+    rm -f state made.csv
+    run log --in damaged --out made.csv --save state
+    for option in "" "--batch 5"; do
+        # shellcheck disable=SC2086
+        run log --in broken --resume state --skip $option
+        ended "a long record after a state $option" 1 log
+        same "a long record after a state $option" "$(long_line broken "$(pdus_logged before.err)" "$(stat -c %s before)")" "$(grep 'has a length' err)"
+    done
+    rm -f state made.csv
+}
+
+# How many PDUs the summary counts.
+pdus_logged() {
+    sed -n 's/^barzhilup log: PDUs \([0-9]*\):.*/\1/p' "$1"
+}
+
+# In either of two files; the other is not said to be wrong.
+check_long_second() {
+    { pdus 0 3; record 20481; pdus 3 3; } >broken
+    pdus 0 3 >before
+    run log --in before --second before --format csv
+    head -n -1 out >wanted
+    run log --in broken --second sent --format csv
+    ended "a long record in the first file" 1 log
+    same_file "a long record in the first file, what is before it" wanted out
+    same "a long record in the first file, what is said" "$(long_line broken 3 906)" "$(head -n 1 err)"
+    same "a long record in the first file, once" 1 "$(grep -c 'barzhilup log: \(broken\|sent\):' err)"
+    run log --in sent --second broken --format csv
+    ended "a long record in the second file" 1 log
+    same_file "a long record in the second file, what is before it" wanted out
+    same "a long record in the second file, what is said" "$(long_line broken 3 906)" "$(head -n 1 err)"
     status=0
-    cat broken | "$program" log >out 2>err || status=$?
-    ended "a long record from a pipe" 1 log
-    same "a long record from a pipe" "barzhilup log: standard input: the record of PDU 3, at byte 906, has a length over 20480, which no PDU has" "$(head -n 1 err)"
+    cat broken | "$program" log --in sent --second - >out 2>err || status=$?
+    ended "a long record in the second file, a pipe" 1 log
+    same "a long record in the second file, a pipe" "$(long_line "standard input" 3 906)" "$(head -n 1 err)"
 }
 
 # The longest PDU is none of them, and the shortest records are refused.
@@ -265,9 +339,33 @@ check_auto_later() {
     run log --in broken --mode auto --resync --format csv
     ended "damage first" 0 log
     same "damage first, what is said" "barzhilup log: broken: mode 1, stream 0, by the first PDU that can be read" "$(head -n 1 err)"
+    check_auto_stops
+}
+
+# Damage before the first PDU that can be read, without --resync: the record in the way is said, and nothing is made. With --resync mode and stream are found
+# behind bytes of all kinds.
+check_auto_stops() {
+    local line
+    rm -f new
+    run log --in broken --mode auto --out new
+    said "damage first, without --resync" 1 log "$(long_line broken 0 0)
+barzhilup log: broken: no PDU can be read in the 0 bytes before it (--resync looks behind it): mode and stream are not known"
+    there "damage first, without --resync" no new
+    { records 3 0; record 95; printf '\377\377\377'; steps 0 1 2 3; } >broken
     run log --in broken --mode auto
-    ended "damage first, without --resync" 1 log
-    same "damage first, without --resync" "barzhilup log: broken: no PDU can be read in 2 bytes: mode and stream are not known" "$(head -n 1 err)"
+    said "damage later, without --resync" 1 log "$(long_line broken 4 103)
+barzhilup log: broken: no PDU can be read in the 103 bytes before it (--resync looks behind it): mode and stream are not known"
+    { printf 'OK'; steps 0 1 2 3; } >broken
+    run log --in broken --mode auto
+    said "a text first, without --resync" 1 log "barzhilup log: broken: ends inside the record of PDU 0
+barzhilup log: broken: no PDU can be read in the 0 bytes before it (--resync looks behind it): mode and stream are not known"
+    for line in "!" "OK" "AT+CSQ" "recorder: started" "$(seq 100 900)"; do
+        { echo "$line"; steps 0 1 2 3; } >broken
+        run log --in broken --mode auto --resync --format csv
+        ended "a text of ${#line} letters first" 0 log
+        same "a text of ${#line} letters first" "barzhilup log: broken: mode 1, stream 0, by the first PDU that can be read" "$(head -n 1 err)"
+        same "a text of ${#line} letters first, PDUs" 4 "$(grep -c ',received,' out)"
+    done
 }
 
 # Only PDUs of the stream that is given count.

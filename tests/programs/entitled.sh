@@ -68,7 +68,7 @@ barzhilup log: --format: not words, text, csv, json or records: z" log --format 
         there "a list that is refused" no new
     done
     stops "barzhilup log: refused with 22: program number over 7 or repeated" log --in none --entitled 8
-    stops "barzhilup log: refused with 5: mode and stream not in the table" log --mode 4 --in sent --entitled 8
+    stops "$(unlisted_line)" log --mode 4 --in sent --entitled 8
     for list in generate channel coverage latency; do
         wrong "barzhilup $list: unknown option --entitled=3" "$list" --entitled=3
     done

@@ -417,15 +417,20 @@ check_progress() {
     same "$*, progress on a terminal" "$wanted" "$(tr '\r' '\n' <terminal | grep -x "$wanted" | sort -u || true)"
 }
 
-# A log of PDUs that come slowly shows how far it is once a second: here at the first PDU after a pause.
+# A log of PDUs that come slowly shows how far it is once a second: here at the first PDU after a pause, which is the first of a frame, has marks, or is the
+# first copy of two.
 check_progress_live() {
-    local first
+    local first option pdus
     if ! command -v script >/dev/null; then
         return
     fi
-    first="barzhilup log: PDUs $(($(stat -c %s many) / 302 + 1))"
-    script -qec "{ cat many; sleep 1.1; cat sent; } | $program log 2>&1 >/dev/null" /dev/null >terminal </dev/null
-    same "progress once a second on a terminal" "$first" "$(tr '\r' '\n' <terminal | grep -x "$first" | sort -u || true)"
+    pdus=$(($(stat -c %s many) / 302))
+    records $((pdus + $(stat -c %s sent) / 302)) 0 >places
+    first="barzhilup log: PDUs $((pdus + 1))"
+    for option in "" "--batch 1" "--marks places" "--second many"; do
+        script -qec "{ cat many; sleep 1.1; cat sent; } | $program log $option 2>&1 >/dev/null" /dev/null >terminal </dev/null
+        same "progress once a second on a terminal $option" "$first" "$(tr '\r' '\n' <terminal | grep -x "$first" | sort -u || true)"
+    done
 }
 
 # The picture of a log shows how far it is once a second: here a long one, of which a second begins while it is read.
@@ -474,7 +479,6 @@ check_terminals() {
     check_progress_paused "generate: PDUs" many.packets packets generate --length 96
     check_progress_paused "channel: PDUs" many sent channel
     check_progress_paused "join: frames" log.records log.records join --enhanced log.records
-    check_progress "barzhilup log: PDUs 1000" log --in many --batch 1
     check_progress_live
     check_progress_read
 }

@@ -1,9 +1,16 @@
 # PDUs to the packet log: refused and lost ones, the CSV's last line, and PDUs that come twice or out of order. Sourced by run.sh.
 
+# What is said of a mode and stream that the table has not: in the words of generate.
+unlisted_line() {
+    echo "barzhilup log: refused with 5: $(generate_words --mode 4)"
+}
+
 # A mode and stream that the table has not.
 check_unlisted() {
-    local line="barzhilup log: refused with 5: mode and stream not in the table"
+    local line
+    line=$(unlisted_line)
     stops "$line" log --mode 4 --in sent --out new
+    stops "$line" log --mode 5 --in sent
     there "log of an unlisted mode" no new
     stops "$line" log --stream 1 --in sent
     stops "$line" log --stream=2 --mode=1 --in=none

@@ -73,7 +73,7 @@ barzhilup log: --format: not words, text, csv, json or records: xml" log --forma
 check_register_refused() {
     refuses 5 --mode 4 --crc-start 255
     refuses 17 --length 96 --psd psd79 --crc-start 7
-    stops "barzhilup log: refused with 5: mode and stream not in the table" log --mode 4 --crc-start 255 --in sent --out new
+    stops "$(unlisted_line)" log --mode 4 --crc-start 255 --in sent --out new
     there "log of an unlisted mode with a register" no new
 }
 

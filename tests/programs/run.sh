@@ -16,7 +16,7 @@ if [ ! -x "$program" ]; then
 fi
 program=$(readlink -f "$program")
 subs=(generate channel log coverage latency join)
-for part in harness usage files generate log marks second registers batches bursts road stream coverage columns loss page particulars entitled resume beside damaged latency join; do
+for part in harness usage files generate log marks second registers batches bursts road stream coverage columns loss page particulars entitled resume beside damaged summary latency join; do
     # shellcheck source=/dev/null
     . "$here/$part.sh"
 done
@@ -172,6 +172,7 @@ check_long_records
 check_long_channel
 check_resync
 check_mode_auto
+check_summary
 check_latency_table
 check_latency_values
 check_latency_random

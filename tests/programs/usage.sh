@@ -87,7 +87,7 @@ check_help_again() {
 # A value that an option takes.
 right_value() {
     case $2 in
-        in | out | second | psd | marks | save | resume | svg | enhanced | title | packets | adts | sent | compared | station | date | source | note) echo value ;;
+        in | out | second | summary | psd | marks | save | resume | svg | enhanced | title | packets | adts | sent | compared | station | date | source | note) echo value ;;
         format) echo csv ;;
         counts) echo 3 ;;
         entitled) echo 0,3 ;;

@@ -1,5 +1,5 @@
 // What of a file is read ahead, in a lent buffer, so that it can be looked at before it is taken; on `records` alone.
-ghost use Prim.Native.Nat.{_≤_, _<_};
+ghost use Prim.Native.Nat.{_≤_};
 
 // What is read ahead stands in the buffer between two places; the first of its bytes is so many from the file's start. `open` where there may be more, `failed`
 // where a read failed.
@@ -56,6 +56,13 @@ pub fn without(a: Ahead, count: usize) -> Ahead {
         open: a.open,
         failed: a.failed,
     }
+}
+
+// The same after so many bytes that were read of the file otherwise, where nothing is read ahead.
+pub fn past(a: Ahead, bytes: u64) -> Ahead {
+    let mut next = a;
+    next.offset = std::num::wrapping_add_u64(a.offset, bytes);
+    next
 }
 
 // Moves what stands between two places of a buffer to its start. Answers how much it is.
@@ -117,12 +124,6 @@ pub fn filled(a: Ahead, buf: &mut [u8], need: usize) -> Ahead {
     read_to(m, buf, std::num::wrapping_add_usize(m.from, need))
 }
 
-fn wide(x: u8) -> usize
-    ensures { λ r. ⌜ r < 256 ⌝ }
-{
-    x as usize
-}
-
 // The number in the two bytes at a place of the buffer, low byte first; 0 where it has them not.
 pub fn length_at(buf: &[u8], place: usize) -> usize {
     if buf.len() < 2 {
@@ -131,5 +132,5 @@ pub fn length_at(buf: &[u8], place: usize) -> usize {
     if buf.len() - 2 < place {
         return 0;
     }
-    wide(buf[place]) + 256 * wide(buf[place + 1])
+    records::two_bytes(buf[place], buf[place + 1])
 }

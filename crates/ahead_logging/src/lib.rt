@@ -1,12 +1,15 @@
-// A run that reads ahead: each turn takes the next record from a lent buffer, gives its PDU to the receiver, and writes its log; on `resync` and `logging`.
-// Where bytes are passed over at which no record begins, a PDU is logged as lost, so that nothing is joined across them.
+// A run that reads ahead: each turn takes the next record from a lent buffer, and its marks, gives its PDU to the receiver, and writes its log; on `resync` and
+// `logging`. Where bytes are passed over at which no record begins, a PDU is logged as lost, so that nothing is joined across them.
 use ahead::Ahead;
 use logging::Onto;
 use logging::Run;
 use logging::Task;
+use logging::marks;
 use receiver::Receiver;
+use records::Record;
 use resync::Next;
 use resync::Wanted;
+ghost use Rattle.io.specs.Counts.{Counts};
 
 // How many places at which bytes are passed over have a line each.
 const LINES: u64 = 5;
@@ -30,7 +33,7 @@ pub fn begin(run: Run, rest: Ahead) -> Live {
 }
 
 // The same with another run.
-fn with_run(live: Live, run: Run) -> Live {
+pub fn with_run(live: Live, run: Run) -> Live {
     let rest = live.ahead;
     Live {
         run: run,
@@ -38,6 +41,13 @@ fn with_run(live: Live, run: Run) -> Live {
         places: live.places,
         passed: live.passed,
     }
+}
+
+// The same after so many bytes that were read of its file otherwise than ahead.
+pub fn past(live: Live, bytes: u64) -> Live {
+    let mut next = live;
+    next.ahead = ahead::past(live.ahead, bytes);
+    next
 }
 
 // A run after a reading, with the bytes that were passed over in it.
@@ -99,18 +109,38 @@ fn say_reading(from: &[u8], n: Next, places: u64) {
     say_passed(from, n.passed, rest.offset, places);
 }
 
-// Receives the PDU between two places of a buffer, none where there is no such part, and writes what came of it.
-fn received(
+// Reads the marks of a record that was read, or of bytes that are passed over, to the buffer's start; after the last record no marks may be left.
+fn marked(fd: i32, status: u8, places: &mut [u8]) -> Record
+    ensures { λ r. ⌜ Counts (r .length) (now (places .exit)) ⌝ }
+{
+    if (status == records::WHOLE) | (status == resync::PASSED) {
+        return marks::next(fd, places);
+    }
+    Record {
+        status: marks::last(fd, places, status),
+        length: 0,
+    }
+}
+
+// What comes of a reading, after its marks came to a status: a record is received, bytes that are passed over are a lost PDU, and others stop the run.
+fn taken(
     onto: Onto,
-    start: usize,
-    end: usize,
+    status: u8,
+    n: Next,
     carry: &mut [u8],
     buf: &mut [u8],
+    places: &[u8],
     log: &mut [u32],
     block: &mut [u8],
     counts: &mut [u64],
     run: Run,
 ) -> Run {
+    let start = n.from;
+    let end = std::num::wrapping_add_usize(start, n.length);
+    if status != records::WHOLE {
+        let receiver = run.receiver;
+        return logging::run_of(status, receiver, run.pdus);
+    }
     if buf.len() < end {
         return run;
     }
@@ -121,7 +151,7 @@ fn received(
         onto,
         carry,
         &mut buf[start..end],
-        b"",
+        places,
         log,
         block,
         counts,
@@ -129,79 +159,14 @@ fn received(
     )
 }
 
-// What comes of a reading: a record is received, bytes that are passed over are a lost PDU, and others stop the run.
-fn taken(
-    onto: Onto,
-    n: Next,
-    carry: &mut [u8],
-    buf: &mut [u8],
-    log: &mut [u32],
-    block: &mut [u8],
-    counts: &mut [u64],
-    run: Run,
-) -> Run {
-    if (n.status != records::WHOLE) & (n.status != resync::PASSED) {
-        let receiver = run.receiver;
-        return logging::run_of(n.status, receiver, run.pdus);
-    }
-    received(
-        onto,
-        n.from,
-        std::num::wrapping_add_usize(n.from, n.length),
-        carry,
-        buf,
-        log,
-        block,
-        counts,
-        run,
-    )
-}
-
-// Takes what came of a reading, and saves how the run stands then.
-fn kept(
-    task: Task,
-    path: &[u8],
-    n: Next,
-    carry: &mut [u8],
-    buf: &mut [u8],
-    log: &mut [u32],
-    block: &mut [u8],
-    counts: &mut [u64],
-    live: Live,
-) -> Live {
+// A run after another turn, whose state is saved in the file of a path, if there is one.
+pub fn saved(task: Task, path: &[u8], carry: &[u8], before: Live, live: Live) -> Live {
+    let old = before.run;
     let run = live.run;
-    let next = taken(task.onto, n, &mut *carry, buf, log, block, counts, run);
-    with_run(live, logging::saved(task, path, carry, run.pdus, next))
+    with_run(live, logging::saved(task, path, carry, old.pdus, run))
 }
 
-// Takes what came of a reading, and says where bytes were passed over.
-fn said(
-    task: Task,
-    path: &[u8],
-    from: &[u8],
-    n: Next,
-    carry: &mut [u8],
-    buf: &mut [u8],
-    log: &mut [u32],
-    block: &mut [u8],
-    counts: &mut [u64],
-    live: Live,
-) -> Live {
-    say_reading(from, n, live.places);
-    kept(
-        task,
-        path,
-        n,
-        carry,
-        buf,
-        log,
-        block,
-        counts,
-        with_reading(live, n),
-    )
-}
-
-// Reads on and takes what came.
+// Reads on and takes what came, and says where bytes were passed over.
 fn turn(
     task: Task,
     resync: bool,
@@ -209,40 +174,48 @@ fn turn(
     from: &[u8],
     carry: &mut [u8],
     buf: &mut [u8],
+    places: &mut [u8],
     log: &mut [u32],
     block: &mut [u8],
     counts: &mut [u64],
     live: Live,
 ) -> Live {
     let run = live.run;
-    let receiver = run.receiver;
-    let n = next_of(resync, receiver, live.ahead, &mut *buf);
-    said(task, path, from, n, carry, buf, log, block, counts, live)
-}
-
-// The second that it is, by the clock.
-fn second() -> i64 {
-    let mut t: i64 = 0;
-    libc::time(&mut t)
-}
-
-// How far the work is, where somebody looks on: a line that the next one overwrites. It is said once a second: not in the second that is given, that of the
-// line before or of the work's beginning. Answers the second that it is.
-fn progress(run: Run, shown: i64) -> i64 {
-    let now = second();
-    if now == shown {
-        return now;
-    }
-    if libc::isatty(libc::STDERR_FILENO) == 1 {
-        files::say_number(b"barzhilup log", b": PDUs ", run.pdus, b"\r");
-    }
-    now
+    let n = next_of(resync, run.receiver, live.ahead, &mut *buf);
+    say_reading(from, n, live.places);
+    let m = marked(task.marks, n.status, places);
+    let k = m.length;
+    let next = taken(
+        task.onto,
+        m.status,
+        n,
+        &mut *carry,
+        buf,
+        &places[..k],
+        log,
+        block,
+        counts,
+        run,
+    );
+    saved(
+        task,
+        path,
+        carry,
+        live,
+        with_run(with_reading(live, n), next),
+    )
 }
 
 // Whether a run goes on.
-fn is_going(live: Live) -> bool {
+pub fn is_going(live: Live) -> bool {
     let run = live.run;
     run.status == records::WHOLE
+}
+
+// How far a run is, where somebody looks on.
+pub fn progress(live: Live, shown: i64) -> i64 {
+    let run = live.run;
+    logging::progress(run.pdus, shown)
 }
 
 // All turns. They are counted down from a number that no run uses up, since a proved loop has to end, and nothing says that a file does.
@@ -253,13 +226,14 @@ fn all_turns(
     from: &[u8],
     carry: &mut [u8],
     buf: &mut [u8],
+    places: &mut [u8],
     log: &mut [u32],
     block: &mut [u8],
     counts: &mut [u64],
     start: Live,
 ) -> Live {
     let mut live = start;
-    let mut shown = second();
+    let mut shown = files::second();
     let mut turns = u64::MAX;
     while 0 < turns {
         let next = turn(
@@ -269,6 +243,7 @@ fn all_turns(
             from,
             carry,
             buf,
+            places,
             log,
             block,
             counts,
@@ -278,21 +253,21 @@ fn all_turns(
         if !is_going(live) {
             return live;
         }
-        shown = progress(live.run, shown);
+        shown = progress(live, shown);
         turns -= 1;
     }
     live
 }
 
 // The run after all turns: what stands after all PDUs is written, if all are logged.
-fn ended(task: Task, block: &mut [u8], live: Live) -> Live {
+pub fn ended(task: Task, block: &mut [u8], live: Live) -> Live {
     let run = live.run;
     let onto = task.onto;
     with_run(live, logging::ended(onto, block, run))
 }
 
 // The run where the log could not be written.
-fn unwritten(live: Live) -> Live {
+pub fn unwritten(live: Live) -> Live {
     let run = live.run;
     let receiver = run.receiver;
     with_run(
@@ -313,6 +288,7 @@ pub fn log_all(
     counts: &mut [u64],
     start: Live,
 ) -> Live {
+    let mut places = [0u8; 65535];
     let mut log = [0u32; 8400];
     let mut block = io::large_buffer();
     if !logging::begin(task, &mut block) {
@@ -325,6 +301,7 @@ pub fn log_all(
         from,
         carry,
         buf,
+        &mut places,
         &mut log,
         &mut block,
         counts,

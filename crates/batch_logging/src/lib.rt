@@ -1,6 +1,7 @@
-// A run by batches (document 02, Ask 1), on `batch` and `logging`: each turn reads a frame, some records joined in a buffer, has its PDUs received in one call,
-// and writes what came of each. Where the call stops, at a PDU that is refused or at an empty record, this one and those behind it in the frame are received by
-// calls of their own, as in a run without batches. So the log is the same for every count of records in a frame.
+// A run by batches (document 02, Ask 1), on `batch` and `ahead_logging`: each turn reads a frame, some records joined in a buffer, has its PDUs received in one
+// call, and writes what came of each. Where the call stops, at a PDU that is refused or at an empty record, this one and those behind it in the frame are received
+// by calls of their own, as in a run without batches. So the log is the same for every count of records in a frame.
+use ahead_logging::Live;
 use batch::Batch;
 use logging::Onto;
 use logging::Run;
@@ -12,9 +13,6 @@ ghost use mathlib.Core.Path.{_≡_};
 ghost use Prim.Native.Nat.{_≤_};
 ghost use lib.ListN.{length};
 ghost use Rattle.io.specs.Counts.{Counts};
-
-// No record is longer: a frame ends where its buffer has less room.
-const LONGEST: usize = 65535;
 
 fn least(a: usize, b: usize) -> usize
     ensures { λ r. ⌜ r ≤ b ⌝ }
@@ -80,7 +78,8 @@ struct Frame {
     bytes: usize,
 }
 
-// Reads records to the frame's start and their lengths to the list's, as many as the list has places for.
+// Reads records to the frame's start and their lengths to the list's, as many as the list has places for; not where the frame has less room than the longest
+// PDU has.
 fn read(input: i32, frame: &mut [u8], lengths: &mut [usize]) -> Frame
     ensures { λ r. ⌜ Counts (r .bytes) (now (frame .exit)) ⌝ }
     ensures { λ r. ⌜ Counts (r .count) (now (lengths .exit)) ⌝ }
@@ -89,10 +88,10 @@ fn read(input: i32, frame: &mut [u8], lengths: &mut [usize]) -> Frame
     let mut i: usize = 0;
     let mut status = records::WHOLE;
     while i < lengths.len() {
-        if frame.len() - end < LONGEST {
+        if frame.len() - end < records::LONGEST {
             break;
         }
-        let r = records::read(input, &mut frame[end..]);
+        let r = records::read_pdu(input, &mut frame[end..]);
         status = r.status;
         if status != records::WHOLE {
             break;
@@ -258,16 +257,27 @@ fn received(
     )
 }
 
-// How a run stands after a frame whose last reading came to a status.
-fn after(run: Run, status: u8) -> Run {
+// How a run stands by a frame that is received: where all of it is, by what came of its last reading.
+fn status_after(run: Run, f: Frame) -> u8 {
     if run.status != records::WHOLE {
-        return run;
+        return run.status;
     }
-    let receiver = run.receiver;
-    logging::run_of(status, receiver, run.pdus)
+    f.status
 }
 
-// Reads a frame and receives it; stops where a record cannot be read.
+// The run after a frame: its file is past the records of the frame, with their lengths.
+fn after(live: Live, run: Run, f: Frame) -> Live {
+    let receiver = run.receiver;
+    let count = f.count as u64;
+    let heads = std::num::wrapping_add_u64(count, count);
+    let next = ahead_logging::past(live, std::num::wrapping_add_u64(f.bytes as u64, heads));
+    ahead_logging::with_run(
+        next,
+        logging::run_of(status_after(run, f), receiver, run.pdus),
+    )
+}
+
+// Reads a frame and receives it; stops where a record cannot be read. Nothing of the file is read ahead.
 fn turn(
     task: Task,
     carry: &mut [u8],
@@ -278,12 +288,14 @@ fn turn(
     log: &mut [u32],
     block: &mut [u8],
     counts: &mut [u64],
-    run: Run,
-) -> Run {
-    let f = read(task.input, frame, lengths);
+    live: Live,
+) -> Live {
+    let rest = live.ahead;
+    let f = read(rest.fd, frame, lengths);
     let n = f.bytes;
     let k = f.count;
     let onto = task.onto;
+    let run = live.run;
     let next = received(
         onto,
         run,
@@ -296,14 +308,7 @@ fn turn(
         block,
         counts,
     );
-    after(next, f.status)
-}
-
-// How far the work is, each time that another thousand PDUs are logged.
-fn progress(before: u64, pdus: u64) {
-    if before / 1000 != pdus / 1000 {
-        logging::progress(pdus / 1000 * 1000);
-    }
+    after(live, next, f)
 }
 
 // All turns, counted down as in a run without batches.
@@ -318,12 +323,12 @@ fn all_turns(
     log: &mut [u32],
     block: &mut [u8],
     counts: &mut [u64],
-    start: Run,
-) -> Run {
-    let mut run = start;
+    start: Live,
+) -> Live {
+    let mut live = start;
+    let mut shown = files::second();
     let mut turns = u64::MAX;
     while 0 < turns {
-        let before = run.pdus;
         let next = turn(
             task,
             carry,
@@ -334,23 +339,23 @@ fn all_turns(
             log,
             block,
             counts,
-            run,
+            live,
         );
-        run = logging::saved(task, path, carry, before, next);
-        if run.status != records::WHOLE {
-            return run;
+        live = ahead_logging::saved(task, path, carry, live, next);
+        if !ahead_logging::is_going(live) {
+            return live;
         }
-        progress(before, run.pdus);
+        shown = ahead_logging::progress(live, shown);
         turns -= 1;
     }
-    run
+    live
 }
 
 // A buffer for the bytes of a frame, and one for the words of its log.
-fn bytes() -> [u8; 196605]
-    ensures { λ r. ⌜ 196605 ≡ length r ⌝ }
+fn bytes() -> [u8; 151550]
+    ensures { λ r. ⌜ 151550 ≡ length r ⌝ }
 {
-    [0; 196605]
+    [0; 151550]
 }
 
 fn words() -> [u32; 50000]
@@ -366,9 +371,9 @@ fn log_frames(
     path: &[u8],
     many: usize,
     carry: &mut [u8],
-    start: Run,
     counts: &mut [u64],
-) -> Run {
+    start: Live,
+) -> Live {
     let mut came = bytes();
     let mut frame = bytes();
     let mut lengths = [0usize; 64];
@@ -376,11 +381,10 @@ fn log_frames(
     let mut ends = [0usize; 64];
     let mut log = words();
     let mut block = io::large_buffer();
-    let receiver = start.receiver;
     if !logging::begin(task, &mut block) {
-        return logging::run_of(logging::UNWRITTEN, receiver, start.pdus);
+        return ahead_logging::unwritten(start);
     }
-    let run = all_turns(
+    let last = all_turns(
         task,
         path,
         carry,
@@ -393,21 +397,24 @@ fn log_frames(
         counts,
         start,
     );
-    let onto = task.onto;
-    logging::ended(onto, &mut block, run)
+    ahead_logging::ended(task, &mut block, last)
 }
 
-// Logs all PDUs: each by a call of its own where no frames are asked for, else by frames of so many records, at most 64.
+// Logs all PDUs: each by a call of its own where no frames are asked for, as `ahead_logging::log_all` does; else by frames of so many records, at most 64, of a
+// file of which nothing is read ahead.
 pub fn log_all(
     task: Task,
-    path: &[u8],
+    resync: bool,
     many: usize,
+    path: &[u8],
+    from: &[u8],
     carry: &mut [u8],
-    start: Run,
+    buf: &mut [u8],
     counts: &mut [u64],
-) -> Run {
+    start: Live,
+) -> Live {
     if many == 0 {
-        return logging::log_all(task, path, carry, start, counts);
+        return ahead_logging::log_all(task, resync, path, from, carry, buf, counts, start);
     }
-    log_frames(task, path, many, carry, start, counts)
+    log_frames(task, path, many, carry, counts, start)
 }

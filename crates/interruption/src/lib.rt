@@ -78,12 +78,25 @@ fn refused(label: &[u8], refusal: u32) {
     io::write_all(libc::STDERR_FILENO, &line[..k]);
 }
 
+// Says that no receiver is opened for a mode and a stream: with 5 by the words in which a writer refuses them, that have the table.
+fn not_opened(refusal: u32, mode: u8, stream: u8) {
+    if refusal != 5 {
+        refused(b"barzhilup log", refusal);
+        return;
+    }
+    let mut line = [0u8; 256];
+    let n = text::put(&mut line, 0, b"barzhilup log");
+    let settings = named_settings::of(named_settings::none());
+    let k = limits::put(&mut line, n, refusal, mode, stream, 0, settings);
+    io::write_all(libc::STDERR_FILENO, &line[..k]);
+}
+
 // A receiver that is opened for a mode, a stream, a register and the entitled programs of the option; if it is refused, says so.
 fn opened(known: &[u8], mode: u8, stream: u8, register: u8) -> Start {
     let o = opening::open(known, mode, stream, register);
     let receiver = o.receiver;
     if o.refusal != 0 {
-        refused(b"barzhilup log", o.refusal);
+        not_opened(o.refusal, mode, stream);
     }
     Start {
         ok: o.refusal == 0,

@@ -3,8 +3,8 @@ use text::Number;
 ghost use Prim.Native.Nat.{_≤_};
 
 // The options that are known.
-pub const KNOWN: [u8; 157] =
-    *b"in=\0out=\0second=\0marks=\0save=\0resume=\0skip\0resync\0force\0mode=\0stream=\0crc-start=\0entitled=\0format=\0batch=\0packets=\0adts=\0psd=\0sent=\0sent-adts\0compared=\0help\0";
+pub const KNOWN: [u8; 166] =
+    *b"summary=\0in=\0out=\0second=\0marks=\0save=\0resume=\0skip\0resync\0force\0mode=\0stream=\0crc-start=\0entitled=\0format=\0batch=\0packets=\0adts=\0psd=\0sent=\0sent-adts\0compared=\0help\0";
 
 // What is asked for; ok where mode, stream, the register that CRCs start with, the entitled programs, format and the records of a frame are given as they can
 // be, and the options go together.
@@ -50,7 +50,7 @@ fn mode_asked(auto: bool) -> Number
 }
 
 // Whether an option by which PDUs are not read one by one from one file is given.
-pub fn is_otherwise() -> bool {
+fn is_otherwise() -> bool {
     options::given(&KNOWN, b"batch")
         | options::given(&KNOWN, b"marks")
         | options::given(&KNOWN, b"second")
@@ -159,6 +159,21 @@ pub fn check() -> bool {
         return false;
     }
     can_pair()
+}
+
+// Whether the summary of a log is asked for alone, as one argument or as two after the subcommand; if not, says so.
+pub fn is_alone() -> bool {
+    let mut first = [0u8; 16];
+    let n = os::arg(2, &mut first);
+    let count = os::arg_count();
+    if (count == 3) | ((count == 4) & check::same(&first[..n], b"--summary")) {
+        return true;
+    }
+    files::say(
+        b"barzhilup log",
+        b": --summary: goes with no other option\n",
+    );
+    false
 }
 
 pub fn asked() -> Job {

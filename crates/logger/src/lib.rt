@@ -2,12 +2,10 @@
 mod live;
 mod two;
 
-use beside::Beside;
+use beside_files::Opened;
 use job::Job;
 use logging::Onto;
 use logging::Run;
-use logging::Task;
-use logging::marks;
 use logging::output::Sink;
 use receiver::Receiver;
 use saved_state::State;
@@ -41,11 +39,28 @@ pub fn program() -> i32 {
     if !job::check() {
         return files::WRONG;
     }
+    if options::given(&job::KNOWN, b"summary") {
+        return summarized();
+    }
     let job = job::asked();
     if !job.ok {
         return files::WRONG;
     }
     exit_status(with_job(job))
+}
+
+// Sums up a log that is there. Answers the exit status.
+fn summarized() -> i32 {
+    if !job::is_alone() {
+        return files::WRONG;
+    }
+    let mut label = files::label_buffer();
+    let log = opened(b"summary", &mut label);
+    if log.fd < 0 {
+        return exit_status(files::EARLY);
+    }
+    let n = log.length;
+    files::status(b"barzhilup log", summary::of_file(log.fd, &label[..n]))
 }
 
 // Makes the log. Answers how it ended: DONE, EARLY or NEVER_SENT.
@@ -74,24 +89,7 @@ fn with_state(job: Job, state: State, carry: &mut [u8]) -> i32 {
         let receiver = state.receiver;
         return two::with_first(job, receiver, &label[..n], pdus.fd);
     }
-    if !job::is_otherwise() {
-        return live::with_state(job, state, carry, &label[..n], pdus.fd);
-    }
-    with_input(job, state, carry, &label[..n], pdus.fd)
-}
-
-// Opens the file of marks, where one is given.
-fn with_input(job: Job, state: State, carry: &mut [u8], from: &[u8], input: i32) -> i32 {
-    if !options::given(&job::KNOWN, b"marks") {
-        return with_marks(job, state, carry, from, input, b"", marks::NONE);
-    }
-    let mut label = files::label_buffer();
-    let places = opened(b"marks", &mut label);
-    if places.fd < 0 {
-        return files::EARLY;
-    }
-    let n = places.length;
-    with_marks(job, state, carry, from, input, &label[..n], places.fd)
+    live::with_state(job, state, carry, &label[..n], pdus.fd)
 }
 
 // A file that is read: its number, -1 where it cannot be opened, and how long its label is.
@@ -117,122 +115,25 @@ fn opened(option: &[u8], label: &mut [u8]) -> File
     }
 }
 
-// Passes over what is logged already, where that is asked for.
-fn with_marks(
-    job: Job,
-    state: State,
-    carry: &mut [u8],
-    from: &[u8],
-    input: i32,
-    marking: &[u8],
-    marks: i32,
-) -> i32 {
-    if !interruption::pass_over(&job::KNOWN, input, from, state.pdus) {
-        return files::EARLY;
-    }
-    if !interruption::pass_over(&job::KNOWN, marks, marking, state.pdus) {
-        return files::EARLY;
-    }
-    with_files(job, state, carry, from, input, marking, marks)
-}
-
-// Puts the labels of the files that are written.
-fn with_files(
-    job: Job,
-    state: State,
-    carry: &mut [u8],
-    from: &[u8],
-    input: i32,
-    marking: &[u8],
-    marks: i32,
-) -> i32 {
+// Makes the file of the log and those beside it.
+fn made() -> Opened {
     let mut onto = files::label_buffer();
     let n = files::put_output_label(&mut onto, b"barzhilup log", &job::KNOWN);
     let mut labels = beside_files::label_buffer();
     let k = beside_files::put_labels(&mut labels, &job::KNOWN);
-    with_labels(
-        job,
-        state,
-        carry,
-        from,
-        input,
-        marking,
-        marks,
-        &onto[..n],
-        &labels[..k],
-    )
+    beside_files::open(&job::KNOWN, &onto[..n], &labels[..k])
 }
 
-// Makes the file of the log and those beside it, and that in which the state is saved, where it is given; and logs.
-fn with_labels(
-    job: Job,
-    state: State,
-    carry: &mut [u8],
-    from: &[u8],
-    input: i32,
-    marking: &[u8],
-    marks: i32,
-    onto: &[u8],
-    labels: &[u8],
-) -> i32 {
-    let o = beside_files::open(&job::KNOWN, onto, labels);
-    if !o.ok {
-        return files::EARLY;
-    }
-    if !interruption::make(&job::KNOWN, state, carry) {
-        files::unmake(&job::KNOWN, b"out");
-        return files::EARLY;
-    }
+// Where a job's log goes, with these files.
+fn onto_of(job: Job, o: Opened) -> Onto {
     let beside = o.beside;
-    let task = task_of(job, input, marks, o.output, beside, state.bytes);
-    logged(job, task, state, carry, from, marking, onto, labels)
-}
-
-// The task of a job with these files, after so many bytes of the log.
-fn task_of(job: Job, input: i32, marks: i32, output: i32, beside: Beside, bytes: u64) -> Task {
-    Task {
-        input: input,
-        marks: marks,
-        onto: Onto {
-            sink: Sink {
-                fd: output,
-                format: job.format,
-            },
-            beside: beside,
+    Onto {
+        sink: Sink {
+            fd: o.output,
+            format: job.format,
         },
-        bytes: bytes,
+        beside: beside,
     }
-}
-
-// Logs, and says why it ended and what was received.
-fn logged(
-    job: Job,
-    task: Task,
-    state: State,
-    carry: &mut [u8],
-    from: &[u8],
-    marking: &[u8],
-    onto: &[u8],
-    labels: &[u8],
-) -> i32 {
-    let mut path = io::buffer();
-    let n = interruption::put_path(&job::KNOWN, &mut path);
-    let receiver = state.receiver;
-    let start = logging::run_of(records::WHOLE, receiver, state.pdus);
-    let mut counts = no_counts();
-    counts::begin(&mut counts, receiver);
-    let o = task.onto;
-    let beside = o.beside;
-    comparison::begin(&mut counts, beside.many);
-    let run = batch_logging::log_all(task, &path[..n], job.batch, carry, start, &mut counts);
-    ends(run, from, marking, onto, labels);
-    finish(run, state.pdus, o, onto, labels, &counts)
-}
-
-// Why no more PDUs are logged.
-fn ends(run: Run, from: &[u8], marking: &[u8], onto: &[u8], labels: &[u8]) {
-    beside_files::ends(run.status, labels);
-    remarks::ends(run.status, from, marking, onto, run.pdus);
 }
 
 // Closes the files, and says what was received after so many PDUs.

@@ -1,8 +1,9 @@
-// The log of a file that is read ahead: one with bytes at which no record begins, or one whose mode and stream are taken from its PDUs.
+// The log of a file of PDUs, with its marks: it is read ahead, where it may have bytes at which no record begins, or its mode and stream are taken from its PDUs.
 use ahead::Ahead;
 use ahead_logging::Live;
 use job::Job;
 use logging::Task;
+use logging::marks;
 use resync::First;
 use resync::Wanted;
 use saved_state::State;
@@ -16,17 +17,9 @@ fn buffer() -> [u8; 196605]
     [0; 196605]
 }
 
-// A place in a file as a count of bytes, 0 where there are no places.
-fn offset(place: i64) -> u64 {
-    if place > 0 {
-        return place as u64;
-    }
-    0
-}
-
 // Nothing is read ahead of an open file.
 fn begin(fd: i32) -> Ahead {
-    ahead::begin(fd, offset(files::place(fd)))
+    ahead::begin(fd, logging::offset(fd))
 }
 
 // Opens the file of PDUs, whose mode and stream are not known.
@@ -67,34 +60,54 @@ fn known_stream(stream: u8) -> u8 {
     stream
 }
 
-// Says which mode and stream were found in the file of a label, or that none were. Answers whether they were.
+// Says which mode and stream were found in the file of a label, or that none were, and which record stands in the way. Answers whether they were.
 fn is_found(from: &[u8], f: First) -> bool {
     let rest = f.ahead;
     if rest.failed {
         os::fail(from);
         return false;
     }
-    let mut line = [0u8; 4800];
-    let n = text::put(&mut line, 0, from);
-    let k = text::fill(
-        &mut line,
-        n,
+    if f.found {
+        say_found(
+            from,
+            b": mode @, stream @, by the first PDU that can be read\n",
+            f.mode as u64,
+            f.stream as u64,
+        );
+        return true;
+    }
+    if is_in_the_way(f) {
+        remarks::record_ends(f.status, from, f.records, place_of(f));
+    }
+    say_found(
+        from,
         text::entry(
-            b": no PDU can be read in @ bytes: mode and stream are not known\n\0: mode @, stream @, by the first PDU that can be read\n\0",
-            f.found as u32,
+            b": no PDU can be read in @ bytes: mode and stream are not known\n\0: no PDU can be read in the @ bytes before it (--resync looks behind it): mode and stream are not known\n\0",
+            is_in_the_way(f) as u32,
         ),
-        &[number(f), f.stream as u64],
+        f.bytes as u64,
+        0,
     );
-    io::write_all(libc::STDERR_FILENO, &line[..k]);
-    f.found
+    false
 }
 
-// The mode that was found, or how many bytes were looked at.
-fn number(f: First) -> u64 {
-    if f.found {
-        return f.mode as u64;
-    }
-    ahead::size(f.ahead) as u64
+// Whether a record stands in the way that is longer than any PDU, or that the file ends inside of.
+fn is_in_the_way(f: First) -> bool {
+    (f.status == records::LONG) | (f.status == records::CUT)
+}
+
+// The byte of the file at which the last look was.
+fn place_of(f: First) -> u64 {
+    let rest = f.ahead;
+    std::num::wrapping_add_u64(rest.offset, f.bytes as u64)
+}
+
+// A line on standard error with a label and two numbers.
+fn say_found(from: &[u8], words: &[u8], a: u64, b: u64) {
+    let mut line = [0u8; 4800];
+    let n = text::put(&mut line, 0, from);
+    let k = text::fill(&mut line, n, words, &[a, b]);
+    io::write_all(libc::STDERR_FILENO, &line[..k]);
 }
 
 // Opens the receiver for the mode and the stream that were found.
@@ -140,7 +153,7 @@ fn is_there(status: u8, from: &[u8], many: u64) -> bool {
     true
 }
 
-// Puts the labels of the files that are written.
+// Opens the file of marks, where one is given, and passes over those of what is logged already, where that is asked for.
 fn with_ahead(
     job: Job,
     state: State,
@@ -149,25 +162,33 @@ fn with_ahead(
     rest: Ahead,
     buf: &mut [u8],
 ) -> i32 {
-    let mut onto = files::label_buffer();
-    let n = files::put_output_label(&mut onto, b"barzhilup log", &job::KNOWN);
-    let mut labels = beside_files::label_buffer();
-    let k = beside_files::put_labels(&mut labels, &job::KNOWN);
-    with_labels(job, state, carry, from, &onto[..n], &labels[..k], rest, buf)
+    if !options::given(&job::KNOWN, b"marks") {
+        return with_marks(job, state, carry, from, b"", marks::NONE, rest, buf);
+    }
+    let mut label = files::label_buffer();
+    let places = crate::opened(b"marks", &mut label);
+    if places.fd < 0 {
+        return files::EARLY;
+    }
+    let n = places.length;
+    with_marks(job, state, carry, from, &label[..n], places.fd, rest, buf)
 }
 
 // Makes the file of the log and those beside it, and that in which the state is saved, where it is given; and logs.
-fn with_labels(
+fn with_marks(
     job: Job,
     state: State,
     carry: &mut [u8],
     from: &[u8],
-    onto: &[u8],
-    labels: &[u8],
+    marking: &[u8],
+    marks: i32,
     rest: Ahead,
     buf: &mut [u8],
 ) -> i32 {
-    let o = beside_files::open(&job::KNOWN, onto, labels);
+    if !interruption::pass_over(&job::KNOWN, marks, marking, state.pdus) {
+        return files::EARLY;
+    }
+    let o = crate::made();
     if !o.ok {
         return files::EARLY;
     }
@@ -175,54 +196,51 @@ fn with_labels(
         files::unmake(&job::KNOWN, b"out");
         return files::EARLY;
     }
-    let beside = o.beside;
-    let task = crate::task_of(
-        job,
-        rest.fd,
-        logging::marks::NONE,
-        o.output,
-        beside,
-        state.bytes,
-    );
-    logged(job, task, state, carry, from, onto, labels, rest, buf)
+    let task = Task {
+        marks: marks,
+        onto: crate::onto_of(job, o),
+        bytes: state.bytes,
+    };
+    with_task(job, task, state, carry, from, marking, rest, buf)
 }
 
-// Logs, with the path of the file in which the state is saved, where it is given.
-fn logged(
+// Puts the labels of the files that are written, before anything goes wrong: errno is that of what does.
+fn with_task(
     job: Job,
     task: Task,
     state: State,
     carry: &mut [u8],
     from: &[u8],
-    onto: &[u8],
-    labels: &[u8],
+    marking: &[u8],
     rest: Ahead,
     buf: &mut [u8],
 ) -> i32 {
-    let mut path = io::buffer();
-    let n = interruption::put_path(&job::KNOWN, &mut path);
-    with_path(
+    let mut onto = files::label_buffer();
+    let n = files::put_output_label(&mut onto, b"barzhilup log", &job::KNOWN);
+    let mut labels = beside_files::label_buffer();
+    let k = beside_files::put_labels(&mut labels, &job::KNOWN);
+    logged(
         job,
         task,
         state,
-        &path[..n],
         carry,
         from,
-        onto,
-        labels,
+        marking,
+        &onto[..n],
+        &labels[..k],
         rest,
         buf,
     )
 }
 
 // Logs, and says why it ended and what was received.
-fn with_path(
+fn logged(
     job: Job,
     task: Task,
     state: State,
-    path: &[u8],
     carry: &mut [u8],
     from: &[u8],
+    marking: &[u8],
     onto: &[u8],
     labels: &[u8],
     rest: Ahead,
@@ -235,17 +253,42 @@ fn with_path(
     let beside = o.beside;
     comparison::begin(&mut counts, beside.many);
     let start = ahead_logging::begin(logging::run_of(records::WHOLE, receiver, state.pdus), rest);
-    let last = ahead_logging::log_all(task, job.resync, path, from, carry, buf, &mut counts, start);
-    ends(last, from, onto, labels);
+    let last = with_path(job, task, from, carry, buf, &mut counts, start);
+    ends(last, from, marking, onto, labels);
     let status = crate::finish(last.run, state.pdus, o, onto, labels, &counts);
     remarks::passed(last.places, last.passed);
     status
 }
 
+// Logs, with the path of the file in which the state is saved, where it is given.
+fn with_path(
+    job: Job,
+    task: Task,
+    from: &[u8],
+    carry: &mut [u8],
+    buf: &mut [u8],
+    counts: &mut [u64],
+    start: Live,
+) -> Live {
+    let mut path = io::buffer();
+    let n = interruption::put_path(&job::KNOWN, &mut path);
+    batch_logging::log_all(
+        task,
+        job.resync,
+        job.batch,
+        &path[..n],
+        from,
+        carry,
+        buf,
+        counts,
+        start,
+    )
+}
+
 // Why no more PDUs are logged.
-fn ends(last: Live, from: &[u8], onto: &[u8], labels: &[u8]) {
+fn ends(last: Live, from: &[u8], marking: &[u8], onto: &[u8], labels: &[u8]) {
     let run = last.run;
     let left = last.ahead;
     beside_files::ends(run.status, labels);
-    remarks::stops(run.status, from, onto, run.pdus, left.offset);
+    remarks::ends(run.status, from, marking, onto, run.pdus, left.offset);
 }

@@ -1,7 +1,6 @@
 // The log of a drive that two receivers recorded (document 02, Ask 5).
 use job::Job;
 use logging::Onto;
-use logging::output::Sink;
 use receiver::Receiver;
 use recordings::Run;
 use recordings::Task;
@@ -17,7 +16,7 @@ pub fn with_first(job: Job, receiver: Receiver, from: &[u8], first: i32) -> i32 
     with_both(job, receiver, from, first, &label[..n], other.fd)
 }
 
-// Puts the labels of the files that are written.
+// Makes the file of the log and those beside it, and logs.
 fn with_both(
     job: Job,
     receiver: Receiver,
@@ -26,50 +25,25 @@ fn with_both(
     other: &[u8],
     second: i32,
 ) -> i32 {
+    let o = crate::made();
+    if !o.ok {
+        return files::EARLY;
+    }
+    let task = Task {
+        first: first,
+        second: second,
+        onto: crate::onto_of(job, o),
+    };
+    with_task(task, receiver, from, other)
+}
+
+// Puts the labels of the files that are written, before anything goes wrong: errno is that of what does.
+fn with_task(task: Task, receiver: Receiver, from: &[u8], other: &[u8]) -> i32 {
     let mut onto = files::label_buffer();
     let n = files::put_output_label(&mut onto, b"barzhilup log", &job::KNOWN);
     let mut labels = beside_files::label_buffer();
     let k = beside_files::put_labels(&mut labels, &job::KNOWN);
-    with_labels(
-        job,
-        receiver,
-        from,
-        first,
-        other,
-        second,
-        &onto[..n],
-        &labels[..k],
-    )
-}
-
-// Makes the file of the log and those beside it, and logs.
-fn with_labels(
-    job: Job,
-    receiver: Receiver,
-    from: &[u8],
-    first: i32,
-    other: &[u8],
-    second: i32,
-    onto: &[u8],
-    labels: &[u8],
-) -> i32 {
-    let o = beside_files::open(&job::KNOWN, onto, labels);
-    if !o.ok {
-        return files::EARLY;
-    }
-    let beside = o.beside;
-    let task = Task {
-        first: first,
-        second: second,
-        onto: Onto {
-            sink: Sink {
-                fd: o.output,
-                format: job.format,
-            },
-            beside: beside,
-        },
-    };
-    logged(task, receiver, from, other, onto, labels)
+    logged(task, receiver, from, other, &onto[..n], &labels[..k])
 }
 
 // Logs, and says why it ended and what was received.
@@ -111,8 +85,8 @@ fn ends(run: Run, from: &[u8], other: &[u8], onto: &[u8], labels: &[u8], rows: &
     }
     let one = counts::at(rows, apart::FIRST_RECORDS);
     let two = counts::at(rows, apart::SECOND_RECORDS);
-    remarks::side_ends(run.first, from, one, run.pdus);
-    remarks::side_ends(run.second, other, two, run.pdus);
+    remarks::side_ends(run.first, from, one, run.pdus, run.first_at);
+    remarks::side_ends(run.second, other, two, run.pdus, run.second_at);
 }
 
 // What is asked of one file, and whether both have a record for each PDU, where the pairs speak against it.

@@ -1,4 +1,5 @@
-// A run: each turn reads a PDU and its marks, gives it to the receiver, and writes its log; on `reception`, `formats`, `counts`, `saved_state` and `beside`.
+// The turns of a run, whatever PDUs are read from: each is given to the receiver, and its log is written, and the files beside it; on `reception`, `formats`,
+// `counts`, `saved_state` and `beside`.
 pub mod marks;
 pub mod output;
 
@@ -7,7 +8,6 @@ use outcome::Outcome;
 use output::Sink;
 use receiver::Receiver;
 use saved_state::State;
-ghost use Rattle.io.specs.Counts.{Counts};
 
 // Where the log goes, and the files beside it.
 pub struct Onto {
@@ -15,9 +15,8 @@ pub struct Onto {
     pub beside: Beside,
 }
 
-// Where PDUs come from, where their marks do, where their log goes, and how many bytes of it were written before this run.
+// Where the marks of PDUs come from, where their log goes, and how many bytes of it were written before this run.
 pub struct Task {
-    pub input: i32,
     pub marks: i32,
     pub onto: Onto,
     pub bytes: u64,
@@ -62,6 +61,11 @@ fn bytes_before(place: i64) -> u64 {
     0
 }
 
+// How many bytes of an open file stand before the next one that is read or written, 0 where it has no places.
+pub fn offset(fd: i32) -> u64 {
+    bytes_before(files::place(fd))
+}
+
 // Saves how a run stands after so many PDUs in the file of a path, if there is one, and more are logged and all of their log is written (document 02, Ask 13).
 pub fn saved(task: Task, path: &[u8], carry: &[u8], before: u64, run: Run) -> Run {
     if path.len() == 0 {
@@ -79,38 +83,12 @@ pub fn saved(task: Task, path: &[u8], carry: &[u8], before: u64, run: Run) -> Ru
     let state = State {
         receiver: receiver,
         pdus: run.pdus,
-        bytes: std::num::wrapping_add_u64(task.bytes, bytes_before(files::place(sink.fd))),
+        bytes: std::num::wrapping_add_u64(task.bytes, offset(sink.fd)),
     };
     if saved_state::save(path, state, carry) {
         return run;
     }
     run_of(UNSAVED, receiver, run.pdus)
-}
-
-// Logs all PDUs, and saves how the run stands in the file of a path after each, if there is one. What stopped it before the end, its status says, and errno with
-// that.
-pub fn log_all(task: Task, path: &[u8], carry: &mut [u8], start: Run, counts: &mut [u64]) -> Run {
-    let mut pdu = [0u8; 65535];
-    let mut places = [0u8; 65535];
-    let mut log = [0u32; 8400];
-    let mut block = io::large_buffer();
-    let receiver = start.receiver;
-    if !begin(task, &mut block) {
-        return run_of(UNWRITTEN, receiver, start.pdus);
-    }
-    let run = all_turns(
-        task,
-        path,
-        carry,
-        &mut pdu,
-        &mut places,
-        &mut log,
-        &mut block,
-        counts,
-        start,
-    );
-    let onto = task.onto;
-    ended(onto, &mut block, run)
 }
 
 // Writes what stands after all PDUs, if all are logged.
@@ -126,95 +104,9 @@ pub fn ended(onto: Onto, block: &mut [u8], run: Run) -> Run {
     run_of(UNWRITTEN, receiver, run.pdus)
 }
 
-// How far the work is, where somebody looks on.
-pub fn progress(pdus: u64) {
-    files::progress(b"barzhilup log", b": PDUs ", pdus);
-}
-
-// All turns. They are counted down from a number that no run uses up, since a proved loop has to end, and nothing says that a file does.
-fn all_turns(
-    task: Task,
-    path: &[u8],
-    carry: &mut [u8],
-    pdu: &mut [u8],
-    places: &mut [u8],
-    log: &mut [u32],
-    block: &mut [u8],
-    counts: &mut [u64],
-    start: Run,
-) -> Run {
-    let mut run = start;
-    let mut turns = u64::MAX;
-    while 0 < turns {
-        let before = run.pdus;
-        let next = turn(task, carry, pdu, places, log, block, counts, run);
-        run = saved(task, path, carry, before, next);
-        if run.status != records::WHOLE {
-            return run;
-        }
-        progress(run.pdus);
-        turns -= 1;
-    }
-    run
-}
-
-// What came of reading a PDU and its marks, and how many bytes and marked places it has.
-struct Incoming {
-    status: u8,
-    length: usize,
-    marks: usize,
-}
-
-// Reads a PDU and its marked places, each to its buffer's start.
-fn read(task: Task, pdu: &mut [u8], places: &mut [u8]) -> Incoming
-    ensures { λ r. ⌜ Counts (r .length) (now (pdu .exit)) ⌝ }
-    ensures { λ r. ⌜ Counts (r .marks) (now (places .exit)) ⌝ }
-{
-    let r = records::read(task.input, pdu);
-    if r.status != records::WHOLE {
-        return Incoming {
-            status: marks::last(task.marks, places, r.status),
-            length: r.length,
-            marks: 0,
-        };
-    }
-    let m = marks::next(task.marks, places);
-    Incoming {
-        status: m.status,
-        length: r.length,
-        marks: m.length,
-    }
-}
-
-// Reads a PDU and takes it; stops where it cannot be read.
-fn turn(
-    task: Task,
-    carry: &mut [u8],
-    pdu: &mut [u8],
-    places: &mut [u8],
-    log: &mut [u32],
-    block: &mut [u8],
-    counts: &mut [u64],
-    run: Run,
-) -> Run {
-    let r = read(task, pdu, places);
-    if r.status != records::WHOLE {
-        let receiver = run.receiver;
-        return run_of(r.status, receiver, run.pdus);
-    }
-    let n = r.length;
-    let k = r.marks;
-    let onto = task.onto;
-    received(
-        onto,
-        carry,
-        &mut pdu[..n],
-        &places[..k],
-        log,
-        block,
-        counts,
-        run,
-    )
+// How far the work is, once a second, where somebody looks on, as `files::show_progress` has it.
+pub fn progress(pdus: u64, shown: i64) -> i64 {
+    files::show_progress(b"barzhilup log", b": PDUs ", pdus, shown)
 }
 
 // Receives a PDU with its marked places, and writes what came of it.

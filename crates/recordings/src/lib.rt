@@ -27,12 +27,14 @@ pub struct Task {
 
 // A run so far. How it stands: END where all copies of both files are read and logged, CUT where all are but one file ends inside a record,
 // `logging::UNWRITTEN`, how it stands by the files beside the log, or FAILED. How many PDUs were logged, the pair's receiver, and for each file what came of its last reading: after an answer other than
-// WHOLE it is not read again, and its copies do not come.
+// WHOLE it is not read again, and its copies do not come; and how many bytes stand before its next record.
 pub struct Run {
     pub status: u8,
     pub pdus: u64,
     pub first: u8,
     pub second: u8,
+    pub first_at: u64,
+    pub second_at: u64,
     pub receiver: Receiver,
 }
 
@@ -43,24 +45,31 @@ fn with_status(run: Run, status: u8) -> Run {
     next
 }
 
+// How many bytes stand before the next record, after one that was read.
+fn place_after(at: u64, r: Record) -> u64 {
+    if r.status != records::WHOLE {
+        return at;
+    }
+    std::num::wrapping_add_u64(at, std::num::wrapping_add_u64(2, r.length as u64))
+}
+
 // A run after a reading of both files.
-fn with_reading(run: Run, first: u8, second: u8) -> Run {
+fn with_reading(run: Run, first: Record, second: Record) -> Run {
     let mut next = run;
-    next.status = status_of(first, second);
-    next.first = first;
-    next.second = second;
+    next.status = status_of(first.status, second.status);
+    next.first = first.status;
+    next.second = second.status;
+    next.first_at = place_after(run.first_at, first);
+    next.second_at = place_after(run.second_at, second);
     next
 }
 
 // A run after one more PDU, with the pair's receiver.
 fn with_pdu(run: Run, receiver: Receiver) -> Run {
-    Run {
-        status: run.status,
-        pdus: std::num::wrapping_add_u64(run.pdus, 1),
-        first: run.first,
-        second: run.second,
-        receiver: receiver,
-    }
+    let mut next = run;
+    next.pdus = std::num::wrapping_add_u64(run.pdus, 1);
+    next.receiver = receiver;
+    next
 }
 
 // Whether a file cannot be read, though it is not at its end.
@@ -93,7 +102,7 @@ fn next(fd: i32, other: u8, status: u8, buf: &mut [u8]) -> Record
             length: 0,
         };
     }
-    let r = records::read(fd, buf);
+    let r = records::read_pdu(fd, buf);
     if r.status != records::WHOLE {
         return Record {
             status: r.status,
@@ -118,7 +127,7 @@ fn read(task: Task, first: &mut [u8], second: &mut [u8], run: Run) -> Both
     let a = next(task.first, records::WHOLE, run.first, first);
     let b = next(task.second, a.status, run.second, second);
     Both {
-        run: with_reading(run, a.status, b.status),
+        run: with_reading(run, a, b),
         first: a.length,
         second: b.length,
     }
@@ -275,11 +284,6 @@ fn turn(
     )
 }
 
-// How far the work is, where somebody looks on.
-fn progress(pdus: u64) {
-    files::progress(b"barzhilup log", b": PDUs ", pdus);
-}
-
 // All turns. They are counted down from a number that no run uses up, since a proved loop has to end, and nothing says that a file does.
 fn all_turns(
     task: Task,
@@ -292,6 +296,7 @@ fn all_turns(
     start: Run,
 ) -> Run {
     let mut run = start;
+    let mut shown = files::second();
     let mut turns = u64::MAX;
     while 0 < turns {
         let next = turn(task, carries, first, second, log, block, rows, run);
@@ -299,7 +304,7 @@ fn all_turns(
         if run.status != records::WHOLE {
             return run;
         }
-        progress(run.pdus);
+        shown = logging::progress(run.pdus, shown);
         turns -= 1;
     }
     run
@@ -318,12 +323,14 @@ fn ended(onto: Onto, block: &mut [u8], run: Run) -> Run {
 }
 
 // The run before the first turn, from a receiver that is opened.
-fn start_of(receiver: Receiver) -> Run {
+fn start_of(task: Task, receiver: Receiver) -> Run {
     Run {
         status: records::WHOLE,
         pdus: 0,
         first: records::WHOLE,
         second: records::WHOLE,
+        first_at: logging::offset(task.first),
+        second_at: logging::offset(task.second),
         receiver: receiver,
     }
 }
@@ -331,13 +338,13 @@ fn start_of(receiver: Receiver) -> Run {
 // Logs all PDUs, from a receiver that is opened, and counts them. What stopped it before the end, its status says, and errno with that.
 pub fn log_all(task: Task, receiver: Receiver, rows: &mut [u64]) -> Run {
     let mut carries = [0u8; 12288];
-    let mut first = [0u8; 65535];
-    let mut second = [0u8; 65535];
+    let mut first = [0u8; records::LONGEST];
+    let mut second = [0u8; records::LONGEST];
     let mut log = [0u32; 8400];
     let mut block = io::large_buffer();
     let onto = task.onto;
     let sink = onto.sink;
-    let start = start_of(receiver);
+    let start = start_of(task, receiver);
     if !output::begin(sink, &mut block) {
         return with_status(start, logging::UNWRITTEN);
     }

@@ -6,24 +6,27 @@ fn say(line: &[u8]) {
     io::write_all(STDERR_FILENO, line);
 }
 
-// Why no more PDUs are logged, after so many; nothing where all are, or where that is said already. PDUs are counted from 0.
-pub fn ends(status: u8, from: &[u8], marking: &[u8], onto: &[u8], pdus: u64) {
+// Why no more PDUs are logged, after so many; nothing where all are, or where that is said already. PDUs are counted from 0; the next record is at a byte.
+pub fn ends(status: u8, from: &[u8], marking: &[u8], onto: &[u8], pdus: u64, place: u64) {
     match status {
         records::END | logging::UNSAVED => {}
         beside::PACKETS | beside::ADTS | beside::PSD | beside::LISTED | beside::SENT => {}
-        records::CUT => files::say_number(from, b": ends inside the record of PDU ", pdus, b"\n"),
         logging::UNWRITTEN => os::fail(onto),
         marks::MISSING | marks::CUT | marks::UNREAD | marks::LEFT => {
             marks_end(status, marking, pdus)
         }
-        _ => os::fail(from),
+        _ => record_ends(status, from, pdus, place),
     }
 }
 
-// Why no more PDUs are logged of a file without marks, after so many, whose next record is at a byte.
-pub fn stops(status: u8, from: &[u8], onto: &[u8], pdus: u64, place: u64) {
+// What is wrong with the record of a PDU at a byte of a file: the file ends inside it, it is longer than any PDU, or it cannot be read.
+pub fn record_ends(status: u8, from: &[u8], pdu: u64, place: u64) {
+    if status == records::CUT {
+        files::say_number(from, b": ends inside the record of PDU ", pdu, b"\n");
+        return;
+    }
     if status != records::LONG {
-        ends(status, from, b"", onto, pdus);
+        os::fail(from);
         return;
     }
     let mut line = [0u8; 4800];
@@ -32,7 +35,7 @@ pub fn stops(status: u8, from: &[u8], onto: &[u8], pdus: u64, place: u64) {
         &mut line,
         n,
         b": the record of PDU @, at byte @, has a length over 20480, which no PDU has\n",
-        &[pdus, place],
+        &[pdu, place],
     );
     say(&line[..k]);
 }
@@ -66,15 +69,13 @@ fn marks_end(status: u8, marking: &[u8], pdus: u64) {
     }
 }
 
-// What is wrong with one of two files, of which so many records were read and so many PDUs logged; nothing where it has a record for each.
-pub fn side_ends(status: u8, from: &[u8], records: u64, pdus: u64) {
+// What is wrong with one of two files, of which so many records were read and so many PDUs logged, and whose next record is at a byte; nothing where it has a
+// record for each.
+pub fn side_ends(status: u8, from: &[u8], records: u64, pdus: u64, place: u64) {
     match status {
         records::WHOLE => {}
         records::END => shorter(from, records, pdus),
-        records::CUT => {
-            files::say_number(from, b": ends inside the record of PDU ", records, b"\n")
-        }
-        _ => os::fail(from),
+        _ => record_ends(status, from, records, place),
     }
 }
 
@@ -182,6 +183,7 @@ fn usage() -> bool {
     files::print_usage(
         b"barzhilup log",
         b"usage: barzhilup log [--in FILE] [--out FILE] [OPTION]...
+       barzhilup log --summary LOG
 
 Turns a file of PDUs into the packet log. A record of the file is a PDU's length
 in two bytes, low byte first, and then its bytes; a record of length 0 is a PDU
@@ -216,6 +218,8 @@ that is marked lost.
   --batch N       receives frames of N records, 1 to 64, in one call each; the
                   log is the same for every N, and without it; no marks, and
                   no second recording
+  --summary LOG   the counts again, of a log that was written with --format csv
+                  (standard input for -); goes with no other option
   --help          prints this and does nothing else (also -h)
 
 Marks: a record for each record of PDUs, in the same form; each of its bytes is
@@ -259,18 +263,23 @@ belong together. PDUs are counted on. The log goes on after the count of bytes
 that is said: those bytes of the log before, and then this one, are the log of
 the whole drive. Other words are refused with 25.
 
-Resync: a length over 20480 is that of no PDU, and stops the log at its record.
-With --resync the next place is looked for at which a record begins whose PDU
-can be read, in the mode and stream asked for, and records follow that lead to
-another such or to the end. The bytes before it are passed over, which is said,
-and logged as one lost PDU. So is a record that was cut, with others written
-behind it. What is logged of a record waits for the next PDU that can be read.
+Resync: a length over 20480 is that of no PDU, and stops the log at its record,
+whose place in the file is said. With --resync the next place is looked for at
+which a record begins whose PDU can be read, in the mode and stream asked for,
+and records follow that lead to another such or to the end. The bytes before it
+are passed over, which is said, and logged as one lost PDU. So is a record that
+was cut, with others written behind it. What is logged of a record waits for the
+next PDU that can be read.
 
 Mode auto: a PDU that can be read is one whose header can be corrected and that
 is not refused; with --stream only those of that stream count. PDUs before it
-are logged as lost or refused, in the mode that was found. Neither this nor
---resync goes with --batch, --marks or --second, and with these three a length
-over 20480 is refused with 3 as any wrong length is.
+are logged as lost or refused, in the mode that was found; a length over 20480
+before it stops the log, unless --resync is given. Neither this nor --resync
+goes with --batch, --marks or --second.
+
+Summary: the counts that a run ends with, on standard output, from its CSV; also
+from one that was cut, as by an interruption: then of what is there, and
+standard error says that the log is not whole.
 
 Formats:
   words           the log's words, each in four bytes, low byte first

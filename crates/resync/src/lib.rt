@@ -9,9 +9,6 @@ const FULL: u8 = 5;
 // What came of the next reading, besides WHOLE, END, CUT, LONG and FAILED of records: bytes at which no record begins are passed over.
 pub const PASSED: u8 = 6;
 
-// The longest PDU: a record of a greater length is none.
-const LONGEST: usize = 20480;
-
 // Every mode, or every stream, in place of one.
 pub const ANY: u8 = 255;
 
@@ -79,7 +76,7 @@ fn short(a: Ahead) -> u8 {
 
 // A record of so many bytes at a place, counted from the first byte that is read ahead.
 fn record_at(a: Ahead, buf: &mut [u8], at: usize, length: usize) -> Look {
-    if LONGEST < length {
+    if records::LONGEST < length {
         return looked(records::LONG, length, a);
     }
     let w = ahead::filled(a, buf, after(at, length));
@@ -395,27 +392,40 @@ pub fn resync_next(a: Ahead, buf: &mut [u8], wanted: Wanted) -> Next {
     unless_failed(by_look(l, buf, wanted))
 }
 
-// The mode and the stream of the first PDU that can be read, if there is one, and how many records stand before it.
+// The mode and the stream of the first PDU that can be read, if there is one; what came of the last look, how many records stand before its place, and how many
+// bytes.
 pub struct First {
     pub found: bool,
     pub mode: u8,
     pub stream: u8,
+    pub status: u8,
     pub records: u64,
+    pub bytes: usize,
     pub ahead: Ahead,
 }
 
-fn first_of(p: Pdu, count: u64, ahead: Ahead) -> First {
+// The same of the last look at a place, after so many records.
+fn first_of(l: Seen, count: u64, at: usize) -> First {
+    let p = l.pdu;
+    let ahead = l.ahead;
     First {
         found: p.right,
         mode: p.mode,
         stream: p.stream,
+        status: l.status,
         records: count,
+        bytes: at,
         ahead: ahead,
     }
 }
 
-// The place after a look at one; 0 where there is none: bytes that are no record are passed over one by one where `resync` is set.
+// The place after a look at one; 0 where there is none, or where the PDU there can be read: bytes that are no record are passed over one by one where `resync`
+// is set.
 fn onward(at: usize, l: Seen, resync: bool) -> usize {
+    let p = l.pdu;
+    if p.right {
+        return 0;
+    }
     if l.status == records::WHOLE {
         return after(at, l.length);
     }
@@ -427,22 +437,18 @@ fn onward(at: usize, l: Seen, resync: bool) -> usize {
 
 // Looks for the first PDU that can be read and is wanted, as far as the buffer holds all before it.
 pub fn first_readable(a: Ahead, buf: &mut [u8], resync: bool, wanted: Wanted) -> First {
-    let mut now = a;
+    let mut last = seen_with(looked(records::WHOLE, 0, a), none());
     let mut at: usize = 0;
     let mut count: u64 = 0;
     while count < u64::MAX {
-        let l = seen_at(now, buf, at, wanted);
-        let ahead = l.ahead;
-        now = ahead;
-        let p = l.pdu;
-        if p.right {
-            return first_of(p, count, now);
+        let l = seen_at(last.ahead, buf, at, wanted);
+        last = l;
+        let next = onward(at, last, resync);
+        if next == 0 {
+            return first_of(last, count, at);
         }
-        at = onward(at, l, resync);
-        if at == 0 {
-            return first_of(none(), count, now);
-        }
+        at = next;
         count += 1;
     }
-    first_of(none(), count, now)
+    first_of(last, count, at)
 }

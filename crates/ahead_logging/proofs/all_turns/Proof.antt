@@ -7,11 +7,11 @@ use Rattle.ahead_logging.proofs.all_turns.Statement.{statement}
 use Rattle.ahead_logging.proofs.all_turns.Tie as tie
 
 abbrev Inv-loop : tie.InvT-loop
-Inv-loop task resync path from carry₀ buf₀ log₀ block₀ counts₀ live₀ shown₀ turns₀ carry buf log block counts live shown turns =
-    (length carry ≡ length carry₀) × (length buf ≡ length buf₀) × (length log ≡ length log₀) × (length block ≡ length block₀) × (length counts ≡ length counts₀)
+Inv-loop task resync path from carry₀ buf₀ places₀ log₀ block₀ counts₀ live₀ shown₀ turns₀ carry buf places log block counts live shown turns =
+    (length carry ≡ length carry₀) × (length buf ≡ length buf₀) × (length places ≡ length places₀) × (length log ≡ length log₀) × (length block ≡ length block₀) × (length counts ≡ length counts₀)
 
 abbrev μ-loop : tie.MeasureT-loop
-μ-loop task resync path from carry₀ buf₀ log₀ block₀ counts₀ live₀ shown₀ turns₀ carry buf log block counts live shown turns =
+μ-loop task resync path from carry₀ buf₀ places₀ log₀ block₀ counts₀ live₀ shown₀ turns₀ carry buf places log block counts live shown turns =
     turns
 
 second-requires : tie.Need-second-requires Inv-loop μ-loop
@@ -41,6 +41,9 @@ same-length-4 c = search needs
 same-length-5 : tie.Need-same-length-5 Inv-loop μ-loop
 same-length-5 c = search needs
 
+same-length-6 : tie.Need-same-length-6 Inv-loop μ-loop
+same-length-6 c = search needs
+
 returns : tie.Need-returns Inv-loop μ-loop
 returns c = search needs
 
@@ -56,9 +59,6 @@ loop-less c = search needs
 loop-again : tie.Need-loop-again Inv-loop μ-loop
 loop-again c = search needs
 
-same-length-6 : tie.Need-same-length-6 Inv-loop μ-loop
-same-length-6 c = search needs
-
 same-length-7 : tie.Need-same-length-7 Inv-loop μ-loop
 same-length-7 c = search needs
 
@@ -70,6 +70,12 @@ same-length-9 c = search needs
 
 same-length-10 : tie.Need-same-length-10 Inv-loop μ-loop
 same-length-10 c = search needs
+
+same-length-11 : tie.Need-same-length-11 Inv-loop μ-loop
+same-length-11 c = search needs
+
+same-length-12 : tie.Need-same-length-12 Inv-loop μ-loop
+same-length-12 c = search needs
 
 returns-2 : tie.Need-returns-2 Inv-loop μ-loop
 returns-2 c = search needs
@@ -89,14 +95,16 @@ all-turns-spec =
     same-length-3
     same-length-4
     same-length-5
+    same-length-6
     returns
     progress-requires
     sub-turns
     loop-less
     loop-again
-    same-length-6
     same-length-7
     same-length-8
     same-length-9
     same-length-10
+    same-length-11
+    same-length-12
     returns-2)

@@ -6,19 +6,22 @@ use Rattle.batch_logging.proofs.all_turns.Statement.{statement}
 use Rattle.batch_logging.proofs.all_turns.Tie as tie
 
 abbrev Inv-loop : tie.InvT-loop
-Inv-loop task path carry₀ came₀ frame₀ lengths₀ ends₀ log₀ block₀ counts₀ run₀ turns₀ carry came frame lengths ends log block counts run turns =
+Inv-loop task path carry₀ came₀ frame₀ lengths₀ ends₀ log₀ block₀ counts₀ live₀ shown₀ turns₀ carry came frame lengths ends log block counts live shown turns =
     (length carry ≡ length carry₀) × (length came ≡ length came₀) × (length frame ≡ length frame₀) × (length lengths ≡ length lengths₀) × (length ends ≡ length ends₀) × (length log ≡ length log₀) × (length block ≡ length block₀) × (length counts ≡ length counts₀)
 
 abbrev μ-loop : tie.MeasureT-loop
-μ-loop task path carry₀ came₀ frame₀ lengths₀ ends₀ log₀ block₀ counts₀ run₀ turns₀ carry came frame lengths ends log block counts run turns =
+μ-loop task path carry₀ came₀ frame₀ lengths₀ ends₀ log₀ block₀ counts₀ live₀ shown₀ turns₀ carry came frame lengths ends log block counts live shown turns =
     turns
 
 -- the turn before the state is saved, and the loop's head before it
-abbrev turned : tie.After-struct-known Inv-loop μ-loop → tie.After-turn Inv-loop μ-loop
+abbrev turned : tie.After-is-going Inv-loop μ-loop → tie.After-turn Inv-loop μ-loop
 turned c = c .before .before .before .before .before .before .before .before .before .before .before .before .before .before .before .before .before .before .before
 
 abbrev head : tie.After-turn Inv-loop μ-loop → tie.At-loop Inv-loop μ-loop
 head c = c .before .before .before .before .before .before .before .before .before .before
+
+second-requires : tie.Need-second-requires Inv-loop μ-loop
+second-requires c κs = search needs
 
 loop-holds : tie.Need-loop-holds Inv-loop μ-loop
 loop-holds c = search needs
@@ -28,6 +31,9 @@ turn-requires c κs = search needs
 
 saved-requires : tie.Need-saved-requires Inv-loop μ-loop
 saved-requires c κs = search needs
+
+is-going-requires : tie.Need-is-going-requires Inv-loop μ-loop
+is-going-requires c κs = search needs
 
 same-length : tie.Need-same-length Inv-loop μ-loop
 same-length c = let t = turned (c .before) in omega (arith, t .turn .kept .1 .0, head t .loop .inv .0)
@@ -103,9 +109,11 @@ all-turns-spec =
     (tie.spec
     Inv-loop
     μ-loop
+    second-requires
     loop-holds
     turn-requires
     saved-requires
+    is-going-requires
     same-length
     same-length-2
     same-length-3

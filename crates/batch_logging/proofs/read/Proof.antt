@@ -21,17 +21,17 @@ loop-holds c = search needs
 sub-if1 : tie.Need-sub-if1 Inv-loop μ-loop
 sub-if1 c = search needs
 
-sub-read : tie.Need-sub-read Inv-loop μ-loop
-sub-read c = search needs
+sub-read-pdu : tie.Need-sub-read-pdu Inv-loop μ-loop
+sub-read-pdu c = search needs
 
-part-read-start : tie.Need-part-read-start Inv-loop μ-loop
-part-read-start c = search needs
+part-read-pdu-start : tie.Need-part-read-pdu-start Inv-loop μ-loop
+part-read-pdu-start c = search needs
 
-part-read-end : tie.Need-part-read-end Inv-loop μ-loop
-part-read-end c = search needs
+part-read-pdu-end : tie.Need-part-read-pdu-end Inv-loop μ-loop
+part-read-pdu-end c = search needs
 
-read-requires : tie.Need-read-requires Inv-loop μ-loop
-read-requires c κs = search needs
+read-pdu-requires : tie.Need-read-pdu-requires Inv-loop μ-loop
+read-pdu-requires c κs = search needs
 
 put-requires : tie.Need-put-requires Inv-loop μ-loop
 put-requires c κs = search needs
@@ -87,10 +87,10 @@ read-spec =
     μ-loop
     loop-holds
     sub-if1
-    sub-read
-    part-read-start
-    part-read-end
-    read-requires
+    sub-read-pdu
+    part-read-pdu-start
+    part-read-pdu-end
+    read-pdu-requires
     put-requires
     add-end
     add-i
