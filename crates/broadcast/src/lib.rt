@@ -94,10 +94,10 @@ fn is_going(b: Broadcast) -> bool {
     run.going
 }
 
-// How far the work is, where somebody looks on, as `files::show_progress` has it.
+// How far the work is, where somebody looks on, as `files::progress` has it.
 fn progress(b: Broadcast, shown: i64) -> i64 {
     let run = b.run;
-    files::show_progress(b"barzhilup generate", b": PDUs ", run.pdus, shown)
+    files::progress(b"barzhilup generate", b": PDUs ", run.pdus, shown)
 }
 
 // Reads ahead and sends a PDU; stops where no packet waits.

@@ -310,17 +310,6 @@ pub fn say_number(label: &[u8], before: &[u8], number: u64, after: &[u8]) {
     io::write_all(STDERR_FILENO, &line[..n]);
 }
 
-// How far the work is, every thousand things, where somebody looks on: a line that the next one overwrites.
-pub fn progress(program: &[u8], things: &[u8], count: u64) {
-    if count % 1000 != 0 {
-        return;
-    }
-    if libc::isatty(STDERR_FILENO) != 1 {
-        return;
-    }
-    say_number(program, things, count, b"\r");
-}
-
 // The second that it is, by the clock.
 pub fn second() -> i64 {
     let mut t: i64 = 0;
@@ -329,7 +318,7 @@ pub fn second() -> i64 {
 
 // How far the work is, where somebody looks on: a line that the next one overwrites. It is said once a second: not in the second that is given, in which it was
 // last said or the work began. Answers the second that it is.
-pub fn show_progress(program: &[u8], things: &[u8], count: u64, shown: i64) -> i64 {
+pub fn progress(program: &[u8], things: &[u8], count: u64, shown: i64) -> i64 {
     let now = second();
     if now == shown {
         return now;

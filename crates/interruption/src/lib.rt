@@ -1,5 +1,5 @@
-// A drive that is interrupted (document 02, Ask 13): what `--save`, `--resume` and `--skip` of `barzhilup log` ask for; on `saved_state`, `opening` and
-// `causes`.
+// A drive that is interrupted (document 02, Ask 13): what `--save`, `--resume` and `--skip` of `barzhilup log` ask for; on `saved_state`, `opening`, `causes`,
+// `limits` and `named_settings`.
 use saved_state::State;
 ghost use Rattle.io.specs.Counts.{Counts};
 

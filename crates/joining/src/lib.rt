@@ -98,9 +98,9 @@ fn ended(task: Task, block: &mut [u8], run: Run) -> Run {
     stopped(run, UNWRITTEN, records::WHOLE)
 }
 
-// How far the work is, where somebody looks on, as `files::show_progress` has it.
+// How far the work is, where somebody looks on, as `files::progress` has it.
 fn progress(frames: u64, shown: i64) -> i64 {
-    files::show_progress(b"barzhilup join", b": frames ", frames, shown)
+    files::progress(b"barzhilup join", b": frames ", frames, shown)
 }
 
 // All turns. They are counted down from a number that no run uses up, since a proved loop has to end, and nothing says that a file does.

@@ -1,4 +1,4 @@
-// Turns a file of PDUs into the packet log (document 01, "Receiver"), on `job`, `recordings`, `batch_logging`, `ahead_logging` and `remarks`.
+// Turns a file of PDUs into the packet log (document 01, "Receiver"), on `job`, `recordings`, `batch_logging`, `ahead_logging`, `summary` and `remarks`.
 mod live;
 mod two;
 

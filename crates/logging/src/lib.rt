@@ -104,9 +104,9 @@ pub fn ended(onto: Onto, block: &mut [u8], run: Run) -> Run {
     run_of(UNWRITTEN, receiver, run.pdus)
 }
 
-// How far the work is, once a second, where somebody looks on, as `files::show_progress` has it.
+// How far the work is, once a second, where somebody looks on, as `files::progress` has it.
 pub fn progress(pdus: u64, shown: i64) -> i64 {
-    files::show_progress(b"barzhilup log", b": PDUs ", pdus, shown)
+    files::progress(b"barzhilup log", b": PDUs ", pdus, shown)
 }
 
 // Receives a PDU with its marked places, and writes what came of it.

@@ -104,9 +104,9 @@ fn all_turns(task: Task, pdu: &mut [u8], held: &mut [u8], start: Run) -> Run {
     run
 }
 
-// How far the work is, where somebody looks on, as `files::show_progress` has it.
+// How far the work is, where somebody looks on, as `files::progress` has it.
 fn progress(pdus: u64, shown: i64) -> i64 {
-    files::show_progress(b"barzhilup channel", b": PDUs ", pdus, shown)
+    files::progress(b"barzhilup channel", b": PDUs ", pdus, shown)
 }
 
 // Reads a PDU and sends it; stops where none can be read, after the one that is held back.

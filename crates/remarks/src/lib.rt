@@ -244,13 +244,15 @@ list of --compared, may go to standard output, where --out FILE is given. None
 goes with --save or --resume, nor does --sent.
 
 Sent: packets are numbered from the file's first on, modulo 64. A delivered one
-is looked for by its number and bytes: ahead of the last one found, else behind
-it (it came again or out of turn). Those that are passed over are missing, also
-before the first and after the last delivered one. One that was never sent is
+is looked for by its number and bytes in the whole file. Those that never came
+are missing, also before the first and after the last delivered one; one that
+came before is delivered again. Packets with the same number and bytes cannot be
+told apart: missing is then the least that fits. One that was never sent is
 said, and the exit status is then 1, though all PDUs are logged. The list has
 the columns index, number, length, state (delivered, missing, again or never
-sent) and pdu; its last line is \",end,N,,whole\" if it has all N. The file is
-read more than once, so it cannot be a pipe.
+sent) and pdu: packets as they came, then the missing ones; its last line is
+\",end,N,,whole\" if it has all N. The file is read more than once, so it cannot
+be a pipe, and has at most 1,048,576 packets.
 
 Save: the receiver's words and the counts of PDUs and of bytes logged, in two
 records of words. FILE is replaced by a new file, FILE.new, so it is whole at

@@ -1,4 +1,4 @@
-// The summary of a drive again, from the CSV of its log: each line is counted as what it tells of was counted when it was logged.
+// The summary of a drive again, from the CSV of its log, on `drive`, `counts` and `files`: each line is counted as what it tells of was counted in the run.
 use csv::entry;
 use csv::entry::Entry;
 use csv::lines;

@@ -20,21 +20,6 @@ turned c = c .before .before .before .before .before .before .before .before .be
 abbrev head : tie.After-turn Inv-loop μ-loop → tie.At-loop Inv-loop μ-loop
 head c = c .before .before .before .before .before .before .before .before .before .before
 
-second-requires : tie.Need-second-requires Inv-loop μ-loop
-second-requires c κs = search needs
-
-loop-holds : tie.Need-loop-holds Inv-loop μ-loop
-loop-holds c = search needs
-
-turn-requires : tie.Need-turn-requires Inv-loop μ-loop
-turn-requires c κs = search needs
-
-saved-requires : tie.Need-saved-requires Inv-loop μ-loop
-saved-requires c κs = search needs
-
-is-going-requires : tie.Need-is-going-requires Inv-loop μ-loop
-is-going-requires c κs = search needs
-
 same-length : tie.Need-same-length Inv-loop μ-loop
 same-length c = let t = turned (c .before) in omega (arith, t .turn .kept .1 .0, head t .loop .inv .0)
 
@@ -59,12 +44,6 @@ same-length-7 c = let t = turned (c .before) in omega (arith, t .turn .kept .1 .
 same-length-8 : tie.Need-same-length-8 Inv-loop μ-loop
 same-length-8 c = let t = turned (c .before) in omega (arith, t .turn .kept .1 .1 .1 .1 .1 .1 .1 .1 .0, head t .loop .inv .7)
 
-returns : tie.Need-returns Inv-loop μ-loop
-returns c = search needs
-
-progress-requires : tie.Need-progress-requires Inv-loop μ-loop
-progress-requires c κs = search needs
-
 sub-turns : tie.Need-sub-turns Inv-loop μ-loop
 sub-turns c = omega (arith, (turned (c .before .before) .before .before .before .before .before .before .before .before .before) .loop-test .taken)
 
@@ -76,44 +55,13 @@ loop-again c =
     let t = turned (c .before .before) in
     (omega (arith, t .turn .kept .1 .0, head t .loop .inv .0), omega (arith, t .turn .kept .1 .1 .0, head t .loop .inv .1), omega (arith, t .turn .kept .1 .1 .1 .0, head t .loop .inv .2), omega (arith, t .turn .kept .1 .1 .1 .1 .0, head t .loop .inv .3), omega (arith, t .turn .kept .1 .1 .1 .1 .1 .0, head t .loop .inv .4), omega (arith, t .turn .kept .1 .1 .1 .1 .1 .1 .0, head t .loop .inv .5), omega (arith, t .turn .kept .1 .1 .1 .1 .1 .1 .1 .0, head t .loop .inv .6), omega (arith, t .turn .kept .1 .1 .1 .1 .1 .1 .1 .1 .0, head t .loop .inv .7))
 
-same-length-9 : tie.Need-same-length-9 Inv-loop μ-loop
-same-length-9 c = search needs
-
-same-length-10 : tie.Need-same-length-10 Inv-loop μ-loop
-same-length-10 c = search needs
-
-same-length-11 : tie.Need-same-length-11 Inv-loop μ-loop
-same-length-11 c = search needs
-
-same-length-12 : tie.Need-same-length-12 Inv-loop μ-loop
-same-length-12 c = search needs
-
-same-length-13 : tie.Need-same-length-13 Inv-loop μ-loop
-same-length-13 c = search needs
-
-same-length-14 : tie.Need-same-length-14 Inv-loop μ-loop
-same-length-14 c = search needs
-
-same-length-15 : tie.Need-same-length-15 Inv-loop μ-loop
-same-length-15 c = search needs
-
-same-length-16 : tie.Need-same-length-16 Inv-loop μ-loop
-same-length-16 c = search needs
-
-returns-2 : tie.Need-returns-2 Inv-loop μ-loop
-returns-2 c = search needs
-
 pub all-turns-spec : {M : Type 1} → statement M
 all-turns-spec =
     tie.close
     (tie.spec
     Inv-loop
     μ-loop
-    second-requires
-    loop-holds
-    turn-requires
-    saved-requires
-    is-going-requires
+    (λ c κs. search needs) (λ c. search needs) (λ c κs. search needs) (λ c κs. search needs) (λ c κs. search needs)
     same-length
     same-length-2
     same-length-3
@@ -122,17 +70,9 @@ all-turns-spec =
     same-length-6
     same-length-7
     same-length-8
-    returns
-    progress-requires
+    (λ c. search needs) (λ c κs. search needs)
     sub-turns
     loop-less
     loop-again
-    same-length-9
-    same-length-10
-    same-length-11
-    same-length-12
-    same-length-13
-    same-length-14
-    same-length-15
-    same-length-16
-    returns-2)
+    (λ c. search needs) (λ c. search needs) (λ c. search needs) (λ c. search needs) (λ c. search needs) (λ c. search needs) (λ c. search needs)
+    (λ c. search needs) (λ c. search needs))

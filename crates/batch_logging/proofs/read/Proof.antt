@@ -15,33 +15,6 @@ abbrev μ-loop : tie.MeasureT-loop
 μ-loop input frame₀ lengths₀ end₀ i₀ status₀ frame lengths end i status =
     length lengths - i
 
-loop-holds : tie.Need-loop-holds Inv-loop μ-loop
-loop-holds c = search needs
-
-sub-if1 : tie.Need-sub-if1 Inv-loop μ-loop
-sub-if1 c = search needs
-
-sub-read-pdu : tie.Need-sub-read-pdu Inv-loop μ-loop
-sub-read-pdu c = search needs
-
-part-read-pdu-start : tie.Need-part-read-pdu-start Inv-loop μ-loop
-part-read-pdu-start c = search needs
-
-part-read-pdu-end : tie.Need-part-read-pdu-end Inv-loop μ-loop
-part-read-pdu-end c = search needs
-
-read-pdu-requires : tie.Need-read-pdu-requires Inv-loop μ-loop
-read-pdu-requires c κs = search needs
-
-put-requires : tie.Need-put-requires Inv-loop μ-loop
-put-requires c κs = search needs
-
-add-end : tie.Need-add-end Inv-loop μ-loop
-add-end c = search needs
-
-add-i : tie.Need-add-i Inv-loop μ-loop
-add-i c = search needs
-
 loop-less : tie.Need-loop-less Inv-loop μ-loop
 loop-less c = omega (arith, c .before .before .before .put .kept .0, c .before .before .before .before .before .before .before .before .before .before .before .loop-test .taken)
 
@@ -85,15 +58,8 @@ read-spec =
     (tie.spec
     Inv-loop
     μ-loop
-    loop-holds
-    sub-if1
-    sub-read-pdu
-    part-read-pdu-start
-    part-read-pdu-end
-    read-pdu-requires
-    put-requires
-    add-end
-    add-i
+    (λ c. search needs) (λ c. search needs) (λ c. search needs) (λ c. search needs) (λ c. search needs) (λ c κs. search needs) (λ c κs. search needs)
+    (λ c. search needs) (λ c. search needs)
     loop-less
     loop-again
     same-length

@@ -3,15 +3,6 @@ use native.Mathlib.Omega.{arith}
 use Rattle.batch_logging.proofs.received.Statement.{statement}
 use Rattle.batch_logging.proofs.received.Tie as tie
 
-call-requires : tie.Need-call-requires
-call-requires c κs = search needs
-
-run-of-requires : tie.Need-run-of-requires
-run-of-requires c κs = search needs
-
-each-requires : tie.Need-each-requires
-each-requires c κs = search needs
-
 same-length : tie.Need-same-length
 same-length c = omega (arith, c .before .before .before .before .before .before .before .before .before .before .each .kept .1 .1 .1 .0, c .before .before .before .before .before .before .before .before .before .before .before .before .before .before .before .before .before .before .before .before .before .before .before .before .before .before .before .before .before .before .call .kept .1 .0)
 
@@ -33,16 +24,11 @@ same-length-6 c = omega (arith, c .before .before .before .before .before .befor
 same-length-7 : tie.Need-same-length-7
 same-length-7 c = omega (arith, c .before .before .before .before .before .before .before .before .before .before .each .kept .1 .1 .1 .1 .1 .1 .1 .1 .1 .1 .0)
 
-returns : tie.Need-returns
-returns c = search needs
-
 pub received-spec : {M : Type 1} → statement M
 received-spec =
     tie.close
     (tie.spec
-    call-requires
-    run-of-requires
-    each-requires
+    (λ c κs. search needs) (λ c κs. search needs) (λ c κs. search needs)
     same-length
     same-length-2
     same-length-3
@@ -50,4 +36,4 @@ received-spec =
     same-length-5
     same-length-6
     same-length-7
-    returns)
+    (λ c. search needs))

@@ -3,27 +3,6 @@ use native.Mathlib.Omega.{arith}
 use Rattle.batch_logging.proofs.turn.Statement.{statement}
 use Rattle.batch_logging.proofs.turn.Tie as tie
 
-read-requires : tie.Need-read-requires
-read-requires c κs = search needs
-
-slice-relend-prefix-received : tie.Need-slice-relend-prefix-received
-slice-relend-prefix-received c = search needs
-
-slice-aggregate-received : tie.Need-slice-aggregate-received
-slice-aggregate-received c = search needs
-
-slice-reshare-prefix-received : tie.Need-slice-reshare-prefix-received
-slice-reshare-prefix-received c = search needs
-
-slice-aggregate-received-2 : tie.Need-slice-aggregate-received-2
-slice-aggregate-received-2 c = search needs
-
-received-requires : tie.Need-received-requires
-received-requires c κs = search needs
-
-after-requires : tie.Need-after-requires
-after-requires c κs = search needs
-
 same-length : tie.Need-same-length
 same-length c = omega (arith, c .before .before .before .before .before .before .before .before .before .before .before .before .before .before .before .received .kept .1 .1 .0)
 
@@ -48,20 +27,11 @@ same-length-7 c = omega (arith, c .before .before .before .before .before .befor
 same-length-8 : tie.Need-same-length-8
 same-length-8 c = omega (arith, c .before .before .before .before .before .before .before .before .before .before .before .before .before .before .before .received .kept .1 .1 .1 .1 .1 .1 .1 .1 .1 .0)
 
-returns : tie.Need-returns
-returns c = search needs
-
 pub turn-spec : {M : Type 1} → statement M
 turn-spec =
     tie.close
     (tie.spec
-    read-requires
-    slice-relend-prefix-received
-    slice-aggregate-received
-    slice-reshare-prefix-received
-    slice-aggregate-received-2
-    received-requires
-    after-requires
+    (λ c κs. search needs) (λ c. search needs) (λ c. search needs) (λ c. search needs) (λ c. search needs) (λ c κs. search needs) (λ c κs. search needs)
     same-length
     same-length-2
     same-length-3
@@ -70,4 +40,4 @@ turn-spec =
     same-length-6
     same-length-7
     same-length-8
-    returns)
+    (λ c. search needs))

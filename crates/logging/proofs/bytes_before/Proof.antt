@@ -18,11 +18,5 @@ positive (negsuc n) e = subst T (sym e) tt
 cast-result : tie.Need-cast-result
 cast-result c = (positive (toZ w64 (ofZ w64 (c .before .args .place))) (c .if1 .taken), fits-natAbs {w = w64} {w′ = w64} tt (sfits-toZ (fits-ofZ (c .before .fits .place))))
 
-returns : tie.Need-returns
-returns c = search needs
-
-returns-2 : tie.Need-returns-2
-returns-2 c = search needs
-
 pub bytes-before-spec : {M : Type 1} → statement M
-bytes-before-spec = tie.close (tie.spec cast-result returns returns-2)
+bytes-before-spec = tie.close (tie.spec cast-result (λ c. search needs) (λ c. search needs))
