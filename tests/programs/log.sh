@@ -158,8 +158,13 @@ $(end_line 0)" "$(cat out)"
 
 # Makes the log of PDUs of a mode, which deliver packets of these numbers in this order, and draws it: the summary and the picture have delivered and missing by them.
 draws() { # FILE MODE NUMBER...
-    local file=$1 mode=$2 wanted
-    shift 2
+    draws_once "" "$@"
+}
+
+# The same where PDUs came twice or out of turn, so that the picture has figures of its own, in which each packet counts once.
+draws_once() { # "DELIVERED MISSING" FILE MODE NUMBER...
+    local once=$1 file=$2 mode=$3 wanted
+    shift 3
     wanted=$(counted_loss <(printf '0,packet,,,,%s\n' "$@"))
     run log --in "$file" --mode "$mode" --format csv
     ended "the log of $file" 0 log
@@ -168,37 +173,36 @@ draws() { # FILE MODE NUMBER...
     cp out "$file.csv"
     run coverage --in "$file.csv"
     ended "the picture of $file" 0 coverage
-    same "the picture of $file, delivered and missing" "$(loss_said "$wanted")" "$(said_loss)"
+    same "the picture of $file, delivered and missing" "$(loss_said "${once:-$wanted}")" "$(said_loss)"
 }
 
-# A PDU that comes twice, and PDUs out of order: the same number again adds 63, one that is behind by k adds 63 - k. A PDU that is lost or refused, or that is not there,
-# has one packet here.
+# A PDU that comes twice, and PDUs out of order: in the log the same number again adds 63, one that is behind by k adds 63 - k; in the picture they count once, if they
+# are told. A PDU that is lost or refused, or that is not there, has one packet here.
 check_order() {
     steps 0 1 2 3 4 5 6 7 >ordered
     draws ordered 1 0 1 2 3 4 5 6 7
     same "PDUs in order: none is missing" "packets delivered 8, missing 0 (0.0 % of both)" "$(said_loss)"
     steps 0 1 2 2 3 4 5 6 7 >twice
-    draws twice 1 0 1 2 2 3 4 5 6 7
-    same "a PDU that comes twice adds 63" "packets delivered 9, missing 63 (87.5 % of both)" "$(said_loss)"
+    draws_once "8 0" twice 1 0 1 2 2 3 4 5 6 7
     steps 0 1 3 2 4 5 6 7 >swapped
-    draws swapped 1 0 1 3 2 4 5 6 7
+    draws_once "8 0" swapped 1 0 1 3 2 4 5 6 7
     { steps 0 1 2; record 0; steps 4 5 6 7; } >lost
     draws lost 1 0 1 2 4 5 6 7
     same "a lost PDU adds its packet" "packets delivered 7, missing 1 (12.5 % of both)" "$(said_loss)"
     steps 0 1 2 4 5 6 7 >unmarked
     draws unmarked 1 0 1 2 4 5 6 7
     { steps 0 1 1 2; record 0; record 0; steps 5 6 6; } >both
-    draws both 1 0 1 1 2 5 6 6
+    draws_once "5 2" both 1 0 1 1 2 5 6 6
     { records 3 0; steps 3 4 5; records 2 0; } >ends
     draws ends 1 3 4 5
     same "nothing is missing at the ends" "packets delivered 3, missing 0 (0.0 % of both)" "$(said_loss)"
     made bits generate --in eight --length 96
     bits 0 1 3 2 4 5 6 7 >swapped
-    draws swapped 0 0 1 3 2 4 5 6 7
+    draws_once "8 0" swapped 0 0 1 3 2 4 5 6 7
     bits 0 1 2 3 2 3 4 5 6 7 >pair
     draws pair 0 0 1 2 3 2 3 4 5 6 7
     { bits 0 1 2; record 0; bits 4 4 5 6; } >lost
-    draws lost 0 0 1 2 4 4 5 6
+    draws_once "6 1" lost 0 0 1 2 4 4 5 6
     { bits 0 1 2; record 95; bits 2 3 4; } >repeated
     draws repeated 0 0 1 2 2 3 4
 }

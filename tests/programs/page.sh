@@ -147,7 +147,7 @@ check_page_texts() {
     note=$(head -c 4000 /dev/zero | tr '\0' '&')
     run coverage --in log.csv --format html --title "<A> & 'B' \"C\"" --station 'WXYZ <1>' --date 2026-11-17 --source 'car & roof' --mode 0 --note "$note"
     ended "a page with a head" 0 coverage
-    same "a page's title" 2 "$(grep -c '&lt;A&gt; &amp; &#39;B&#39; &quot;C&quot;' out || true)"
+    same "a page's title, at its head and on its sheet" 3 "$(grep -c '&lt;A&gt; &amp; &#39;B&#39; &quot;C&quot;' out || true)"
     same "a page's head" '<p><b>Station</b>WXYZ &lt;1&gt;</p>
 <p><b>Date</b>2026-11-17</p>
 <p><b>Source</b>car &amp; roof</p>
