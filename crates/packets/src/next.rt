@@ -197,27 +197,28 @@ fn with_ahead(p: Place, ahead: Ahead) -> Place {
     }
 }
 
-// Up to where frames are looked for from a place: the end of the frame there, if there is one.
-fn reach_of(p: Place) -> usize {
-    if has_packet(p) {
+// Up to where frames are looked for from a place: the end of the frame there, if one stands.
+fn reach_of(p: Place, stands: bool) -> usize {
+    if stands {
         return p.to;
     }
     STRETCH
 }
 
 // What comes of a place at which a frame should begin, and none does, or one that leads to no other nor to the file's end. Where another begins inside it, it
-// was cut, or its length is wrong, and it is passed over up to there; else it stands, if it is a frame.
-fn settled(p: Place, a: Ahead, buf: &mut [u8]) -> Next {
-    let f = begun_inside(a, buf, reach_of(p));
+// was cut, or its length is wrong, and it is passed over up to there; else it stands, if it is a frame that does not follow on bytes that were passed over.
+fn settled(p: Place, a: Ahead, buf: &mut [u8], behind: bool) -> Next {
+    let stands = has_packet(p) & !behind;
+    let f = begun_inside(a, buf, reach_of(p, stands));
     let ahead = f.ahead;
-    if f.found | !has_packet(p) {
+    if f.found | !stands {
         return passed(ahead, f.at);
     }
     taken(with_ahead(p, ahead))
 }
 
 // What comes of the place at which the next frame should begin, where bytes at which none does are passed over.
-fn resynced(p: Place, buf: &mut [u8]) -> Next {
+fn resynced(p: Place, buf: &mut [u8], behind: bool) -> Next {
     if p.status == records::END {
         return taken(p);
     }
@@ -226,7 +227,7 @@ fn resynced(p: Place, buf: &mut [u8]) -> Next {
     if has_packet(p) & f.found {
         return taken(with_ahead(p, ahead));
     }
-    settled(p, ahead, buf)
+    settled(p, ahead, buf, behind)
 }
 
 // What came of a reading; a read that failed stops it.
@@ -243,11 +244,11 @@ fn unless_failed(n: Next) -> Next {
     }
 }
 
-// Reads the next packet; where `resync` is set, bytes at which no ADTS frame begins are passed over.
-pub fn read(a: Ahead, buf: &mut [u8], adts: bool, resync: bool) -> Next {
+// Reads the next packet; where `resync` is set, bytes at which no ADTS frame begins are passed over, and `behind` says that such bytes stand before it.
+pub fn read(a: Ahead, buf: &mut [u8], adts: bool, resync: bool, behind: bool) -> Next {
     let p = look_at(a, buf, 0, adts);
     if resync {
-        return unless_failed(resynced(p, buf));
+        return unless_failed(resynced(p, buf, behind));
     }
     unless_failed(taken(p))
 }

@@ -224,7 +224,13 @@ fn read_next(w: Window, bytes: &mut [u8]) -> Next {
     if bytes.len() < REST {
         return next::none(w.ahead);
     }
-    next::read(w.ahead, &mut bytes[REST..], w.adts, w.resync)
+    next::read(
+        w.ahead,
+        &mut bytes[REST..],
+        w.adts,
+        w.resync,
+        w.skipped != 0,
+    )
 }
 
 // The same packets after a reading, if there is room for one more.
