@@ -340,6 +340,25 @@ check_auto_later() {
     ended "damage first" 0 log
     same "damage first, what is said" "barzhilup log: broken: mode 1, stream 0, by the first PDU that can be read" "$(head -n 1 err)"
     check_auto_stops
+    check_auto_greetings
+}
+
+# Bytes before the first record that look like records themselves: a length of the PDUs, and greetings, of which two bytes are a length that a record may have.
+check_auto_greetings() {
+    local length text
+    for length in 96 256 500 512 1024; do
+        run generate --in packets --length "$length" --out greeted --force
+        run log --in greeted --format csv
+        grep -c ',packet,' out >wanted
+        for text in A zzzz 'hello greeting' 'recorder: started' "$(printf '\377\377\377')"; do
+            { printf %s "$text"; cat greeted; } >broken
+            run log --in broken --mode auto --resync --format csv
+            ended "PDUs of $length bytes behind $text" 0 log
+            same "PDUs of $length bytes behind $text, what is said" "barzhilup log: broken: mode 0, stream 0, by the first PDU that can be read" "$(head -n 1 err)"
+            same "PDUs of $length bytes behind $text, packets" "$(cat wanted)" "$(grep -c ',packet,' out)"
+        done
+        rm -f greeted greeted~
+    done
 }
 
 # Damage before the first PDU that can be read, without --resync: the record in the way is said, and nothing is made. With --resync mode and stream are found

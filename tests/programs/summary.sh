@@ -128,4 +128,6 @@ check_summary_alone() {
         wrong "barzhilup log: --summary: goes with no other option" log --summary=log.csv $option
     done
     wrong "barzhilup log: --summary: value missing" log --summary
+    wrong "barzhilup log: --summary: value missing" log --summary ''
+    wrong "barzhilup log: --summary: value missing" log --summary=
 }

@@ -161,13 +161,23 @@ pub fn check() -> bool {
     can_pair()
 }
 
+// Whether the log that is summed up has a name; if not, says so.
+fn has_name() -> bool {
+    let mut name = io::buffer();
+    if options::value(&KNOWN, b"summary", &mut name) != 0 {
+        return true;
+    }
+    files::say(b"barzhilup log", b": --summary: value missing\n");
+    false
+}
+
 // Whether the summary of a log is asked for alone, as one argument or as two after the subcommand; if not, says so.
 pub fn is_alone() -> bool {
     let mut first = [0u8; 16];
     let n = os::arg(2, &mut first);
     let count = os::arg_count();
     if (count == 3) | ((count == 4) & check::same(&first[..n], b"--summary")) {
-        return true;
+        return has_name();
     }
     files::say(
         b"barzhilup log",

@@ -419,17 +419,19 @@ fn first_of(l: Seen, count: u64, at: usize) -> First {
     }
 }
 
-// The place after a look at one; 0 where there is none, or where the PDU there can be read: bytes that are no record are passed over one by one where `resync`
-// is set.
+// The place after a look at one; 0 where there is none, or where the PDU there can be read. Where `resync` is set, bytes that are no PDU that can be read are passed
+// over one by one, also those that look like a record, and empty records whole.
 fn onward(at: usize, l: Seen, resync: bool) -> usize {
     let p = l.pdu;
     if p.right {
         return 0;
     }
-    if l.status == records::WHOLE {
+    if (l.status == records::WHOLE) & ((l.length == 0) | !resync) {
         return after(at, l.length);
     }
-    if ((l.status == records::LONG) | (l.status == records::CUT)) & resync {
+    if ((l.status == records::WHOLE) | (l.status == records::LONG) | (l.status == records::CUT))
+        & resync
+    {
         return plus(at, 1);
     }
     0

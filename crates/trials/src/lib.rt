@@ -1,5 +1,5 @@
 // Tries latencies before going on air (document 02, Ask 7): from the counts of packets that end in each PDU, or from packets, to a table of the latencies and a
-// picture of one; on `count_source`, `latency_table` and `backlog`.
+// picture of one; on `count_source`, `latency_table`, `backlog` and `mode_table`.
 mod report;
 
 use backlog::columns;

@@ -49,6 +49,13 @@ pub fn summary(counts: &[u32], answer: Answer) {
 
 // How the program is used, on standard output.
 pub fn usage() -> bool {
+    if !print_options() {
+        return false;
+    }
+    mode_table::print(&NAME)
+}
+
+fn print_options() -> bool {
     files::print_usage(
         &NAME,
         b"usage: barzhilup latency [--in FILE] [--out FILE] [OPTION]...
