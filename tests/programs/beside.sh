@@ -350,16 +350,16 @@ check_sent_never() {
 # A packet of one byte, 1,048,577 times.
 many_packets() {
     local i
-    printf '\1\0x' >half
+    printf '\1\0x' >half.sent
     for ((i = 0; i < 10; i += 1)); do
-        cat half half >whole
-        mv whole half
+        cat half.sent half.sent >whole.sent
+        mv whole.sent half.sent
     done
     for ((i = 0; i < 1024; i += 1)); do
-        cat half
+        cat half.sent
     done
     printf '\1\0x'
-    rm half
+    rm half.sent
 }
 
 # The file of the packets that were sent: in ADTS frames, empty, cut, with a packet that none is, and one that cannot be gone back in.

@@ -103,7 +103,7 @@ check_summary_inputs() {
 # Files that are none, or not in order.
 check_summary_wrong() {
     local words="is none of the CSV of barzhilup log, or not in its place"
-    stops "barzhilup log: none.csv: No such file or directory" log --summary none.csv
+    stops "barzhilup log: nowhere.csv: No such file or directory" log --summary nowhere.csv
     stops "barzhilup log: empty: line 1 $words" log --summary empty
     stops "barzhilup log: sent: line 1 $words" log --summary sent
     head -c 20 log.csv >wrong.csv
