@@ -2,7 +2,7 @@
 use mathlib.Core.Path.{_≡_, refl, sym, _∙_, ap}
 use mathlib.Core.List.{List, [], _∷_, _++_}
 use mathlib.Core.Bool.{Bool, true, false}
-use mathlib.Core.Option.{Option, none, some}
+use mathlib.Core.Option.{Option, none, some, orElse}
 use Prim.Native.Nat.{ℕ, zero, suc, _+_, _≤_, _<_}
 use native.Mathlib.Omega.{arith}
 use native.Mathlib.Decide.{ℕ-discrete}
@@ -10,11 +10,12 @@ use lib.ListN.{length, getD, set, length-set}
 use Rattle.algebra.specs.Places.{All}
 use Rattle.header.specs.Header.{isCodeWord, distance}
 use Rattle.header.proofs.Distances.{distance-set, Nearer, nearer, distance-self, distance-zero, all-set, all-at}
-use Rattle.correction.specs.Correction.{orElse, onlyIf, atPlace, atPlaces, near, Near}
+use Rattle.correction.specs.Correction.{onlyIf, atPlace, atPlaces, near, Near}
 
 -- A hit is what is looked for.
 module _ (P : List ℕ → Type 0) (f : List ℕ → Option (List ℕ)) (w : List ℕ) where
   else-hit : (a b : Option (List ℕ)) → ((c : List ℕ) → a ≡ some c → P c) → ((c : List ℕ) → b ≡ some c → P c) → (c : List ℕ) → orElse a b ≡ some c → P c
+  unfolding orElse
   else-hit (some d) b p r c e = p c e
   else-hit none b p r c e = r c e
 
@@ -28,6 +29,7 @@ module _ (P : List ℕ → Type 0) (f : List ℕ → Option (List ℕ)) (w : Lis
 
 -- No hit: there is none to find.
 else-none : (a b : Option (List ℕ)) → orElse a b ≡ none → (a ≡ none) × (b ≡ none)
+unfolding orElse
 else-none (some d) b e = let z : _≡_ {A = ℕ} 0 1 = cc in absurd (omega arith)
 else-none none b e = (refl, e)
 

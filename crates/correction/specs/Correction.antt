@@ -3,7 +3,7 @@
 use mathlib.Core.Bool.{Bool, true, cond}
 use mathlib.Core.Path.{_≡_}
 use mathlib.Core.List.{List, _++_}
-use mathlib.Core.Option.{Option, none, some}
+use mathlib.Core.Option.{Option, none, some, orElse}
 use Prim.Native.Nat.{ℕ, zero, suc, _<_, _≤_}
 use lib.Dec.{eqb}
 use lib.ListN.{length, take, drop, set}
@@ -11,10 +11,6 @@ use Rattle.algebra.specs.Places.{All}
 use Rattle.header.specs.Header.{isCodeWord, distance, lengthRefusal}
 use Rattle.correction.specs.declared.Correction.{Correction}
 use Rattle.correction.specs.declared.Correction.the-variants.{Corrected, Refused}
-
-abbrev pub orElse : Option (List ℕ) → Option (List ℕ) → Option (List ℕ)
-orElse (some c) r = some c
-orElse none r = r
 
 abbrev pub onlyIf : Bool → List ℕ → Option (List ℕ)
 onlyIf b w = cond b (some w) none

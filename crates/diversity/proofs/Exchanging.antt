@@ -10,7 +10,7 @@ use lib.Dec.{eqb, ltb, leb}
 use lib.ListN.{length, getD, set}
 use borrow.Author.Tests.{eq-eqb, ne-eqb, le-leb, lt-leb, lt-ltb, le-ltb}
 use Rattle.reassembly.specs.Run.{placeAt, Marked}
-use Rattle.diversity.specs.Steps.{mixed, inPlaces, either, pieceTo, exchanged}
+use Rattle.diversity.specs.Steps.{mixed, inPlaces, exactlyOne, pieceTo, exchanged}
 use Rattle.diversity.proofs.Mixing.{mixed-same, mixed-none, mixed-twice, mixed-at, mixed-more}
 
 no-and : (t : Bool) → (t && false) ≡ false
@@ -97,9 +97,9 @@ pieceTo-in marks cause k i a b = ap (λ (t : Bool). not (eqb cause 0) && t) (wit
     and-yes true = refl
     and-yes false = refl
 
-either-none : (t : Bool) → either t false ≡ t
-either-none true = refl
-either-none false = refl
+only-first : (t : Bool) → exactlyOne t false ≡ t
+only-first true = refl
+only-first false = refl
 
 module _ (pdu marks : List ℕ) (nop : ℕ) (w : Marked pdu marks nop) (causes : List ℕ) where
   -- marks rise
@@ -120,7 +120,7 @@ module _ (pdu marks : List ℕ) (nop : ℕ) (w : Marked pdu marks nop) (causes :
   up-to-la zero i a h = refl
   up-to-la (suc n) i a h =
       let r = rises n 0 (omega arith) (omega arith) in
-      ap₂ either (pieceTo-below marks (getD causes n 0) n i (omega (arith, r))) (up-to-la n i (omega arith) h)
+      ap₂ exactlyOne (pieceTo-below marks (getD causes n 0) n i (omega (arith, r))) (up-to-la n i (omega arith) h)
 
   -- nor one after the pieces below n
   past-pieces : (n i : ℕ) → n ≤ nop → getD marks n 0 < i → exchanged marks causes n i ≡ false
@@ -129,7 +129,7 @@ module _ (pdu marks : List ℕ) (nop : ℕ) (w : Marked pdu marks nop) (causes :
   past-pieces (suc n) i a h =
       let s = next n (omega arith) in
       let e : getD marks (n + 1) 0 ≡ getD marks (suc n) 0 = ap (λ (j : ℕ). getD marks j 0) (add-one n) in
-      ap₂ either (pieceTo-past marks (getD causes n 0) n i (omega (arith, e))) (past-pieces n i (omega arith) (omega (arith, s)))
+      ap₂ exactlyOne (pieceTo-past marks (getD causes n 0) n i (omega (arith, e))) (past-pieces n i (omega arith) (omega (arith, s)))
 
   -- those of piece k are, unless its cause is 0
   pub in-piece : (n k i : ℕ) → k < n → n ≤ nop → placeAt marks k ≤ i → i < getD marks (k + 1) 0 → exchanged marks causes n i ≡ not (eqb (getD causes k 0) 0)
@@ -137,11 +137,11 @@ module _ (pdu marks : List ℕ) (nop : ℕ) (w : Marked pdu marks nop) (causes :
   in-piece zero k i l a b h = absurd (omega arith)
   in-piece (suc n) k i l a b h = go (ℕ-discrete k n) (λ m. in-piece n k i m (omega arith) b h)
     where
-      go : Dec (k ≡ n) → (k < n → exchanged marks causes n i ≡ not (eqb (getD causes k 0) 0)) → either (pieceTo marks (getD causes n 0) n i) (exchanged marks causes n i) ≡ not (eqb (getD causes k 0) 0)
+      go : Dec (k ≡ n) → (k < n → exchanged marks causes n i ≡ not (eqb (getD causes k 0) 0)) → exactlyOne (pieceTo marks (getD causes n 0) n i) (exchanged marks causes n i) ≡ not (eqb (getD causes k 0) 0)
       go (yes e) rec =
-          subst (λ (j : ℕ). either (pieceTo marks (getD causes j 0) j i) (exchanged marks causes j i) ≡ not (eqb (getD causes k 0) 0)) e
-          (ap₂ either (pieceTo-in marks (getD causes k 0) k i b h) (past-pieces k i (omega arith) (omega arith)) ∙ either-none (not (eqb (getD causes k 0) 0)))
+          subst (λ (j : ℕ). exactlyOne (pieceTo marks (getD causes j 0) j i) (exchanged marks causes j i) ≡ not (eqb (getD causes k 0) 0)) e
+          (ap₂ exactlyOne (pieceTo-in marks (getD causes k 0) k i b h) (past-pieces k i (omega arith) (omega arith)) ∙ only-first (not (eqb (getD causes k 0) 0)))
       go (no e) rec =
           let r = rises n (suc k) (omega arith) (omega arith) in
           let f : getD marks (k + 1) 0 ≡ getD marks (suc k) 0 = ap (λ (j : ℕ). getD marks j 0) (add-one k) in
-          ap (λ (t : Bool). either t (exchanged marks causes n i)) (pieceTo-below marks (getD causes n 0) n i (omega (arith, r, f))) ∙ rec (omega arith)
+          ap (λ (t : Bool). exactlyOne t (exchanged marks causes n i)) (pieceTo-below marks (getD causes n 0) n i (omega (arith, r, f))) ∙ rec (omega arith)

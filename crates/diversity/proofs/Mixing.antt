@@ -6,7 +6,7 @@ use Prim.Native.Nat.{ℕ, zero, suc, _+_, _-_, _<_, _≤_}
 use native.Mathlib.Nat.{zero-add}
 use native.Mathlib.Omega.{arith}
 use lib.ListN.{length, getD, set, take, drop, length-drop}
-use Rattle.diversity.specs.Steps.{mixed, either}
+use Rattle.diversity.specs.Steps.{mixed, exactlyOne}
 
 pub mixed-length : (t : ℕ → Bool) (y z : List ℕ) → length (mixed t y z) ≡ length y
 unfolding mixed
@@ -31,23 +31,23 @@ mixed-none t (a ∷ y) [] e = refl
 mixed-none t (a ∷ y) (b ∷ z) e = ap₂ (λ (x : Bool) (l : List ℕ). cond x b a ∷ l) (e 0) (mixed-none (λ i. t (suc i)) y z (λ i. e (suc i)))
 
 -- one exchange after another
-pub mixed-twice : (s t : ℕ → Bool) (y z : List ℕ) → mixed s (mixed t y z) (mixed t z y) ≡ mixed (λ i. either (s i) (t i)) y z
+pub mixed-twice : (s t : ℕ → Bool) (y z : List ℕ) → mixed s (mixed t y z) (mixed t z y) ≡ mixed (λ i. exactlyOne (s i) (t i)) y z
 unfolding mixed
 mixed-twice s t [] [] = refl
 mixed-twice s t [] (b ∷ z) = refl
 mixed-twice s t (a ∷ y) [] = refl
 mixed-twice s t (a ∷ y) (b ∷ z) = ap₂ _∷_ (go (s 0) (t 0)) (mixed-twice (λ i. s (suc i)) (λ i. t (suc i)) y z)
   where
-    go : (u v : Bool) → cond u (cond v a b) (cond v b a) ≡ cond (either u v) b a
+    go : (u v : Bool) → cond u (cond v a b) (cond v b a) ≡ cond (exactlyOne u v) b a
     go true true = refl
     go true false = refl
     go false v = refl
 
 -- the same exchange twice
 pub mixed-back : (t : ℕ → Bool) (y z : List ℕ) → mixed t (mixed t y z) (mixed t z y) ≡ y
-mixed-back t y z = mixed-twice t t y z ∙ mixed-none (λ i. either (t i) (t i)) y z (λ i. go (t i))
+mixed-back t y z = mixed-twice t t y z ∙ mixed-none (λ i. exactlyOne (t i) (t i)) y z (λ i. go (t i))
   where
-    go : (u : Bool) → either u u ≡ false
+    go : (u : Bool) → exactlyOne u u ≡ false
     go true = refl
     go false = refl
 

@@ -35,9 +35,9 @@ unfoldable pub inPlaces : ℕ → ℕ → ℕ → Bool
 inPlaces from to i = leb from i && ltb i to
 
 -- one or the other
-abbrev pub either : Bool → Bool → Bool
-either true b = not b
-either false b = b
+abbrev pub exactlyOne : Bool → Bool → Bool
+exactlyOne true b = not b
+exactlyOne false b = b
 
 -- the places of piece k, unless its cause is 0
 unfoldable pub pieceTo : List ℕ → ℕ → ℕ → ℕ → Bool
@@ -46,4 +46,4 @@ pieceTo marks cause k i = not (eqb cause 0) && inPlaces (placeAt marks k) (getD 
 -- the places of the pieces below n whose causes are not 0
 unfoldable pub exchanged : List ℕ → List ℕ → ℕ → ℕ → Bool
 exchanged marks causes zero i = false
-exchanged marks causes (suc n) i = either (pieceTo marks (getD causes n 0) n i) (exchanged marks causes n i)
+exchanged marks causes (suc n) i = exactlyOne (pieceTo marks (getD causes n 0) n i) (exchanged marks causes n i)

@@ -68,7 +68,7 @@ ofPacket (suc (suc k)) before = false
 -- the kind 0 words of a log, each with its data words
 unfoldable pub packetWordsAfter : Bool → List ℕ → List ℕ
 packetWordsAfter before [] = []
-packetWordsAfter before (w ∷ ws) = let now = ofPacket (kindOf w) before in cond now (w ∷ packetWordsAfter now ws) (packetWordsAfter now ws)
+packetWordsAfter before (w ∷ ws) = let here = ofPacket (kindOf w) before in cond here (w ∷ packetWordsAfter here ws) (packetWordsAfter here ws)
 
 abbrev pub packetWords : List ℕ → List ℕ
 packetWords ws = packetWordsAfter false ws

@@ -8,15 +8,15 @@ use lib.Dec.{ltb}
 use lib.ListN.{length, drop, getD, drop-of-length-le}
 use lib.Seq.{drop-cons}
 use borrow.Author.Tests.{lt-ltb, le-ltb}
-use Rattle.text.specs.Text.{withDigit, none, readFrom, numberOf}
+use Rattle.text.specs.Text.{withDigit, noNumber, readFrom, numberOf}
 use Rattle.text.specs.declared.Number.{Number}
 
 module _ (t : List ℕ) (v i : ℕ) (h : i < length t) where
-  read-turn : readFrom v (drop i t) ≡ cond (ltb 4294967295 (withDigit v (getD t i 0))) none (readFrom (withDigit v (getD t i 0)) (drop (i + 1) t))
+  read-turn : readFrom v (drop i t) ≡ cond (ltb 4294967295 (withDigit v (getD t i 0))) noNumber (readFrom (withDigit v (getD t i 0)) (drop (i + 1) t))
   unfolding readFrom
   read-turn = rw (add-one, drop-cons t i 0)
 
-  pub read-past : 4294967295 < withDigit v (getD t i 0) → readFrom v (drop i t) ≡ none
+  pub read-past : 4294967295 < withDigit v (getD t i 0) → readFrom v (drop i t) ≡ noNumber
   read-past p = rw (read-turn, lt-ltb _ _ p)
 
   pub read-on : withDigit v (getD t i 0) ≤ 4294967295 → readFrom v (drop i t) ≡ readFrom (withDigit v (getD t i 0)) (drop (i + 1) t)
@@ -29,5 +29,5 @@ read-end t v i h = rw (drop-of-length-le t h)
 pub some-text : (t : List ℕ) → 0 < length t → numberOf t ≡ readFrom 0 t
 some-text t h = rw (lt-ltb 0 (length t) h)
 
-pub no-text : (t : List ℕ) → length t ≤ 0 → numberOf t ≡ none
+pub no-text : (t : List ℕ) → length t ≤ 0 → numberOf t ≡ noNumber
 no-text t h = rw (le-ltb 0 (length t) h)

@@ -16,14 +16,14 @@ unfoldable pub withDigit : ℕ → ℕ → ℕ
 withDigit v b = cond (ltb b 48 || ltb 57 b) 4294967296 (v * 10 + (b - 48))
 
 -- no number
-abbrev pub none : Number
-none = record { ok = false; value = 0 }
+abbrev pub noNumber : Number
+noNumber = record { ok = false; value = 0 }
 
 -- the digits that are left, after a value
 unfoldable pub readFrom : ℕ → List ℕ → Number
 readFrom v [] = record { ok = true; value = v }
-readFrom v (b ∷ bs) = cond (ltb 4294967295 (withDigit v b)) none (readFrom (withDigit v b) bs)
+readFrom v (b ∷ bs) = cond (ltb 4294967295 (withDigit v b)) noNumber (readFrom (withDigit v b) bs)
 
 -- the number that a text is: at least one digit, nothing but digits, at most 32 bits
 abbrev pub numberOf : List ℕ → Number
-numberOf t = cond (ltb 0 (length t)) (readFrom 0 t) none
+numberOf t = cond (ltb 0 (length t)) (readFrom 0 t) noNumber

@@ -3,7 +3,7 @@ ghost use mathlib.Core.Path.{_≡_};
 ghost use Prim.Native.Nat.{_+_, _≤_, _<_, min};
 ghost use lib.ListN.{length};
 ghost use Rattle.io.specs.Counts.{Counts};
-ghost use Rattle.text.specs.Text.{placed, withDigit, none, numberOf};
+ghost use Rattle.text.specs.Text.{placed, withDigit, noNumber, numberOf};
 
 // A number that was read: whether the text is one, and its value, 0 where it is none.
 pub struct Number {
@@ -128,7 +128,7 @@ fn with_digit(value: u64, byte: u8) -> u64
 }
 
 fn no_number() -> Number
-    ensures { λ r. ⌜ r ≡ none ⌝ }
+    ensures { λ r. ⌜ r ≡ noNumber ⌝ }
 {
     Number {
         ok: false,
