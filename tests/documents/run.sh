@@ -18,11 +18,11 @@ check_believe() {
     echo "documents: docs/CLAIMS.md, what a reader has to believe: held against scripts/believe"
 }
 
-# docs/AUDIT.md says that no name is defined in the specs/ of two crates.
+# docs/AUDIT.md says that no name is defined in the specs/ of two crates, nor one of a library.
 check_names() {
     local line
     while read -r line; do
-        [ -z "$line" ] || fail "docs/AUDIT.md: a name of two crates, $line"
+        [ -z "$line" ] || fail "docs/AUDIT.md: a name with two meanings, $line"
     done <<<"$(bash scripts/names)"
     echo "documents: docs/AUDIT.md: one meaning for each name of specs/, held by scripts/names"
 }
