@@ -83,8 +83,8 @@ fn say_passed(from: &[u8], bytes: u64, place: u64, places: u64) {
         return;
     }
     if places == LINES {
-        files::say(
-            b"barzhilup log",
+        options::say(
+            options::LOG,
             b": further places passed over are counted only\n",
         );
         return;

@@ -1,125 +1,97 @@
 // Whether the options for the files beside the log go together.
 use crate::ALL;
-use crate::NAMES;
 use crate::WRITTEN;
-
-// What an option gives: it is not there, its value is empty, a dash, or names a file.
-const ABSENT: u8 = 0;
-
-const EMPTY: u8 = 1;
-
-const DASH: u8 = 2;
-
-const FILE: u8 = 3;
-
-fn kind(known: &[u8], option: &[u8]) -> u8 {
-    if !options::given(known, option) {
-        return ABSENT;
-    }
-    let mut path = io::buffer();
-    let n = options::value(known, option, &mut path);
-    if n == 0 {
-        return EMPTY;
-    }
-    if check::same(&path[..n], b"-") {
-        return DASH;
-    }
-    FILE
-}
+use crate::option_of;
+use options::LOG;
 
 // Whether the log, or one of so many files beside it, goes to standard output.
-fn is_output_taken(known: &[u8], many: u32) -> bool {
-    let mut taken = kind(known, b"out") != FILE;
-    let mut k: u32 = 0;
+fn is_output_taken(many: u8) -> bool {
+    let mut taken = files::named(LOG, options::OUT) != files::PATH;
+    let mut k: u8 = 0;
     while k < many {
-        taken = taken | (kind(known, text::entry(&NAMES, k)) == DASH);
+        taken = taken | (files::named(LOG, option_of(k)) == files::DASH);
         k += 1;
     }
     taken
 }
 
 // Whether PDUs or marks are read from standard input.
-fn is_input_taken(known: &[u8]) -> bool {
-    (kind(known, b"in") != FILE)
-        | (kind(known, b"second") == DASH)
-        | (kind(known, b"marks") == DASH)
+fn is_input_taken() -> bool {
+    (files::named(LOG, options::IN) != files::PATH)
+        | (files::named(LOG, options::SECOND) == files::DASH)
+        | (files::named(LOG, options::MARKS) == files::DASH)
 }
 
-// Whether what an option's dash stands for is taken.
-fn is_taken(known: &[u8], option: u32) -> bool {
-    if option < WRITTEN {
-        return is_output_taken(known, option);
+// Whether what a dash stands for is taken, in the option of a number.
+fn is_taken(number: u8) -> bool {
+    if number < WRITTEN {
+        return is_output_taken(number);
     }
-    is_input_taken(known)
+    is_input_taken()
 }
 
 // Whether an interrupted drive is asked for: how far the files beside the log are, its state does not tell.
-fn is_interrupted(known: &[u8]) -> bool {
-    options::given(known, b"save") | options::given(known, b"resume")
+fn is_interrupted() -> bool {
+    options::given(LOG, options::SAVE) | options::given(LOG, options::RESUME)
 }
 
-// The text for what an option's dash stands for, where that is taken.
-fn taken(option: u32) -> u32 {
-    if option < WRITTEN {
+// The text for what a dash stands for, where that is taken.
+fn taken(number: u8) -> u32 {
+    if number < WRITTEN {
         return 3;
     }
     4
 }
 
-// What is wrong with an option, as a text of the table of `is_right`; 0 for nothing.
-fn wrong(known: &[u8], option: u32) -> u32 {
-    let given = kind(known, text::entry(&NAMES, option));
-    if given == ABSENT {
+// What is wrong with the option of a number, as a text of the table of `is_right`; 0 for nothing.
+fn wrong(number: u8) -> u32 {
+    let given = files::named(LOG, option_of(number));
+    if given == files::ABSENT {
         return 0;
     }
-    if given == EMPTY {
+    if given == files::EMPTY {
         return 1;
     }
-    if is_interrupted(known) {
+    if is_interrupted() {
         return 2;
     }
-    if (given == DASH) & is_taken(known, option) {
-        return taken(option);
+    if (given == files::DASH) & is_taken(number) {
+        return taken(number);
     }
     0
 }
 
-// Whether an option is right; if not, says what is wrong.
-fn is_right(known: &[u8], option: u32) -> bool {
-    let k = wrong(known, option);
-    if k == 0 {
-        return true;
+// Whether the option of a number is right; if not, says what is wrong.
+fn is_right(number: u8) -> bool {
+    let k = wrong(number);
+    if k != 0 {
+        options::complain(
+            LOG,
+            option_of(number),
+            text::entry(
+                b"\0: names no file\0: not with --save or --resume\0: standard output has another file\0: standard input has another file\0",
+                k,
+            ),
+        );
     }
-    files::say_line(
-        b"barzhilup log: --",
-        text::entry(&NAMES, option),
-        text::entry(
-            b"\0: names no file\0: not with --save or --resume\0: standard output has another file\0: standard input has another file\0",
-            k,
-        ),
-    );
-    false
+    k == 0
 }
 
 // Whether an option for the comparison comes with the packets that were sent; if not, says so.
-fn has_sent(known: &[u8], option: &[u8]) -> bool {
-    if !options::given(known, option) | options::given(known, b"sent") {
+fn has_sent(option: u8) -> bool {
+    if !options::given(LOG, option) | options::given(LOG, options::SENT) {
         return true;
     }
-    files::say_line(
-        b"barzhilup log: --",
-        option,
-        b": nothing is compared (--sent)",
-    );
+    options::complain(LOG, option, b": nothing is compared (--sent)");
     false
 }
 
 // Whether the options go together; if not, says why.
-pub fn is_asked(known: &[u8]) -> bool {
-    let mut right = has_sent(known, b"compared") & has_sent(known, b"sent-adts");
-    let mut k: u32 = 0;
+pub fn is_asked() -> bool {
+    let mut right = has_sent(options::COMPARED) & has_sent(options::SENT_ADTS);
+    let mut k: u8 = 0;
     while k < ALL {
-        right = right & is_right(known, k);
+        right = right & is_right(k);
         k += 1;
     }
     right

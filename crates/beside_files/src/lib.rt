@@ -3,17 +3,21 @@ pub mod asked;
 
 use beside::Beside;
 use comparison::Sent;
+use options::LOG;
 use packets::Source;
 ghost use mathlib.Core.Path.{_≡_};
 ghost use lib.ListN.{length};
 ghost use Rattle.io.specs.Counts.{Counts};
 
-// The options, in the order of how a run stands where one of their files fails; the first four are files that are written.
-const NAMES: [u8; 31] = *b"packets\0adts\0psd\0compared\0sent\0";
+// How many options there are; the first four name files that are written.
+const ALL: u8 = 5;
 
-const WRITTEN: u32 = 4;
+const WRITTEN: u8 = 4;
 
-const ALL: u32 = 5;
+// The option of a number, in the order of how a run stands where one of their files fails: `packets`, `adts`, `psd`, `compared` and `sent`.
+fn option_of(number: u8) -> u8 {
+    std::num::wrapping_add_u8(options::PACKETS_OUT, number)
+}
 
 // Room for the labels of all files.
 pub fn label_buffer() -> [u8; 24576]
@@ -22,33 +26,24 @@ pub fn label_buffer() -> [u8; 24576]
     [0; 24576]
 }
 
-// The label of an option's file, and a zero byte.
-fn put_label(out: &mut [u8], at: usize, known: &[u8], option: u32) -> usize
+// The label of the file of an option, by its number, and a zero byte.
+fn put_label(out: &mut [u8], at: usize, number: u8) -> usize
     ensures { λ r. ⌜ Counts r (now (out .exit)) ⌝ }
 {
     let mut label = files::label_buffer();
-    let n = files::put_label(
-        &mut label,
-        b"barzhilup log",
-        known,
-        text::entry(&NAMES, option),
-        text::entry(
-            b"standard output\0standard output\0standard output\0standard output\0standard input\0",
-            option,
-        ),
-    );
+    let n = files::put_label(&mut label, LOG, option_of(number));
     let k = text::put(out, at, &label[..n]);
     text::put(out, k, b"\0")
 }
 
 // The labels of all files, as a table of texts.
-pub fn put_labels(out: &mut [u8], known: &[u8]) -> usize
+pub fn put_labels(out: &mut [u8]) -> usize
     ensures { λ r. ⌜ Counts r (now (out .exit)) ⌝ }
 {
     let mut n = text::put(out, 0, b"");
-    let mut k: u32 = 0;
+    let mut k: u8 = 0;
     while k < ALL {
-        n = put_label(out, n, known, k);
+        n = put_label(out, n, k);
         k += 1;
     }
     n
@@ -95,7 +90,7 @@ fn not_compared() -> Compared {
 }
 
 // Counts the packets of an open file, which begins with one; where it cannot be gone back in, has something else than packets, or too many, says so.
-fn with_sent(known: &[u8], fd: i32, label: &[u8]) -> Compared {
+fn with_sent(fd: i32, label: &[u8]) -> Compared {
     if !files::go_back(fd, 0) {
         files::say(
             label,
@@ -106,7 +101,7 @@ fn with_sent(known: &[u8], fd: i32, label: &[u8]) -> Compared {
     let mut buf = io::buffer();
     let source = Source {
         fd: fd,
-        adts: options::given(known, b"sent-adts"),
+        adts: options::given(LOG, options::SENT_ADTS),
     };
     let c = count(source, &mut buf);
     packets::say_end(label, c.status, c.many);
@@ -125,63 +120,67 @@ fn with_sent(known: &[u8], fd: i32, label: &[u8]) -> Compared {
 }
 
 // Opens the file of the packets that were sent, where one is given.
-fn open_sent(known: &[u8], label: &[u8]) -> Compared {
-    if !options::given(known, b"sent") {
+fn open_sent(label: &[u8]) -> Compared {
+    if !options::given(LOG, options::SENT) {
         return Compared {
             ok: true,
             fd: -1,
             many: 0,
         };
     }
-    let fd = files::open_input(known, b"sent", label);
+    let fd = files::open(LOG, options::SENT, label);
     if fd < 0 {
         return not_compared();
     }
-    with_sent(known, fd, label)
+    with_sent(fd, label)
 }
 
-// Makes the file of an option, -1 where it is not given or cannot be made.
-fn make(known: &[u8], labels: &[u8], option: u32) -> i32 {
-    let name = text::entry(&NAMES, option);
-    if !options::given(known, name) {
-        return -1;
+// A file that is written: its number, -1 where it is not asked for or cannot be made, and whether it is there, as far as it is asked for.
+struct Made {
+    fd: i32,
+    ok: bool,
+}
+
+// Makes the file of an option, by its number.
+fn make(labels: &[u8], number: u8) -> Made {
+    let option = option_of(number);
+    if !options::given(LOG, option) {
+        return Made { fd: -1, ok: true };
     }
-    files::open_output(known, name, text::entry(labels, option))
-}
-
-// Whether the file of an option is there, as far as it is asked for.
-fn is_made(known: &[u8], option: u32, fd: i32) -> bool {
-    (0 <= fd) | !options::given(known, text::entry(&NAMES, option))
+    let fd = files::open(LOG, option, text::entry(labels, number as u32));
+    Made {
+        fd: fd,
+        ok: 0 <= fd,
+    }
 }
 
 // Puts the number of a file at a place of a list, if the list has that place.
-fn put(list: &mut [i32], option: u32, fd: i32) {
-    let k = option as usize;
-    if list.len() <= k {
-        return;
+fn put(list: &mut [i32], number: u8, fd: i32) {
+    let k = number as usize;
+    if k < list.len() {
+        list[k] = fd;
     }
-    list[k] = fd;
 }
 
 // Makes the files that are written. Answers how many options are done, up to the first file that cannot be made.
-fn make_all(known: &[u8], labels: &[u8], list: &mut [i32]) -> u32 {
-    let mut k: u32 = 0;
+fn make_all(labels: &[u8], list: &mut [i32]) -> u8 {
+    let mut k: u8 = 0;
     while k < WRITTEN {
-        let fd = make(known, labels, k);
-        if !is_made(known, k, fd) {
+        let made = make(labels, k);
+        if !made.ok {
             return k;
         }
-        put(list, k, fd);
+        put(list, k, made.fd);
         k += 1;
     }
     k
 }
 
 // Removes the files that were made for so many options.
-fn unmake(known: &[u8], many: u32) {
-    let mut k: u32 = 0;
+fn unmake(many: u8) {
+    let mut k: u8 = 0;
     while k < many {
-        files::unmake(known, text::entry(&NAMES, k));
+        files::unmake(LOG, option_of(k));
         k += 1;
     }
 }
@@ -202,12 +201,12 @@ fn not_opened() -> Opened {
 }
 
 // Makes the files beside that of the log, which is made; where one cannot be made, the others go, that of the log too.
-fn with_output(known: &[u8], labels: &[u8], output: i32, s: Compared) -> Opened {
+fn with_output(labels: &[u8], output: i32, s: Compared) -> Opened {
     let mut list = [-1i32; 4];
-    let many = make_all(known, labels, &mut list);
+    let many = make_all(labels, &mut list);
     if many != WRITTEN {
-        unmake(known, many);
-        files::unmake(known, b"out");
+        unmake(many);
+        files::unmake(LOG, options::OUT);
         return not_opened();
     }
     let titled = comparison::list::begin(list[3]);
@@ -223,7 +222,7 @@ fn with_output(known: &[u8], labels: &[u8], output: i32, s: Compared) -> Opened 
             psd: list[2],
             sent: Sent {
                 fd: s.fd,
-                adts: options::given(known, b"sent-adts"),
+                adts: options::given(LOG, options::SENT_ADTS),
                 list: list[3],
             },
             many: s.many,
@@ -232,16 +231,16 @@ fn with_output(known: &[u8], labels: &[u8], output: i32, s: Compared) -> Opened 
 }
 
 // Opens the packets that were sent, and makes the file of the log, whose label this is, and those beside it. What cannot be had is said.
-pub fn open(known: &[u8], onto: &[u8], labels: &[u8]) -> Opened {
-    let s = open_sent(known, text::entry(labels, 4));
+pub fn open(onto: &[u8], labels: &[u8]) -> Opened {
+    let s = open_sent(text::entry(labels, 4));
     if !s.ok {
         return not_opened();
     }
-    let output = files::open_output(known, b"out", onto);
+    let output = files::open(LOG, options::OUT, onto);
     if output < 0 {
         return not_opened();
     }
-    with_output(known, labels, output, s)
+    with_output(labels, output, s)
 }
 
 // Why no more PDUs are logged, where that is by one of these files.

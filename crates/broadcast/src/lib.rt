@@ -97,7 +97,7 @@ fn is_going(b: Broadcast) -> bool {
 // How far the work is, where somebody looks on, as `files::progress` has it.
 fn progress(b: Broadcast, shown: i64) -> i64 {
     let run = b.run;
-    files::progress(b"barzhilup generate", b": PDUs ", run.pdus, shown)
+    files::progress(options::GENERATE, run.pdus, shown)
 }
 
 // Reads ahead and sends a PDU; stops where no packet waits.

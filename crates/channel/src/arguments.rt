@@ -1,15 +1,9 @@
 // What the command line asks for.
 use disorder::Rates;
+use options::CHANNEL;
 use passage::Channel;
 use text::Number;
 ghost use Prim.Native.Nat.{_≤_};
-
-// What the program calls itself.
-pub const PROGRAM: [u8; 17] = *b"barzhilup channel";
-
-// The options that are known.
-pub const KNOWN: [u8; 87] =
-    *b"in=\0out=\0marks=\0force\0seed=\0loss=\0burst=\0damage=\0bytes=\0bursts=\0twice=\0swap=\0cut=\0help\0";
 
 // What is asked for; ok where every option has a value in its range.
 pub struct Job {
@@ -18,29 +12,23 @@ pub struct Job {
     pub channel: Channel,
 }
 
-fn number(name: &[u8], default: u32, low: u32, high: u32) -> Number
-    ensures { λ r. ⌜ r .value ≤ high ⌝ }
-{
-    options::number(&PROGRAM, &KNOWN, name, default, low, high)
-}
-
 // How many in a thousand; none where the option is not given.
-fn in_a_thousand(name: &[u8]) -> Number
+fn in_a_thousand(option: u8) -> Number
     ensures { λ r. ⌜ r .value ≤ 1000 ⌝ }
 {
-    number(name, 0, 0, 1000)
+    options::number(CHANNEL, option, 0, 0, 1000)
 }
 
 pub fn asked() -> Job {
-    let seed = number(b"seed", 1, 0, 4294967295);
-    let loss = number(b"loss", 50, 0, 1000);
-    let burst = number(b"burst", 4, 1, 64);
-    let damage = number(b"damage", 500, 0, 1000);
-    let bytes = number(b"bytes", 4, 0, 96);
-    let bursts = in_a_thousand(b"bursts");
-    let twice = in_a_thousand(b"twice");
-    let swap = in_a_thousand(b"swap");
-    let cut = in_a_thousand(b"cut");
+    let seed = options::number(CHANNEL, options::SEED, 1, 0, 4294967295);
+    let loss = options::number(CHANNEL, options::LOSS, 50, 0, 1000);
+    let burst = options::number(CHANNEL, options::BURST, 4, 1, 64);
+    let damage = options::number(CHANNEL, options::DAMAGE, 500, 0, 1000);
+    let bytes = options::number(CHANNEL, options::BYTES, 4, 0, 96);
+    let bursts = in_a_thousand(options::BURSTS);
+    let twice = in_a_thousand(options::TWICE);
+    let swap = in_a_thousand(options::SWAP);
+    let cut = in_a_thousand(options::CUT);
     Job {
         ok: (seed.ok & loss.ok & burst.ok & damage.ok & bytes.ok & bursts.ok)
             & (twice.ok & swap.ok & cut.ok),

@@ -5,21 +5,20 @@ mod report;
 
 use arguments::Job;
 use disorder::Outlet;
+use options::CHANNEL;
 use passage::Run;
 use passage::Task;
-ghost use Rattle.io.specs.Counts.{Counts};
 
 // The subcommand `channel`: answers the exit status.
 pub fn program() -> i32 {
-    if options::given(&arguments::KNOWN, b"help") {
-        return files::status(&arguments::PROGRAM, report::usage());
+    if options::given(CHANNEL, options::HELP) {
+        return files::status(CHANNEL, report::usage());
     }
     if !files::check(
-        &arguments::PROGRAM,
-        &arguments::KNOWN,
-        b"marks",
-        b"out",
-        b": --marks: standard output has the PDUs\n",
+        CHANNEL,
+        options::MARKS_OUT,
+        options::OUT,
+        b": standard output has the PDUs",
     ) {
         return files::WRONG;
     }
@@ -27,50 +26,27 @@ pub fn program() -> i32 {
     if !job.ok {
         return files::WRONG;
     }
-    files::status(&arguments::PROGRAM, run(job))
+    files::status(CHANNEL, run(job))
 }
 
 // Opens the file that is read, and sends its PDUs over the channel. Answers whether all is done; what went wrong is said.
 fn run(job: Job) -> bool {
     let mut from = files::label_buffer();
-    let n = files::put_input_label(&mut from, &arguments::PROGRAM, &arguments::KNOWN);
-    let input = files::open_input(&arguments::KNOWN, b"in", &from[..n]);
-    if input < 0 {
+    let input = files::opened(CHANNEL, options::IN, &mut from);
+    if input.fd < 0 {
         return false;
     }
-    with_input(job, &from[..n], input)
-}
-
-// A file that is written: its number, -1 where it is not made, and how long its label is.
-struct File {
-    fd: i32,
-    length: usize,
-}
-
-// Makes the file of an option, standard output where it names none, and puts its label.
-fn made(option: &[u8], label: &mut [u8]) -> File
-    ensures { λ r. ⌜ Counts (r .length) (now (label .exit)) ⌝ }
-{
-    let n = files::put_label(
-        label,
-        &arguments::PROGRAM,
-        &arguments::KNOWN,
-        option,
-        b"standard output",
-    );
-    File {
-        fd: files::open_output(&arguments::KNOWN, option, &label[..n]),
-        length: n,
-    }
+    let n = input.length;
+    with_input(job, &from[..n], input.fd)
 }
 
 // Makes the file of marks, where one is asked for.
 fn with_input(job: Job, from: &[u8], input: i32) -> bool {
-    if !options::given(&arguments::KNOWN, b"marks") {
+    if !options::given(CHANNEL, options::MARKS_OUT) {
         return with_marks(job, from, input, b"", disorder::NO_MARKS);
     }
     let mut label = files::label_buffer();
-    let marks = made(b"marks", &mut label);
+    let marks = files::opened(CHANNEL, options::MARKS_OUT, &mut label);
     if marks.fd < 0 {
         return false;
     }
@@ -81,9 +57,9 @@ fn with_input(job: Job, from: &[u8], input: i32) -> bool {
 // Makes the file that is written, and sends every PDU over the channel. Where that file is not made, that of marks goes, too.
 fn with_marks(job: Job, from: &[u8], input: i32, marking: &[u8], marks: i32) -> bool {
     let mut onto = files::label_buffer();
-    let pdus = made(b"out", &mut onto);
+    let pdus = files::opened(CHANNEL, options::OUT, &mut onto);
     if pdus.fd < 0 {
-        files::unmake(&arguments::KNOWN, b"marks");
+        files::unmake(CHANNEL, options::MARKS_OUT);
         return false;
     }
     let n = pdus.length;

@@ -1,10 +1,5 @@
 // What the program says on standard error, a line in one write.
-use crate::arguments::PROGRAM;
-use libc::STDERR_FILENO;
-
-fn say(line: &[u8]) {
-    io::write_all(STDERR_FILENO, line);
-}
+use options::CHANNEL;
 
 // A record has a length that no PDU has, after so many records of so many bytes.
 fn too_long(from: &[u8], pdus: u64, bytes: u64) {
@@ -32,14 +27,11 @@ pub fn ends(status: u8, from: &[u8], onto: &[u8], marking: &[u8], pdus: u64, byt
 
 // What the channel did. PDUs that were marked lost before are counted apart.
 pub fn summary(pdus: u64, missing: u64, lost: u64, damaged: u64, altered: u64) {
-    let mut line = [0u8; 256];
-    let n = text::fill(
-        &mut line,
-        0,
-        b"barzhilup channel: PDUs @ (lost before @), lost @, damaged @, bytes altered @\n",
+    options::say_numbers(
+        CHANNEL,
+        b": PDUs @ (lost before @), lost @, damaged @, bytes altered @\n",
         &[pdus, missing, lost, damaged, altered],
     );
-    say(&line[..n]);
 }
 
 // What else is counted where it is asked for, as numbers of the texts that say it.
@@ -56,23 +48,20 @@ pub fn asked_for(thing: u32, in_a_thousand: u64, count: u64) {
     if in_a_thousand == 0 {
         return;
     }
-    let mut line = [0u8; 128];
-    let n = text::fill(
-        &mut line,
-        0,
+    options::say_numbers(
+        CHANNEL,
         text::entry(
-            b"barzhilup channel: pieces hit by bursts @\n\0barzhilup channel: PDUs sent twice @\n\0barzhilup channel: PDUs swapped with the next @\n\0barzhilup channel: PDUs cut @\n\0",
+            b": pieces hit by bursts @\n\0: PDUs sent twice @\n\0: PDUs swapped with the next @\n\0: PDUs cut @\n\0",
             thing,
         ),
         &[count],
     );
-    say(&line[..n]);
 }
 
 // How the program is used, on standard output.
 pub fn usage() -> bool {
     files::print_usage(
-        &PROGRAM,
+        CHANNEL,
         b"usage: barzhilup channel [--in FILE] [--out FILE] [OPTION]...
 
 Damages a file of PDUs: PDUs are lost in bursts, and of those that come through

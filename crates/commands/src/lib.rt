@@ -13,22 +13,22 @@ pub extern "C" fn barzhilup_main() -> i32 {
 // Runs a subcommand.
 fn run(word: &[u8]) -> i32 {
     if check::same(word, b"generate") {
-        return files::with_hint(b"barzhilup generate", generator::program());
+        return files::with_hint(options::GENERATE, generator::program());
     }
     if check::same(word, b"channel") {
-        return files::with_hint(b"barzhilup channel", channel::program());
+        return files::with_hint(options::CHANNEL, channel::program());
     }
     if check::same(word, b"log") {
-        return files::with_hint(b"barzhilup log", logger::program());
+        return files::with_hint(options::LOG, logger::program());
     }
     if check::same(word, b"coverage") {
-        return files::with_hint(b"barzhilup coverage", coverage::program());
+        return files::with_hint(options::COVERAGE, coverage::program());
     }
     if check::same(word, b"latency") {
-        return files::with_hint(b"barzhilup latency", trials::program());
+        return files::with_hint(options::LATENCY, trials::program());
     }
     if check::same(word, b"join") {
-        return files::with_hint(b"barzhilup join", joiner::program());
+        return files::with_hint(options::JOIN, joiner::program());
     }
     about(word)
 }
@@ -36,13 +36,13 @@ fn run(word: &[u8]) -> i32 {
 // Says what the program is, or that a subcommand is missing or not known.
 fn about(word: &[u8]) -> i32 {
     if is_help(word) {
-        return files::status(b"barzhilup", print_usage());
+        return files::status(options::BARZHILUP, print_usage());
     }
     if check::same(word, b"--version") {
-        return files::status(b"barzhilup", print_version());
+        return files::status(options::BARZHILUP, print_version());
     }
     unknown(word);
-    files::with_hint(b"barzhilup", files::WRONG)
+    files::with_hint(options::BARZHILUP, files::WRONG)
 }
 
 fn is_help(word: &[u8]) -> bool {
@@ -54,7 +54,7 @@ fn is_help(word: &[u8]) -> bool {
 
 fn print_usage() -> bool {
     files::print_usage(
-        b"barzhilup",
+        options::BARZHILUP,
         b"usage: barzhilup SUBCOMMAND [OPTION]...
 
 The audio transport layer of HD Radio (1017s Rev. H), for bench and car testers
@@ -77,15 +77,15 @@ last line on standard error says, 2 if the usage is wrong.
 }
 
 fn print_version() -> bool {
-    files::print_usage(b"barzhilup", b"barzhilup 0.1.0\n")
+    files::print_usage(options::BARZHILUP, b"barzhilup 0.1.0\n")
 }
 
 // Says that a subcommand is missing, or that there is none of this name; and which there are.
 fn unknown(word: &[u8]) {
     if os::arg_count() < 2 {
-        files::say(b"barzhilup", b": subcommand missing\n");
+        options::say(options::BARZHILUP, b": subcommand missing\n");
     } else {
-        files::say_line(b"barzhilup", b": unknown subcommand ", word);
+        options::say_argument(options::BARZHILUP, b": unknown subcommand ", word);
     }
     io::write_all(
         STDERR_FILENO,

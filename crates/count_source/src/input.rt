@@ -1,8 +1,6 @@
 // Where the counts come from: a text, or packets that are packed as `generate` packs them.
-use crate::arguments;
-use crate::arguments::KNOWN;
 use crate::arguments::Listed;
-use crate::arguments::NAME;
+use options::LATENCY;
 use packets::Source;
 use packets::window;
 use packets::window::Window;
@@ -73,7 +71,16 @@ fn packed(
     let mut count: usize = 0;
     let mut left = counts.len();
     while 0 < left {
-        let next = sending::turn(task, label, &NAME, psd, lengths, bytes, pdu, run);
+        let next = sending::turn(
+            task,
+            label,
+            b"barzhilup latency",
+            psd,
+            lengths,
+            bytes,
+            pdu,
+            run,
+        );
         run = next;
         if !run.going {
             return Stored {
@@ -94,9 +101,9 @@ fn packed(
 fn window_of(input: i32) -> Window {
     let source = Source {
         fd: input,
-        adts: arguments::given(b"adts"),
+        adts: options::given(LATENCY, options::ADTS),
     };
-    window::begin(source, arguments::given(b"resync"))
+    window::begin(source, options::given(LATENCY, options::RESYNC))
 }
 
 // Packs packets into PDUs of a length.
@@ -128,7 +135,7 @@ fn from_packets(
         counts,
     );
     let run = done.run;
-    window::say_places(&NAME, run.window);
+    window::say_places(LATENCY, run.window);
     Listed {
         ok: run.ok,
         count: done.count,
@@ -138,15 +145,21 @@ fn from_packets(
 // Reads the PSD, tries the settings, and opens the file of packets.
 fn with_writer(label: &[u8], asked: Transmission, writer: Writer, counts: &mut [u32]) -> Listed {
     let mut psd = [0u8; 256];
-    let read = transmission::psd::read(&NAME, &KNOWN, &mut psd);
+    let read = transmission::psd::read(LATENCY, &mut psd);
     if read.status == records::FAILED {
         return none();
     }
     let settings = asked.settings;
-    if !trial::is_taken(&NAME, settings, &psd[..read.length], asked.length, writer) {
+    if !trial::is_taken(
+        b"barzhilup latency",
+        settings,
+        &psd[..read.length],
+        asked.length,
+        writer,
+    ) {
         return none();
     }
-    let input = files::open_input(&KNOWN, b"in", label);
+    let input = files::open(LATENCY, options::IN, label);
     if input < 0 {
         return none();
     }
@@ -155,12 +168,12 @@ fn with_writer(label: &[u8], asked: Transmission, writer: Writer, counts: &mut [
 
 // The counts that are asked for, where no option has them; what went wrong is said.
 pub fn read(label: &[u8], asked: Transmission, counts: &mut [u32]) -> Listed {
-    if arguments::given(b"packets") {
+    if options::given(LATENCY, options::PACKETS) {
         let opened = writer::open(asked.mode, asked.stream, asked.register);
         let writer = opened.writer;
         return with_writer(label, asked, writer, counts);
     }
-    let input = files::open_input(&KNOWN, b"in", label);
+    let input = files::open(LATENCY, options::IN, label);
     if input < 0 {
         return none();
     }

@@ -4,26 +4,25 @@
 mod report;
 
 use commission::Asked;
-use commission::KNOWN;
-use commission::NAME;
 use drawing::Task;
+use options::COVERAGE;
 use page::leaf;
 use page::leaf::Book;
 use readings::Run;
 
 // The program: answers its exit status.
 pub fn program() -> i32 {
-    if commission::given(b"help") {
-        return files::status(&NAME, report::usage());
+    if options::given(COVERAGE, options::HELP) {
+        return files::status(COVERAGE, report::usage());
     }
-    if !commission::check() {
+    if !options::check(COVERAGE) {
         return files::WRONG;
     }
     let asked = commission::asked_for();
     if !asked.ok {
         return files::WRONG;
     }
-    files::status(&NAME, with_options(asked))
+    files::status(COVERAGE, with_options(asked))
 }
 
 // Opens the CSV. Answers whether all is done; what went wrong is said.
@@ -33,12 +32,12 @@ fn with_options(asked: Asked) -> bool {
         return false;
     }
     let mut from = files::label_buffer();
-    let n = files::put_input_label(&mut from, &NAME, &KNOWN);
-    let input = files::open_input(&KNOWN, b"in", &from[..n]);
-    if input < 0 {
+    let input = files::opened(COVERAGE, options::IN, &mut from);
+    if input.fd < 0 {
         return false;
     }
-    let start = files::place(input);
+    let n = input.length;
+    let start = files::place(input.fd);
     if start < 0 {
         files::say(
             &from[..n],
@@ -46,7 +45,7 @@ fn with_options(asked: Asked) -> bool {
         );
         return false;
     }
-    with_input(asked, &from[..n], input, start)
+    with_input(asked, &from[..n], input.fd, start)
 }
 
 // The pages, for so many PDUs with so many packets at the most.
@@ -123,21 +122,21 @@ fn said_of_rows(rows: u32, given: u32) {
 // Makes the picture's file.
 fn with_task(task: Task, from: &[u8], buf: &mut [u8]) -> bool {
     let mut onto = files::label_buffer();
-    let n = files::put_output_label(&mut onto, &NAME, &KNOWN);
-    let output = files::open_output(&KNOWN, b"out", &onto[..n]);
-    if output < 0 {
+    let output = files::opened(COVERAGE, options::OUT, &mut onto);
+    if output.fd < 0 {
         return false;
     }
+    let n = output.length;
     let mut next = task;
-    next.output = output;
+    next.output = output.fd;
     with_output(next, from, &onto[..n], buf)
 }
 
 fn drawn(task: Task, buf: &mut [u8]) -> Run {
     if task.html {
-        return printing::html(task, &KNOWN, buf);
+        return printing::html(task, buf);
     }
-    printing::svg(task, &KNOWN, buf)
+    printing::svg(task, buf)
 }
 
 // Draws, and closes the picture's file.

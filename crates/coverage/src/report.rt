@@ -1,6 +1,6 @@
 // What the program says on standard error, a line in one write.
-use commission::NAME;
 use libc::STDERR_FILENO;
+use options::COVERAGE;
 use readings::Run;
 
 fn say(line: &[u8]) {
@@ -9,29 +9,27 @@ fn say(line: &[u8]) {
 
 // How many pages there are, where another one is asked for.
 pub fn say_pages(pages: u32) {
-    files::say_number(
-        &NAME,
-        b": --page: there are only so many pages: ",
-        pages as u64,
-        b"\n",
+    options::say_numbers(
+        COVERAGE,
+        b": --page: there are only so many pages: @\n",
+        &[pages as u64],
     );
 }
 
 // That mode and stream are not in the table.
 pub fn say_unlisted() {
     let mut line = [0u8; 512];
-    let mut n = text::put(&mut line, 0, &NAME);
+    let mut n = options::put_program(&mut line, COVERAGE);
     n = limits::put_unlisted(&mut line, n);
     say(&line[..n]);
 }
 
 // That a picture by itself has more rows than are read on a page, and how there are pages.
 pub fn say_rows(rows: u32) {
-    files::say_number(
-        &NAME,
-        b": --rows: not given, so the picture has all rows: ",
-        rows as u64,
-        b"; --rows N draws a page of N rows, --page K another one, --format html pages to print\n",
+    options::say_numbers(
+        COVERAGE,
+        b": --rows: not given, so the picture has all rows: @; --rows N draws a page of N rows, --page K another one, --format html pages to print\n",
+        &[rows as u64],
     );
 }
 
@@ -66,7 +64,7 @@ pub fn is_read(run: Run, from: &[u8], onto: &[u8]) -> bool {
 // How the program is used, on standard output.
 pub fn usage() -> bool {
     files::print_usage(
-        &NAME,
+        COVERAGE,
         b"usage: barzhilup coverage [--in FILE] [--out FILE] [OPTION]...
 
 Draws a drive as SVG or HTML from the CSV of barzhilup log: a cell for each PDU,

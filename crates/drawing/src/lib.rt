@@ -1,5 +1,5 @@
-// What a PDU adds to the overview strip and to the rows, as a reading of the CSV goes over it; on `cells`, `overview`,
-// `sheet` and `commission`.
+// What a PDU adds to the overview strip and to the rows, as a reading of the CSV goes over it; on `cells`, `overview` and
+// `sheet`.
 use clock::Clock;
 use csv::lines;
 use drive::Pdu;
@@ -64,7 +64,7 @@ fn opened(task: Task, block: &mut [u8], at: usize, number: u32) -> usize {
     if !task.html | !leaf::is_first(book, number) {
         return at;
     }
-    let n = sheet::put_page_start(block, at, &commission::KNOWN);
+    let n = sheet::put_page_start(block, at);
     picture::frame::put_page_head(
         block,
         n,

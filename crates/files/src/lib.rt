@@ -1,9 +1,8 @@
 // The files that a program's options name, and what it says of its work on standard error; they stand on `options`.
 //
-// A label is the program's name and that of a file, for a line that says what is wrong.
+// A label is the words of a subcommand and the name of a file, for a line that says what is wrong.
 use libc::PATH_MAX;
 use libc::STDERR_FILENO;
-use libc::STDIN_FILENO;
 use libc::STDOUT_FILENO;
 ghost use mathlib.Core.Path.{_≡_};
 ghost use lib.ListN.{length};
@@ -24,73 +23,81 @@ pub fn label_buffer() -> [u8; 4608]
     [0; 4608]
 }
 
-// Whether an option names a file: it is given, and its value is no dash, which stands for standard input or output.
-fn is_named(known: &[u8], option: &[u8]) -> bool {
-    if !options::given(known, option) {
-        return false;
+// What an option names: nothing, since it is not given; standard input or output, by a dash; nothing, by an empty value; or a file.
+pub const ABSENT: u8 = 0;
+
+pub const DASH: u8 = 1;
+
+pub const EMPTY: u8 = 2;
+
+pub const PATH: u8 = 3;
+
+pub fn named(command: u8, option: u8) -> u8 {
+    if !options::given(command, option) {
+        return ABSENT;
     }
     let mut path = io::buffer();
-    let n = options::value(known, option, &mut path);
-    !check::same(&path[..n], b"-")
+    let n = options::value(command, option, &mut path);
+    if n == 0 {
+        return EMPTY;
+    }
+    if check::same(&path[..n], b"-") {
+        return DASH;
+    }
+    PATH
 }
 
-// Whether an option and another one both stand for standard input, or output: it is given as a dash, and the other names no file.
-fn is_shared(known: &[u8], option: &[u8], other: &[u8]) -> bool {
-    if !options::given(known, option) {
-        return false;
-    }
-    !is_named(known, option) & !is_named(known, other)
+// Whether an option stands for standard input, or output: it is not given, or as a dash.
+fn is_standard(command: u8, option: u8) -> bool {
+    named(command, option) <= DASH
 }
 
-// Whether every argument is right, as `options::check` has it, and an option does not share standard input or output with another one; if not, says
-// what is wrong, for the latter in the words given.
-pub fn check(program: &[u8], known: &[u8], option: &[u8], other: &[u8], words: &[u8]) -> bool {
-    if !options::check(program, known) {
-        return false;
+// Whether an option and another one do not both stand for standard input, or output, the first by a dash; if they do, says so in the words given.
+pub fn is_apart(command: u8, option: u8, other: u8, words: &[u8]) -> bool {
+    let shared = (named(command, option) == DASH) & is_standard(command, other);
+    if shared {
+        options::complain(command, option, words);
     }
-    if is_shared(known, option, other) {
-        say(program, words);
-        return false;
-    }
-    true
+    !shared
 }
 
-// The program's name and that of a file: the value of the option that names it, or the other name where it names none.
-pub fn put_label(out: &mut [u8], program: &[u8], known: &[u8], option: &[u8], other: &[u8]) -> usize
+// Whether every argument is right, as `options::check` has it, and an option is apart from another one; if not, says what is wrong.
+pub fn check(command: u8, option: u8, other: u8, words: &[u8]) -> bool {
+    if !options::check(command) {
+        return false;
+    }
+    is_apart(command, option, other, words)
+}
+
+// 0 for standard input, 1 for standard output, which an option stands for that names no file.
+fn standard(option: u8) -> u8 {
+    options::is_written(option) as u8
+}
+
+// The words of a subcommand and the name of a file: the value of the option that names it, or what else it stands for.
+pub fn put_label(out: &mut [u8], command: u8, option: u8) -> usize
     ensures { λ r. ⌜ Counts r (now (out .exit)) ⌝ }
 {
-    let n = text::put(out, 0, program);
+    let n = options::put_program(out, command);
     let k = text::put(out, n, b": ");
-    if !is_named(known, option) {
-        return text::put(out, k, other);
+    if is_standard(command, option) {
+        return text::put(
+            out,
+            k,
+            text::entry(
+                b"standard input\0standard output\0",
+                standard(option) as u32,
+            ),
+        );
     }
     let mut path = io::buffer();
-    let size = options::value(known, option, &mut path);
+    let size = options::value(command, option, &mut path);
     text::put(out, k, &path[..size])
 }
 
-// The label of the file that is read.
-pub fn put_input_label(out: &mut [u8], program: &[u8], known: &[u8]) -> usize
-    ensures { λ r. ⌜ Counts r (now (out .exit)) ⌝ }
-{
-    put_label(out, program, known, b"in", b"standard input")
-}
-
-// The label of the file that is written.
-pub fn put_output_label(out: &mut [u8], program: &[u8], known: &[u8]) -> usize
-    ensures { λ r. ⌜ Counts r (now (out .exit)) ⌝ }
-{
-    put_label(out, program, known, b"out", b"standard output")
-}
-
-// A file to be read, standard input where its option names none; -1 where it cannot be opened, which is said.
-pub fn open_input(known: &[u8], option: &[u8], label: &[u8]) -> i32 {
-    if !is_named(known, option) {
-        return STDIN_FILENO;
-    }
-    let mut path = io::buffer();
-    let n = options::value(known, option, &mut path);
-    let fd = os::open_read(&path[..n]);
+// Opens a file that is read; -1 where it cannot be opened, which is said.
+fn open_named(path: &[u8], label: &[u8]) -> i32 {
+    let fd = os::open_read(path);
     if fd < 0 {
         os::fail(label);
     }
@@ -206,8 +213,8 @@ fn set_aside(path: &[u8], label: &[u8]) -> bool {
 
 // Whether a name is free as far as that is asked for: with --force an ordinary file that has it is renamed. A link, a device, a FIFO and a file
 // that may not be written keep theirs, which is said.
-fn make_way(known: &[u8], path: &[u8], label: &[u8]) -> bool {
-    if !options::given(known, b"force") {
+fn make_way(command: u8, path: &[u8], label: &[u8]) -> bool {
+    if !options::given(command, options::FORCE) {
         return true;
     }
     let kind = kind(path);
@@ -238,11 +245,11 @@ fn say_not_made(path: &[u8], label: &[u8]) {
 
 // Makes a file that is written. A name that is taken is refused, which is said, and its file stays as it is; with --force that file is renamed
 // first. So no file is ever emptied or lost, whatever its names, and one that is being read is read to its end.
-fn make_named(known: &[u8], path: &[u8], label: &[u8]) -> i32 {
+fn make_named(command: u8, path: &[u8], label: &[u8]) -> i32 {
     if is_mute() {
         return -1;
     }
-    if !make_way(known, path, label) {
+    if !make_way(command, path, label) {
         return -1;
     }
     let fd = os::create(path);
@@ -252,24 +259,44 @@ fn make_named(known: &[u8], path: &[u8], label: &[u8]) -> i32 {
     fd
 }
 
-// A file to be written, standard output where its option names none; -1 where it is not made: its name is taken or cannot be had, which is
-// said, or there is no standard error to say anything on.
-pub fn open_output(known: &[u8], option: &[u8], label: &[u8]) -> i32 {
-    if !is_named(known, option) {
-        return STDOUT_FILENO;
+// The file of an option, made where it is written, or else opened; standard output or input where it names none; -1 where it cannot be had: it is not there or
+// its name is taken, which is said, or there is no standard error to say anything on.
+pub fn open(command: u8, option: u8, label: &[u8]) -> i32 {
+    if is_standard(command, option) {
+        return standard(option) as i32;
     }
     let mut path = io::buffer();
-    let n = options::value(known, option, &mut path);
-    make_named(known, &path[..n], label)
+    let n = options::value(command, option, &mut path);
+    if options::is_written(option) {
+        return make_named(command, &path[..n], label);
+    }
+    open_named(&path[..n], label)
+}
+
+// A file: its number, -1 where it cannot be had, and how long its label is.
+pub struct File {
+    pub fd: i32,
+    pub length: usize,
+}
+
+// The file of an option, as `open` has it, and its label, which is put.
+pub fn opened(command: u8, option: u8, label: &mut [u8]) -> File
+    ensures { λ r. ⌜ Counts (r .length) (now (label .exit)) ⌝ }
+{
+    let n = put_label(label, command, option);
+    File {
+        fd: open(command, option, &label[..n]),
+        length: n,
+    }
 }
 
 // Removes the file that was made for an option, where it names one.
-pub fn unmake(known: &[u8], option: &[u8]) {
-    if !is_named(known, option) {
+pub fn unmake(command: u8, option: u8) {
+    if is_standard(command, option) {
         return;
     }
     let mut path = io::buffer();
-    let n = options::value(known, option, &mut path);
+    let n = options::value(command, option, &mut path);
     os::unlink(&path[..n]);
 }
 
@@ -291,7 +318,7 @@ pub fn say(label: &[u8], words: &[u8]) {
 }
 
 // A line on standard error, in three parts.
-pub fn say_line(a: &[u8], b: &[u8], c: &[u8]) {
+fn say_line(a: &[u8], b: &[u8], c: &[u8]) {
     let mut line = [0u8; 9216];
     let mut n = text::put(&mut line, 0, a);
     n = text::put(&mut line, n, b);
@@ -318,46 +345,49 @@ pub fn second() -> i64 {
 
 // How far the work is, where somebody looks on: a line that the next one overwrites. It is said once a second: not in the second that is given, in which it was
 // last said or the work began. Answers the second that it is.
-pub fn progress(program: &[u8], things: &[u8], count: u64, shown: i64) -> i64 {
+pub fn progress(command: u8, count: u64, shown: i64) -> i64 {
     let now = second();
-    if now == shown {
-        return now;
-    }
-    if libc::isatty(STDERR_FILENO) == 1 {
-        say_number(program, things, count, b"\r");
+    if now != shown {
+        if libc::isatty(STDERR_FILENO) == 1 {
+            options::say_numbers(
+                command,
+                text::entry(
+                    b"\0: PDUs @\r\0: PDUs @\r\0: PDUs @\r\0: lines @\r\0\0: frames @\r\0",
+                    command as u32,
+                ),
+                &[count],
+            );
+        }
     }
     now
 }
 
-// The last line where not all of the work is done.
-pub fn stopped_early(program: &[u8]) {
-    say(program, b": stopped early\n");
-}
-
 // The exit status of work that is all done or not; where it is not, the last line says so.
-pub fn status(program: &[u8], done: bool) -> i32 {
+pub fn status(command: u8, done: bool) -> i32 {
     if done {
         return DONE;
     }
-    stopped_early(program);
+    options::say(command, b": stopped early\n");
     EARLY
 }
 
 // The exit status as it is; where the usage is wrong, the last line says where help is.
-pub fn with_hint(program: &[u8], status: i32) -> i32 {
+pub fn with_hint(command: u8, status: i32) -> i32 {
     if status == WRONG {
-        say_line(b"try '", program, b" --help'");
+        let mut program = [0u8; 32];
+        let n = options::put_program(&mut program, command);
+        say_line(b"try '", &program[..n], b" --help'");
     }
     status
 }
 
 // Prints how a program is used on standard output. Answers whether all is printed; if not, says why.
-pub fn print_usage(program: &[u8], usage: &[u8]) -> bool {
+pub fn print_usage(command: u8, usage: &[u8]) -> bool {
     if io::write_all(STDOUT_FILENO, usage) {
         return true;
     }
     let mut label = [0u8; 64];
-    let n = text::put(&mut label, 0, program);
+    let n = options::put_program(&mut label, command);
     let k = text::put(&mut label, n, b": standard output");
     os::fail(&label[..k]);
     false

@@ -2,29 +2,27 @@
 mod report;
 
 use broadcast::Broadcast;
-use inputs::NAME;
+use options::GENERATE;
 use packets::Source;
 use packets::window;
 use packets::window::Window;
 use psd_stream::Supply;
 use sending::trial;
-use transmission::KNOWN;
 use transmission::Transmission;
 use writer::Writer;
 
 // The program: answers its exit status.
 pub fn program() -> i32 {
-    if options::given(&KNOWN, b"help") {
-        return files::status(&NAME, report::usage());
+    if options::given(GENERATE, options::HELP) {
+        return files::status(GENERATE, report::usage());
     }
     if !inputs::check() {
         return files::WRONG;
     }
-    let asked = transmission::asked(&NAME, &KNOWN);
+    let asked = transmission::asked(GENERATE);
     let most = options::number(
-        &NAME,
-        &KNOWN,
-        b"psd-bytes",
+        GENERATE,
+        options::PSD_BYTES,
         psd_stream::MOST,
         1,
         psd_stream::MOST,
@@ -32,7 +30,7 @@ pub fn program() -> i32 {
     if !asked.ok | !most.ok {
         return files::WRONG;
     }
-    files::status(&NAME, run(asked, most.value as usize))
+    files::status(GENERATE, run(asked, most.value as usize))
 }
 
 // Makes the PDUs, each with at most so many bytes of PSD that runs across them. Answers whether all is done; what went wrong is said.
@@ -41,7 +39,7 @@ fn run(asked: Transmission, most: usize) -> bool {
     if opened.refusal != 0 {
         let settings = asked.settings;
         trial::say_refused(
-            &NAME,
+            b"barzhilup generate",
             opened.refusal,
             asked.mode,
             asked.stream,
@@ -62,12 +60,19 @@ fn run(asked: Transmission, most: usize) -> bool {
 // Tries the settings of the options, and reads their changes.
 fn with_supply(asked: Transmission, writer: Writer, supply: Supply, psd: &mut [u8]) -> bool {
     let row = asked.row;
-    if !broadcast::is_taken(&NAME, row, supply, psd, asked.length, writer) {
+    if !broadcast::is_taken(
+        b"barzhilup generate",
+        row,
+        supply,
+        psd,
+        asked.length,
+        writer,
+    ) {
         return false;
     }
     let mut text = io::large_buffer();
     let mut label = files::label_buffer();
-    let n = inputs::put_label(&mut label, b"settings");
+    let n = files::put_label(&mut label, GENERATE, options::SETTINGS);
     let read = inputs::settings(&mut text, &label[..n]);
     if read.status == records::FAILED {
         return false;
@@ -90,12 +95,12 @@ fn with_changes(
         return false;
     }
     let mut from = files::label_buffer();
-    let n = files::put_input_label(&mut from, &NAME, &KNOWN);
-    let input = files::open_input(&KNOWN, b"in", &from[..n]);
-    if input < 0 {
+    let input = files::opened(GENERATE, options::IN, &mut from);
+    if input.fd < 0 {
         return false;
     }
-    let start = broadcast::begin(writer, window_of(input), text, row, supply);
+    let n = input.length;
+    let start = broadcast::begin(writer, window_of(input.fd), text, row, supply);
     with_input(asked.length, psd, text, label, &from[..n], start)
 }
 
@@ -103,9 +108,9 @@ fn with_changes(
 fn window_of(input: i32) -> Window {
     let source = Source {
         fd: input,
-        adts: options::given(&KNOWN, b"adts"),
+        adts: options::given(GENERATE, options::ADTS),
     };
-    window::begin(source, options::given(&KNOWN, b"resync"))
+    window::begin(source, options::given(GENERATE, options::RESYNC))
 }
 
 // Opens the file of PDUs.
@@ -118,12 +123,12 @@ fn with_input(
     start: Broadcast,
 ) -> bool {
     let mut onto = files::label_buffer();
-    let n = files::put_output_label(&mut onto, &NAME, &KNOWN);
-    let output = files::open_output(&KNOWN, b"out", &onto[..n]);
-    if output < 0 {
+    let output = files::opened(GENERATE, options::OUT, &mut onto);
+    if output.fd < 0 {
         return false;
     }
-    with_output(length, psd, text, label, from, &onto[..n], output, start)
+    let n = output.length;
+    with_output(length, psd, text, label, from, &onto[..n], output.fd, start)
 }
 
 // Sends, and closes the file of PDUs.
@@ -147,7 +152,7 @@ fn with_output(
 fn finish(done: Broadcast, label: &[u8]) -> bool {
     let run = done.run;
     report::summary(run.packets, run.octets, run.pdus, run.size);
-    window::say_places(&NAME, broadcast::window_of(done));
+    window::say_places(GENERATE, broadcast::window_of(done));
     report::psd(done);
     report::changes(done, label);
     run.ok

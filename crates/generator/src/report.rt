@@ -1,19 +1,14 @@
 // What the program says of its work.
 use broadcast::Broadcast;
-use inputs::NAME;
-use libc::STDERR_FILENO;
-use transmission::KNOWN;
+use options::GENERATE;
 
 // What is sent, on standard error.
 pub fn summary(packets: u64, octets: u64, pdus: u64, size: u64) {
-    let mut line = [0u8; 256];
-    let n = text::fill(
-        &mut line,
-        0,
-        b"barzhilup generate: packets @ (bytes @), PDUs @ (bytes @)\n",
+    options::say_numbers(
+        GENERATE,
+        b": packets @ (bytes @), PDUs @ (bytes @)\n",
         &[packets, octets, pdus, size],
     );
-    io::write_all(STDERR_FILENO, &line[..n]);
 }
 
 // Says that PSD that runs across PDUs could not be read, if so.
@@ -23,31 +18,31 @@ pub fn psd_ends(done: Broadcast) {
         return;
     }
     let mut label = files::label_buffer();
-    let n = inputs::put_label(&mut label, b"psd-stream");
+    let n = files::put_label(&mut label, GENERATE, options::PSD_STREAM);
     files::say(&label[..n], b": cannot be read\n");
 }
 
 // How much is sent of PSD that runs across PDUs, and whether its file has more.
 pub fn psd(done: Broadcast) {
-    if !options::given(&KNOWN, b"psd-stream") {
+    if !options::given(GENERATE, options::PSD_STREAM) {
         return;
     }
     let supply = done.supply;
-    files::say_number(&NAME, b": bytes of PSD ", supply.sent, b"\n");
+    options::say_numbers(GENERATE, b": bytes of PSD @\n", &[supply.sent]);
     if !psd_stream::has_more(supply) {
         return;
     }
     let mut label = files::label_buffer();
-    let n = inputs::put_label(&mut label, b"psd-stream");
+    let n = files::put_label(&mut label, GENERATE, options::PSD_STREAM);
     files::say(&label[..n], b": has more PSD than was sent\n");
 }
 
 // How many changes of settings came, and which did not.
 pub fn changes(done: Broadcast, label: &[u8]) {
-    if !options::given(&KNOWN, b"settings") {
+    if !options::given(GENERATE, options::SETTINGS) {
         return;
     }
-    files::say_number(&NAME, b": changes of settings ", done.changes, b"\n");
+    options::say_numbers(GENERATE, b": changes of settings @\n", &[done.changes]);
     let next = done.next;
     if next.pdu == schedule::NEVER {
         return;
@@ -65,12 +60,12 @@ pub fn usage() -> bool {
     if !print_options() {
         return false;
     }
-    mode_table::print(&NAME)
+    mode_table::print(GENERATE)
 }
 
 fn print_options() -> bool {
     files::print_usage(
-        b"barzhilup generate",
+        GENERATE,
         b"usage: barzhilup generate [--in FILE] [--out FILE] [OPTION]...
 
 Makes a file of PDUs from a file of packets. A record of either file is its

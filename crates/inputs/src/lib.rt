@@ -1,94 +1,79 @@
 // What `barzhilup generate` reads before the packets: the PSD, and the changes of settings; on `psd_stream` and `transmission`.
+use options::GENERATE;
 use psd_stream::Supply;
 use records::Record;
-use transmission::KNOWN;
 ghost use Rattle.io.specs.Counts.{Counts};
 
-// The program's name, as messages have it.
-pub const NAME: [u8; 18] = *b"barzhilup generate";
-
-// Whether an option is given as a dash, which stands for standard input.
-fn is_dash(option: &[u8]) -> bool {
-    let mut value = io::buffer();
-    let n = options::value(&KNOWN, option, &mut value);
-    check::same(&value[..n], b"-")
-}
-
-// Whether a thing that is wrong is not so; if it is, says it.
-fn is_not(wrong: bool, words: &[u8]) -> bool {
+// Whether an option is right; if not, says what is wrong.
+fn is_right(option: u8, wrong: bool, words: &[u8]) -> bool {
     if wrong {
-        files::say(&NAME, words);
+        options::complain(GENERATE, option, words);
     }
     !wrong
 }
 
-// Whether an option is given without the name of a file.
-fn is_empty(option: &[u8]) -> bool {
-    if !options::given(&KNOWN, option) {
-        return false;
-    }
-    let mut value = io::buffer();
-    options::value(&KNOWN, option, &mut value) == 0
+// Whether an option is not given without the name of a file; if it is, says so.
+fn has_name(option: u8) -> bool {
+    is_right(
+        option,
+        files::named(GENERATE, option) == files::EMPTY,
+        b": value missing",
+    )
 }
 
-// Whether the files that are read besides packets have names; if not, says so.
-fn are_named() -> bool {
-    is_not(is_empty(b"psd-stream"), b": --psd-stream: value missing\n")
-        & is_not(is_empty(b"settings"), b": --settings: value missing\n")
+// Whether an option is given as a dash, which stands for standard input.
+fn is_dash(option: u8) -> bool {
+    files::named(GENERATE, option) == files::DASH
+}
+
+// Whether an option comes with PSD that runs across PDUs; if not, says so.
+fn has_stream(option: u8, streams: bool) -> bool {
+    is_right(
+        option,
+        !streams & options::given(GENERATE, option),
+        b": no PSD runs across PDUs (--psd-stream)",
+    )
 }
 
 // Whether the options that say what is read besides packets go together; if not, says what is wrong.
 fn go_together() -> bool {
-    let streams = options::given(&KNOWN, b"psd-stream");
-    is_not(
-        streams & options::given(&KNOWN, b"psd"),
-        b": --psd-stream: takes the place of --psd\n",
+    let streams = options::given(GENERATE, options::PSD_STREAM);
+    is_right(
+        options::PSD_STREAM,
+        streams & options::given(GENERATE, options::PSD),
+        b": takes the place of --psd",
     )
-        & is_not(
-            !streams & options::given(&KNOWN, b"psd-bytes"),
-            b": --psd-bytes: no PSD runs across PDUs (--psd-stream)\n",
+        & has_stream(options::PSD_BYTES, streams)
+        & has_stream(options::PSD_REPEAT, streams)
+        & is_right(
+            options::SETTINGS,
+            is_dash(options::SETTINGS) & (is_dash(options::PSD) | is_dash(options::PSD_STREAM)),
+            b": standard input has the PSD",
         )
-        & is_not(
-            !streams & options::given(&KNOWN, b"psd-repeat"),
-            b": --psd-repeat: no PSD runs across PDUs (--psd-stream)\n",
-        )
-        & is_not(
-            is_dash(b"settings") & (is_dash(b"psd") | is_dash(b"psd-stream")),
-            b": --settings: standard input has the PSD\n",
-        )
+}
+
+// Whether the file of an option and the packets are not both on standard input; if they are, says so.
+fn is_apart(option: u8) -> bool {
+    files::is_apart(
+        GENERATE,
+        option,
+        options::IN,
+        b": standard input has the packets",
+    )
 }
 
 // Whether every option is one that is known, with its value, and they go together; if not, says what is wrong.
 pub fn check() -> bool {
-    if !transmission::check(&NAME, &KNOWN) {
+    if !transmission::check(GENERATE) {
         return false;
     }
-    if !files::check(
-        &NAME,
-        &KNOWN,
-        b"psd-stream",
-        b"in",
-        b": --psd-stream: standard input has the packets\n",
-    ) {
+    if !is_apart(options::PSD_STREAM) {
         return false;
     }
-    if !files::check(
-        &NAME,
-        &KNOWN,
-        b"settings",
-        b"in",
-        b": --settings: standard input has the packets\n",
-    ) {
+    if !is_apart(options::SETTINGS) {
         return false;
     }
-    are_named() & go_together()
-}
-
-// The label of a file that is read: that of an option.
-pub fn put_label(out: &mut [u8], option: &[u8]) -> usize
-    ensures { λ r. ⌜ Counts r (now (out .exit)) ⌝ }
-{
-    files::put_label(out, &NAME, &KNOWN, option, b"standard input")
+    has_name(options::PSD_STREAM) & has_name(options::SETTINGS) & go_together()
 }
 
 // A supply of PSD that cannot be had, which is said.
@@ -108,28 +93,28 @@ fn none(fd: i32) -> Supply {
 // The supply of a file whose bytes run across PDUs, at most so many in each; its status is FAILED where it cannot be had, which is said.
 fn stream(most: usize) -> Supply {
     let mut label = files::label_buffer();
-    let n = put_label(&mut label, b"psd-stream");
-    let fd = files::open_input(&KNOWN, b"psd-stream", &label[..n]);
-    if fd < 0 {
-        return none(fd);
+    let file = files::opened(GENERATE, options::PSD_STREAM, &mut label);
+    if file.fd < 0 {
+        return none(file.fd);
     }
-    let supply = psd_stream::of(fd, options::given(&KNOWN, b"psd-repeat"), most);
+    let supply = psd_stream::of(file.fd, options::given(GENERATE, options::PSD_REPEAT), most);
     if supply.repeats & (supply.start < 0) {
+        let n = file.length;
         files::say(
             &label[..n],
             b": cannot be read again from its start (--psd-repeat)\n",
         );
-        return none(fd);
+        return none(file.fd);
     }
     supply
 }
 
 // The supply of PSD that is asked for, in the buffer where it is the same for every PDU; its status is FAILED where it cannot be had, which is said.
 pub fn supply(most: usize, psd: &mut [u8]) -> Supply {
-    if options::given(&KNOWN, b"psd-stream") {
+    if options::given(GENERATE, options::PSD_STREAM) {
         return stream(most);
     }
-    let read = transmission::psd::read(&NAME, &KNOWN, psd);
+    let read = transmission::psd::read(GENERATE, psd);
     if read.status == records::FAILED {
         return none(-1);
     }
@@ -140,13 +125,13 @@ pub fn supply(most: usize, psd: &mut [u8]) -> Supply {
 pub fn settings(text: &mut [u8], label: &[u8]) -> Record
     ensures { λ r. ⌜ Counts (r .length) (now (text .exit)) ⌝ }
 {
-    if !options::given(&KNOWN, b"settings") {
+    if !options::given(GENERATE, options::SETTINGS) {
         return Record {
             status: records::WHOLE,
             length: 0,
         };
     }
-    let fd = files::open_input(&KNOWN, b"settings", label);
+    let fd = files::open(GENERATE, options::SETTINGS, label);
     if fd < 0 {
         return Record {
             status: records::FAILED,

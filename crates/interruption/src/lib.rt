@@ -1,65 +1,70 @@
 // A drive that is interrupted (document 02, Ask 13): what `--save`, `--resume` and `--skip` of `barzhilup log` ask for; on `saved_state`, `opening`, `causes`,
 // `limits` and `named_settings`.
+use options::LOG;
 use saved_state::State;
 ghost use Rattle.io.specs.Counts.{Counts};
 
-// Whether an option names a file: it is given, and its value is neither empty nor a dash.
-fn is_file(known: &[u8], option: &[u8]) -> bool {
-    if !options::given(known, option) {
-        return false;
-    }
-    let mut path = io::buffer();
-    let n = options::value(known, option, &mut path);
-    (n != 0) & !check::same(&path[..n], b"-")
-}
-
-// Whether something is not so; if it is, says what is wrong.
-fn is_not(wrong: bool, words: &[u8]) -> bool {
+// Whether an option is right; if not, says what is wrong.
+fn is_right(option: u8, wrong: bool, words: &[u8]) -> bool {
     if wrong {
-        files::say(b"barzhilup log", words);
+        options::complain(LOG, option, words);
     }
     !wrong
 }
 
+// Whether an option names a file.
+fn is_file(option: u8) -> bool {
+    files::named(LOG, option) == files::PATH
+}
+
 // Whether the files of both options can be had as they are asked for; if not, says why.
-fn are_files(known: &[u8], saves: bool, resumes: bool) -> bool {
-    is_not(
-        saves & !is_file(known, b"save"),
-        b": --save: names no file\n",
+fn are_files(saves: bool, resumes: bool) -> bool {
+    is_right(
+        options::SAVE,
+        saves & !is_file(options::SAVE),
+        b": names no file",
     )
-        & is_not(
-            saves & !is_file(known, b"out"),
-            b": --save: the log goes to no file (--out)\n",
+        & is_right(
+            options::SAVE,
+            saves & !is_file(options::OUT),
+            b": the log goes to no file (--out)",
         )
-        & is_not(
-            resumes & !is_file(known, b"resume"),
-            b": --resume: names no file\n",
+        & is_right(
+            options::RESUME,
+            resumes & !is_file(options::RESUME),
+            b": names no file",
         )
 }
 
 // Whether the receiver is opened by an option, which a saved one is not.
-fn is_opened(known: &[u8]) -> bool {
-    options::given(known, b"mode")
-        | options::given(known, b"stream")
-        | options::given(known, b"crc-start")
-        | options::given(known, b"entitled")
+fn is_opened() -> bool {
+    options::given(LOG, options::MODE)
+        | options::given(LOG, options::STREAM)
+        | options::given(LOG, options::CRC_START)
+        | options::given(LOG, options::ENTITLED)
 }
 
 // Whether the options go together; if not, says why.
-pub fn is_asked(known: &[u8]) -> bool {
-    let saves = options::given(known, b"save");
-    let resumes = options::given(known, b"resume");
-    let pairs = options::given(known, b"second");
-    are_files(known, saves, resumes)
-        & is_not(saves & pairs, b": --save: not with two recordings\n")
-        & is_not(resumes & pairs, b": --resume: not with two recordings\n")
-        & is_not(
-            resumes & is_opened(known),
-            b": --resume: its file has mode, stream, start of CRCs and programs\n",
+pub fn is_asked() -> bool {
+    let saves = options::given(LOG, options::SAVE);
+    let resumes = options::given(LOG, options::RESUME);
+    let pairs = options::given(LOG, options::SECOND);
+    are_files(saves, resumes)
+        & is_right(options::SAVE, saves & pairs, b": not with two recordings")
+        & is_right(
+            options::RESUME,
+            resumes & pairs,
+            b": not with two recordings",
         )
-        & is_not(
-            options::given(known, b"skip") & !resumes,
-            b": --skip: nothing is resumed (--resume)\n",
+        & is_right(
+            options::RESUME,
+            resumes & is_opened(),
+            b": its file has mode, stream, start of CRCs and programs",
+        )
+        & is_right(
+            options::SKIP,
+            options::given(LOG, options::SKIP) & !resumes,
+            b": nothing is resumed (--resume)",
         )
 }
 
@@ -85,15 +90,15 @@ fn not_opened(refusal: u32, mode: u8, stream: u8) {
         return;
     }
     let mut line = [0u8; 256];
-    let n = text::put(&mut line, 0, b"barzhilup log");
+    let n = options::put_program(&mut line, LOG);
     let settings = named_settings::of(named_settings::none());
     let k = limits::put(&mut line, n, refusal, mode, stream, 0, settings);
     io::write_all(libc::STDERR_FILENO, &line[..k]);
 }
 
 // A receiver that is opened for a mode, a stream, a register and the entitled programs of the option; if it is refused, says so.
-fn opened(known: &[u8], mode: u8, stream: u8, register: u8) -> Start {
-    let o = opening::open(known, mode, stream, register);
+fn opened(mode: u8, stream: u8, register: u8) -> Start {
+    let o = opening::open(mode, stream, register);
     let receiver = o.receiver;
     if o.refusal != 0 {
         not_opened(o.refusal, mode, stream);
@@ -157,17 +162,17 @@ fn resumed(fd: i32, label: &[u8], carry: &mut [u8]) -> Start {
 }
 
 // How a run begins: as the file of `--resume` has it, or with a receiver that is opened. If it cannot begin, says why.
-pub fn begin(known: &[u8], mode: u8, stream: u8, register: u8, carry: &mut [u8]) -> Start {
-    if !options::given(known, b"resume") {
-        return opened(known, mode, stream, register);
+pub fn begin(mode: u8, stream: u8, register: u8, carry: &mut [u8]) -> Start {
+    if !options::given(LOG, options::RESUME) {
+        return opened(mode, stream, register);
     }
     let mut label = files::label_buffer();
-    let n = files::put_label(&mut label, b"barzhilup log", known, b"resume", b"");
-    let fd = files::open_input(known, b"resume", &label[..n]);
-    if fd < 0 {
+    let file = files::opened(LOG, options::RESUME, &mut label);
+    if file.fd < 0 {
         return none();
     }
-    resumed(fd, &label[..n], carry)
+    let n = file.length;
+    resumed(file.fd, &label[..n], carry)
 }
 
 // What came of passing over so many records of a file, by a buffer: WHOLE, or what came of the reading that ended it.
@@ -184,11 +189,8 @@ fn passed(fd: i32, many: u64, buf: &mut [u8]) -> u8 {
 }
 
 // Passes over the records of so many PDUs in a file, where `--skip` is given and there is one. Answers whether they are there; if not, says so with its label.
-pub fn pass_over(known: &[u8], fd: i32, label: &[u8], many: u64) -> bool {
-    if !options::given(known, b"skip") {
-        return true;
-    }
-    if fd < 0 {
+pub fn pass_over(fd: i32, label: &[u8], many: u64) -> bool {
+    if !options::given(LOG, options::SKIP) | (fd < 0) {
         return true;
     }
     let mut buf = [0u8; 65535];
@@ -211,37 +213,33 @@ pub fn pass_over(known: &[u8], fd: i32, label: &[u8], many: u64) -> bool {
 }
 
 // The name of the file of `--save`; nothing where none is asked for.
-pub fn put_path(known: &[u8], path: &mut [u8]) -> usize
+pub fn put_path(path: &mut [u8]) -> usize
     ensures { λ r. ⌜ Counts r (now (path .exit)) ⌝ }
 {
-    if !options::given(known, b"save") {
-        return 0;
-    }
-    options::value(known, b"save", path)
+    options::value(LOG, options::SAVE, path)
 }
 
 // Puts how the drive stands into the file of a name that is taken for it. Answers whether that went well; if not, the file goes.
-fn first_state(known: &[u8], state: State, carry: &[u8]) -> bool {
+fn first_state(state: State, carry: &[u8]) -> bool {
     let mut path = io::buffer();
-    let n = put_path(known, &mut path);
+    let n = put_path(&mut path);
     if saved_state::save(&path[..n], state, carry) {
         return true;
     }
-    files::unmake(known, b"save");
+    files::unmake(LOG, options::SAVE);
     false
 }
 
 // Makes the file of `--save`, where one is asked for, with how the drive stands. Answers whether that went well; if not, says why, and there is none.
-pub fn make(known: &[u8], state: State, carry: &[u8]) -> bool {
-    if !options::given(known, b"save") {
+pub fn make(state: State, carry: &[u8]) -> bool {
+    if !options::given(LOG, options::SAVE) {
         return true;
     }
     let mut label = files::label_buffer();
-    let n = files::put_label(&mut label, b"barzhilup log", known, b"save", b"");
-    let fd = files::open_output(known, b"save", &label[..n]);
-    if fd < 0 {
+    let file = files::opened(LOG, options::SAVE, &mut label);
+    if file.fd < 0 {
         return false;
     }
-    libc::close(fd);
-    first_state(known, state, carry)
+    libc::close(file.fd);
+    first_state(state, carry)
 }

@@ -1,10 +1,7 @@
 // What the command line of `barzhilup log` asks for; on `interruption`, `beside_files` and `formats`.
+use options::LOG;
 use text::Number;
 ghost use Prim.Native.Nat.{_≤_};
-
-// The options that are known.
-pub const KNOWN: [u8; 166] =
-    *b"summary=\0in=\0out=\0second=\0marks=\0save=\0resume=\0skip\0resync\0force\0mode=\0stream=\0crc-start=\0entitled=\0format=\0batch=\0packets=\0adts=\0psd=\0sent=\0sent-adts\0compared=\0help\0";
 
 // What is asked for; ok where mode, stream, the register that CRCs start with, the entitled programs, format and the records of a frame are given as they can
 // be, and the options go together.
@@ -23,19 +20,16 @@ pub struct Job {
 }
 
 // A number of one byte, 0 where its option is not given.
-fn number(name: &[u8]) -> Number
+fn number(option: u8) -> Number
     ensures { λ r. ⌜ r .value ≤ 255 ⌝ }
 {
-    options::number(b"barzhilup log", &KNOWN, name, 0, 0, 255)
+    options::number(LOG, option, 0, 0, 255)
 }
 
 // Whether mode and stream are to be those of the first PDU that can be read.
 fn is_auto() -> bool {
-    if !options::given(&KNOWN, b"mode") {
-        return false;
-    }
     let mut value = [0u8; 8];
-    let n = options::value(&KNOWN, b"mode", &mut value);
+    let n = options::value(LOG, options::MODE, &mut value);
     check::same(&value[..n], b"auto")
 }
 
@@ -46,26 +40,14 @@ fn mode_asked(auto: bool) -> Number
     if auto {
         return Number { ok: true, value: 0 };
     }
-    number(b"mode")
+    number(options::MODE)
 }
 
 // Whether an option by which PDUs are not read one by one from one file is given.
 fn is_otherwise() -> bool {
-    options::given(&KNOWN, b"batch")
-        | options::given(&KNOWN, b"marks")
-        | options::given(&KNOWN, b"second")
-}
-
-// Whether records can be read ahead, if an option asks for it; if not, says so in words.
-fn can_read_ahead(asked: bool, words: &[u8]) -> bool {
-    if !asked {
-        return true;
-    }
-    if is_otherwise() {
-        files::say(b"barzhilup log", words);
-        return false;
-    }
-    true
+    options::given(LOG, options::BATCH)
+        | options::given(LOG, options::MARKS)
+        | options::given(LOG, options::SECOND)
 }
 
 fn format_named(name: &[u8]) -> u8 {
@@ -89,73 +71,68 @@ fn format_named(name: &[u8]) -> u8 {
 
 // The format that is asked for; where there is no such format, says so.
 fn format_asked() -> u8 {
-    if !options::given(&KNOWN, b"format") {
+    if !options::given(LOG, options::FORMAT) {
         return formats::TEXT;
     }
     let mut name = io::buffer();
-    let n = options::value(&KNOWN, b"format", &mut name);
+    let n = options::value(LOG, options::FORMAT, &mut name);
     let format = format_named(&name[..n]);
     if format == formats::NO_FORMAT {
-        files::say_line(
-            b"barzhilup log",
-            b": --format: not words, text, csv, json or records: ",
+        options::complain_of(
+            LOG,
+            options::FORMAT,
+            b": not words, text, csv, json or records: ",
             &name[..n],
         );
     }
     format
 }
 
-// How many records are received in one call, 0 where that is not asked for.
-fn batch_asked() -> Number {
-    options::number(b"barzhilup log", &KNOWN, b"batch", 0, 1, 64)
+// Whether an option is right; if not, says what is wrong.
+fn is_right(option: u8, wrong: bool, words: &[u8]) -> bool {
+    if wrong {
+        options::complain(LOG, option, words);
+    }
+    !wrong
 }
 
 // Whether frames can be received in one call with what else is asked for (document 02, Ask 3: only mending and the single receive call take marks;
 // Ask 5: a pair is received by a call of its own); if not, says so.
 fn can_batch() -> bool {
-    if !options::given(&KNOWN, b"batch") {
-        return true;
-    }
-    if options::given(&KNOWN, b"marks") {
-        files::say(b"barzhilup log", b": --batch: a batch takes no marks\n");
-        return false;
-    }
-    if options::given(&KNOWN, b"second") {
-        files::say(b"barzhilup log", b": --batch: a batch takes no pairs\n");
-        return false;
-    }
-    true
+    let batches = options::given(LOG, options::BATCH);
+    let marks = options::given(LOG, options::MARKS);
+    let pairs = options::given(LOG, options::SECOND);
+    is_right(options::BATCH, batches & marks, b": a batch takes no marks")
+        & is_right(
+            options::BATCH,
+            batches & !marks & pairs,
+            b": a batch takes no pairs",
+        )
 }
 
-// Whether the options go together: a second recording is not read from where the first is, and copies have no marks. If they do not, says why.
+// Whether the file of an option and the PDUs are not both on standard input; if they are, says so.
+fn is_apart(option: u8) -> bool {
+    files::is_apart(LOG, option, options::IN, b": standard input has the PDUs")
+}
+
+// Whether copies have no marks; if they have, says so.
 fn can_pair() -> bool {
-    if !files::check(
-        b"barzhilup log",
-        &KNOWN,
-        b"second",
-        b"in",
-        b": --second: standard input has the PDUs\n",
-    ) {
-        return false;
-    }
-    if options::given(&KNOWN, b"second") {
-        if options::given(&KNOWN, b"marks") {
-            files::say(b"barzhilup log", b": --second: a pair takes no marks\n");
-            return false;
-        }
-    }
-    true
+    is_right(
+        options::SECOND,
+        options::given(LOG, options::SECOND) & options::given(LOG, options::MARKS),
+        b": a pair takes no marks",
+    )
 }
 
 // Whether every option is one that is known, with its value, and the files go together; if not, says what is wrong.
 pub fn check() -> bool {
-    if !files::check(
-        b"barzhilup log",
-        &KNOWN,
-        b"marks",
-        b"in",
-        b": --marks: standard input has the PDUs\n",
-    ) {
+    if !options::check(LOG) {
+        return false;
+    }
+    if !is_apart(options::MARKS) {
+        return false;
+    }
+    if !is_apart(options::SECOND) {
         return false;
     }
     can_pair()
@@ -164,10 +141,10 @@ pub fn check() -> bool {
 // Whether the log that is summed up has a name; if not, says so.
 fn has_name() -> bool {
     let mut name = io::buffer();
-    if options::value(&KNOWN, b"summary", &mut name) != 0 {
+    if options::value(LOG, options::SUMMARY, &mut name) != 0 {
         return true;
     }
-    files::say(b"barzhilup log", b": --summary: value missing\n");
+    options::complain(LOG, options::SUMMARY, b": value missing");
     false
 }
 
@@ -179,22 +156,19 @@ pub fn is_alone() -> bool {
     if (count == 3) | ((count == 4) & check::same(&first[..n], b"--summary")) {
         return has_name();
     }
-    files::say(
-        b"barzhilup log",
-        b": --summary: goes with no other option\n",
-    );
+    options::complain(LOG, options::SUMMARY, b": goes with no other option");
     false
 }
 
 pub fn asked() -> Job {
     let auto = is_auto();
-    let resync = options::given(&KNOWN, b"resync");
+    let resync = options::given(LOG, options::RESYNC);
     let mode = mode_asked(auto);
-    let stream = number(b"stream");
-    let register = number(b"crc-start");
-    let programs = opening::is_asked(b"barzhilup log", &KNOWN);
+    let stream = number(options::STREAM);
+    let register = number(options::CRC_START);
+    let programs = opening::is_asked();
     let format = format_asked();
-    let batch = batch_asked();
+    let batch = options::number(LOG, options::BATCH, 0, 1, 64);
     Job {
         ok: mode.ok
             & stream.ok
@@ -203,16 +177,18 @@ pub fn asked() -> Job {
             & (format != formats::NO_FORMAT)
             & batch.ok
             & can_batch()
-            & can_read_ahead(
-                resync,
-                b": --resync: not with --batch, --marks or --second\n",
+            & is_right(
+                options::RESYNC,
+                resync & is_otherwise(),
+                b": not with --batch, --marks or --second",
             )
-            & can_read_ahead(
-                auto,
-                b": --mode auto: not with --batch, --marks or --second\n",
+            & is_right(
+                options::MODE,
+                auto & is_otherwise(),
+                b" auto: not with --batch, --marks or --second",
             )
-            & interruption::is_asked(&KNOWN)
-            & beside_files::asked::is_asked(&KNOWN),
+            & interruption::is_asked()
+            & beside_files::asked::is_asked(),
         auto: auto,
         resync: resync,
         mode: mode.value as u8,

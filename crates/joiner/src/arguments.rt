@@ -1,12 +1,6 @@
 // What the command line asks for.
+use options::JOIN;
 use text::Number;
-
-// The program's name, as messages have it.
-pub const NAME: [u8; 14] = *b"barzhilup join";
-
-// The options that are known.
-pub const KNOWN: [u8; 64] =
-    *b"in=\0out=\0enhanced=\0force\0format=\0core-pdus=\0enhanced-pdus=\0help\0";
 
 // The most PDUs of a frame.
 const MOST: u32 = 64;
@@ -19,24 +13,19 @@ pub struct Job {
     pub format: u8,
 }
 
-pub fn given(name: &[u8]) -> bool {
-    options::given(&KNOWN, name)
-}
-
 // Whether every option is one that is known, with its value, and the logs do not share standard input; if not, says what is wrong.
 pub fn check() -> bool {
     files::check(
-        &NAME,
-        &KNOWN,
-        b"enhanced",
-        b"in",
-        b": --enhanced: standard input has the core's log\n",
+        JOIN,
+        options::ENHANCED,
+        options::IN,
+        b": standard input has the core's log",
     )
 }
 
 // How many PDUs of a stream a frame has.
-fn pdus(name: &[u8], default: u32) -> Number {
-    options::number(&NAME, &KNOWN, name, default, 1, MOST)
+fn pdus(option: u8, default: u32) -> Number {
+    options::number(JOIN, option, default, 1, MOST)
 }
 
 fn format_named(name: &[u8]) -> u8 {
@@ -51,21 +40,21 @@ fn format_named(name: &[u8]) -> u8 {
 
 // The format that is asked for; where there is no such format, says so.
 fn format_asked() -> u8 {
-    if !given(b"format") {
+    if !options::given(JOIN, options::FORMAT) {
         return side_by_side::CSV;
     }
     let mut name = io::buffer();
-    let n = options::value(&KNOWN, b"format", &mut name);
+    let n = options::value(JOIN, options::FORMAT, &mut name);
     let format = format_named(&name[..n]);
     if format == side_by_side::NO_FORMAT {
-        files::say_line(&NAME, b": --format: not words or csv: ", &name[..n]);
+        options::complain_of(JOIN, options::FORMAT, b": not words or csv: ", &name[..n]);
     }
     format
 }
 
 pub fn asked() -> Job {
-    let core = pdus(b"core-pdus", 8);
-    let enhanced = pdus(b"enhanced-pdus", 1);
+    let core = pdus(options::CORE_PDUS, 8);
+    let enhanced = pdus(options::ENHANCED_PDUS, 1);
     let format = format_asked();
     Job {
         ok: core.ok & enhanced.ok & (format != side_by_side::NO_FORMAT),

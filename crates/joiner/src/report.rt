@@ -1,7 +1,6 @@
-// What the program says on standard error, a line or more in one write.
-use crate::arguments::NAME;
+// What the program says on standard error, a line in one write.
 use joining::Run;
-use libc::STDERR_FILENO;
+use options::JOIN;
 
 // Why a log is not read on, after so many PDUs. PDUs are counted from 0.
 fn unread(reading: u8, label: &[u8], pdus: u64) {
@@ -36,37 +35,32 @@ pub fn ends(run: Run, from: &[u8], beside: &[u8], onto: &[u8]) {
 
 // What was joined.
 pub fn summary(run: Run) {
-    let mut lines = [0u8; 512];
-    let n = text::fill(
-        &mut lines,
-        0,
-        b"barzhilup join: frames @: refused with 23 @, with 24 @\n",
+    options::say_numbers(
+        JOIN,
+        b": frames @: refused with 23 @, with 24 @\n",
         &[run.frames, run.no_logs, run.no_order],
     );
-    let k = text::fill(
-        &mut lines,
-        n,
-        b"barzhilup join: packets: core alone @, both @, enhanced dropped @\n",
+    options::say_numbers(
+        JOIN,
+        b": packets: core alone @, both @, enhanced dropped @\n",
         &[run.alone, run.both, run.dropped],
     );
-    io::write_all(STDERR_FILENO, &lines[..k]);
     doubts(run);
 }
 
 // What the counts tell of files that cannot be joined frame by frame; nothing where there is no such sign.
 fn doubts(run: Run) {
     if (run.frames != 0) & (run.no_logs == run.frames) {
-        files::say(
-            &NAME,
+        options::say(
+            JOIN,
             b": no frame was joined: are these files of log --format records?\n",
         );
     }
     if run.unlike != 0 {
-        files::say_number(
-            &NAME,
-            b": frames without a loss whose packets yet are alone and dropped: ",
-            run.unlike,
-            b": do both files begin with the same frame, and do the same packets end in each frame of both?\n",
+        options::say_numbers(
+            JOIN,
+            b": frames without a loss whose packets yet are alone and dropped: @: do both files begin with the same frame, and do the same packets end in each frame of both?\n",
+            &[run.unlike],
         );
     }
 }
@@ -74,7 +68,7 @@ fn doubts(run: Run) {
 // How the program is used, on standard output.
 pub fn usage() -> bool {
     files::print_usage(
-        &NAME,
+        JOIN,
         b"usage: barzhilup join [--in FILE] [--out FILE] [OPTION]...
 
 Joins the logs of the core and of the enhanced stream of a drive, frame by

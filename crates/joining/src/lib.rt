@@ -98,11 +98,6 @@ fn ended(task: Task, block: &mut [u8], run: Run) -> Run {
     stopped(run, UNWRITTEN, records::WHOLE)
 }
 
-// How far the work is, where somebody looks on, as `files::progress` has it.
-fn progress(frames: u64, shown: i64) -> i64 {
-    files::progress(b"barzhilup join", b": frames ", frames, shown)
-}
-
 // All turns. They are counted down from a number that no run uses up, since a proved loop has to end, and nothing says that a file does.
 fn all_turns(
     task: Task,
@@ -122,7 +117,7 @@ fn all_turns(
         if run.status != GOING {
             return run;
         }
-        shown = progress(run.frames, shown);
+        shown = files::progress(options::JOIN, run.frames, shown);
         turns -= 1;
     }
     run
@@ -357,8 +352,8 @@ fn say_refused(frame: u64, refusal: u32, before: u64) {
         return;
     }
     if before == SAID {
-        files::say(
-            b"barzhilup join",
+        options::say(
+            options::JOIN,
             b": further refused frames are counted only\n",
         );
         return;

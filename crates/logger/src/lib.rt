@@ -7,11 +7,11 @@ use job::Job;
 use logging::Onto;
 use logging::Run;
 use logging::output::Sink;
+use options::LOG;
 use receiver::Receiver;
 use saved_state::State;
 ghost use mathlib.Core.Path.{_≡_};
 ghost use lib.ListN.{length};
-ghost use Rattle.io.specs.Counts.{Counts};
 
 // Where all PDUs are logged, and packets among them were never sent: the exit status is that of work that stopped early.
 const NEVER_SENT: i32 = 3;
@@ -28,18 +28,18 @@ fn exit_status(status: i32) -> i32 {
     if status == NEVER_SENT {
         return files::EARLY;
     }
-    files::status(b"barzhilup log", status == files::DONE)
+    files::status(LOG, status == files::DONE)
 }
 
 // The program: answers its exit status. What went wrong is said.
 pub fn program() -> i32 {
-    if options::given(&job::KNOWN, b"help") {
-        return files::status(b"barzhilup log", remarks::help());
+    if options::given(LOG, options::HELP) {
+        return files::status(LOG, remarks::help());
     }
     if !job::check() {
         return files::WRONG;
     }
-    if options::given(&job::KNOWN, b"summary") {
+    if options::given(LOG, options::SUMMARY) {
         return summarized();
     }
     let job = job::asked();
@@ -55,12 +55,12 @@ fn summarized() -> i32 {
         return files::WRONG;
     }
     let mut label = files::label_buffer();
-    let log = opened(b"summary", &mut label);
+    let log = files::opened(LOG, options::SUMMARY, &mut label);
     if log.fd < 0 {
         return exit_status(files::EARLY);
     }
     let n = log.length;
-    files::status(b"barzhilup log", summary::of_file(log.fd, &label[..n]))
+    files::status(LOG, summary::of_file(log.fd, &label[..n]))
 }
 
 // Makes the log. Answers how it ended: DONE, EARLY or NEVER_SENT.
@@ -69,7 +69,7 @@ fn with_job(job: Job) -> i32 {
         return live::with_job(job);
     }
     let mut carry = io::buffer();
-    let start = interruption::begin(&job::KNOWN, job.mode, job.stream, job.register, &mut carry);
+    let start = interruption::begin(job.mode, job.stream, job.register, &mut carry);
     if !start.ok {
         return files::EARLY;
     }
@@ -80,48 +80,25 @@ fn with_job(job: Job) -> i32 {
 // Opens the file of PDUs, and a second one where it is given.
 fn with_state(job: Job, state: State, carry: &mut [u8]) -> i32 {
     let mut label = files::label_buffer();
-    let pdus = opened(b"in", &mut label);
+    let pdus = files::opened(LOG, options::IN, &mut label);
     if pdus.fd < 0 {
         return files::EARLY;
     }
     let n = pdus.length;
-    if options::given(&job::KNOWN, b"second") {
+    if options::given(LOG, options::SECOND) {
         let receiver = state.receiver;
         return two::with_first(job, receiver, &label[..n], pdus.fd);
     }
     live::with_state(job, state, carry, &label[..n], pdus.fd)
 }
 
-// A file that is read: its number, -1 where it cannot be opened, and how long its label is.
-struct File {
-    fd: i32,
-    length: usize,
-}
-
-// Opens the file of an option that is read, standard input where it names none, and puts its label.
-fn opened(option: &[u8], label: &mut [u8]) -> File
-    ensures { λ r. ⌜ Counts (r .length) (now (label .exit)) ⌝ }
-{
-    let n = files::put_label(
-        label,
-        b"barzhilup log",
-        &job::KNOWN,
-        option,
-        b"standard input",
-    );
-    File {
-        fd: files::open_input(&job::KNOWN, option, &label[..n]),
-        length: n,
-    }
-}
-
 // Makes the file of the log and those beside it.
 fn made() -> Opened {
     let mut onto = files::label_buffer();
-    let n = files::put_output_label(&mut onto, b"barzhilup log", &job::KNOWN);
+    let n = files::put_label(&mut onto, LOG, options::OUT);
     let mut labels = beside_files::label_buffer();
-    let k = beside_files::put_labels(&mut labels, &job::KNOWN);
-    beside_files::open(&job::KNOWN, &onto[..n], &labels[..k])
+    let k = beside_files::put_labels(&mut labels);
+    beside_files::open(&onto[..n], &labels[..k])
 }
 
 // Where a job's log goes, with these files.

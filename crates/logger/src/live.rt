@@ -4,6 +4,7 @@ use ahead_logging::Live;
 use job::Job;
 use logging::Task;
 use logging::marks;
+use options::LOG;
 use resync::First;
 use resync::Wanted;
 use saved_state::State;
@@ -25,7 +26,7 @@ fn begin(fd: i32) -> Ahead {
 // Opens the file of PDUs, whose mode and stream are not known.
 pub fn with_job(job: Job) -> i32 {
     let mut label = files::label_buffer();
-    let pdus = crate::opened(b"in", &mut label);
+    let pdus = files::opened(LOG, options::IN, &mut label);
     if pdus.fd < 0 {
         return files::EARLY;
     }
@@ -40,7 +41,7 @@ pub fn with_job(job: Job) -> i32 {
 
 // The PDUs that the mode is taken from: of the stream that is asked for, or any.
 fn wanted(stream: u8) -> Wanted {
-    if !options::given(&job::KNOWN, b"stream") {
+    if !options::given(LOG, options::STREAM) {
         return Wanted {
             mode: resync::ANY,
             stream: resync::ANY,
@@ -113,7 +114,7 @@ fn say_found(from: &[u8], words: &[u8], a: u64, b: u64) {
 // Opens the receiver for the mode and the stream that were found.
 fn with_first(job: Job, f: First, from: &[u8], buf: &mut [u8]) -> i32 {
     let mut carry = io::buffer();
-    let start = interruption::begin(&job::KNOWN, f.mode, f.stream, job.register, &mut carry);
+    let start = interruption::begin(f.mode, f.stream, job.register, &mut carry);
     if !start.ok {
         return files::EARLY;
     }
@@ -124,7 +125,7 @@ fn with_first(job: Job, f: First, from: &[u8], buf: &mut [u8]) -> i32 {
 // Reads a file ahead with a receiver that is opened, and passes over what is logged already, where that is asked for.
 pub fn with_state(job: Job, state: State, carry: &mut [u8], from: &[u8], fd: i32) -> i32 {
     let mut buf = buffer();
-    if !options::given(&job::KNOWN, b"skip") {
+    if !options::given(LOG, options::SKIP) {
         return with_ahead(job, state, carry, from, begin(fd), &mut buf);
     }
     let receiver = state.receiver;
@@ -162,11 +163,11 @@ fn with_ahead(
     rest: Ahead,
     buf: &mut [u8],
 ) -> i32 {
-    if !options::given(&job::KNOWN, b"marks") {
+    if !options::given(LOG, options::MARKS) {
         return with_marks(job, state, carry, from, b"", marks::NONE, rest, buf);
     }
     let mut label = files::label_buffer();
-    let places = crate::opened(b"marks", &mut label);
+    let places = files::opened(LOG, options::MARKS, &mut label);
     if places.fd < 0 {
         return files::EARLY;
     }
@@ -185,15 +186,15 @@ fn with_marks(
     rest: Ahead,
     buf: &mut [u8],
 ) -> i32 {
-    if !interruption::pass_over(&job::KNOWN, marks, marking, state.pdus) {
+    if !interruption::pass_over(marks, marking, state.pdus) {
         return files::EARLY;
     }
     let o = crate::made();
     if !o.ok {
         return files::EARLY;
     }
-    if !interruption::make(&job::KNOWN, state, carry) {
-        files::unmake(&job::KNOWN, b"out");
+    if !interruption::make(state, carry) {
+        files::unmake(LOG, options::OUT);
         return files::EARLY;
     }
     let task = Task {
@@ -216,9 +217,9 @@ fn with_task(
     buf: &mut [u8],
 ) -> i32 {
     let mut onto = files::label_buffer();
-    let n = files::put_output_label(&mut onto, b"barzhilup log", &job::KNOWN);
+    let n = files::put_label(&mut onto, LOG, options::OUT);
     let mut labels = beside_files::label_buffer();
-    let k = beside_files::put_labels(&mut labels, &job::KNOWN);
+    let k = beside_files::put_labels(&mut labels);
     logged(
         job,
         task,
@@ -271,7 +272,7 @@ fn with_path(
     start: Live,
 ) -> Live {
     let mut path = io::buffer();
-    let n = interruption::put_path(&job::KNOWN, &mut path);
+    let n = interruption::put_path(&mut path);
     batch_logging::log_all(
         task,
         job.resync,

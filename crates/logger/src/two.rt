@@ -1,6 +1,7 @@
 // The log of a drive that two receivers recorded (document 02, Ask 5).
 use job::Job;
 use logging::Onto;
+use options::LOG;
 use receiver::Receiver;
 use recordings::Run;
 use recordings::Task;
@@ -8,7 +9,7 @@ use recordings::Task;
 // Opens the second file, after the first with its label.
 pub fn with_first(job: Job, receiver: Receiver, from: &[u8], first: i32) -> i32 {
     let mut label = files::label_buffer();
-    let other = crate::opened(b"second", &mut label);
+    let other = files::opened(LOG, options::SECOND, &mut label);
     if other.fd < 0 {
         return files::EARLY;
     }
@@ -40,9 +41,9 @@ fn with_both(
 // Puts the labels of the files that are written, before anything goes wrong: errno is that of what does.
 fn with_task(task: Task, receiver: Receiver, from: &[u8], other: &[u8]) -> i32 {
     let mut onto = files::label_buffer();
-    let n = files::put_output_label(&mut onto, b"barzhilup log", &job::KNOWN);
+    let n = files::put_label(&mut onto, LOG, options::OUT);
     let mut labels = beside_files::label_buffer();
-    let k = beside_files::put_labels(&mut labels, &job::KNOWN);
+    let k = beside_files::put_labels(&mut labels);
     logged(task, receiver, from, other, &onto[..n], &labels[..k])
 }
 

@@ -106,7 +106,7 @@ pub fn ended(onto: Onto, block: &mut [u8], run: Run) -> Run {
 
 // How far the work is, once a second, where somebody looks on, as `files::progress` has it.
 pub fn progress(pdus: u64, shown: i64) -> i64 {
-    files::progress(b"barzhilup log", b": PDUs ", pdus, shown)
+    files::progress(options::LOG, pdus, shown)
 }
 
 // Receives a PDU with its marked places, and writes what came of it.

@@ -1,9 +1,9 @@
 // The mode table (document 01, "Modes") as text, for the help of subcommands; on `files` alone.
 
 // Prints the table on standard output. Answers whether all is printed; if not, says why.
-pub fn print(program: &[u8]) -> bool {
+pub fn print(command: u8) -> bool {
     files::print_usage(
-        program,
+        command,
         b"
 Modes, with the streams that each has:
   mode     stream        PDU sequence  longest PDU  most PSD and expansion

@@ -1,6 +1,7 @@
 // The receiver of a program, opened for the programs that its option `--entitled` names (document 02, Ask 10): numbers with commas between them, or `none`; on
-// `receiver`, `count_list` and `files`.
+// `receiver`, `count_list` and `options`.
 // Without the option it is entitled to all.
+use options::LOG;
 use receiver::Opened;
 ghost use Rattle.io.specs.Counts.{Counts};
 
@@ -51,18 +52,19 @@ fn is_list(text: &[u8]) -> bool {
 }
 
 // Whether the option, if it is given, has a list or `none`; if not, says so.
-pub fn is_asked(program: &[u8], known: &[u8]) -> bool {
-    if !options::given(known, b"entitled") {
+pub fn is_asked() -> bool {
+    if !options::given(LOG, options::ENTITLED) {
         return true;
     }
     let mut value = io::buffer();
-    let n = options::value(known, b"entitled", &mut value);
+    let n = options::value(LOG, options::ENTITLED, &mut value);
     if is_list(&value[..n]) {
         return true;
     }
-    files::say_line(
-        program,
-        b": --entitled: not none, nor numbers with commas between them: ",
+    options::complain_of(
+        LOG,
+        options::ENTITLED,
+        b": not none, nor numbers with commas between them: ",
         &value[..n],
     );
     false
@@ -76,11 +78,11 @@ fn for_programs(mode: u8, stream: u8, register: u8, text: &[u8]) -> Opened {
 }
 
 // Opens a receiver for the programs that the option names, or for all; or refuses with 5, or 22.
-pub fn open(known: &[u8], mode: u8, stream: u8, register: u8) -> Opened {
-    if !options::given(known, b"entitled") {
+pub fn open(mode: u8, stream: u8, register: u8) -> Opened {
+    if !options::given(LOG, options::ENTITLED) {
         return receiver::open(mode, stream, register);
     }
     let mut value = io::buffer();
-    let n = options::value(known, b"entitled", &mut value);
+    let n = options::value(LOG, options::ENTITLED, &mut value);
     for_programs(mode, stream, register, &value[..n])
 }

@@ -266,18 +266,15 @@ pub fn filled(label: &[u8], w: Window, lengths: &mut [u16], bytes: &mut [u8]) ->
 }
 
 // Says at how many places bytes were passed over, if at any, and how many bytes.
-pub fn say_places(program: &[u8], w: Window) {
+pub fn say_places(command: u8, w: Window) {
     if w.places == 0 {
         return;
     }
-    let mut words = [0u8; 96];
-    let n = text::fill(
-        &mut words,
-        0,
+    options::say_numbers(
+        command,
         b": places passed over @ (bytes @)\n",
         &[w.places, w.passed],
     );
-    files::say(program, &words[..n]);
 }
 
 fn wide(n: u16) -> usize

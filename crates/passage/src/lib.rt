@@ -98,15 +98,10 @@ fn all_turns(task: Task, pdu: &mut [u8], held: &mut [u8], start: Run) -> Run {
         if run.status != records::WHOLE {
             return run;
         }
-        shown = progress(run.pdus, shown);
+        shown = files::progress(options::CHANNEL, run.pdus, shown);
         turns -= 1;
     }
     run
-}
-
-// How far the work is, where somebody looks on, as `files::progress` has it.
-fn progress(pdus: u64, shown: i64) -> i64 {
-    files::progress(b"barzhilup channel", b": PDUs ", pdus, shown)
 }
 
 // Reads a PDU and sends it; stops where none can be read, after the one that is held back.

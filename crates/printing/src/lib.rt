@@ -31,11 +31,11 @@ fn shape_of(task: Task) -> Shape {
 }
 
 // Draws a page of rows as SVG: what stands above the rows, each PDU in its turn, and what stands below them.
-pub fn svg(task: Task, known: &[u8], buf: &mut [u8]) -> Run {
+pub fn svg(task: Task, buf: &mut [u8]) -> Run {
     let book = task.book;
     let c = task.clock;
     let mut title = io::buffer();
-    let k = sheet::title_of(known, &mut title);
+    let k = sheet::title_of(&mut title);
     let mut block = io::large_buffer();
     let n = picture::frame::put_head(
         &mut block,
@@ -88,12 +88,12 @@ fn with_scale(task: Task, survey: Run) -> Task {
 }
 
 // Writes the head and the overview strip.
-fn with_head(task: Task, known: &[u8], p: Particulars, buf: &mut [u8]) -> Run {
+fn with_head(task: Task, p: Particulars, buf: &mut [u8]) -> Run {
     let c = task.clock;
     let book = task.book;
     let scale = task.scale;
     let mut block = io::large_buffer();
-    let mut n = sheet::put_head(&mut block, known, p.shortest, p.longest, c, book.pdus);
+    let mut n = sheet::put_head(&mut block, p.shortest, p.longest, c, book.pdus);
     n = overview::put_head(&mut block, n, scale);
     let run = readings::read_all(task, buf, &mut block, n);
     if run.state != readings::READ {
@@ -149,15 +149,8 @@ fn with_totals(task: Task, survey: Run, list: &[u8], buf: &mut [u8]) -> Run {
 }
 
 // Writes all, after a survey, and after the lengths of PDUs and the list of PSD texts are read.
-fn with_particulars(
-    task: Task,
-    survey: Run,
-    known: &[u8],
-    p: Particulars,
-    list: &[u8],
-    buf: &mut [u8],
-) -> Run {
-    let head = with_head(task, known, p, buf);
+fn with_particulars(task: Task, survey: Run, p: Particulars, list: &[u8], buf: &mut [u8]) -> Run {
+    let head = with_head(task, p, buf);
     if head.state != readings::READ {
         return head;
     }
@@ -165,7 +158,7 @@ fn with_particulars(
 }
 
 // Reads the lengths of PDUs and the texts of PSD, and writes all.
-fn with_survey(task: Task, survey: Run, known: &[u8], buf: &mut [u8]) -> Run {
+fn with_survey(task: Task, survey: Run, buf: &mut [u8]) -> Run {
     let c = task.clock;
     let mut list = io::large_buffer();
     let p = particulars::read(task.input, task.start, c, buf, &mut list);
@@ -175,14 +168,14 @@ fn with_survey(task: Task, survey: Run, known: &[u8], buf: &mut [u8]) -> Run {
         return stopped;
     }
     let texts = lines::part(&list, 0, particulars::length_of_list(p));
-    with_particulars(task, survey, known, p, texts, buf)
+    with_particulars(task, survey, p, texts, buf)
 }
 
 // Draws all as HTML. A survey comes first: the head has what is only known at the log's end.
-pub fn html(task: Task, known: &[u8], buf: &mut [u8]) -> Run {
+pub fn html(task: Task, buf: &mut [u8]) -> Run {
     let survey = surveyed(task, buf);
     if survey.state != readings::READ {
         return survey;
     }
-    with_survey(with_scale(task, survey), survey, known, buf)
+    with_survey(with_scale(task, survey), survey, buf)
 }

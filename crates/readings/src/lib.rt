@@ -206,7 +206,7 @@ fn turn(task: Task, buf: &mut [u8], block: &mut [u8], run: Run) -> Run {
 
 // How far the work is, once a second where somebody looks on. Answers the second that it is.
 fn progress(count: u64, shown: i64) -> i64 {
-    files::progress(b"barzhilup coverage", b": lines ", count, shown)
+    files::progress(options::COVERAGE, count, shown)
 }
 
 // All lines. They are counted down from a number that no file uses up, since a proved loop has to end, and nothing says that a file does.

@@ -175,13 +175,13 @@ pub fn help() -> bool {
     if !usage() {
         return false;
     }
-    mode_table::print(b"barzhilup log")
+    mode_table::print(options::LOG)
 }
 
 // How the program is used, on standard output.
 fn usage() -> bool {
     files::print_usage(
-        b"barzhilup log",
+        options::LOG,
         b"usage: barzhilup log [--in FILE] [--out FILE] [OPTION]...
        barzhilup log --summary LOG
 

@@ -122,11 +122,10 @@ pub fn save(path: &[u8], state: State, carry: &[u8]) -> bool {
     let receiver = state.receiver;
     let s = snapshot::save(receiver, carry, &mut list);
     if s.refusal != 0 {
-        files::say_number(
-            b"barzhilup log",
-            b": --save: refused with ",
-            s.refusal as u64,
-            b"\n",
+        options::say_numbers(
+            options::LOG,
+            b": --save: refused with @\n",
+            &[s.refusal as u64],
         );
         return false;
     }

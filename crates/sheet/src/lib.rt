@@ -1,46 +1,40 @@
 // The HTML page of a drive: its style, and the head that tells what the drive is, in the words of the options; on `picture` and `options`.
 use clock::Clock;
+use options::COVERAGE;
 use page::title;
 ghost use Rattle.io.specs.Counts.{Counts};
 
 // The value of an option as text of the page; nothing where it is not given.
-fn put_value(out: &mut [u8], at: usize, known: &[u8], name: &[u8]) -> usize {
+fn put_value(out: &mut [u8], at: usize, option: u8) -> usize {
     let mut value = io::buffer();
-    let n = options::value(known, name, &mut value);
+    let n = options::value(COVERAGE, option, &mut value);
     title::put(out, at, &value[..n])
 }
 
 // The title into the buffer. Answers its length.
-pub fn title_of(known: &[u8], buf: &mut [u8]) -> usize
+pub fn title_of(buf: &mut [u8]) -> usize
     ensures { λ r. ⌜ Counts r (now (buf .exit)) ⌝ }
 {
-    if !options::given(known, b"title") {
+    if !options::given(COVERAGE, options::TITLE) {
         return text::put(buf, 0, b"Coverage");
     }
-    options::value(known, b"title", buf)
+    options::value(COVERAGE, options::TITLE, buf)
 }
 
 // The title as text of the page.
-fn put_title(out: &mut [u8], at: usize, known: &[u8]) -> usize {
+fn put_title(out: &mut [u8], at: usize) -> usize {
     let mut own = io::buffer();
-    let n = title_of(known, &mut own);
+    let n = title_of(&mut own);
     title::put(out, at, &own[..n])
 }
 
 // An option that is given, between two texts; nothing where it is not given.
-fn put_given(
-    out: &mut [u8],
-    at: usize,
-    known: &[u8],
-    name: &[u8],
-    before: &[u8],
-    after: &[u8],
-) -> usize {
-    if !options::given(known, name) {
+fn put_given(out: &mut [u8], at: usize, option: u8, before: &[u8], after: &[u8]) -> usize {
+    if !options::given(COVERAGE, option) {
         return at;
     }
     let mut n = text::put(out, at, before);
-    n = put_value(out, n, known, name);
+    n = put_value(out, n, option);
     text::put(out, n, after)
 }
 
@@ -80,27 +74,26 @@ section{break-before:page;break-inside:avoid}
 }
 
 // A line of the head, where its option is given.
-fn put_line(out: &mut [u8], at: usize, known: &[u8], line: u32) -> usize {
+fn put_line(out: &mut [u8], at: usize, line: u8) -> usize {
     put_given(
         out,
         at,
-        known,
-        text::entry(b"station\0date\0source\0mode\0stream\0", line),
+        std::num::wrapping_add_u8(options::STATION, line),
         text::entry(
             b"<p><b>Station</b>\0<p><b>Date</b>\0<p><b>Source</b>\0<p><b>Mode</b>\0<p><b>Stream</b>\0",
-            line,
+            line as u32,
         ),
         b"</p>\n",
     )
 }
 
 // The lines of the head.
-fn put_lines(out: &mut [u8], at: usize, known: &[u8]) -> usize {
-    let mut n = put_line(out, at, known, 0);
-    n = put_line(out, n, known, 1);
-    n = put_line(out, n, known, 2);
-    n = put_line(out, n, known, 3);
-    put_line(out, n, known, 4)
+fn put_lines(out: &mut [u8], at: usize) -> usize {
+    let mut n = put_line(out, at, 0);
+    n = put_line(out, n, 1);
+    n = put_line(out, n, 2);
+    n = put_line(out, n, 3);
+    put_line(out, n, 4)
 }
 
 // How many bytes the PDUs have, from the least to the greatest, where that is known.
@@ -141,29 +134,22 @@ fn put_times(out: &mut [u8], at: usize, c: Clock, pdus: u32) -> usize {
 }
 
 // From the page's start to its heading.
-fn put_heading(out: &mut [u8], known: &[u8]) -> usize {
+fn put_heading(out: &mut [u8]) -> usize {
     let mut n = put_start(out);
-    n = put_title(out, n, known);
+    n = put_title(out, n);
     n = put_style(out, n);
     n = text::put(out, n, b"</style>\n</head>\n<body>\n<h1>");
-    put_title(out, n, known)
+    put_title(out, n)
 }
 
 // All that stands above the overview, from the block's start on.
-pub fn put_head(
-    out: &mut [u8],
-    known: &[u8],
-    shortest: u32,
-    longest: u32,
-    c: Clock,
-    pdus: u32,
-) -> usize {
-    let mut n = put_heading(out, known);
+pub fn put_head(out: &mut [u8], shortest: u32, longest: u32, c: Clock, pdus: u32) -> usize {
+    let mut n = put_heading(out);
     n = text::put(out, n, b"</h1>\n");
-    n = put_lines(out, n, known);
+    n = put_lines(out, n);
     n = put_lengths(out, n, shortest, longest);
     n = put_times(out, n, c, pdus);
-    put_given(out, n, known, b"note", b"<p class=\"note\">", b"</p>\n")
+    put_given(out, n, options::NOTE, b"<p class=\"note\">", b"</p>\n")
 }
 
 // The beginning of the totals and what the picture's parts mean, which stand in a picture of their own.
@@ -177,9 +163,9 @@ pub fn put_legend_head(out: &mut [u8], at: usize) -> usize {
 }
 
 // The beginning of a page of rows, up to the title.
-pub fn put_page_start(out: &mut [u8], at: usize, known: &[u8]) -> usize {
+pub fn put_page_start(out: &mut [u8], at: usize) -> usize {
     let n = text::put(out, at, b"<section>\n<h2>");
-    put_title(out, n, known)
+    put_title(out, n)
 }
 
 // The end of a page of rows, and that of all.

@@ -182,7 +182,7 @@ fn say_unless(whole: bool, label: &[u8]) {
 fn written(pdus: u64, counts: &[u64]) -> bool {
     let mut lines = io::buffer();
     let n = counts::put_summary(&mut lines, pdus, counts);
-    files::print_usage(b"barzhilup log", &lines[..n])
+    files::print_usage(options::LOG, &lines[..n])
 }
 
 // The summary of the CSV in an open file, whose label this is, on standard output: of all that was logged, also where the CSV is cut, which is said. Answers

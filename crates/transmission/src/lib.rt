@@ -4,10 +4,6 @@ pub mod psd;
 
 use settings::Settings;
 
-// The options of `generate`.
-pub const KNOWN: [u8; 211] =
-    *b"in=\0out=\0mode=\0stream=\0crc-start=\0length=\0psd=\0psd-stream=\0psd-bytes=\0psd-repeat\0settings=\0adts\0resync\0blend=\0gain=\0common-delay=\0latency=\0class=\0program=\0displacement\0access=\0type=\0services=\0marker=\0force\0help\0";
-
 // What is asked for; ok where every number is in its range.
 pub struct Transmission {
     pub ok: bool,
@@ -34,28 +30,28 @@ struct Named {
 
 // Whether every option is one that is known, with its value, packets and PSD are not both on standard input, and frames are not looked for among records; if
 // not, says what is wrong.
-pub fn check(program: &[u8], known: &[u8]) -> bool {
+pub fn check(command: u8) -> bool {
     if !files::check(
-        program,
-        known,
-        b"psd",
-        b"in",
-        b": --psd: standard input has the packets\n",
+        command,
+        options::PSD,
+        options::IN,
+        b": standard input has the packets",
     ) {
         return false;
     }
-    if options::given(known, b"resync") & !options::given(known, b"adts") {
-        files::say(
-            program,
-            b": --resync: nothing tells where a record of a packet begins (--adts)\n",
+    if options::given(command, options::RESYNC) & !options::given(command, options::ADTS) {
+        options::complain(
+            command,
+            options::RESYNC,
+            b": nothing tells where a record of a packet begins (--adts)",
         );
         return false;
     }
     true
 }
 
-fn octet(program: &[u8], known: &[u8], name: &[u8]) -> Choice {
-    let n = options::number(program, known, name, 0, 0, 255);
+fn octet(command: u8, option: u8) -> Choice {
+    let n = options::number(command, option, 0, 0, 255);
     Choice {
         ok: n.ok,
         value: n.value as u8,
@@ -63,9 +59,9 @@ fn octet(program: &[u8], known: &[u8], name: &[u8]) -> Choice {
 }
 
 // The settings with that of one name, by its number, if its option is given.
-fn with_option(program: &[u8], known: &[u8], number: u32, row: [u32; 22]) -> Named {
-    let name = text::entry(&named_settings::NAMES, number);
-    if !options::given(known, name) {
+fn with_option(command: u8, number: u32, row: [u32; 22]) -> Named {
+    let option = std::num::wrapping_add_u8(options::BLEND, (number % 256) as u8);
+    if !options::given(command, option) {
         return Named { ok: true, row: row };
     }
     if number == named_settings::DISPLACEMENT {
@@ -74,7 +70,7 @@ fn with_option(program: &[u8], known: &[u8], number: u32, row: [u32; 22]) -> Nam
             row: named_settings::with(row, number, 1),
         };
     }
-    let n = options::number(program, known, name, 0, 0, named_settings::most(number));
+    let n = options::number(command, option, 0, 0, named_settings::most(number));
     Named {
         ok: n.ok,
         row: named_settings::with(row, number, n.value),
@@ -82,12 +78,12 @@ fn with_option(program: &[u8], known: &[u8], number: u32, row: [u32; 22]) -> Nam
 }
 
 // The settings of every PDU.
-fn settings_chosen(program: &[u8], known: &[u8]) -> Named {
+fn settings_chosen(command: u8) -> Named {
     let mut row = named_settings::none();
     let mut ok = true;
     let mut k: u32 = 0;
     while k < named_settings::COUNT {
-        let next = with_option(program, known, k, row);
+        let next = with_option(command, k, row);
         let with = next.row;
         row = with;
         ok = next.ok & ok;
@@ -96,13 +92,13 @@ fn settings_chosen(program: &[u8], known: &[u8]) -> Named {
     Named { ok: ok, row: row }
 }
 
-// What a program asks for, by the options that it knows.
-pub fn asked(program: &[u8], known: &[u8]) -> Transmission {
-    let mode = octet(program, known, b"mode");
-    let stream = octet(program, known, b"stream");
-    let register = octet(program, known, b"crc-start");
-    let length = options::number(program, known, b"length", 1024, 0, 65535);
-    let chosen = settings_chosen(program, known);
+// What a subcommand asks for, by the options that it knows.
+pub fn asked(command: u8) -> Transmission {
+    let mode = octet(command, options::MODE);
+    let stream = octet(command, options::STREAM);
+    let register = octet(command, options::CRC_START);
+    let length = options::number(command, options::LENGTH, 1024, 0, 65535);
+    let chosen = settings_chosen(command);
     let row = chosen.row;
     Transmission {
         ok: mode.ok & stream.ok & register.ok & length.ok & chosen.ok,

@@ -3,28 +3,28 @@ use records::Record;
 ghost use Rattle.io.specs.Counts.{Counts};
 
 // The PSD of every PDU: what its file holds, or as much of it as fills the buffer; none where no file is named.
-pub fn read(program: &[u8], known: &[u8], buf: &mut [u8]) -> Record
+pub fn read(command: u8, buf: &mut [u8]) -> Record
     ensures { λ r. ⌜ Counts (r .length) (now (buf .exit)) ⌝ }
 {
-    if !options::given(known, b"psd") {
+    if !options::given(command, options::PSD) {
         return Record {
             status: records::WHOLE,
             length: 0,
         };
     }
     let mut label = files::label_buffer();
-    let n = files::put_label(&mut label, program, known, b"psd", b"standard input");
-    let fd = files::open_input(known, b"psd", &label[..n]);
-    if fd < 0 {
+    let file = files::opened(command, options::PSD, &mut label);
+    if file.fd < 0 {
         return Record {
             status: records::FAILED,
             length: 0,
         };
     }
-    let read = records::fill(fd, buf);
+    let read = records::fill(file.fd, buf);
     if read.status == records::FAILED {
+        let n = file.length;
         os::fail(&label[..n]);
     }
-    libc::close(fd);
+    libc::close(file.fd);
     read
 }

@@ -5,11 +5,10 @@ mod report;
 use backlog::columns;
 use backlog::drawing;
 use count_source::arguments;
-use count_source::arguments::KNOWN;
-use count_source::arguments::NAME;
 use count_source::input;
 use latency::Answer;
 use latency::Spacing;
+use options::LATENCY;
 use sending::trial;
 use transmission::Transmission;
 
@@ -25,13 +24,13 @@ struct Job {
 
 // The program: answers its exit status.
 pub fn program() -> i32 {
-    if arguments::given(b"help") {
-        return files::status(&NAME, report::usage());
+    if options::given(LATENCY, options::HELP) {
+        return files::status(LATENCY, report::usage());
     }
     if !arguments::check() {
         return files::WRONG;
     }
-    let asked = transmission::asked(&NAME, &KNOWN);
+    let asked = transmission::asked(LATENCY);
     let draw = arguments::draw();
     let mut counts = [0u32; ROOM];
     let listed = arguments::from_option(&mut counts);
@@ -39,7 +38,7 @@ pub fn program() -> i32 {
         return files::WRONG;
     }
     let done = run(asked, draw.value as u8, listed.count, &mut counts);
-    files::status(&NAME, done)
+    files::status(LATENCY, done)
 }
 
 // Whether the table has a mode and stream; if not, says so.
@@ -48,7 +47,14 @@ fn is_listed(asked: Transmission) -> bool {
         Spacing::Every(_) => true,
         Spacing::Refused(n) => {
             let settings = asked.settings;
-            trial::say_refused(&NAME, n, asked.mode, asked.stream, asked.length, settings);
+            trial::say_refused(
+                b"barzhilup latency",
+                n,
+                asked.mode,
+                asked.stream,
+                asked.length,
+                settings,
+            );
             false
         }
     }
@@ -66,7 +72,7 @@ fn run(asked: Transmission, draw: u8, count: usize, counts: &mut [u32]) -> bool 
         stream: asked.stream,
         drawn: draw,
     };
-    if arguments::given(b"counts") {
+    if options::given(LATENCY, options::COUNTS) {
         return tried(job, &label[..n], columns::part(counts, count));
     }
     let read = input::read(&label[..n], asked, counts);
@@ -91,7 +97,7 @@ fn tried(job: Job, label: &[u8], counts: &[u32]) -> bool {
 
 // The job with the latency that is drawn: the one asked for, or that of the answer.
 fn drawing_of(job: Job, v: u8) -> Job {
-    if arguments::given(b"draw") {
+    if options::given(LATENCY, options::DRAW) {
         return job;
     }
     Job {
@@ -104,28 +110,28 @@ fn drawing_of(job: Job, v: u8) -> Job {
 // Makes the picture's file, where one is asked for.
 fn with_answer(job: Job, counts: &[u32], answer: Answer, v: u8) -> bool {
     let drawn = drawing_of(job, v);
-    if !arguments::given(b"svg") {
+    if !options::given(LATENCY, options::SVG) {
         return with_picture(drawn, counts, answer, b"", -1);
     }
     let mut label = files::label_buffer();
-    let n = files::put_label(&mut label, &NAME, &KNOWN, b"svg", b"standard output");
-    let picture = files::open_output(&KNOWN, b"svg", &label[..n]);
-    if picture < 0 {
+    let picture = files::opened(LATENCY, options::SVG, &mut label);
+    if picture.fd < 0 {
         return false;
     }
-    with_picture(drawn, counts, answer, &label[..n], picture)
+    let n = picture.length;
+    with_picture(drawn, counts, answer, &label[..n], picture.fd)
 }
 
 // Makes the table's file, and writes both. Where that file is not made, the picture's goes, too.
 fn with_picture(job: Job, counts: &[u32], answer: Answer, shown: &[u8], picture: i32) -> bool {
     let mut onto = files::label_buffer();
-    let n = files::put_output_label(&mut onto, &NAME, &KNOWN);
-    let output = files::open_output(&KNOWN, b"out", &onto[..n]);
-    if output < 0 {
-        files::unmake(&KNOWN, b"svg");
+    let output = files::opened(LATENCY, options::OUT, &mut onto);
+    if output.fd < 0 {
+        files::unmake(LATENCY, options::SVG);
         return false;
     }
-    let done = write_table(job, counts, answer, output, &onto[..n]);
+    let n = output.length;
+    let done = write_table(job, counts, answer, output.fd, &onto[..n]);
     let drawn = draw(job, counts, picture, shown);
     report::summary(counts, answer);
     done & drawn

@@ -1,7 +1,7 @@
 // What the program says on standard error, a line in one write, and how it is used.
-use count_source::arguments::NAME;
 use latency::Answer;
 use libc::STDERR_FILENO;
+use options::LATENCY;
 
 // The first count over 63; how many there are where none is.
 fn first_over(counts: &[u32]) -> usize {
@@ -36,7 +36,7 @@ pub fn refused(label: &[u8], counts: &[u32]) {
 // What was tried, and what was found.
 pub fn summary(counts: &[u32], answer: Answer) {
     let mut line = [0u8; 256];
-    let mut n = text::put(&mut line, 0, &NAME);
+    let mut n = options::put_program(&mut line, LATENCY);
     n = text::fill(
         &mut line,
         n,
@@ -52,12 +52,12 @@ pub fn usage() -> bool {
     if !print_options() {
         return false;
     }
-    mode_table::print(&NAME)
+    mode_table::print(LATENCY)
 }
 
 fn print_options() -> bool {
     files::print_usage(
-        &NAME,
+        LATENCY,
         b"usage: barzhilup latency [--in FILE] [--out FILE] [OPTION]...
 
 Tries the latencies 0 to 7 before going on air. Its input is how many packets

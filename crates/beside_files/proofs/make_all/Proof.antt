@@ -6,10 +6,10 @@ use Rattle.beside_files.proofs.make_all.Statement.{statement}
 use Rattle.beside_files.proofs.make_all.Tie as tie
 
 abbrev Inv-loop : tie.InvT-loop
-Inv-loop known labels list₀ k₀ list k = length list ≡ length list₀
+Inv-loop labels list₀ k₀ list k = length list ≡ length list₀
 
 abbrev μ-loop : tie.MeasureT-loop
-μ-loop known labels list₀ k₀ list k = 4 - k
+μ-loop labels list₀ k₀ list k = 4 - k
 
 pub make-all-spec : {M : Type 1} → statement M
 make-all-spec =
@@ -17,5 +17,5 @@ make-all-spec =
     (tie.spec
     Inv-loop
     μ-loop
-    (λ c. search needs) (λ c κs. search needs) (λ c κs. search needs) (λ c. search needs) (λ c. search needs) (λ c κs. search needs) (λ c. search needs)
-    (λ c. search needs) (λ c. search needs) (λ c. search needs) (λ c. search needs))
+    (λ c. search needs) (λ c κs. search needs) (λ c. search needs) (λ c. search needs) (λ c κs. search needs) (λ c. search needs) (λ c. search needs)
+    (λ c. search needs) (λ c. search needs) (λ c. search needs))

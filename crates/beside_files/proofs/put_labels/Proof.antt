@@ -7,10 +7,10 @@ use Rattle.beside_files.proofs.put_labels.Statement.{statement}
 use Rattle.beside_files.proofs.put_labels.Tie as tie
 
 abbrev Inv-loop : tie.InvT-loop
-Inv-loop out₀ known n₀ k₀ out n k = (Counts n out) × (length out ≡ length out₀)
+Inv-loop out₀ n₀ k₀ out n k = (Counts n out) × (length out ≡ length out₀)
 
 abbrev μ-loop : tie.MeasureT-loop
-μ-loop out₀ known n₀ k₀ out n k = 5 - k
+μ-loop out₀ n₀ k₀ out n k = 5 - k
 
 pub put-labels-spec : {M : Type 1} → statement M
 put-labels-spec =

@@ -4,10 +4,10 @@ use Rattle.beside_files.proofs.unmake.Statement.{statement}
 use Rattle.beside_files.proofs.unmake.Tie as tie
 
 abbrev Inv-loop : tie.InvT-loop
-Inv-loop known many k₀ t4 k = Unit {0}
+Inv-loop many k₀ k = Unit {0}
 
 abbrev μ-loop : tie.MeasureT-loop
-μ-loop known many k₀ t4 k = many - k
+μ-loop many k₀ k = many - k
 
 pub unmake-spec : {M : Type 1} → statement M
 unmake-spec =
@@ -15,5 +15,4 @@ unmake-spec =
     (tie.spec
     Inv-loop
     μ-loop
-    (λ c. search needs) (λ c. search needs) (λ c κs. search needs) (λ c κs. search needs) (λ c. search needs) (λ c. search needs) (λ c. search needs)
-    (λ c. search needs))
+    (λ c. search needs) (λ c κs. search needs) (λ c κs. search needs) (λ c. search needs) (λ c. search needs) (λ c. search needs) (λ c. search needs))

@@ -4,10 +4,10 @@ use Rattle.options.proofs.check.Statement.{statement}
 use Rattle.options.proofs.check.Tie as tie
 
 abbrev Inv-loop : tie.InvT-loop
-Inv-loop program known count right₀ i₀ right i = Unit {0}
+Inv-loop command count right₀ i₀ right i = Unit {0}
 
 abbrev μ-loop : tie.MeasureT-loop
-μ-loop program known count right₀ i₀ right i = count - i
+μ-loop command count right₀ i₀ right i = count - i
 
 pub check-spec : {M : Type 1} → statement M
 check-spec =
@@ -15,4 +15,5 @@ check-spec =
     (tie.spec
     Inv-loop
     μ-loop
-    (λ c κs. search needs) (λ c. search needs) (λ c κs. search needs) (λ c κs. search needs) (λ c. search needs) (λ c. search needs) (λ c. search needs))
+    (λ c κs. search needs) (λ c. search needs) (λ c κs. search needs) (λ c κs. search needs) (λ c κs. search needs) (λ c. search needs) (λ c. search needs)
+    (λ c. search needs))

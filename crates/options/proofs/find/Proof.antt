@@ -4,10 +4,10 @@ use Rattle.options.proofs.find.Statement.{statement}
 use Rattle.options.proofs.find.Tie as tie
 
 abbrev Inv-loop : tie.InvT-loop
-Inv-loop known name count i₀ i = Unit {0}
+Inv-loop command option count i₀ i = Unit {0}
 
 abbrev μ-loop : tie.MeasureT-loop
-μ-loop known name count i₀ i = count - i
+μ-loop command option count i₀ i = count - i
 
 pub find-spec : {M : Type 1} → statement M
 find-spec =

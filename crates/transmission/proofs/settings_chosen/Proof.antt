@@ -4,10 +4,10 @@ use Rattle.transmission.proofs.settings_chosen.Statement.{statement}
 use Rattle.transmission.proofs.settings_chosen.Tie as tie
 
 abbrev Inv-loop : tie.InvT-loop
-Inv-loop program known row₀ ok₀ k₀ row ok k = Unit {0}
+Inv-loop command row₀ ok₀ k₀ row ok k = Unit {0}
 
 abbrev μ-loop : tie.MeasureT-loop
-μ-loop program known row₀ ok₀ k₀ row ok k = 11 - k
+μ-loop command row₀ ok₀ k₀ row ok k = 11 - k
 
 pub settings-chosen-spec : {M : Type 1} → statement M
 settings-chosen-spec =

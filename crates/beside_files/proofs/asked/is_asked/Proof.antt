@@ -4,10 +4,10 @@ use Rattle.beside_files.proofs.asked.is_asked.Statement.{statement}
 use Rattle.beside_files.proofs.asked.is_asked.Tie as tie
 
 abbrev Inv-loop : tie.InvT-loop
-Inv-loop known right₀ k₀ right k = Unit {0}
+Inv-loop right₀ k₀ right k = Unit {0}
 
 abbrev μ-loop : tie.MeasureT-loop
-μ-loop known right₀ k₀ right k = 5 - k
+μ-loop right₀ k₀ right k = 5 - k
 
 pub is-asked-spec : {M : Type 1} → statement M
 is-asked-spec =
@@ -15,5 +15,5 @@ is-asked-spec =
     (tie.spec
     Inv-loop
     μ-loop
-    (λ c. search needs) (λ c κs. search needs) (λ c. search needs) (λ c κs. search needs) (λ c. search needs) (λ c κs. search needs) (λ c. search needs)
-    (λ c. search needs) (λ c. search needs) (λ c. search needs))
+    (λ c κs. search needs) (λ c κs. search needs) (λ c. search needs) (λ c κs. search needs) (λ c. search needs) (λ c. search needs) (λ c. search needs)
+    (λ c. search needs))

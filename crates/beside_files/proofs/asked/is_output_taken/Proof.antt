@@ -4,10 +4,10 @@ use Rattle.beside_files.proofs.asked.is_output_taken.Statement.{stateme
 use Rattle.beside_files.proofs.asked.is_output_taken.Tie as tie
 
 abbrev Inv-loop : tie.InvT-loop
-Inv-loop known many taken₀ k₀ t6 taken k = Unit {0}
+Inv-loop many taken₀ k₀ taken k = Unit {0}
 
 abbrev μ-loop : tie.MeasureT-loop
-μ-loop known many taken₀ k₀ t6 taken k = many - k
+μ-loop many taken₀ k₀ taken k = many - k
 
 pub is-output-taken-spec : {M : Type 1} → statement M
 is-output-taken-spec =
@@ -15,5 +15,5 @@ is-output-taken-spec =
     (tie.spec
     Inv-loop
     μ-loop
-    (λ c. search needs) (λ c κs. search needs) (λ c. search needs) (λ c. search needs) (λ c κs. search needs) (λ c κs. search needs) (λ c. search needs)
-    (λ c. search needs) (λ c. search needs) (λ c. search needs))
+    (λ c κs. search needs) (λ c. search needs) (λ c κs. search needs) (λ c κs. search needs) (λ c. search needs) (λ c. search needs) (λ c. search needs)
+    (λ c. search needs))
