@@ -1,4 +1,5 @@
-// Turns a file of PDUs into the packet log (document 01, "Receiver"), on `job`, `recordings`, `batch_logging`, `ahead_logging`, `summary` and `remarks`.
+// Turns a file of PDUs into the packet log (document 01, "Receiver"), on `job`, `recordings`, `batch`, `ahead_logging`, `summary` and `remarks`.
+mod batches;
 mod live;
 mod two;
 

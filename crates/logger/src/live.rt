@@ -273,7 +273,7 @@ fn with_path(
 ) -> Live {
     let mut path = io::buffer();
     let n = interruption::put_path(&mut path);
-    batch_logging::log_all(
+    crate::batches::log_all(
         task,
         job.resync,
         job.batch,

@@ -1,7 +1,7 @@
 use borrow.Author.Needs.{needs}
 use native.Mathlib.Omega.{arith}
-use Rattle.batch_logging.proofs.turn.Statement.{statement}
-use Rattle.batch_logging.proofs.turn.Tie as tie
+use Rattle.logger.proofs.batches.turn.Statement.{statement}
+use Rattle.logger.proofs.batches.turn.Tie as tie
 
 same-length : tie.Need-same-length
 same-length c = omega (arith, c .before .before .before .before .before .before .before .before .before .before .before .before .before .before .before .received .kept .1 .1 .0)

@@ -1,7 +1,7 @@
 use borrow.Author.Needs.{needs}
 use native.Mathlib.Omega.{arith}
-use Rattle.batch_logging.proofs.received.Statement.{statement}
-use Rattle.batch_logging.proofs.received.Tie as tie
+use Rattle.logger.proofs.batches.received.Statement.{statement}
+use Rattle.logger.proofs.batches.received.Tie as tie
 
 same-length : tie.Need-same-length
 same-length c = omega (arith, c .before .before .before .before .before .before .before .before .before .before .each .kept .1 .1 .1 .0, c .before .before .before .before .before .before .before .before .before .before .before .before .before .before .before .before .before .before .before .before .before .before .before .before .before .before .before .before .before .before .call .kept .1 .0)

@@ -1,4 +1,4 @@
-// A run by batches (document 02, Ask 1), on `batch` and `ahead_logging`: each turn reads a frame, some records joined in a buffer, has its PDUs received in one
+// A run by batches (document 02, Ask 1): each turn reads a frame, some records joined in a buffer, has its PDUs received in one
 // call, and writes what came of each. Where the call stops, at a PDU that is refused or at an empty record, this one and those behind it in the frame are
 // received by calls of their own, as in a run without batches. So the log is the same for every count of records in a frame.
 use ahead_logging::Live;

@@ -2,8 +2,8 @@ use borrow.Author.Needs.{needs}
 use native.Mathlib.Omega.{arith}
 use mathlib.Core.Path.{_≡_}
 use lib.ListN.{length}
-use Rattle.batch_logging.proofs.all_turns.Statement.{statement}
-use Rattle.batch_logging.proofs.all_turns.Tie as tie
+use Rattle.logger.proofs.batches.all_turns.Statement.{statement}
+use Rattle.logger.proofs.batches.all_turns.Tie as tie
 
 abbrev Inv-loop : tie.InvT-loop
 Inv-loop task path carry₀ came₀ frame₀ lengths₀ ends₀ log₀ block₀ counts₀ live₀ shown₀ turns₀ carry came frame lengths ends log block counts live shown turns =

@@ -3,8 +3,8 @@ use native.Mathlib.Omega.{arith}
 use mathlib.Core.Path.{_≡_}
 use Prim.Native.Nat.{_-_, _≤_}
 use lib.ListN.{length}
-use Rattle.batch_logging.proofs.each.Statement.{statement}
-use Rattle.batch_logging.proofs.each.Tie as tie
+use Rattle.logger.proofs.batches.each.Statement.{statement}
+use Rattle.logger.proofs.batches.each.Tie as tie
 
 abbrev Inv-loop : tie.InvT-loop
 Inv-loop sink taken carry₀ came frame₀ lengths ends log₀ block₀ counts₀ run₀ at₀ i₀ carry frame log block counts run at i =

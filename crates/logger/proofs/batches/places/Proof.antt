@@ -1,7 +1,7 @@
 use Rattle.io.proofs.Counting.{counts}
 use native.Mathlib.Omega.{arith}
-use Rattle.batch_logging.proofs.places.Statement.{statement}
-use Rattle.batch_logging.proofs.places.Tie as tie
+use Rattle.logger.proofs.batches.places.Statement.{statement}
+use Rattle.logger.proofs.batches.places.Tie as tie
 
 returns : tie.Need-returns
 returns c = counts _ _ (omega arith)

@@ -4,8 +4,8 @@ use native.Mathlib.Omega.{arith}
 use mathlib.Core.Path.{_≡_}
 use Prim.Native.Nat.{_-_, _≤_}
 use lib.ListN.{length}
-use Rattle.batch_logging.proofs.read.Statement.{statement}
-use Rattle.batch_logging.proofs.read.Tie as tie
+use Rattle.logger.proofs.batches.read.Statement.{statement}
+use Rattle.logger.proofs.batches.read.Tie as tie
 
 abbrev Inv-loop : tie.InvT-loop
 Inv-loop input frame₀ lengths₀ end₀ i₀ status₀ frame lengths end i status =
