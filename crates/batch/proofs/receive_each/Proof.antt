@@ -100,26 +100,8 @@ returns-2 c =
 
 pub receive-each-spec : {M : Type 1} → statement M
 receive-each-spec =
-    tie.close
-    (tie.spec
-    Inv-loop
-    μ-loop
-    (λ c κs. search needs)
-    loop-holds
-    (λ c. search needs) (λ c. search needs)
-    add-to
-    (λ c. search needs) (λ c. search needs)
-    part-receive-next-end
-    (λ c. search needs)
-    sub-receive-next-2
-    part-receive-next-start-2
-    (λ c. search needs)
-    receive-next-requires
-    (λ c. search needs) (λ c. search needs) (λ c. search needs) (λ c. search needs)
-    returns
-    (λ c κs. search needs)
-    add-i
-    (λ c. search needs)
-    loop-again
-    (λ c. search needs) (λ c. search needs) (λ c. search needs) (λ c. search needs)
-    returns-2)
+    tie.close (tie.spec Inv-loop μ-loop
+    (λ c κs. search needs) loop-holds (λ c. search needs) (λ c. search needs) add-to (λ c. search needs) (λ c. search needs) part-receive-next-end
+    (λ c. search needs) sub-receive-next-2 part-receive-next-start-2 (λ c. search needs) receive-next-requires (λ c. search needs) (λ c. search needs)
+    (λ c. search needs) (λ c. search needs) returns (λ c κs. search needs) add-i (λ c. search needs) loop-again (λ c. search needs) (λ c. search needs)
+    (λ c. search needs) (λ c. search needs) returns-2)

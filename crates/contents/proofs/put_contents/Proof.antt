@@ -52,11 +52,5 @@ returns c =
 
 pub put-contents-spec : {M : Type 1} → statement M
 put-contents-spec =
-    tie.close
-    (tie.spec
-    (λ c. search needs) (λ c κs. search needs) (λ c. search needs) (λ c. search needs) (λ c. search needs) (λ c. search needs) (λ c κs. search needs)
-    (λ c. search needs)
-    slice-aggregate-put-front
-    put-front-requires
-    (λ c κs. search needs) (λ c. search needs)
-    returns)
+    tie.close (tie.spec (λ c. search needs) (λ c κs. search needs) (λ c. search needs) (λ c. search needs) (λ c. search needs) (λ c. search needs)
+    (λ c κs. search needs) (λ c. search needs) slice-aggregate-put-front put-front-requires (λ c κs. search needs) (λ c. search needs) returns)

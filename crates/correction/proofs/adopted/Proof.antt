@@ -51,14 +51,5 @@ returns c = adopted-end _ _ _ (c .before .loop .k) _ (omega arith) (c .before .l
 
 pub adopted-spec : {M : Type 1} → statement M
 adopted-spec =
-    tie.close
-    (tie.spec
-    Inv-loop
-    μ-loop
-    loop-holds
-    (λ c. search needs) (λ c κs. search needs)
-    element-copy-out-out
-    array-write-out
-    (λ c. search needs) (λ c. search needs)
-    loop-again
-    returns)
+    tie.close (tie.spec Inv-loop μ-loop
+    loop-holds (λ c. search needs) (λ c κs. search needs) element-copy-out-out array-write-out (λ c. search needs) (λ c. search needs) loop-again returns)

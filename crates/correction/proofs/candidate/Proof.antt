@@ -68,9 +68,5 @@ returns c =
 
 pub candidate-spec : {M : Type 1} → statement M
 candidate-spec =
-    tie.close
-    (tie.spec
-    (λ c κs. search needs) (λ c κs. search needs) (λ c κs. search needs) (λ c κs. search needs) (λ c κs. search needs)
-    error-places-requires
-    repaired-requires
-    returns)
+    tie.close (tie.spec (λ c κs. search needs) (λ c κs. search needs) (λ c κs. search needs) (λ c κs. search needs) (λ c κs. search needs) error-places-requires
+    repaired-requires returns)

@@ -57,13 +57,5 @@ returns-4 c =
 
 pub correct-marked-spec : {M : Type 1} → statement M
 correct-marked-spec =
-    tie.close
-    (tie.spec
-    returns
-    returns-2
-    (λ c κs. search needs)
-    returns-3
-    (λ c κs. search needs)
-    decode-requires
-    (λ c. search needs) (λ c κs. search needs) (λ c. search needs)
-    returns-4)
+    tie.close (tie.spec returns returns-2 (λ c κs. search needs) returns-3 (λ c κs. search needs) decode-requires (λ c. search needs) (λ c κs. search needs)
+    (λ c. search needs) returns-4)

@@ -61,17 +61,6 @@ returns c = let e : c .before .loop .m ≡ 0 = omega arith in rw e at (c .before
 
 pub error-places-spec : {M : Type 1} → statement M
 error-places-spec =
-    tie.close
-    (tie.spec
-    Inv-loop
-    μ-loop
-    loop-holds
-    (λ c. search needs) (λ c κs. search needs)
-    mul-places
-    array-write-places
-    add-count
-    (λ c. search needs)
-    loop-again
-    (λ c. search needs)
-    loop-again-2
-    returns)
+    tie.close (tie.spec Inv-loop μ-loop
+    loop-holds (λ c. search needs) (λ c κs. search needs) mul-places array-write-places add-count (λ c. search needs) loop-again (λ c. search needs)
+    loop-again-2 returns)

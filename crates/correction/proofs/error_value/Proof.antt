@@ -40,13 +40,6 @@ returns c = working-end (c .before .before .before .before .args .s) (c .before 
 
 pub error-value-spec : {M : Type 1} → statement M
 error-value-spec =
-    tie.close
-    (tie.spec
-    Inv-loop
-    μ-loop
-    (λ c. search needs)
-    loop-holds
-    (λ c. search needs) (λ c κs. search needs) (λ c κs. search needs) (λ c. search needs) (λ c. search needs)
-    loop-again
-    (λ c κs. search needs) (λ c. search needs) (λ c κs. search needs)
-    returns)
+    tie.close (tie.spec Inv-loop μ-loop
+    (λ c. search needs) loop-holds (λ c. search needs) (λ c κs. search needs) (λ c κs. search needs) (λ c. search needs) (λ c. search needs) loop-again
+    (λ c κs. search needs) (λ c. search needs) (λ c κs. search needs) returns)

@@ -32,11 +32,5 @@ returns c = evaluate-end _ _ _ (c .before .loop .i) (c .before .loop .v) (omega 
 
 pub evaluate-spec : {M : Type 1} → statement M
 evaluate-spec =
-    tie.close
-    (tie.spec
-    Inv-loop
-    μ-loop
-    loop-holds
-    (λ c. search needs) (λ c. search needs) (λ c κs. search needs) (λ c. search needs)
-    loop-again
-    returns)
+    tie.close (tie.spec Inv-loop μ-loop
+    loop-holds (λ c. search needs) (λ c. search needs) (λ c κs. search needs) (λ c. search needs) loop-again returns)

@@ -26,5 +26,4 @@ returns-2 c =
     ∙ ap (λ (b : Bool). b || root (a .coefficients) (a .degree) (a .i)) (sym (c .before .before .if1 .left) ∙ m .is-marked .ensures)
 
 pub is-located-spec : {M : Type 1} → statement M
-is-located-spec =
-    tie.close (tie.spec (λ c κs. search needs) returns (λ c κs. search needs) (λ c κs. search needs) returns-2)
+is-located-spec = tie.close (tie.spec (λ c κs. search needs) returns (λ c κs. search needs) (λ c κs. search needs) returns-2)

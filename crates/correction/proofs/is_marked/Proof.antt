@@ -32,13 +32,5 @@ returns-2 c = marked-end _ _ (c .before .loop .k) (omega arith) (c .before .loop
 
 pub is-marked-spec : {M : Type 1} → statement M
 is-marked-spec =
-    tie.close
-    (tie.spec
-    Inv-loop
-    μ-loop
-    loop-holds
-    (λ c. search needs) (λ c κs. search needs)
-    returns
-    (λ c. search needs) (λ c. search needs)
-    loop-again
-    returns-2)
+    tie.close (tie.spec Inv-loop μ-loop
+    loop-holds (λ c. search needs) (λ c κs. search needs) returns (λ c. search needs) (λ c. search needs) loop-again returns-2)

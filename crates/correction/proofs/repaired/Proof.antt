@@ -43,16 +43,6 @@ returns c = repaired-end _ _ _ _ (c .before .loop .k) _ (omega arith) (c .before
 
 pub repaired-spec : {M : Type 1} → statement M
 repaired-spec =
-    tie.close
-    (tie.spec
-    Inv-loop
-    μ-loop
-    (λ c κs. search needs)
-    loop-holds
-    (λ c. search needs) (λ c. search needs)
-    array-read-out
-    (λ c κs. search needs)
-    array-write-out
-    (λ c. search needs) (λ c. search needs)
-    loop-again
-    returns)
+    tie.close (tie.spec Inv-loop μ-loop
+    (λ c κs. search needs) loop-holds (λ c. search needs) (λ c. search needs) array-read-out (λ c κs. search needs) array-write-out (λ c. search needs)
+    (λ c. search needs) loop-again returns)

@@ -13,18 +13,10 @@ use Rattle.count_list.proofs.stopped.Reads as stopped-reads
 use Rattle.count_list.proofs.stored.Reads as stored-reads
 use Rattle.text.proofs.parse.Reads as parse-reads
 
-abbrev Inv-loop : tie.InvT-loop
-Inv-loop text counts₀ list₀ at₀ counts list at = length counts ≡ length counts₀
-
-abbrev μ-loop : tie.MeasureT-loop
-μ-loop text counts₀ list₀ at₀ counts list at = length text + 1 - at
-
 pub from-text-spec : {M : Type 1} → statement M
 from-text-spec =
-    tie.close
-    (tie.spec
-    Inv-loop
-    μ-loop
+    tie.close (tie.spec (λ text counts₀ list₀ at₀ counts list at. length counts ≡ length counts₀)
+    (λ text counts₀ list₀ at₀ counts list at. length text + 1 - at)
     (λ c κs. search needs) (λ c. search needs) (λ c κs. search needs) (λ c. search needs) (λ c. search needs) (λ c. search needs) (λ c κs. search needs)
     (λ c κs. search needs) (λ c. search needs) (λ c. search needs) (λ c κs. search needs) (λ c. search needs) (λ c. search needs) (λ c. search needs)
     (λ c κs. search needs) (λ c. search needs) (λ c. search needs))

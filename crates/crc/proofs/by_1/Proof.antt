@@ -51,12 +51,5 @@ returns c = c .by-16 .ensures ∙ c .before .before .loop .inv .4
 
 pub by-1-spec : {M : Type 1} → statement M
 by-1-spec =
-    tie.close
-    (tie.spec
-    Inv-loop
-    μ-loop
-    loop-holds
-    (λ c κs. search needs) (λ c. search needs) (λ c κs. search needs) (λ c. search needs) (λ c. search needs)
-    loop-again
-    by-16-requires
-    returns)
+    tie.close (tie.spec Inv-loop μ-loop
+    loop-holds (λ c κs. search needs) (λ c. search needs) (λ c κs. search needs) (λ c. search needs) (λ c. search needs) loop-again by-16-requires returns)

@@ -23,6 +23,4 @@ returns c =
     (d .ensures .0) (d .ensures .1) (s .ensures .0) (s .ensures .1) (c .fold8 .ensures .0) (c .fold8 .ensures .1)
 
 pub reduced64-spec : {M : Type 1} → statement M
-reduced64-spec =
-    tie.close
-    (tie.spec (λ c κs. search needs) (λ c κs. search needs) (λ c κs. search needs) (λ c. search needs) returns)
+reduced64-spec = tie.close (tie.spec (λ c κs. search needs) (λ c κs. search needs) (λ c κs. search needs) (λ c. search needs) returns)

@@ -33,11 +33,4 @@ returns-3 c =
     d .with-byte .ensures ∙ sym (one-in (a .register) (a .word) (d .before .if1 .left) (c .if2 .left))
 
 pub with-word-spec : {M : Type 1} → statement M
-with-word-spec =
-    tie.close
-    (tie.spec
-    (λ c κs. search needs)
-    returns
-    (λ c κs. search needs) (λ c κs. search needs)
-    returns-2
-    returns-3)
+with-word-spec = tie.close (tie.spec (λ c κs. search needs) returns (λ c κs. search needs) (λ c κs. search needs) returns-2 returns-3)

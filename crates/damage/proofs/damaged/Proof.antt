@@ -17,8 +17,4 @@ returns c =
     (a .alter .ensures .0, (a .alter .ensures .1 .0, (a .alter .ensures .1 .1, (d .0, d .1 ∙ ap₂ (differing 0) (a .before .before .header-of .ensures) (h .header-of2 .ensures)))))
 
 pub damaged-spec : {M : Type 1} → statement M
-damaged-spec =
-    tie.close
-    (tie.spec
-    (λ c κs. search needs) (λ c κs. search needs) (λ c κs. search needs) (λ c κs. search needs) (λ c. search needs)
-    returns)
+damaged-spec = tie.close (tie.spec (λ c κs. search needs) (λ c κs. search needs) (λ c κs. search needs) (λ c κs. search needs) (λ c. search needs) returns)

@@ -19,5 +19,4 @@ returns-3 c =
     rw (is-neither _ _ _ (e .before .before .choice .ensures) (e .before .if1 .left) (e .if2 .left)) (refl, refl)
 
 pub choose-spec : {M : Type 1} → statement M
-choose-spec =
-    tie.close (tie.spec (λ c κs. search needs) returns returns-2 (λ c. search needs) returns-3)
+choose-spec = tie.close (tie.spec (λ c κs. search needs) returns returns-2 (λ c. search needs) returns-3)

@@ -22,10 +22,4 @@ returns-3 c =
     count-header (now (h .before .before .before .before .args .pdu)) (h .header-of .result) _ (omega (arith, h .before .before .if1 .left)) (omega (arith, h .before .if2 .left)) (h .header-of .ensures) (k .correct .ensures .0)
 
 pub count-spec : {M : Type 1} → statement M
-count-spec =
-    tie.close
-    (tie.spec
-    returns
-    returns-2
-    (λ c κs. search needs) (λ c. search needs) (λ c κs. search needs)
-    returns-3)
+count-spec = tie.close (tie.spec returns returns-2 (λ c κs. search needs) (λ c. search needs) (λ c κs. search needs) returns-3)

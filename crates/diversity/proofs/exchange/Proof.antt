@@ -41,9 +41,6 @@ slice-write-first c = omega (arith, first-long (c .before .before .before))
 slice-write-second : tie.Need-slice-write-second Inv-loop μ-loop
 slice-write-second c = omega (arith, second-long (c .before .before .before))
 
-loop-less : tie.Need-loop-less Inv-loop μ-loop
-loop-less c = omega arith
-
 loop-again : tie.Need-loop-again Inv-loop μ-loop
 loop-again c =
     let p = c .before .before .before in
@@ -73,18 +70,6 @@ returns c =
 
 pub exchange-spec : {M : Type 1} → statement M
 exchange-spec =
-    tie.close
-    (tie.spec
-    Inv-loop
-    μ-loop
-    loop-holds
-    slice-read-b
-    slice-read-first
-    slice-write-first
-    slice-write-second
-    (λ c. search needs)
-    loop-less
-    loop-again
-    same-length
-    same-length-2
+    tie.close (tie.spec Inv-loop μ-loop
+    loop-holds slice-read-b slice-read-first slice-write-first slice-write-second (λ c. search needs) (λ c. omega arith) loop-again same-length same-length-2
     returns)

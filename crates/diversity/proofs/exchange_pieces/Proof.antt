@@ -39,9 +39,6 @@ exchange-piece-requires c κs =
     let h = t .loop-test .taken in
     ((omega (arith, w .0 .few), w .0 .rising k h), (omega (arith, w .0 .within k h, first-long p), first-long p ∙ w .1 ∙ sym (second-long p)))
 
-loop-less : tie.Need-loop-less Inv-loop μ-loop
-loop-less c = omega arith
-
 loop-again : tie.Need-loop-again Inv-loop μ-loop
 loop-again c =
     let e = c .before .before .before .before in
@@ -72,16 +69,5 @@ returns c =
 
 pub exchange-pieces-spec : {M : Type 1} → statement M
 exchange-pieces-spec =
-    tie.close
-    (tie.spec
-    Inv-loop
-    μ-loop
-    loop-holds
-    (λ c. search needs)
-    exchange-piece-requires
-    (λ c. search needs)
-    loop-less
-    loop-again
-    same-length
-    same-length-2
-    returns)
+    tie.close (tie.spec Inv-loop μ-loop
+    loop-holds (λ c. search needs) exchange-piece-requires (λ c. search needs) (λ c. omega arith) loop-again same-length same-length-2 returns)

@@ -39,13 +39,4 @@ returns-4 c =
     apart-cause (a .register) (now (a .first)) (now (a .second)) (a .marks) (a .k) (a .cause) (s .pre .1 .1) (omega (arith, p .before .if1 .left)) _ _ (q .cause-at2 .ensures) (c .if3 .left) (p .same-piece .ensures) (q .before .if2 .left)
 
 pub pair-cause-spec : {M : Type 1} → statement M
-pair-cause-spec =
-    tie.close
-    (tie.spec
-    (λ c κs. search needs)
-    returns
-    (λ c κs. search needs)
-    returns-2
-    (λ c κs. search needs)
-    returns-3
-    returns-4)
+pair-cause-spec = tie.close (tie.spec (λ c κs. search needs) returns (λ c κs. search needs) returns-2 (λ c κs. search needs) returns-3 returns-4)

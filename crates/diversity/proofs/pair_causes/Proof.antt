@@ -46,13 +46,5 @@ returns c =
 
 pub pair-causes-spec : {M : Type 1} → statement M
 pair-causes-spec =
-    tie.close
-    (tie.spec
-    Inv-loop
-    μ-loop
-    loop-holds
-    (λ c. search needs)
-    pair-cause-requires
-    (λ c. search needs) (λ c. search needs) (λ c. search needs)
-    loop-again
-    returns)
+    tie.close (tie.spec Inv-loop μ-loop
+    loop-holds (λ c. search needs) pair-cause-requires (λ c. search needs) (λ c. search needs) (λ c. search needs) loop-again returns)

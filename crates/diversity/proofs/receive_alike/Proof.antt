@@ -71,13 +71,5 @@ returns c =
 
 pub receive-alike-spec : {M : Type 1} → statement M
 receive-alike-spec =
-    tie.close
-    (tie.spec
-    (λ c κs. search needs) (λ c. search needs)
-    marks-of-requires
-    causes-of-requires
-    pair-causes-requires
-    (λ c κs. search needs)
-    receive-exchanged-requires
-    (λ c. search needs) (λ c. search needs) (λ c. search needs) (λ c. search needs)
-    returns)
+    tie.close (tie.spec (λ c κs. search needs) (λ c. search needs) marks-of-requires causes-of-requires pair-causes-requires (λ c κs. search needs)
+    receive-exchanged-requires (λ c. search needs) (λ c. search needs) (λ c. search needs) (λ c. search needs) returns)

@@ -49,10 +49,5 @@ returns c =
 
 pub receive-exchanged-spec : {M : Type 1} → statement M
 receive-exchanged-spec =
-    tie.close
-    (tie.spec
-    (λ c κs. search needs)
-    receive-parsed-requires
-    exchange-pieces-requires-2
-    (λ c. search needs) (λ c. search needs) (λ c. search needs) (λ c. search needs)
-    returns)
+    tie.close (tie.spec (λ c κs. search needs) receive-parsed-requires exchange-pieces-requires-2 (λ c. search needs) (λ c. search needs) (λ c. search needs)
+    (λ c. search needs) returns)

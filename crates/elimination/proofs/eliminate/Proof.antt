@@ -63,15 +63,6 @@ returns-2 c =
 
 pub eliminate-spec : {M : Type 1} → statement M
 eliminate-spec =
-    tie.close
-    (tie.spec
-    Inv-loop
-    μ-loop
-    loop-holds
-    (λ c κs. search needs) (λ c κs. search needs)
-    returns
-    reduce-right-requires
-    reduce-requires
-    (λ c. search needs) (λ c. search needs)
-    loop-again
+    tie.close (tie.spec Inv-loop μ-loop
+    loop-holds (λ c κs. search needs) (λ c κs. search needs) returns reduce-right-requires reduce-requires (λ c. search needs) (λ c. search needs) loop-again
     returns-2)

@@ -14,18 +14,10 @@ use Rattle.examples.proofs.end_line.Reads as end-line-reads
 use Rattle.examples.proofs.say.Reads as say-reads
 use Rattle.io.proofs.print_decimal.Reads as print-decimal-reads
 
-abbrev Inv-loop : tie.InvT-loop
-Inv-loop label set wanted right₀ all₀ mask₀ t7 right all mask = (mask ≤ 512) × (all ≤ mask) × (right ≤ mask)
-
-abbrev μ-loop : tie.MeasureT-loop
-μ-loop label set wanted right₀ all₀ mask₀ t7 right all mask = 512 - mask
-
 pub choices-line-spec : {M : Type 1} → statement M
 choices-line-spec =
-    tie.close
-    (tie.spec
-    Inv-loop
-    μ-loop
+    tie.close (tie.spec (λ label set wanted right₀ all₀ mask₀ t7 right all mask. (mask ≤ 512) × (all ≤ mask) × (right ≤ mask))
+    (λ label set wanted right₀ all₀ mask₀ t7 right all mask. 512 - mask)
     (λ c. search needs) (λ c κs. search needs) (λ c. search needs) (λ c κs. search needs) (λ c. search needs) (λ c. search needs) (λ c. search needs)
     (λ c. search needs) (λ c κs. search needs) (λ c. search needs) (λ c κs. search needs) (λ c. search needs) (λ c κs. search needs) (λ c. search needs)
     (λ c κs. search needs) (λ c κs. search needs) (λ c. search needs))

@@ -13,17 +13,8 @@ use Rattle.examples.proofs.hex_byte.Reads as hex-byte-reads
 use Rattle.examples.proofs.say.Reads as say-reads
 use Rattle.layout.proofs.control_bytes.Reads as control-bytes-reads
 
-abbrev Inv-loop : tie.InvT-loop
-Inv-loop b i₀ i = i ≤ 6
-
-abbrev μ-loop : tie.MeasureT-loop
-μ-loop b i₀ i = 6 - i
-
 pub control-line-spec : {M : Type 1} → statement M
 control-line-spec =
-    tie.close
-    (tie.spec
-    Inv-loop
-    μ-loop
+    tie.close (tie.spec (λ b i₀ i. i ≤ 6) (λ b i₀ i. 6 - i)
     (λ c κs. search needs) (λ c. search needs) (λ c κs. search needs) (λ c. search needs) (λ c. search needs) (λ c κs. search needs) (λ c. search needs)
     (λ c. search needs) (λ c. search needs) (λ c κs. search needs) (λ c. search needs))

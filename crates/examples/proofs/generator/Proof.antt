@@ -10,17 +10,8 @@ use Rattle.examples.proofs.generator.Reads as reads
 use Rattle.examples.proofs.generator.Lts as lts
 use Rattle.examples.proofs.coefficient.Reads as coefficient-reads
 
-abbrev Inv-loop : tie.InvT-loop
-Inv-loop mask word₀ rest₀ i₀ word rest i = (i ≤ 9) × (length word ≡ 96)
-
-abbrev μ-loop : tie.MeasureT-loop
-μ-loop mask word₀ rest₀ i₀ word rest i = 9 - i
-
 pub generator-spec : {M : Type 1} → statement M
 generator-spec =
-    tie.close
-    (tie.spec
-    Inv-loop
-    μ-loop
+    tie.close (tie.spec (λ mask word₀ rest₀ i₀ word rest i. (i ≤ 9) × (length word ≡ 96)) (λ mask word₀ rest₀ i₀ word rest i. 9 - i)
     (λ c. search needs) (λ c. search needs) (λ c. search needs) (λ c κs. search needs) (λ c. search needs) (λ c. search needs) (λ c. search needs)
     (λ c. search needs) (λ c. search needs))

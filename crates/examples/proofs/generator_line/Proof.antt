@@ -14,18 +14,9 @@ use Rattle.examples.proofs.say.Reads as say-reads
 use Rattle.header.proofs.syndromes.Reads as syndromes-reads
 use Rattle.io.proofs.print_hex.Reads as print-hex-reads
 
-abbrev Inv-loop : tie.InvT-loop
-Inv-loop s i₀ t5 i = i ≤ 8
-
-abbrev μ-loop : tie.MeasureT-loop
-μ-loop s i₀ t5 i = 8 - i
-
 pub generator-line-spec : {M : Type 1} → statement M
 generator-line-spec =
-    tie.close
-    (tie.spec
-    Inv-loop
-    μ-loop
+    tie.close (tie.spec (λ s i₀ t5 i. i ≤ 8) (λ s i₀ t5 i. 8 - i)
     (λ c κs. search needs) (λ c κs. search needs) (λ c. search needs) (λ c κs. search needs) (λ c. search needs) (λ c. search needs) (λ c κs. search needs)
     (λ c. search needs) (λ c. search needs) (λ c κs. search needs) (λ c. search needs) (λ c. search needs) (λ c. search needs) (λ c κs. search needs)
     (λ c. search needs))

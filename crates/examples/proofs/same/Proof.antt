@@ -9,17 +9,8 @@ use Rattle.examples.proofs.same.Tie as tie
 use Rattle.examples.proofs.same.Reads as reads
 use Rattle.examples.proofs.same.Lts as lts
 
-abbrev Inv-loop : tie.InvT-loop
-Inv-loop u v i₀ i = i ≤ 96
-
-abbrev μ-loop : tie.MeasureT-loop
-μ-loop u v i₀ i = 96 - i
-
 pub same-spec : {M : Type 1} → statement M
 same-spec =
-    tie.close
-    (tie.spec
-    Inv-loop
-    μ-loop
+    tie.close (tie.spec (λ u v i₀ i. i ≤ 96) (λ u v i₀ i. 96 - i)
     (λ c. search needs) (λ c. search needs) (λ c. search needs) (λ c. search needs) (λ c. search needs) (λ c. search needs) (λ c. search needs)
     (λ c. search needs))

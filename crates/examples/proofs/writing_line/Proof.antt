@@ -31,13 +31,7 @@ returns c = tt
 
 pub writing-line-spec : {M : Type 1} → statement M
 writing-line-spec =
-    tie.close
-    (tie.spec
-    (λ c κs. search needs) (λ c. search needs)
-    slice-aggregate-write
-    (λ c. search needs)
-    slice-aggregate-write-2
-    slice-aggregate-write-3
+    tie.close (tie.spec (λ c κs. search needs) (λ c. search needs) slice-aggregate-write (λ c. search needs) slice-aggregate-write-2 slice-aggregate-write-3
     (λ c κs. search needs) (λ c κs. search needs) (λ c. search needs) (λ c. search needs) (λ c κs. search needs) (λ c. search needs) (λ c. search needs)
     (λ c κs. search needs) (λ c. search needs) (λ c. search needs) (λ c κs. search needs) (λ c. search needs) (λ c κs. search needs) (λ c κs. search needs)
     returns)

@@ -31,11 +31,4 @@ returns-5 c = with-services _ _ _ _ _ _ _ (c .before .match .rest .0 .0 .1) (c .
 
 pub absorbed-spec : {M : Type 1} → statement M
 absorbed-spec =
-    tie.close
-    (tie.spec
-    (λ c κs. search needs) (λ c. search needs) (λ c. search needs) (λ c κs. search needs)
-    returns
-    returns-2
-    returns-3
-    returns-4
-    returns-5)
+    tie.close (tie.spec (λ c κs. search needs) (λ c. search needs) (λ c. search needs) (λ c κs. search needs) returns returns-2 returns-3 returns-4 returns-5)

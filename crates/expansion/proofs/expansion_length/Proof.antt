@@ -47,16 +47,6 @@ returns-4 c = left-full _ _ _ (c .before .loop .i) (omega arith) (c .before .loo
 
 pub expansion-length-spec : {M : Type 1} → statement M
 expansion-length-spec =
-    tie.close
-    (tie.spec
-    Inv-loop
-    μ-loop
-    loop-holds
-    (λ c. search needs)
-    returns
-    returns-2
-    (λ c. search needs) (λ c. search needs)
-    returns-3
-    (λ c. search needs) (λ c. search needs)
-    loop-again
+    tie.close (tie.spec Inv-loop μ-loop
+    loop-holds (λ c. search needs) returns returns-2 (λ c. search needs) (λ c. search needs) returns-3 (λ c. search needs) (λ c. search needs) loop-again
     returns-4)

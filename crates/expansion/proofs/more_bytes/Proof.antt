@@ -41,5 +41,4 @@ returns-4 c =
     (rw (e, f, g), omega arith)
 
 pub more-bytes-spec : {M : Type 1} → statement M
-more-bytes-spec =
-    tie.close (tie.spec returns (λ c κs. search needs) (λ c. search needs) returns-2 returns-3 returns-4)
+more-bytes-spec = tie.close (tie.spec returns (λ c κs. search needs) (λ c. search needs) returns-2 returns-3 returns-4)

@@ -41,6 +41,4 @@ returns-2 c =
     ((l .expansion-length .ensures, omega (arith, l .expansion-length .ensures, expansion-few (now (a .pdu)) (a .at) (a .la))), said (now (a .pdu)) (a .at) (a .la) (l .expansion-length .result) (c .interpret .result) e (l .expansion-length .ensures) (c .interpret .ensures))
 
 pub read-expansion-spec : {M : Type 1} → statement M
-read-expansion-spec =
-    tie.close
-    (tie.spec (λ c κs. search needs) (λ c κs. search needs) returns interpret-requires returns-2)
+read-expansion-spec = tie.close (tie.spec (λ c κs. search needs) (λ c κs. search needs) returns interpret-requires returns-2)

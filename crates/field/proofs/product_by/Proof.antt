@@ -26,10 +26,4 @@ returns-3 c =
     ∙ ap₂ mul (l .before .logarithm-by .ensures .1) (l .logarithm-by2 .ensures .1)
 
 pub product-by-spec : {M : Type 1} → statement M
-product-by-spec =
-    tie.close
-    (tie.spec
-    returns
-    returns-2
-    (λ c κs. search needs) (λ c κs. search needs) (λ c. search needs) (λ c. search needs)
-    returns-3)
+product-by-spec = tie.close (tie.spec returns returns-2 (λ c κs. search needs) (λ c κs. search needs) (λ c. search needs) (λ c. search needs) returns-3)

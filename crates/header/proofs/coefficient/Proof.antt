@@ -20,5 +20,4 @@ returns c =
     (c .wide .ensures .0 ∙ ap (λ (n : ℕ). getD (s .args .powers .now) n 0) (e .ensures .0) ∙ s .pre .0 .entry (getD exponents (s .args .k) 0) (omega (arith, e .ensures .0, e .ensures .1)), c .wide .ensures .1)
 
 pub coefficient-spec : {M : Type 1} → statement M
-coefficient-spec =
-    tie.close (tie.spec (λ c κs. search needs) (λ c. search needs) (λ c κs. search needs) returns)
+coefficient-spec = tie.close (tie.spec (λ c κs. search needs) (λ c. search needs) (λ c κs. search needs) returns)

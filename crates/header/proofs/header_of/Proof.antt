@@ -54,12 +54,5 @@ returns-2 c = full _ _ (c .before .loop .i) (omega arith) (omega arith) (c .befo
 
 pub header-of-spec : {M : Type 1} → statement M
 header-of-spec =
-    tie.close
-    (tie.spec
-    Inv-loop
-    μ-loop
-    loop-holds
-    returns
-    (λ c. search needs) (λ c. search needs) (λ c. search needs) (λ c. search needs)
-    loop-again
-    returns-2)
+    tie.close (tie.spec Inv-loop μ-loop
+    loop-holds returns (λ c. search needs) (λ c. search needs) (λ c. search needs) (λ c. search needs) loop-again returns-2)

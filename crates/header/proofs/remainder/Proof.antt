@@ -61,15 +61,6 @@ returns c =
 
 pub remainder-spec : {M : Type 1} → statement M
 remainder-spec =
-    tie.close
-    (tie.spec
-    Inv-loop
-    μ-loop
+    tie.close (tie.spec Inv-loop μ-loop
     (λ c κs. search needs) (λ c κs. search needs) (λ c κs. search needs) (λ c κs. search needs) (λ c κs. search needs) (λ c κs. search needs)
-    (λ c κs. search needs) (λ c κs. search needs)
-    loop-holds
-    (λ c. search needs) (λ c κs. search needs)
-    step-requires
-    (λ c. search needs)
-    loop-again
-    returns)
+    (λ c κs. search needs) (λ c κs. search needs) loop-holds (λ c. search needs) (λ c κs. search needs) step-requires (λ c. search needs) loop-again returns)

@@ -26,12 +26,4 @@ returns-3 c =
     (ap (λ (h : ℕ). h / 256) (sym (c .before .before .before .high .ensures)) ∙ c .before .before .if2 .left)
 
 pub data-fits-spec : {M : Type 1} → statement M
-data-fits-spec =
-    tie.close
-    (tie.spec
-    (λ c κs. search needs)
-    returns
-    (λ c κs. search needs)
-    returns-2
-    (λ c κs. search needs) (λ c κs. search needs)
-    returns-3)
+data-fits-spec = tie.close (tie.spec (λ c κs. search needs) returns (λ c κs. search needs) returns-2 (λ c κs. search needs) (λ c κs. search needs) returns-3)

@@ -24,6 +24,4 @@ returns-4 : tie.Need-returns-4
 returns-4 c = note-fits (c .before .args .h) (c .before .args .l) (c .before .args .k) (omega arith)
 
 pub head-fits-spec : {M : Type 1} → statement M
-head-fits-spec =
-    tie.close
-    (tie.spec (λ c κs. search needs) (λ c κs. search needs) returns returns-2 returns-3 returns-4)
+head-fits-spec = tie.close (tie.spec (λ c κs. search needs) (λ c κs. search needs) returns returns-2 returns-3 returns-4)

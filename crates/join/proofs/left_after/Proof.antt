@@ -23,5 +23,4 @@ returns-4 : tie.Need-returns-4
 returns-4 c = after-data (c .before .before .args .left) (c .before .before .args .w) (c .before .before .args .left - 3) (omega arith) refl
 
 pub left-after-spec : {M : Type 1} → statement M
-left-after-spec =
-    tie.close (tie.spec (λ c κs. search needs) returns (λ c κs. search needs) returns-2 returns-3 returns-4)
+left-after-spec = tie.close (tie.spec (λ c κs. search needs) returns (λ c κs. search needs) returns-2 returns-3 returns-4)

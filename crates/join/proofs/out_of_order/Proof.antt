@@ -35,6 +35,4 @@ returns-3 c =
     ∙ core-rises (a .core .now) (a .enhanced .now) (s .result) (s .ensures .1 .0) h (s .ensures .1 .1 h) (sym (c .before .before .rising .ensures) ∙ not-false _ (c .before .if2 .left))
 
 pub out-of-order-spec : {M : Type 1} → statement M
-out-of-order-spec =
-    tie.close
-    (tie.spec (λ c κs. search needs) returns (λ c κs. search needs) returns-2 (λ c κs. search needs) returns-3)
+out-of-order-spec = tie.close (tie.spec (λ c κs. search needs) returns (λ c κs. search needs) returns-2 (λ c κs. search needs) returns-3)

@@ -20,5 +20,4 @@ returns-2 c =
     (partner-size (a .enhanced .now) (a .n) (f .result) (f .ensures .1) (c .run-end .result) (omega arith) (omega arith) (omega arith) (c .run-end .ensures .1), omega arith)
 
 pub partner-length-spec : {M : Type 1} → statement M
-partner-length-spec =
-    tie.close (tie.spec (λ c κs. search needs) returns (λ c. search needs) (λ c κs. search needs) (λ c. search needs) returns-2)
+partner-length-spec = tie.close (tie.spec (λ c κs. search needs) returns (λ c. search needs) (λ c κs. search needs) (λ c. search needs) returns-2)

@@ -69,13 +69,6 @@ returns-2 c =
 
 pub put-at-spec : {M : Type 1} → statement M
 put-at-spec =
-    tie.close
-    (tie.spec
-    (λ c. search needs) (λ c. search needs) (λ c κs. search needs)
-    returns
-    (λ c. search needs) (λ c κs. search needs) (λ c. search needs) (λ c. search needs) (λ c. search needs) (λ c. search needs)
-    put-words-requires
-    (λ c. search needs) (λ c. search needs) (λ c κs. search needs)
-    put-partner-requires
-    (λ c. search needs)
-    returns-2)
+    tie.close (tie.spec (λ c. search needs) (λ c. search needs) (λ c κs. search needs) returns (λ c. search needs) (λ c κs. search needs) (λ c. search needs)
+    (λ c. search needs) (λ c. search needs) (λ c. search needs) put-words-requires (λ c. search needs) (λ c. search needs) (λ c κs. search needs)
+    put-partner-requires (λ c. search needs) returns-2)

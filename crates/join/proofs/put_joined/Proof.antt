@@ -61,14 +61,4 @@ returns c =
     )
 
 pub put-joined-spec : {M : Type 1} → statement M
-put-joined-spec =
-    tie.close
-    (tie.spec
-    Inv-loop
-    μ-loop
-    loop-holds
-    put-at-requires
-    (λ c. search needs) (λ c. search needs)
-    loop-again
-    (λ c. search needs)
-    returns)
+put-joined-spec = tie.close (tie.spec Inv-loop μ-loop loop-holds put-at-requires (λ c. search needs) (λ c. search needs) loop-again (λ c. search needs) returns)

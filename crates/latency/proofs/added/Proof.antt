@@ -29,6 +29,4 @@ returns-2 c =
     added-none (a .n) (a .t) (a .counts .now) (λ e. omega arith)
 
 pub added-spec : {M : Type 1} → statement M
-added-spec =
-    tie.close
-    (tie.spec (λ c. search needs) (λ c. search needs) mul-wide shared-slice-read-wide (λ c κs. search needs) returns returns-2)
+added-spec = tie.close (tie.spec (λ c. search needs) (λ c. search needs) mul-wide shared-slice-read-wide (λ c κs. search needs) returns returns-2)

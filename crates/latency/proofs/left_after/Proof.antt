@@ -38,9 +38,6 @@ add-t c =
     let s = c .before .before .before .before .before in
     omega (arith, s .pre .1, ticks-most (s .args .n) (s .args .counts .now) (s .pre .0))
 
-loop-less : tie.Need-loop-less Inv-loop μ-loop
-loop-less c = omega arith
-
 loop-again : tie.Need-loop-again Inv-loop μ-loop
 loop-again c =
     let l = c .before .before .before .loop in
@@ -58,16 +55,5 @@ returns c =
 
 pub left-after-spec : {M : Type 1} → statement M
 left-after-spec =
-    tie.close
-    (tie.spec
-    Inv-loop
-    μ-loop
-    loop-holds
-    added-requires
-    add-waiting
-    (λ c κs. search needs)
-    sub-kept
-    add-t
-    loop-less
-    loop-again
-    returns)
+    tie.close (tie.spec Inv-loop μ-loop
+    loop-holds added-requires add-waiting (λ c κs. search needs) sub-kept add-t (λ c. omega arith) loop-again returns)

@@ -54,9 +54,6 @@ add-t c =
     let s = c .before .before .before .before .before .before .before .before .before .before in
     omega (arith, ticks-most (s .args .n) (s .args .counts .now) (s .pre))
 
-loop-less : tie.Need-loop-less Inv-loop μ-loop
-loop-less c = omega arith
-
 loop-again : tie.Need-loop-again Inv-loop μ-loop
 loop-again c =
     let g = c .before in
@@ -84,19 +81,6 @@ returns c =
 
 pub run-spec : {M : Type 1} → statement M
 run-spec =
-    tie.close
-    (tie.spec
-    Inv-loop
-    μ-loop
-    mul-end
-    loop-holds
-    added-requires
-    add-waiting
-    (λ c κs. search needs) (λ c κs. search needs)
-    add-t14
-    (λ c κs. search needs) (λ c κs. search needs) (λ c κs. search needs)
-    sub-kept
-    add-t
-    loop-less
-    loop-again
-    returns)
+    tie.close (tie.spec Inv-loop μ-loop
+    mul-end loop-holds added-requires add-waiting (λ c κs. search needs) (λ c κs. search needs) add-t14 (λ c κs. search needs) (λ c κs. search needs)
+    (λ c κs. search needs) sub-kept add-t (λ c. omega arith) loop-again returns)

@@ -77,9 +77,6 @@ add-k c =
     let s = c .before .before .before .before .before .before .before in
     omega (arith, s .pre .1, ticks-most (s .args .n) (s .args .counts .now) (s .pre .0))
 
-loop-less : tie.Need-loop-less Inv-loop μ-loop
-loop-less c = omega arith
-
 loop-again : tie.Need-loop-again Inv-loop μ-loop
 loop-again c =
     let w = c .before in
@@ -101,22 +98,6 @@ returns c =
 
 pub show-spec : {M : Type 1} → statement M
 show-spec =
-    tie.close
-    (tie.spec
-    Inv-loop
-    μ-loop
-    left-after-requires
-    loop-holds
-    add-t
-    added-requires
-    add-waiting
-    cast-row
-    mul-row
-    slice-write-row
-    (λ c κs. search needs)
-    sub-kept
-    add-k
-    loop-less
-    loop-again
-    (λ c. search needs)
-    returns)
+    tie.close (tie.spec Inv-loop μ-loop
+    left-after-requires loop-holds add-t added-requires add-waiting cast-row mul-row slice-write-row (λ c κs. search needs) sub-kept add-k (λ c. omega arith)
+    loop-again (λ c. search needs) returns)

@@ -34,6 +34,4 @@ returns-2 c =
     (e, w .show .ensures ∙ ap (λ (x : ℕ). putAt (now (a .row)) 0 (waitingFrom (a .n) (a .counts .now) (a .v) (a .first) x)) e)
 
 pub show-from-spec : {M : Type 1} → statement M
-show-from-spec =
-    tie.close
-    (tie.spec mul-shown-count (λ c κs. search needs) returns (λ c κs. search needs) (λ c. search needs) returns-2)
+show-from-spec = tie.close (tie.spec mul-shown-count (λ c κs. search needs) returns (λ c κs. search needs) (λ c. search needs) returns-2)

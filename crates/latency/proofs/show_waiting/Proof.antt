@@ -53,11 +53,4 @@ returns-2 c =
 
 pub show-waiting-spec : {M : Type 1} → statement M
 show-waiting-spec =
-    tie.close
-    (tie.spec
-    (λ c κs. search needs) (λ c. search needs) (λ c. search needs)
-    show-from-requires
-    cast-t14
-    returns
-    (λ c. search needs)
-    returns-2)
+    tie.close (tie.spec (λ c κs. search needs) (λ c. search needs) (λ c. search needs) show-from-requires cast-t14 returns (λ c. search needs) returns-2)

@@ -28,10 +28,4 @@ returns-2 c =
     c .smallest-of .ensures ∙ answer-by (a .mode) (a .stream) (a .counts .now) _ _ (u .before .before .spacing-for .ensures) (u .n .given .1)
 
 pub smallest-spec : {M : Type 1} → statement M
-smallest-spec =
-    tie.close
-    (tie.spec
-    (λ c κs. search needs) (λ c. search needs) (λ c. search needs)
-    smallest-of-requires
-    returns
-    returns-2)
+smallest-spec = tie.close (tie.spec (λ c κs. search needs) (λ c. search needs) (λ c. search needs) smallest-of-requires returns returns-2)

@@ -28,6 +28,4 @@ returns-2 c =
     c .trial-of .ensures ∙ trial-by (a .mode) (a .stream) (a .counts .now) _ _ (u .before .before .spacing-for .ensures) (u .n .given .1) (a .v)
 
 pub try-latency-spec : {M : Type 1} → statement M
-try-latency-spec =
-    tie.close
-    (tie.spec (λ c κs. search needs) (λ c. search needs) (λ c. search needs) trial-of-requires returns returns-2)
+try-latency-spec = tie.close (tie.spec (λ c κs. search needs) (λ c. search needs) (λ c. search needs) trial-of-requires returns returns-2)

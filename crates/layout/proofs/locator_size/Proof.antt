@@ -19,5 +19,4 @@ returns-2 : tie.Need-returns-2
 returns-2 c = let e : eqb (c .before .args .width) 16 ≡ false = ne-eqb _ _ (c .if1 .left) in rw e
 
 pub locator-size-spec : {M : Type 1} → statement M
-locator-size-spec =
-    tie.close (tie.spec (λ c. search needs) (λ c. search needs) returns (λ c. search needs) (λ c. search needs) returns-2)
+locator-size-spec = tie.close (tie.spec (λ c. search needs) (λ c. search needs) returns (λ c. search needs) (λ c. search needs) returns-2)

@@ -45,12 +45,4 @@ returns-2 c =
     rw e (c .before .before .put-locators12 .ensures)
 
 pub put-locators-spec : {M : Type 1} → statement M
-put-locators-spec =
-    tie.close
-    (tie.spec
-    put-locators16-requires
-    (λ c. search needs)
-    returns
-    put-locators12-requires
-    (λ c. search needs)
-    returns-2)
+put-locators-spec = tie.close (tie.spec put-locators16-requires (λ c. search needs) returns put-locators12-requires (λ c. search needs) returns-2)

@@ -27,11 +27,4 @@ returns-3 c =
 
 pub byte-of-spec : {M : Type 1} → statement M
 byte-of-spec =
-    tie.close
-    (tie.spec
-    (λ c. search needs) (λ c κs. search needs)
-    returns
-    (λ c. search needs)
-    returns-2
-    (λ c. search needs) (λ c κs. search needs)
-    returns-3)
+    tie.close (tie.spec (λ c. search needs) (λ c κs. search needs) returns (λ c. search needs) returns-2 (λ c. search needs) (λ c κs. search needs) returns-3)

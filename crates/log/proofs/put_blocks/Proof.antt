@@ -82,19 +82,7 @@ returns-2 c =
 
 pub put-blocks-spec : {M : Type 1} → statement M
 put-blocks-spec =
-    tie.close
-    (tie.spec
-    Inv-loop
-    μ-loop
-    (λ c. search needs)
-    returns
-    (λ c κs. search needs) (λ c. search needs) (λ c κs. search needs)
-    loop-holds
-    (λ c. search needs) (λ c. search needs)
-    put-block-requires
-    (λ c. search needs) (λ c. search needs) (λ c κs. search needs) (λ c. search needs) (λ c κs. search needs) (λ c. search needs)
-    loop-again
-    (λ c. search needs)
-    put-block-requires-2
-    (λ c. search needs) (λ c. search needs)
-    returns-2)
+    tie.close (tie.spec Inv-loop μ-loop
+    (λ c. search needs) returns (λ c κs. search needs) (λ c. search needs) (λ c κs. search needs) loop-holds (λ c. search needs) (λ c. search needs)
+    put-block-requires (λ c. search needs) (λ c. search needs) (λ c κs. search needs) (λ c. search needs) (λ c κs. search needs) (λ c. search needs) loop-again
+    (λ c. search needs) put-block-requires-2 (λ c. search needs) (λ c. search needs) returns-2)

@@ -148,18 +148,6 @@ returns-2 c =
 
 pub put-data-spec : {M : Type 1} → statement M
 put-data-spec =
-    tie.close
-    (tie.spec
-    put-full-requires
-    (λ c. search needs) (λ c. search needs)
-    put-one-requires
-    (λ c. search needs) (λ c. search needs) (λ c. search needs) (λ c. search needs)
-    returns
-    (λ c. search needs)
-    sub-put-full
-    put-full-requires-2
-    (λ c. search needs) (λ c. search needs) (λ c. search needs)
-    put-one-requires-2
-    add-result
-    (λ c. search needs)
-    returns-2)
+    tie.close (tie.spec put-full-requires (λ c. search needs) (λ c. search needs) put-one-requires (λ c. search needs) (λ c. search needs) (λ c. search needs)
+    (λ c. search needs) returns (λ c. search needs) sub-put-full put-full-requires-2 (λ c. search needs) (λ c. search needs) (λ c. search needs)
+    put-one-requires-2 add-result (λ c. search needs) returns-2)

@@ -34,9 +34,4 @@ returns c =
 
 pub put-note-spec : {M : Type 1} → statement M
 put-note-spec =
-    tie.close
-    (tie.spec
-    (λ c κs. search needs) (λ c. search needs) (λ c κs. search needs) (λ c. search needs)
-    slice-write-log
-    (λ c. search needs)
-    returns)
+    tie.close (tie.spec (λ c κs. search needs) (λ c. search needs) (λ c κs. search needs) (λ c. search needs) slice-write-log (λ c. search needs) returns)

@@ -39,6 +39,4 @@ returns-2 c =
     (omega arith, one-more (now (a .log)) s (a .at) (a .i) (c .data-word .result) (some-left c) (room c) (c .data-word .ensures))
 
 pub put-one-spec : {M : Type 1} → statement M
-put-one-spec =
-    tie.close
-    (tie.spec (λ c. search needs) returns (λ c κs. search needs) (λ c. search needs) slice-write-log (λ c. search needs) returns-2)
+put-one-spec = tie.close (tie.spec (λ c. search needs) returns (λ c κs. search needs) (λ c. search needs) slice-write-log (λ c. search needs) returns-2)

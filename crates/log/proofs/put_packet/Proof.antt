@@ -50,12 +50,5 @@ returns c =
 
 pub put-packet-spec : {M : Type 1} → statement M
 put-packet-spec =
-    tie.close
-    (tie.spec
-    (λ c. search needs) (λ c κs. search needs) (λ c. search needs) (λ c κs. search needs) (λ c. search needs)
-    slice-write-log
-    (λ c. search needs)
-    put-bytes-requires
-    add-result
-    same-length
-    returns)
+    tie.close (tie.spec (λ c. search needs) (λ c κs. search needs) (λ c. search needs) (λ c κs. search needs) (λ c. search needs) slice-write-log
+    (λ c. search needs) put-bytes-requires add-result same-length returns)

@@ -48,12 +48,5 @@ returns c =
 
 pub put-psd-spec : {M : Type 1} → statement M
 put-psd-spec =
-    tie.close
-    (tie.spec
-    (λ c. search needs) (λ c κs. search needs) (λ c. search needs)
-    slice-write-log
-    (λ c. search needs) (λ c. search needs)
-    put-bytes-requires
-    add-result
-    same-length
-    returns)
+    tie.close (tie.spec (λ c. search needs) (λ c κs. search needs) (λ c. search needs) slice-write-log (λ c. search needs) (λ c. search needs)
+    put-bytes-requires add-result same-length returns)

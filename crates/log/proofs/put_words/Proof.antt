@@ -66,18 +66,6 @@ returns c =
 
 pub put-words-spec : {M : Type 1} → statement M
 put-words-spec =
-    tie.close
-    (tie.spec
-    Inv-loop
-    μ-loop
-    loop-holds
-    (λ c. search needs) (λ c κs. search needs)
-    add-log
-    mul-log
-    slice-write-log
-    (λ c. search needs)
-    add-j
-    (λ c. search needs)
-    loop-again
-    (λ c. search needs)
-    returns)
+    tie.close (tie.spec Inv-loop μ-loop
+    loop-holds (λ c. search needs) (λ c κs. search needs) add-log mul-log slice-write-log (λ c. search needs) add-j (λ c. search needs) loop-again
+    (λ c. search needs) returns)

@@ -27,5 +27,4 @@ returns-2 c =
     ∙ fit-within (a .width) (a .extra) (a .size) (a .k) (a .used) (leb-true (a .k) (mostPieces (a .width) (a .extra)) (sym (c .before .before .within-limit .ensures) ∙ not-false _ (c .before .if1 .left)))
 
 pub fits-spec : {M : Type 1} → statement M
-fits-spec =
-    tie.close (tie.spec (λ c κs. search needs) returns (λ c κs. search needs) (λ c. search needs) returns-2)
+fits-spec = tie.close (tie.spec (λ c κs. search needs) returns (λ c κs. search needs) (λ c. search needs) returns-2)

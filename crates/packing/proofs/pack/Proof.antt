@@ -113,28 +113,7 @@ returns-2 c =
 
 pub pack-spec : {M : Type 1} → statement M
 pack-spec =
-    tie.close
-    (tie.spec
-    Inv-loop
-    μ-loop
-    loop-holds
-    cast-loop
-    (λ c. search needs) (λ c. search needs) (λ c. search needs) (λ c κs. search needs)
-    add-fits
-    (λ c. search needs)
-    add-fits-2
-    add-fits-3
-    fits-requires
-    part-after-requires
-    with-part-requires
-    returns
-    (λ c. search needs) (λ c. search needs)
-    array-write-out
-    (λ c. search needs)
-    add-used
-    add-used-2
-    add-k
-    loop-less
-    loop-again
-    (λ c κs. search needs)
-    returns-2)
+    tie.close (tie.spec Inv-loop μ-loop
+    loop-holds cast-loop (λ c. search needs) (λ c. search needs) (λ c. search needs) (λ c κs. search needs) add-fits (λ c. search needs) add-fits-2 add-fits-3
+    fits-requires part-after-requires with-part-requires returns (λ c. search needs) (λ c. search needs) array-write-out (λ c. search needs) add-used add-used-2
+    add-k loop-less loop-again (λ c κs. search needs) returns-2)

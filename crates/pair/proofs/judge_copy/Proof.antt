@@ -25,6 +25,4 @@ returns-2 c =
     reader-number (s .args .m) (s .args .r) (now (s .args .y)) (s .pre) (k .control-word .result) (k .control-word .ensures) (w .wrong-stream .result) (w .wrong-stream .ensures) (e .if1 .left) (c .judge .result .number) (c .judge .result .wrong) (c .judge .ensures .0) (c .judge .ensures .1)
 
 pub judge-copy-spec : {M : Type 1} → statement M
-judge-copy-spec =
-    tie.close
-    (tie.spec (λ c κs. search needs) (λ c κs. search needs) returns (λ c κs. search needs) returns-2)
+judge-copy-spec = tie.close (tie.spec (λ c κs. search needs) (λ c κs. search needs) returns (λ c κs. search needs) returns-2)

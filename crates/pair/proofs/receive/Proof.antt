@@ -23,9 +23,5 @@ returns-2 c =
 
 pub receive-spec : {M : Type 1} → statement M
 receive-spec =
-    tie.close
-    (tie.spec
-    (λ c κs. search needs) (λ c. search needs)
-    receive-listed-requires
-    (λ c. search needs) (λ c κs. search needs) (λ c. search needs) (λ c. search needs) (λ c. search needs) (λ c. search needs) (λ c. search needs)
-    returns-2)
+    tie.close (tie.spec (λ c κs. search needs) (λ c. search needs) receive-listed-requires (λ c. search needs) (λ c κs. search needs) (λ c. search needs)
+    (λ c. search needs) (λ c. search needs) (λ c. search needs) (λ c. search needs) returns-2)

@@ -63,13 +63,6 @@ returns-3 c =
 
 pub receive-both-spec : {M : Type 1} → statement M
 receive-both-spec =
-    tie.close
-    (tie.spec
-    (λ c κs. search needs) (λ c. search needs) (λ c κs. search needs) (λ c. search needs) (λ c. search needs)
-    returns
-    differs-requires
-    (λ c κs. search needs) (λ c. search needs) (λ c. search needs)
-    returns-2
-    receive-alike-requires
-    (λ c. search needs) (λ c. search needs) (λ c. search needs) (λ c. search needs)
-    returns-3)
+    tie.close (tie.spec (λ c κs. search needs) (λ c. search needs) (λ c κs. search needs) (λ c. search needs) (λ c. search needs) returns differs-requires
+    (λ c κs. search needs) (λ c. search needs) (λ c. search needs) returns-2 receive-alike-requires (λ c. search needs) (λ c. search needs) (λ c. search needs)
+    (λ c. search needs) returns-3)

@@ -21,6 +21,4 @@ returns-2 : tie.Need-returns-2
 returns-2 c = let a = c .before .before .before .args in unflagged (a .width) (a .c) (now (a .y)) (c .before .if1 .left) _ (c .nothing .ensures)
 
 pub expansion-of-spec : {M : Type 1} → statement M
-expansion-of-spec =
-    tie.close
-    (tie.spec (λ c κs. search needs) (λ c κs. search needs) returns (λ c κs. search needs) returns-2)
+expansion-of-spec = tie.close (tie.spec (λ c κs. search needs) (λ c κs. search needs) returns (λ c κs. search needs) returns-2)

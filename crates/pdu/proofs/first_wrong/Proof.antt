@@ -44,14 +44,4 @@ returns-2 c =
     lowest-none (wrongLocator (a .width) (a .c) (now (a .y))) (a .c .nop) (p .loop .k) (omega arith) (p .loop .inv .1)
 
 pub first-wrong-spec : {M : Type 1} → statement M
-first-wrong-spec =
-    tie.close
-    (tie.spec
-    Inv-loop
-    μ-loop
-    loop-holds
-    (λ c κs. search needs)
-    returns
-    (λ c. search needs) (λ c. search needs)
-    loop-again
-    returns-2)
+first-wrong-spec = tie.close (tie.spec Inv-loop μ-loop loop-holds (λ c κs. search needs) returns (λ c. search needs) (λ c. search needs) loop-again returns-2)

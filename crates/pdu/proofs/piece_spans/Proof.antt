@@ -78,20 +78,6 @@ returns c =
 
 pub piece-spans-spec : {M : Type 1} → statement M
 piece-spans-spec =
-    tie.close
-    (tie.spec
-    Inv-loop
-    μ-loop
-    loop-holds
-    (λ c κs. search needs) (λ c κs. search needs)
-    cast-i
-    add-starts
-    mul-starts
-    array-write-starts
-    add-lengths
-    sub-lengths
-    mul-lengths
-    array-write-lengths
-    (λ c. search needs) (λ c. search needs)
-    loop-again
-    returns)
+    tie.close (tie.spec Inv-loop μ-loop
+    loop-holds (λ c κs. search needs) (λ c κs. search needs) cast-i add-starts mul-starts array-write-starts add-lengths sub-lengths mul-lengths
+    array-write-lengths (λ c. search needs) (λ c. search needs) loop-again returns)

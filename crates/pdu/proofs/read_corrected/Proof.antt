@@ -53,10 +53,5 @@ returns-2 c =
 
 pub read-corrected-spec : {M : Type 1} → statement M
 read-corrected-spec =
-    tie.close
-    (tie.spec
-    (λ c κs. search needs) (λ c κs. search needs) (λ c. search needs)
-    read-listed-requires
-    (λ c. search needs) (λ c κs. search needs)
-    returns
-    returns-2)
+    tie.close (tie.spec (λ c κs. search needs) (λ c κs. search needs) (λ c. search needs) read-listed-requires (λ c. search needs) (λ c κs. search needs)
+    returns returns-2)

@@ -17,5 +17,4 @@ returns c =
     )
 
 pub read-front-spec : {M : Type 1} → statement M
-read-front-spec =
-    tie.close (tie.spec (λ c κs. search needs) (λ c κs. search needs) (λ c. search needs) (λ c. search needs) returns)
+read-front-spec = tie.close (tie.spec (λ c κs. search needs) (λ c κs. search needs) (λ c. search needs) (λ c. search needs) returns)

@@ -33,11 +33,4 @@ returns-2 c =
     listed-refused (a .m) (a .c) (now (a .y)) _ _ _ (j .judge .ensures .0) (c .before .before .if1 .left) (j .judge .ensures .1) (c .refused-reading .ensures)
 
 pub read-listed-spec : {M : Type 1} → statement M
-read-listed-spec =
-    tie.close
-    (tie.spec
-    (λ c κs. search needs)
-    accepted-reading-requires
-    returns
-    (λ c. search needs) (λ c κs. search needs)
-    returns-2)
+read-listed-spec = tie.close (tie.spec (λ c κs. search needs) accepted-reading-requires returns (λ c. search needs) (λ c κs. search needs) returns-2)

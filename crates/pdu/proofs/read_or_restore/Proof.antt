@@ -25,10 +25,4 @@ returns-2 c =
     (j .read-corrected .ensures, f .put-front .ensures ∙ put-back _ _ _ (j .read-corrected .ensures) (omega (arith, f .before .before .before .if1 .left)))
 
 pub read-or-restore-spec : {M : Type 1} → statement M
-read-or-restore-spec =
-    tie.close
-    (tie.spec
-    (λ c κs. search needs) (λ c. search needs)
-    returns
-    (λ c κs. search needs) (λ c. search needs)
-    returns-2)
+read-or-restore-spec = tie.close (tie.spec (λ c κs. search needs) (λ c. search needs) returns (λ c κs. search needs) (λ c. search needs) returns-2)

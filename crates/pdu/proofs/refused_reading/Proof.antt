@@ -17,5 +17,4 @@ returns : tie.Need-returns
 returns c = refused-parts _ _ _ _ _ (c .no-control .ensures) (c .before .before .nothing .ensures) (c .before .answered-fields .ensures)
 
 pub refused-reading-spec : {M : Type 1} → statement M
-refused-reading-spec =
-    tie.close (tie.spec (λ c κs. search needs) (λ c κs. search needs) (λ c κs. search needs) returns)
+refused-reading-spec = tie.close (tie.spec (λ c κs. search needs) (λ c κs. search needs) (λ c κs. search needs) returns)

@@ -22,5 +22,4 @@ returns-3 : tie.Need-returns-3
 returns-3 c = let a = c .before .before .args in not-displaced (a .width) (a .c) (now (a .y)) (a .x) (c .if1 .left)
 
 pub wrong-displacement-spec : {M : Type 1} → statement M
-wrong-displacement-spec =
-    tie.close (tie.spec (λ c κs. search needs) returns (λ c. search needs) returns-2 returns-3)
+wrong-displacement-spec = tie.close (tie.spec (λ c κs. search needs) returns (λ c. search needs) returns-2 returns-3)

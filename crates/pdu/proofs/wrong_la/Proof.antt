@@ -19,5 +19,4 @@ returns-2 : tie.Need-returns-2
 returns-2 c = let a = c .before .before .before .before .args in la-high (a .width) (a .c) (now (a .y)) _ (c .before .after-locators .ensures .0) (omega (arith, c .if1 .left))
 
 pub wrong-la-spec : {M : Type 1} → statement M
-wrong-la-spec =
-    tie.close (tie.spec (λ c. search needs) (λ c. search needs) (λ c κs. search needs) (λ c. search needs) returns returns-2)
+wrong-la-spec = tie.close (tie.spec (λ c. search needs) (λ c. search needs) (λ c κs. search needs) (λ c. search needs) returns returns-2)

@@ -21,8 +21,5 @@ returns-2 c = let a = c .before .before .before .before .args in locator-high (a
 
 pub wrong-locator-spec : {M : Type 1} → statement M
 wrong-locator-spec =
-    tie.close
-    (tie.spec
-    (λ c κs. search needs) (λ c. search needs) (λ c κs. search needs) (λ c. search needs) (λ c. search needs) (λ c. search needs)
-    returns
+    tie.close (tie.spec (λ c κs. search needs) (λ c. search needs) (λ c κs. search needs) (λ c. search needs) (λ c. search needs) (λ c. search needs) returns
     returns-2)

@@ -52,15 +52,6 @@ returns c =
 
 pub locators-spec : {M : Type 1} → statement M
 locators-spec =
-    tie.close
-    (tie.spec
-    Inv-loop
-    μ-loop
-    loop-holds
-    (λ c. search needs) (λ c. search needs)
-    add-place
-    (λ c. search needs) (λ c. search needs)
-    add-place-2
-    (λ c. search needs) (λ c. search needs)
-    loop-again
-    returns)
+    tie.close (tie.spec Inv-loop μ-loop
+    loop-holds (λ c. search needs) (λ c. search needs) add-place (λ c. search needs) (λ c. search needs) add-place-2 (λ c. search needs) (λ c. search needs)
+    loop-again returns)

@@ -80,19 +80,6 @@ returns c =
 
 pub put-pieces-spec : {M : Type 1} → statement M
 put-pieces-spec =
-    tie.close
-    (tie.spec
-    Inv-loop
-    μ-loop
-    loop-holds
-    (λ c. search needs) (λ c. search needs)
-    cast-n
-    add-put-piece
-    put-piece-requires
-    add-place
-    add-place-2
-    add-from
-    (λ c. search needs) (λ c. search needs)
-    loop-again
-    (λ c. search needs)
-    returns)
+    tie.close (tie.spec Inv-loop μ-loop
+    loop-holds (λ c. search needs) (λ c. search needs) cast-n add-put-piece put-piece-requires add-place add-place-2 add-from (λ c. search needs)
+    (λ c. search needs) loop-again (λ c. search needs) returns)

@@ -75,15 +75,4 @@ returns-2 c =
     accept-did (a .state) (a .range) (a .head) (now (a .carry)) (a .withheld) (a .marks) (a .causes) (now (a .pdu)) (p .pre .1 .0 .0) (p .pre .1 .0 .1) (p .pre .1 .1 .0) (now (a .log)) (p .pre .1 .1 .1 .1) l (first .result) (first .kept .1 .1 .1 .0) did false e (q .last .1 .1 .1 .1 .1 .0) (q .last .1 .1 .1 .1 .1 .1 .0) (q .result) (q .ensures)
 
 pub accept-spec : {M : Type 1} → statement M
-accept-spec =
-    tie.close
-    (tie.spec
-    begin-requires
-    withhold-requires
-    same-length
-    same-length-2
-    returns
-    contents-requires
-    same-length-3
-    same-length-4
-    returns-2)
+accept-spec = tie.close (tie.spec begin-requires withhold-requires same-length same-length-2 returns contents-requires same-length-3 same-length-4 returns-2)

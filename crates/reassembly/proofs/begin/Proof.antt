@@ -39,5 +39,4 @@ returns-2 c =
     λ cs h z. same-outcome (begun-some (firstCause (a .state) (a .range) (a .head)) (q .result) (partialOf (a .state .held) (a .state .number) cs) (q .ensures) (c .before .before .before .before .if1 .left)) (c .before .before .drop-noted .ensures cs)
 
 pub begin-spec : {M : Type 1} → statement M
-begin-spec =
-    tie.close (tie.spec first-cause-requires returns drop-noted-requires (λ c. search needs) returns-2)
+begin-spec = tie.close (tie.spec first-cause-requires returns drop-noted-requires (λ c. search needs) returns-2)

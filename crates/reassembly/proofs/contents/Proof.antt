@@ -17,9 +17,6 @@ use Rattle.reassembly.proofs.pieces.Reads as pieces-reads
 use Rattle.reassembly.proofs.place.Reads as place-reads
 use Rattle.reassembly.proofs.put_extra.Reads as put-extra-reads
 
-array-read-place : tie.Need-array-read-place
-array-read-place c = omega arith
-
 add-end : tie.Need-add-end
 add-end c = omega (arith, c .place .ensures .1)
 
@@ -96,17 +93,5 @@ returns c =
 
 pub contents-spec : {M : Type 1} → statement M
 contents-spec =
-    tie.close
-    (tie.spec
-    array-read-place
-    (λ c κs. search needs)
-    add-end
-    sub-put-extra
-    part-put-extra-start
-    part-put-extra-end
-    put-extra-requires
-    add-t14
-    pieces-requires
-    same-length
-    same-length-2
-    returns)
+    tie.close (tie.spec (λ c. omega arith) (λ c κs. search needs) add-end sub-put-extra part-put-extra-start part-put-extra-end put-extra-requires add-t14
+    pieces-requires same-length same-length-2 returns)

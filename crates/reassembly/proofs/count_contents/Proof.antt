@@ -29,9 +29,6 @@ returns c =
     let q = c .count-continuing in
     all-withheld (a .withheld) (a .head) (a .t4) (a .causes) (a .held) (a .x) (w .add-words .result) (q .result) (w .before .if1 .taken) (w .add-words .ensures) (q .ensures)
 
-array-read-place : tie.Need-array-read-place
-array-read-place c = omega arith
-
 add-count-psd : tie.Need-add-count-psd
 add-count-psd c = omega (arith, c .place .ensures .1)
 
@@ -61,16 +58,5 @@ returns-2 c =
 
 pub count-contents-spec : {M : Type 1} → statement M
 count-contents-spec =
-    tie.close
-    (tie.spec
-    add-words-requires
-    count-continuing-requires
-    returns
-    array-read-place
-    (λ c κs. search needs)
-    add-count-psd
-    sub-count-psd
-    count-psd-requires
-    add-words-requires-2
-    count-pieces-requires
-    returns-2)
+    tie.close (tie.spec add-words-requires count-continuing-requires returns (λ c. omega arith) (λ c κs. search needs) add-count-psd sub-count-psd
+    count-psd-requires add-words-requires-2 count-pieces-requires returns-2)

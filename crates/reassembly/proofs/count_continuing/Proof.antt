@@ -26,17 +26,8 @@ returns-2 c =
     let a = c .before .before .before .args in
     no-piece-counted (a .head) (a .t3) (a .t4) (a .held) (a .x) (c .before .before .if1 .left) (c .if2 .taken)
 
-array-read-place : tie.Need-array-read-place
-array-read-place c = omega arith
-
 add-a : tie.Need-add-a
 add-a c = omega (arith, c .place .ensures .1)
-
-array-read-place-2 : tie.Need-array-read-place-2
-array-read-place-2 c = omega arith
-
-array-read-count-piece : tie.Need-array-read-count-piece
-array-read-count-piece c = omega arith
 
 sub-count-piece : tie.Need-sub-count-piece
 sub-count-piece c =
@@ -48,9 +39,6 @@ count-piece-requires : tie.Need-count-piece-requires
 count-piece-requires c κs =
     let p = c .before .before .before .before .before .before .before in
     (omega (arith, c .before .before .place2 .ensures .1), p .pre .0 .0)
-
-piece-number-requires : tie.Need-piece-number-requires
-piece-number-requires c κs = omega arith
 
 add-piece-requires : tie.Need-add-piece-requires
 add-piece-requires c κs =
@@ -73,18 +61,5 @@ returns-3 c =
 
 pub count-continuing-spec : {M : Type 1} → statement M
 count-continuing-spec =
-    tie.close
-    (tie.spec
-    returns
-    returns-2
-    array-read-place
-    (λ c κs. search needs)
-    add-a
-    array-read-place-2
-    (λ c κs. search needs) (λ c. search needs) (λ c κs. search needs)
-    array-read-count-piece
-    sub-count-piece
-    count-piece-requires
-    piece-number-requires
-    add-piece-requires
-    returns-3)
+    tie.close (tie.spec returns returns-2 (λ c. omega arith) (λ c κs. search needs) add-a (λ c. omega arith) (λ c κs. search needs) (λ c. search needs)
+    (λ c κs. search needs) (λ c. omega arith) sub-count-piece count-piece-requires (λ c κs. omega arith) add-piece-requires returns-3)

@@ -171,28 +171,7 @@ returns c =
 
 pub count-pieces-spec : {M : Type 1} → statement M
 count-pieces-spec =
-    tie.close
-    (tie.spec
-    Inv-loop
-    μ-loop
-    loop-holds
-    mul-place
-    array-read-place
-    (λ c κs. search needs)
-    add-a
-    add-place
-    mul-place-2
-    array-read-place-2
-    (λ c κs. search needs)
-    add-ends-here
-    sub-ends-here
-    (λ c κs. search needs)
-    array-read-count-piece
-    sub-count-piece
-    count-piece-requires
-    piece-number-requires
-    add-piece-requires
-    add-k
-    loop-less
-    loop-again
-    returns)
+    tie.close (tie.spec Inv-loop μ-loop
+    loop-holds mul-place array-read-place (λ c κs. search needs) add-a add-place mul-place-2 array-read-place-2 (λ c κs. search needs) add-ends-here
+    sub-ends-here (λ c κs. search needs) array-read-count-piece sub-count-piece count-piece-requires piece-number-requires add-piece-requires add-k loop-less
+    loop-again returns)

@@ -60,17 +60,5 @@ returns-3 c =
 
 pub finish-spec : {M : Type 1} → statement M
 finish-spec =
-    tie.close
-    (tie.spec
-    (λ c. search needs)
-    drop-noted-requires
-    (λ c. search needs)
-    returns
-    (λ c. search needs)
-    slice-aggregate-put-packet
-    put-packet-requires
-    add-t19
-    (λ c. search needs) (λ c. search needs)
-    returns-2
-    (λ c κs. search needs) (λ c. search needs)
-    returns-3)
+    tie.close (tie.spec (λ c. search needs) drop-noted-requires (λ c. search needs) returns (λ c. search needs) slice-aggregate-put-packet put-packet-requires
+    add-t19 (λ c. search needs) (λ c. search needs) returns-2 (λ c κs. search needs) (λ c. search needs) returns-3)

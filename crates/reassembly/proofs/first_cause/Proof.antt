@@ -31,5 +31,4 @@ returns-3 c =
     rw e refl
 
 pub first-cause-spec : {M : Type 1} → statement M
-first-cause-spec =
-    tie.close (tie.spec (λ c κs. search needs) (λ c κs. search needs) returns returns-2 returns-3)
+first-cause-spec = tie.close (tie.spec (λ c κs. search needs) (λ c κs. search needs) returns returns-2 returns-3)

@@ -33,11 +33,4 @@ returns-2 c =
     all-noted (a .withheld) (a .state) (a .range) (a .head) (a .marks) (a .causes) (a .tally) (q .result) (c .count-contents2 .result) (q .ensures) (c .before .if1 .left) (c .count-contents2 .ensures)
 
 pub forecast-for-spec : {M : Type 1} → statement M
-forecast-for-spec =
-    tie.close
-    (tie.spec
-    first-cause-requires
-    count-contents-requires
-    returns
-    count-contents-requires-2
-    returns-2)
+forecast-for-spec = tie.close (tie.spec first-cause-requires count-contents-requires returns count-contents-requires-2 returns-2)

@@ -61,17 +61,5 @@ returns-4 c =
 
 pub one-piece-spec : {M : Type 1} → statement M
 one-piece-spec =
-    tie.close
-    (tie.spec
-    drop-noted-requires
-    (λ c. search needs)
-    returns
-    finish-requires
-    (λ c. search needs) (λ c. search needs)
-    returns-2
-    drop-noted-requires-2
-    (λ c. search needs)
-    returns-3
-    finish-requires-2
-    (λ c. search needs) (λ c. search needs)
-    returns-4)
+    tie.close (tie.spec drop-noted-requires (λ c. search needs) returns finish-requires (λ c. search needs) (λ c. search needs) returns-2 drop-noted-requires-2
+    (λ c. search needs) returns-3 finish-requires-2 (λ c. search needs) (λ c. search needs) returns-4)

@@ -141,23 +141,6 @@ returns c =
 
 pub piece-at-spec : {M : Type 1} → statement M
 piece-at-spec =
-    tie.close
-    (tie.spec
-    mul-place
-    array-read-place
-    (λ c κs. search needs)
-    add-a
-    add-place
-    mul-place-2
-    array-read-place-2
-    (λ c κs. search needs)
-    piece-number-requires
-    add-ends-here
-    sub-ends-here
-    (λ c κs. search needs)
-    sub-one-piece
-    part-one-piece-start
-    part-one-piece-end
-    one-piece-requires
-    (λ c. search needs) (λ c. search needs)
-    returns)
+    tie.close (tie.spec mul-place array-read-place (λ c κs. search needs) add-a add-place mul-place-2 array-read-place-2 (λ c κs. search needs)
+    piece-number-requires add-ends-here sub-ends-here (λ c κs. search needs) sub-one-piece part-one-piece-start part-one-piece-end one-piece-requires
+    (λ c. search needs) (λ c. search needs) returns)

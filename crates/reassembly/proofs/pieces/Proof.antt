@@ -106,17 +106,4 @@ returns c =
     going-end (pieceNumber (a .head .pfirst) (a .head .start)) (a .head .plast) (i .loop .continues) (now (a .pdu)) (a .marks) (a .t4) (a .head .nop) (i .loop .k) (a .run .at) _ (now (a .carry)) (now (a .log)) (i .loop .carry) (i .loop .log) (i .loop .cur) (c .if1 .left) (s .pre .1 .0) (i .loop .inv .1)
 
 pub pieces-spec : {M : Type 1} → statement M
-pieces-spec =
-    tie.close
-    (tie.spec
-    Inv-loop
-    μ-loop
-    loop-holds
-    array-read-piece-at
-    piece-at-requires
-    add-k
-    loop-less
-    loop-again
-    same-length
-    same-length-2
-    returns)
+pieces-spec = tie.close (tie.spec Inv-loop μ-loop loop-holds array-read-piece-at piece-at-requires add-k loop-less loop-again same-length same-length-2 returns)

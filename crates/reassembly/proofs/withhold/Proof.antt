@@ -45,6 +45,4 @@ returns c =
     continuing-did (a .head) (a .marks) (a .causes) (now (a .pdu)) (a .run) (now (a .carry)) (now (a .log)) (p .pre .0 .0) (p .pre .0 .1) (p .pre .1 .0) (p .pre .1 .1 .1) (x .last .0) (x .result) (x .kept .0) (x .ensures .0) (x .ensures .1) (q .last .1 .1 .1 .1 .1 .0) (q .last .1 .1 .1 .1 .1 .1 .0) (q .result) (q .ensures)
 
 pub withhold-spec : {M : Type 1} → statement M
-withhold-spec =
-    tie.close
-    (tie.spec put-note-requires add-t13 continuing-requires same-length same-length-2 returns)
+withhold-spec = tie.close (tie.spec put-note-requires add-t13 continuing-requires same-length same-length-2 returns)

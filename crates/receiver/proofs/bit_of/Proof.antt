@@ -15,9 +15,4 @@ returns-2 : tie.Need-returns-2
 returns-2 c = (ap (λ (b : Bool). cond b (c .before .before .before .args .bit) 0) (sym (c .if1 .left) ∙ c .before .is-listed .ensures), omega arith)
 
 pub bit-of-spec : {M : Type 1} → statement M
-bit-of-spec =
-    tie.close
-    (tie.spec
-    (λ c κs. search needs)
-    returns
-    returns-2)
+bit-of-spec = tie.close (tie.spec (λ c κs. search needs) returns returns-2)

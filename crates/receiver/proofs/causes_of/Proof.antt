@@ -40,12 +40,5 @@ returns c =
 
 pub causes-of-spec : {M : Type 1} → statement M
 causes-of-spec =
-    tie.close
-    (tie.spec
-    Inv-loop
-    μ-loop
-    loop-holds
-    cause-at-requires
-    (λ c. search needs) (λ c. search needs) (λ c. search needs)
-    loop-again
-    returns)
+    tie.close (tie.spec Inv-loop μ-loop
+    loop-holds cause-at-requires (λ c. search needs) (λ c. search needs) (λ c. search needs) loop-again returns)

@@ -21,8 +21,4 @@ returns c =
     }
 
 pub head-of-spec : {M : Type 1} → statement M
-head-of-spec =
-    tie.close
-    (tie.spec
-    (λ c κs. search needs) (λ c. search needs)
-    returns)
+head-of-spec = tie.close (tie.spec (λ c κs. search needs) (λ c. search needs) returns)

@@ -13,8 +13,4 @@ returns : tie.Need-returns
 returns c = c .is-marked .ensures ∙ ap (isListed (now (c .before .before .before .args .programs))) (c .before .wide .ensures)
 
 pub is-listed-spec : {M : Type 1} → statement M
-is-listed-spec =
-    tie.close
-    (tie.spec
-    (λ c κs. search needs) (λ c κs. search needs)
-    returns)
+is-listed-spec = tie.close (tie.spec (λ c κs. search needs) (λ c κs. search needs) returns)

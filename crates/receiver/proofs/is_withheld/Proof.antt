@@ -25,10 +25,4 @@ returns-3 c =
     withheld-unknown (a .r .entitled) (a .program) (a .services .known) (a .services .value) (k .result) (k .ensures) (c .before .if1 .left) (c .if2 .left)
 
 pub is-withheld-spec : {M : Type 1} → statement M
-is-withheld-spec =
-    tie.close
-    (tie.spec
-    (λ c κs. search needs)
-    returns
-    returns-2
-    returns-3)
+is-withheld-spec = tie.close (tie.spec (λ c κs. search needs) returns returns-2 returns-3)

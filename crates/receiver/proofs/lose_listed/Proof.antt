@@ -44,13 +44,5 @@ returns-3 c =
 
 pub lose-listed-spec : {M : Type 1} → statement M
 lose-listed-spec =
-    tie.close
-    (tie.spec
-    (λ c κs. search needs) (λ c κs. search needs)
-    returns
-    (λ c κs. search needs)
-    returns-2
-    put-note-requires
-    forgotten-requires
-    (λ c. search needs)
-    returns-3)
+    tie.close (tie.spec (λ c κs. search needs) (λ c κs. search needs) returns (λ c κs. search needs) returns-2 put-note-requires forgotten-requires
+    (λ c. search needs) returns-3)

@@ -34,19 +34,5 @@ returns c = omega (arith, c .before .before .before .before .before .before .bef
 
 pub mask-of-spec : {M : Type 1} → statement M
 mask-of-spec =
-    tie.close
-    (tie.spec
-    (λ c κs. search needs) (λ c κs. search needs)
-    add-low
-    (λ c κs. search needs)
-    add-low-2
-    (λ c κs. search needs)
-    add-low-3
-    (λ c κs. search needs) (λ c κs. search needs)
-    add-high
-    (λ c κs. search needs)
-    add-high-2
-    (λ c κs. search needs)
-    add-high-3
-    add-result
-    returns)
+    tie.close (tie.spec (λ c κs. search needs) (λ c κs. search needs) add-low (λ c κs. search needs) add-low-2 (λ c κs. search needs) add-low-3
+    (λ c κs. search needs) (λ c κs. search needs) add-high (λ c κs. search needs) add-high-2 (λ c κs. search needs) add-high-3 add-result returns)

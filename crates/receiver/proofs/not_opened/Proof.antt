@@ -11,8 +11,4 @@ returns : tie.Need-returns
 returns c = ap (λ (x : Receiver). record { refusal = c .before .args .number; receiver = x }) (c .fresh .ensures)
 
 pub not-opened-spec : {M : Type 1} → statement M
-not-opened-spec =
-    tie.close
-    (tie.spec
-    (λ c κs. search needs)
-    returns)
+not-opened-spec = tie.close (tie.spec (λ c κs. search needs) returns)

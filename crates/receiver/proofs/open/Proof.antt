@@ -11,8 +11,4 @@ unfolding receiverOpened
 returns c = c .open-entitled .ensures
 
 pub open-spec : {M : Type 1} → statement M
-open-spec =
-    tie.close
-    (tie.spec
-    (λ c. search needs) (λ c κs. search needs)
-    returns)
+open-spec = tie.close (tie.spec (λ c. search needs) (λ c κs. search needs) returns)

@@ -95,18 +95,6 @@ returns-3 c =
 
 pub receive-parsed-spec : {M : Type 1} → statement M
 receive-parsed-spec =
-    tie.close
-    (tie.spec
-    (λ c κs. search needs)
-    services-at-requires
-    (λ c κs. search needs) (λ c κs. search needs)
-    forecast-for-requires
-    (λ c κs. search needs)
-    returns
-    (λ c κs. search needs) (λ c κs. search needs)
-    returns-2
-    accept-requires
-    (λ c κs. search needs)
-    accepted-requires
-    (λ c. search needs) (λ c. search needs)
-    returns-3)
+    tie.close (tie.spec (λ c κs. search needs) services-at-requires (λ c κs. search needs) (λ c κs. search needs) forecast-for-requires (λ c κs. search needs)
+    returns (λ c κs. search needs) (λ c κs. search needs) returns-2 accept-requires (λ c κs. search needs) accepted-requires (λ c. search needs)
+    (λ c. search needs) returns-3)

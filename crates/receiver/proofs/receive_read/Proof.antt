@@ -45,12 +45,5 @@ returns c =
 
 pub receive-read-spec : {M : Type 1} → statement M
 receive-read-spec =
-    tie.close
-    (tie.spec
-    marks-of-requires
-    (λ c. search needs)
-    causes-of-requires
-    (λ c κs. search needs)
-    receive-parsed-requires
-    (λ c. search needs) (λ c. search needs)
-    returns)
+    tie.close (tie.spec marks-of-requires (λ c. search needs) causes-of-requires (λ c κs. search needs) receive-parsed-requires (λ c. search needs)
+    (λ c. search needs) returns)

@@ -22,10 +22,4 @@ returns-2 c =
     c .unknown-services .ensures ∙ services-dropped (k .result) (keepsServices (a .range) (a .r)) (a .services) (k .ensures) (c .before .if1 .left)
 
 pub services-after-spec : {M : Type 1} → statement M
-services-after-spec =
-    tie.close
-    (tie.spec
-    (λ c κs. search needs)
-    returns
-    (λ c κs. search needs)
-    returns-2)
+services-after-spec = tie.close (tie.spec (λ c κs. search needs) returns (λ c κs. search needs) returns-2)

@@ -43,13 +43,5 @@ returns-4 c =
 
 pub services-at-spec : {M : Type 1} → statement M
 services-at-spec =
-    tie.close
-    (tie.spec
-    (λ c κs. search needs) (λ c κs. search needs)
-    returns
-    (λ c κs. search needs)
-    returns-2
-    in-sequence-requires
-    returns-3
-    (λ c κs. search needs)
-    returns-4)
+    tie.close (tie.spec (λ c κs. search needs) (λ c κs. search needs) returns (λ c κs. search needs) returns-2 in-sequence-requires returns-3
+    (λ c κs. search needs) returns-4)

@@ -14,8 +14,4 @@ returns c =
     ap (λ (k : Bool). ltb 7 (r .services) || ((not (r .serviced) && not (eqb (r .services) 0)) || (r .serviced && not k))) (c .before .before .before .before .keeps-services .ensures)
 
 pub wrong-services-spec : {M : Type 1} → statement M
-wrong-services-spec =
-    tie.close
-    (tie.spec
-    (λ c κs. search needs)
-    returns)
+wrong-services-spec = tie.close (tie.spec (λ c κs. search needs) returns)

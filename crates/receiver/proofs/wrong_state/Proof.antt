@@ -23,8 +23,4 @@ returns c =
     ap (λ (x : Bool). leb (a .m .sequences) (r .sequence) || ((not (r .known) && not (eqb (r .sequence) 0)) || (ltb 4096 (r .held) || (ltb 63 (r .number) || ((eqb (r .held) 0 && not (eqb (r .number) 0)) || x))))) rest
 
 pub wrong-state-spec : {M : Type 1} → statement M
-wrong-state-spec =
-    tie.close
-    (tie.spec
-    (λ c κs. search needs) (λ c κs. search needs)
-    returns)
+wrong-state-spec = tie.close (tie.spec (λ c κs. search needs) (λ c κs. search needs) returns)

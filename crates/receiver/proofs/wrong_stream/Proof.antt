@@ -24,11 +24,4 @@ returns-3 c =
     stream-refused (s .args .r) (s .args .c) _ _ (c .before .before .before .look-up .ensures) (c .before .listing .given .1)
 
 pub wrong-stream-spec : {M : Type 1} → statement M
-wrong-stream-spec =
-    tie.close
-    (tie.spec
-    (λ c κs. search needs) (λ c. search needs) (λ c κs. search needs)
-    returns
-    (λ c. search needs)
-    returns-2
-    returns-3)
+wrong-stream-spec = tie.close (tie.spec (λ c κs. search needs) (λ c. search needs) (λ c κs. search needs) returns (λ c. search needs) returns-2 returns-3)

@@ -16,5 +16,4 @@ returns : tie.Need-returns
 returns c = rw (c .before .before .before .before .before .before .before .before .before .before .before .program-of .ensures, c .before .before .before .before .before .before .before .before .before .before .class-one .ensures, c .before .before .before .before .before .before .before .before .before .access-one .ensures)
 
 pub breaks-rules-spec : {M : Type 1} → statement M
-breaks-rules-spec =
-    tie.close (tie.spec (λ c κs. search needs) (λ c κs. search needs) (λ c κs. search needs) returns)
+breaks-rules-spec = tie.close (tie.spec (λ c κs. search needs) (λ c κs. search needs) (λ c κs. search needs) returns)

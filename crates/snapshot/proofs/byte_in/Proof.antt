@@ -15,5 +15,4 @@ returns-3 : tie.Need-returns-3
 returns-3 c = byte-third (c .before .before .args .w) (c .before .before .args .k) (c .before .if1 .left) (c .if2 .left)
 
 pub byte-in-spec : {M : Type 1} → statement M
-byte-in-spec =
-    tie.close (tie.spec (λ c. search needs) returns (λ c. search needs) returns-2 (λ c. search needs) returns-3)
+byte-in-spec = tie.close (tie.spec (λ c. search needs) returns (λ c. search needs) returns-2 (λ c. search needs) returns-3)

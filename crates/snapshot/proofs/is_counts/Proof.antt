@@ -47,13 +47,5 @@ returns-2 c =
 
 pub is-counts-spec : {M : Type 1} → statement M
 is-counts-spec =
-    tie.close
-    (tie.spec
-    (λ c. search needs)
-    put-counts-requires
-    (λ c κs. search needs)
-    returns
-    (λ c. search needs)
-    slice-aggregate-begins
-    (λ c κs. search needs)
+    tie.close (tie.spec (λ c. search needs) put-counts-requires (λ c κs. search needs) returns (λ c. search needs) slice-aggregate-begins (λ c κs. search needs)
     returns-2)

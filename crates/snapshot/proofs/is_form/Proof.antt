@@ -51,10 +51,5 @@ returns-2 c =
 
 pub is-form-spec : {M : Type 1} → statement M
 is-form-spec =
-    tie.close
-    (tie.spec
-    (λ c κs. search needs) (λ c. search needs) (λ c. search needs) (λ c. search needs) (λ c. search needs) (λ c κs. search needs)
-    returns
-    slice-aggregate-is-front
-    (λ c κs. search needs) (λ c κs. search needs) (λ c κs. search needs)
-    returns-2)
+    tie.close (tie.spec (λ c κs. search needs) (λ c. search needs) (λ c. search needs) (λ c. search needs) (λ c. search needs) (λ c κs. search needs) returns
+    slice-aggregate-is-front (λ c κs. search needs) (λ c κs. search needs) (λ c κs. search needs) returns-2)

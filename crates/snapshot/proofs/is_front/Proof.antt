@@ -53,13 +53,5 @@ returns-2 c =
 
 pub is-front-spec : {M : Type 1} → statement M
 is-front-spec =
-    tie.close
-    (tie.spec
-    (λ c. search needs)
-    put-head-requires
-    array-share-prefix-head
-    slice-aggregate-begins
-    (λ c κs. search needs)
-    returns
-    (λ c. search needs) (λ c κs. search needs)
-    returns-2)
+    tie.close (tie.spec (λ c. search needs) put-head-requires array-share-prefix-head slice-aggregate-begins (λ c κs. search needs) returns (λ c. search needs)
+    (λ c κs. search needs) returns-2)

@@ -62,18 +62,6 @@ returns c =
 
 pub put-bytes-spec : {M : Type 1} → statement M
 put-bytes-spec =
-    tie.close
-    (tie.spec
-    Inv-loop
-    μ-loop
-    loop-holds
-    (λ c κs. search needs)
-    add-words
-    mul-words
-    slice-write-words
-    (λ c. search needs)
-    add-j
-    (λ c. search needs)
-    loop-again
-    (λ c. search needs)
+    tie.close (tie.spec Inv-loop μ-loop
+    loop-holds (λ c κs. search needs) add-words mul-words slice-write-words (λ c. search needs) add-j (λ c. search needs) loop-again (λ c. search needs)
     returns)

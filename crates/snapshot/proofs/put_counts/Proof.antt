@@ -93,27 +93,6 @@ returns-2 c =
 
 pub put-counts-spec : {M : Type 1} → statement M
 put-counts-spec =
-    tie.close
-    (tie.spec
-    returns
-    (λ c κs. search needs)
-    mul-words
-    slice-write-words
-    (λ c κs. search needs)
-    add-words
-    mul-words-2
-    slice-write-words-2
-    (λ c κs. search needs)
-    add-words-2
-    mul-words-3
-    slice-write-words-3
-    (λ c κs. search needs)
-    add-words-3
-    mul-words-4
-    slice-write-words-4
-    (λ c κs. search needs)
-    add-words-4
-    mul-words-5
-    slice-write-words-5
-    (λ c. search needs)
-    returns-2)
+    tie.close (tie.spec returns (λ c κs. search needs) mul-words slice-write-words (λ c κs. search needs) add-words mul-words-2 slice-write-words-2
+    (λ c κs. search needs) add-words-2 mul-words-3 slice-write-words-3 (λ c κs. search needs) add-words-3 mul-words-4 slice-write-words-4 (λ c κs. search needs)
+    add-words-4 mul-words-5 slice-write-words-5 (λ c. search needs) returns-2)

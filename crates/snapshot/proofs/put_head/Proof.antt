@@ -120,17 +120,5 @@ returns c =
 
 pub put-head-spec : {M : Type 1} → statement M
 put-head-spec =
-    tie.close
-    (tie.spec
-    (λ c κs. search needs)
-    put-word-requires
-    (λ c κs. search needs)
-    put-word-requires-2
-    (λ c κs. search needs)
-    put-word-requires-3
-    (λ c κs. search needs)
-    put-word-requires-4
-    (λ c κs. search needs)
-    put-word-requires-5
-    (λ c. search needs)
-    returns)
+    tie.close (tie.spec (λ c κs. search needs) put-word-requires (λ c κs. search needs) put-word-requires-2 (λ c κs. search needs) put-word-requires-3
+    (λ c κs. search needs) put-word-requires-4 (λ c κs. search needs) put-word-requires-5 (λ c. search needs) returns)

@@ -38,5 +38,4 @@ returns-2 c =
     rw e (refl, put-one (now (a .words)) (a .at) (a .word) (room c))
 
 pub put-word-spec : {M : Type 1} → statement M
-put-word-spec =
-    tie.close (tie.spec returns (λ c. search needs) slice-write-words (λ c. search needs) (λ c. search needs) returns-2)
+put-word-spec = tie.close (tie.spec returns (λ c. search needs) slice-write-words (λ c. search needs) (λ c. search needs) returns-2)

@@ -89,16 +89,6 @@ returns-3 c =
 
 pub save-spec : {M : Type 1} → statement M
 save-spec =
-    tie.close
-    (tie.spec
-    (λ c κs. search needs) (λ c κs. search needs)
-    returns
-    (λ c. search needs) (λ c κs. search needs) (λ c. search needs) (λ c. search needs) (λ c κs. search needs) (λ c. search needs) (λ c κs. search needs)
-    returns-2
-    (λ c κs. search needs)
-    slice-aggregate-put-bytes
-    put-bytes-requires
-    (λ c. search needs)
-    put-counts-requires
-    (λ c. search needs) (λ c. search needs)
-    returns-3)
+    tie.close (tie.spec (λ c κs. search needs) (λ c κs. search needs) returns (λ c. search needs) (λ c κs. search needs) (λ c. search needs) (λ c. search needs)
+    (λ c κs. search needs) (λ c. search needs) (λ c κs. search needs) returns-2 (λ c κs. search needs) slice-aggregate-put-bytes put-bytes-requires
+    (λ c. search needs) put-counts-requires (λ c. search needs) (λ c. search needs) returns-3)

@@ -69,17 +69,6 @@ returns c =
 
 pub take-bytes-spec : {M : Type 1} → statement M
 take-bytes-spec =
-    tie.close
-    (tie.spec
-    Inv-loop
-    μ-loop
-    loop-holds
-    add-byte-in
-    mul-byte-in
-    shared-slice-read-byte-in
-    (λ c κs. search needs)
-    slice-write-carry
-    (λ c. search needs) (λ c. search needs)
-    loop-again
-    (λ c. search needs)
-    returns)
+    tie.close (tie.spec Inv-loop μ-loop
+    loop-holds add-byte-in mul-byte-in shared-slice-read-byte-in (λ c κs. search needs) slice-write-carry (λ c. search needs) (λ c. search needs) loop-again
+    (λ c. search needs) returns)

@@ -9,16 +9,7 @@ use Rattle.text.proofs.entry_end.Tie as tie
 use Rattle.text.proofs.entry_end.Reads as reads
 use Rattle.text.proofs.entry_end.Lts as lts
 
-abbrev Inv-loop : tie.InvT-loop
-Inv-loop table from i₀ i = (from ≤ i) × (i ≤ length table)
-
-abbrev μ-loop : tie.MeasureT-loop
-μ-loop table from i₀ i = length table - i
-
 pub entry-end-spec : {M : Type 1} → statement M
 entry-end-spec =
-    tie.close
-    (tie.spec
-    Inv-loop
-    μ-loop
+    tie.close (tie.spec (λ table from i₀ i. (from ≤ i) × (i ≤ length table)) (λ table from i₀ i. length table - i)
     (λ c. search needs) (λ c. search needs) (λ c. search needs) (λ c. search needs) (λ c. search needs) (λ c. search needs) (λ c. search needs))

@@ -19,5 +19,4 @@ returns-2 : tie.Need-returns-2
 returns-2 c = let a = c .before .before .before .args in room-some (a .m) (a .extra) (a .size) (c .overhead2 .result) (now (a .lengths)) (c .before .if1 .left) (c .overhead2 .ensures .0)
 
 pub no-room-spec : {M : Type 1} → statement M
-no-room-spec =
-    tie.close (tie.spec (λ c κs. search needs) returns (λ c κs. search needs) (λ c. search needs) returns-2)
+no-room-spec = tie.close (tie.spec (λ c κs. search needs) returns (λ c κs. search needs) (λ c. search needs) returns-2)

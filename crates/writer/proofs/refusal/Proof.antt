@@ -110,23 +110,6 @@ returns-8 c =
 
 pub refusal-spec : {M : Type 1} → statement M
 refusal-spec =
-    tie.close
-    (tie.spec
-    (λ c κs. search needs)
-    returns
-    (λ c κs. search needs)
-    returns-2
-    (λ c κs. search needs)
-    returns-3
-    (λ c κs. search needs)
-    returns-4
-    (λ c κs. search needs)
-    returns-5
-    cast-fields-for
-    fields-for-requires
-    (λ c κs. search needs) (λ c κs. search needs)
-    returns-6
-    add-no-room
-    no-room-requires
-    returns-7
-    returns-8)
+    tie.close (tie.spec (λ c κs. search needs) returns (λ c κs. search needs) returns-2 (λ c κs. search needs) returns-3 (λ c κs. search needs) returns-4
+    (λ c κs. search needs) returns-5 cast-fields-for fields-for-requires (λ c κs. search needs) (λ c κs. search needs) returns-6 add-no-room no-room-requires
+    returns-7 returns-8)

@@ -138,26 +138,7 @@ returns c =
 
 pub write-listed-spec : {M : Type 1} → statement M
 write-listed-spec =
-    tie.close
-    (tie.spec
-    cast-fields-for
-    fields-for-requires
-    (λ c κs. search needs) (λ c. search needs)
-    pack-requires
-    add-overhead
-    overhead-requires
-    (λ c. search needs)
-    cast-control-with
-    control-with-requires
-    (λ c κs. search needs)
-    array-share-prefix-expansion
-    slice-aggregate-put-contents
-    (λ c. search needs)
-    array-share-prefix-placed
-    slice-aggregate-put-contents-2
-    (λ c. search needs)
-    put-contents-requires
-    (λ c κs. search needs)
-    advance-requires
-    (λ c. search needs) (λ c. search needs)
-    returns)
+    tie.close (tie.spec cast-fields-for fields-for-requires (λ c κs. search needs) (λ c. search needs) pack-requires add-overhead overhead-requires
+    (λ c. search needs) cast-control-with control-with-requires (λ c κs. search needs) array-share-prefix-expansion slice-aggregate-put-contents
+    (λ c. search needs) array-share-prefix-placed slice-aggregate-put-contents-2 (λ c. search needs) put-contents-requires (λ c κs. search needs)
+    advance-requires (λ c. search needs) (λ c. search needs) returns)

@@ -25,10 +25,4 @@ returns-2 c =
     refused-call (a .s) (now (a .psd)) (now (a .lengths)) (now (a .bytes)) (length (now (a .pdu))) (a .w) (now (a .pdu)) (a .m) (c .before .before .refusal .result) (c .refused .result) (c .before .before .refusal .ensures) (c .before .if1 .left) (c .refused .ensures)
 
 pub write-or-refuse-spec : {M : Type 1} → statement M
-write-or-refuse-spec =
-    tie.close
-    (tie.spec
-    (λ c κs. search needs) (λ c κs. search needs) (λ c. search needs)
-    returns
-    (λ c κs. search needs)
-    returns-2)
+write-or-refuse-spec = tie.close (tie.spec (λ c κs. search needs) (λ c κs. search needs) (λ c. search needs) returns (λ c κs. search needs) returns-2)

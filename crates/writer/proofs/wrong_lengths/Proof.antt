@@ -50,15 +50,5 @@ returns-2 c =
 
 pub wrong-lengths-spec : {M : Type 1} → statement M
 wrong-lengths-spec =
-    tie.close
-    (tie.spec
-    Inv-loop
-    μ-loop
-    loop-holds
-    (λ c. search needs) (λ c. search needs) (λ c κs. search needs)
-    returns
-    sub-left
-    (λ c. search needs)
-    loop-less
-    loop-again
-    returns-2)
+    tie.close (tie.spec Inv-loop μ-loop
+    loop-holds (λ c. search needs) (λ c. search needs) (λ c κs. search needs) returns sub-left (λ c. search needs) loop-less loop-again returns-2)

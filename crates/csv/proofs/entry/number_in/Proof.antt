@@ -11,12 +11,6 @@ use Rattle.csv.proofs.entry.number_in.Lts as lts
 use Rattle.check.proofs.same.Reads as same-reads
 use Rattle.text.proofs.entry.Reads as entry-reads
 
-abbrev Inv-loop : tie.InvT-loop
-Inv-loop table last name k₀ k = Unit {0}
-
-abbrev μ-loop : tie.MeasureT-loop
-μ-loop table last name k₀ k = k
-
 -- src/entry.rt:80:5
 -- src/entry.rt:81:24
 -- src/entry.rt:81:12
@@ -27,9 +21,6 @@ abbrev μ-loop : tie.MeasureT-loop
 -- src/entry.rt:78:1
 pub number-in-spec : {M : Type 1} → statement M
 number-in-spec =
-    tie.close
-    (tie.spec
-    Inv-loop
-    μ-loop
+    tie.close (tie.spec (λ table last name k₀ k. Unit {0}) (λ table last name k₀ k. k)
     (λ c. search needs) (λ c κs. search needs) (λ c κs. search needs) (λ c. search needs) (λ c. search needs) (λ c. search needs) (λ c. search needs)
     (λ c. search needs))

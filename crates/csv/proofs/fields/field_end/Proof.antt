@@ -10,12 +10,6 @@ use Rattle.csv.proofs.fields.field_end.Reads as reads
 use Rattle.csv.proofs.fields.field_end.Lts as lts
 use Rattle.csv.proofs.fields.quoted_after.Reads as quoted-after-reads
 
-abbrev Inv-loop : tie.InvT-loop
-Inv-loop line from separator quoted₀ i₀ quoted i = (from ≤ i) × (i ≤ length line)
-
-abbrev μ-loop : tie.MeasureT-loop
-μ-loop line from separator quoted₀ i₀ quoted i = length line - i
-
 -- src/fields.rt:42:5
 -- src/fields.rt:43:20
 -- src/fields.rt:45:13
@@ -26,9 +20,6 @@ abbrev μ-loop : tie.MeasureT-loop
 -- src/fields.rt:36:1
 pub field-end-spec : {M : Type 1} → statement M
 field-end-spec =
-    tie.close
-    (tie.spec
-    Inv-loop
-    μ-loop
+    tie.close (tie.spec (λ line from separator quoted₀ i₀ quoted i. (from ≤ i) × (i ≤ length line)) (λ line from separator quoted₀ i₀ quoted i. length line - i)
     (λ c. search needs) (λ c. search needs) (λ c. search needs) (λ c κs. search needs) (λ c. search needs) (λ c. search needs) (λ c. search needs)
     (λ c. search needs))

@@ -10,12 +10,6 @@ use Rattle.csv.proofs.fields.separator.Reads as reads
 use Rattle.csv.proofs.fields.separator.Lts as lts
 use Rattle.csv.proofs.fields.quoted_after.Reads as quoted-after-reads
 
-abbrev Inv-loop : tie.InvT-loop
-Inv-loop line quoted₀ i₀ quoted i = i ≤ length line
-
-abbrev μ-loop : tie.MeasureT-loop
-μ-loop line quoted₀ i₀ quoted i = length line - i
-
 -- src/fields.rt:24:5
 -- src/fields.rt:25:20
 -- src/fields.rt:27:13
@@ -26,9 +20,6 @@ abbrev μ-loop : tie.MeasureT-loop
 -- src/fields.rt:21:1
 pub separator-spec : {M : Type 1} → statement M
 separator-spec =
-    tie.close
-    (tie.spec
-    Inv-loop
-    μ-loop
+    tie.close (tie.spec (λ line quoted₀ i₀ quoted i. i ≤ length line) (λ line quoted₀ i₀ quoted i. length line - i)
     (λ c. search needs) (λ c. search needs) (λ c. search needs) (λ c κs. search needs) (λ c. search needs) (λ c. search needs) (λ c. search needs)
     (λ c. search needs))

@@ -26,10 +26,5 @@ returns-2 c =
 
 pub mark-lost-spec : {M : Type 1} → statement M
 mark-lost-spec =
-    tie.close
-    (tie.spec
-    (λ c κs. search needs) (λ c. search needs)
-    lose-listed-requires
-    (λ c. search needs) (λ c κs. search needs) (λ c. search needs)
-    returns
+    tie.close (tie.spec (λ c κs. search needs) (λ c. search needs) lose-listed-requires (λ c. search needs) (λ c κs. search needs) (λ c. search needs) returns
     returns-2)

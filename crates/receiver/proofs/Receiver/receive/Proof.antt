@@ -15,7 +15,4 @@ returns c = c .before .before .before .before .before .before .receive-marked .e
 
 pub receive-spec : {M : Type 1} → statement M
 receive-spec =
-    tie.close
-    (tie.spec
-    (λ c. search needs) (λ c. search needs) (λ c κs. search needs) (λ c. search needs) (λ c. search needs) (λ c. search needs)
-    returns)
+    tie.close (tie.spec (λ c. search needs) (λ c. search needs) (λ c κs. search needs) (λ c. search needs) (λ c. search needs) (λ c. search needs) returns)

@@ -17,6 +17,4 @@ returns-2 c =
     rw (state-unlisted (l .before .args .self) _ (sym (l .look-up .ensures) ∙ c .enum-told .given .1))
 
 pub state-refusal-spec : {M : Type 1} → statement M
-state-refusal-spec =
-    tie.close
-    (tie.spec (λ c κs. search needs) (λ c. search needs) listed-refusal-requires (λ c. search needs) (λ c. search needs) returns-2)
+state-refusal-spec = tie.close (tie.spec (λ c κs. search needs) (λ c. search needs) listed-refusal-requires (λ c. search needs) (λ c. search needs) returns-2)
