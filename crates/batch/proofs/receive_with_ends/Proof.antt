@@ -5,12 +5,6 @@ use borrow.Author.Tests.{not-true, not-false}
 use borrow.Author.Needs.{needs}
 use Rattle.batch.proofs.receive_with_ends.Statement.{statement}
 use Rattle.batch.proofs.receive_with_ends.Tie as tie
-use Rattle.batch.proofs.receive_with_ends.Reads as reads
-use Rattle.batch.proofs.receive_with_ends.Lts as lts
-use Rattle.batch.proofs.begun.Reads as begun-reads
-use Rattle.batch.proofs.receive_each.Reads as receive-each-reads
-use Rattle.batch.proofs.sums_to.Reads as sums-to-reads
-use Rattle.receiver.proofs.Receiver.state_refusal.Reads as state-refusal-reads
 
 returns : tie.Need-returns
 returns c =

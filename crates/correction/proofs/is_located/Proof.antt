@@ -1,19 +1,11 @@
-use native.Mathlib.Omega.{arith}
-use mathlib.Core.Path.{_≡_, refl, ap, sym, _∙_}
-use Prim.Native.Nat.{ℕ, _+_, _-_, _*_, _≤_, _<_}
-use lib.ListN.{length, take, drop, getD, set, length-set}
-use mathlib.Core.List.{List, [], _∷_, _++_}
+use mathlib.Core.Path.{ap, sym, _∙_}
+use Prim.Native.Nat.{ℕ, _-_}
 use borrow.Author.Needs.{needs}
 use mathlib.Core.Bool.{Bool, _||_}
 use lib.Dec.{eqb}
 use Rattle.correction.specs.ErrorPlaces.{root, valueFrom}
 use Rattle.correction.proofs.is_located.Statement.{statement}
 use Rattle.correction.proofs.is_located.Tie as tie
-use Rattle.correction.proofs.is_located.Reads as reads
-use Rattle.correction.proofs.is_located.Lts as lts
-use Rattle.correction.proofs.evaluate.Reads as evaluate-reads
-use Rattle.correction.proofs.is_marked.Reads as is-marked-reads
-use Rattle.field.proofs.power_by.Reads as power-by-reads
 
 returns : tie.Need-returns
 returns c = ap (λ (b : Bool). b || root (c .before .before .before .args .coefficients) (c .before .before .before .args .degree) (c .before .before .before .args .i)) (sym (c .if1 .taken) ∙ c .before .is-marked .ensures)

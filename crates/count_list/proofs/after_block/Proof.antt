@@ -1,13 +1,9 @@
 use borrow.Author.Needs.{needs}
-use native.Mathlib.Omega.{arith}
 use mathlib.Core.Path.{_≡_}
-use Prim.Native.Nat.{_+_, _-_, _*_, _≤_, _<_}
+use Prim.Native.Nat.{_-_, _≤_}
 use lib.ListN.{length}
 use Rattle.count_list.proofs.after_block.Statement.{statement}
 use Rattle.count_list.proofs.after_block.Tie as tie
-use Rattle.count_list.proofs.after_block.Reads as reads
-use Rattle.count_list.proofs.after_block.Lts as lts
-use Rattle.count_list.proofs.after.Reads as after-reads
 
 pub after-block-spec : {M : Type 1} → statement M
 after-block-spec =

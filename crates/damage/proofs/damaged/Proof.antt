@@ -3,11 +3,6 @@ use mathlib.Core.Path.{ap₂, _∙_}
 use Rattle.damage.specs.Damage.{differing}
 use Rattle.damage.proofs.damaged.Statement.{statement}
 use Rattle.damage.proofs.damaged.Tie as tie
-use Rattle.damage.proofs.damaged.Reads as reads
-use Rattle.damage.proofs.damaged.Lts as lts
-use Rattle.damage.proofs.alter.Reads as alter-reads
-use Rattle.damage.proofs.differing_places.Reads as differing-places-reads
-use Rattle.header.proofs.header_of.Reads as header-of-reads
 
 returns : tie.Need-returns
 returns c =

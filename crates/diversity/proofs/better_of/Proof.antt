@@ -3,8 +3,6 @@ use Rattle.diversity.proofs.Choosing.{better-first, better-second}
 use borrow.Author.Needs.{needs}
 use Rattle.diversity.proofs.better_of.Statement.{statement}
 use Rattle.diversity.proofs.better_of.Tie as tie
-use Rattle.diversity.proofs.better_of.Reads as reads
-use Rattle.diversity.proofs.better_of.Lts as lts
 
 returns : tie.Need-returns
 returns c =

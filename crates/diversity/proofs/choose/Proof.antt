@@ -3,9 +3,6 @@ use Rattle.diversity.proofs.Choosing.{is-first, is-second, is-neither}
 use borrow.Author.Needs.{needs}
 use Rattle.diversity.proofs.choose.Statement.{statement}
 use Rattle.diversity.proofs.choose.Tie as tie
-use Rattle.diversity.proofs.choose.Reads as reads
-use Rattle.diversity.proofs.choose.Lts as lts
-use Rattle.diversity.proofs.choice.Reads as choice-reads
 
 returns : tie.Need-returns
 returns c = rw (is-first _ _ _ (c .before .choice .ensures) (c .if1 .taken)) refl

@@ -4,10 +4,6 @@ use Rattle.diversity.proofs.Choosing.{count-short, count-long, count-he
 use borrow.Author.Needs.{needs}
 use Rattle.diversity.proofs.count.Statement.{statement}
 use Rattle.diversity.proofs.count.Tie as tie
-use Rattle.diversity.proofs.count.Reads as reads
-use Rattle.diversity.proofs.count.Lts as lts
-use Rattle.correction.proofs.correct.Reads as correct-reads
-use Rattle.header.proofs.header_of.Reads as header-of-reads
 
 returns : tie.Need-returns
 returns c = count-short _ (c .if1 .taken)

@@ -5,10 +5,6 @@ use Rattle.diversity.proofs.Exchanging.{piece-stays, piece-goes}
 use borrow.Author.Needs.{needs}
 use Rattle.diversity.proofs.exchange_piece.Statement.{statement}
 use Rattle.diversity.proofs.exchange_piece.Tie as tie
-use Rattle.diversity.proofs.exchange_piece.Reads as reads
-use Rattle.diversity.proofs.exchange_piece.Lts as lts
-use Rattle.diversity.proofs.exchange.Reads as exchange-reads
-use Rattle.diversity.proofs.place.Reads as place-reads
 
 returns : tie.Need-returns
 returns c =

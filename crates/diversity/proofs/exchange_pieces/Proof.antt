@@ -9,9 +9,6 @@ use Rattle.diversity.proofs.Exchanging.{exchanged-none, exchanged-more}
 use borrow.Author.Needs.{needs}
 use Rattle.diversity.proofs.exchange_pieces.Statement.{statement}
 use Rattle.diversity.proofs.exchange_pieces.Tie as tie
-use Rattle.diversity.proofs.exchange_pieces.Reads as reads
-use Rattle.diversity.proofs.exchange_pieces.Lts as lts
-use Rattle.diversity.proofs.exchange_piece.Reads as exchange-piece-reads
 
 abbrev Inv-loop : tie.InvT-loop
 Inv-loop first₀ second₀ marks nop causes k₀ first second k = (k ≤ nop) × ((first ≡ mixed (exchanged marks causes k) first₀ second₀) × (second ≡ mixed (exchanged marks causes k) second₀ first₀))

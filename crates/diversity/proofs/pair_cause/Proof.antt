@@ -4,10 +4,6 @@ use Rattle.diversity.proofs.Pairing.{second-cause, taken-cause, first-c
 use borrow.Author.Needs.{needs}
 use Rattle.diversity.proofs.pair_cause.Statement.{statement}
 use Rattle.diversity.proofs.pair_cause.Tie as tie
-use Rattle.diversity.proofs.pair_cause.Reads as reads
-use Rattle.diversity.proofs.pair_cause.Lts as lts
-use Rattle.diversity.proofs.same_piece.Reads as same-piece-reads
-use Rattle.receiver.proofs.cause_at.Reads as cause-at-reads
 
 returns : tie.Need-returns
 returns c =

@@ -6,11 +6,8 @@ use lib.Dec.{eqb}
 use lib.ListN.{length, getD, take}
 use Rattle.log.specs.Log.{sameList}
 use Rattle.diversity.proofs.Bytes.{and-comm, same-lengths, same-start, same-turn, same-end}
-use borrow.Author.Needs.{needs}
 use Rattle.diversity.proofs.same_bytes.Statement.{statement}
 use Rattle.diversity.proofs.same_bytes.Tie as tie
-use Rattle.diversity.proofs.same_bytes.Reads as reads
-use Rattle.diversity.proofs.same_bytes.Lts as lts
 
 abbrev Inv-loop : tie.InvT-loop
 Inv-loop a b same₀ i₀ same i = ((i ≤ length a) × (length a ≡ length b)) × (same ≡ sameList (take i a) (take i b))

@@ -5,10 +5,6 @@ use Rattle.diversity.proofs.Pairing.{piece-of}
 use borrow.Author.Needs.{needs}
 use Rattle.diversity.proofs.same_piece.Statement.{statement}
 use Rattle.diversity.proofs.same_piece.Tie as tie
-use Rattle.diversity.proofs.same_piece.Reads as reads
-use Rattle.diversity.proofs.same_piece.Lts as lts
-use Rattle.diversity.proofs.place.Reads as place-reads
-use Rattle.diversity.proofs.same_bytes.Reads as same-bytes-reads
 
 returns : tie.Need-returns
 returns c =

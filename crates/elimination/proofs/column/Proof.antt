@@ -1,15 +1,11 @@
-use mathlib.Core.Path.{_≡_, refl, sym, _∙_, ap}
-use mathlib.Core.List.{List, [], _∷_}
-use Prim.Native.Nat.{ℕ, zero, suc, _+_, _-_, _<_, _≤_}
+use mathlib.Core.Path.{refl}
+use Prim.Native.Nat.{_-_, _≤_}
 use native.Mathlib.Omega.{arith}
-use lib.ListN.{length, getD, set, length-set}
 use borrow.Author.Needs.{needs}
 use Rattle.elimination.specs.Elimination.{Column}
 use Rattle.elimination.proofs.Steps.{column-next, column-end}
 use Rattle.elimination.proofs.column.Statement.{statement}
 use Rattle.elimination.proofs.column.Tie as tie
-use Rattle.elimination.proofs.column.Reads as reads
-use Rattle.elimination.proofs.column.Lts as lts
 
 abbrev Inv-loop : tie.InvT-loop
 Inv-loop k rows out₀ i₀ out i = (i ≤ k) × Column rows k out i

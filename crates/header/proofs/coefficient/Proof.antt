@@ -1,17 +1,12 @@
 -- `header::coefficient` meets its contract.
 use native.Mathlib.Omega.{arith}
-use mathlib.Core.Path.{_≡_, refl, ap, sym, _∙_}
-use Prim.Native.Nat.{ℕ, _+_, _-_, _*_, _≤_, _<_}
-use lib.ListN.{length, take, drop, getD, set, length-set}
-use mathlib.Core.List.{List, [], _∷_, _++_}
+use mathlib.Core.Path.{ap, _∙_}
+use Prim.Native.Nat.{ℕ, _-_}
+use lib.ListN.{getD}
 use borrow.Author.Needs.{needs}
 use Rattle.header.specs.Header.{exponents}
 use Rattle.header.proofs.coefficient.Statement.{statement}
 use Rattle.header.proofs.coefficient.Tie as tie
-use Rattle.header.proofs.coefficient.Reads as reads
-use Rattle.header.proofs.coefficient.Lts as lts
-use Rattle.header.proofs.exponent.Reads as exponent-reads
-use Rattle.header.proofs.wide.Reads as wide-reads
 
 returns : tie.Need-returns
 returns c =

@@ -5,12 +5,6 @@ use Rattle.join.specs.Scan.{unusedZero}
 use borrow.Author.Needs.{needs}
 use Rattle.join.proofs.data_fits.Statement.{statement}
 use Rattle.join.proofs.data_fits.Tie as tie
-use Rattle.join.proofs.data_fits.Reads as reads
-use Rattle.join.proofs.data_fits.Lts as lts
-use Rattle.join.proofs.high.Reads as high-reads
-use Rattle.join.proofs.kind.Reads as kind-reads
-use Rattle.join.proofs.low.Reads as low-reads
-use Rattle.join.proofs.unused_zero.Reads as unused-zero-reads
 
 returns : tie.Need-returns
 returns c = other-kind (c .before .before .args .n) (c .before .before .args .w) (λ e. c .if1 .taken (c .before .kind .ensures ∙ e))

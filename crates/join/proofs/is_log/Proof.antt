@@ -10,10 +10,6 @@ use Prim.Native.Nat.{ℕ, _+_, _-_, _≤_}
 use lib.ListN.{length, drop}
 use Rattle.join.proofs.is_log.Statement.{statement}
 use Rattle.join.proofs.is_log.Tie as tie
-use Rattle.join.proofs.is_log.Reads as reads
-use Rattle.join.proofs.is_log.Lts as lts
-use Rattle.join.proofs.fits.Reads as fits-reads
-use Rattle.join.proofs.left_after.Reads as left-after-reads
 
 abbrev Inv-loop : tie.InvT-loop
 Inv-loop log left₀ i₀ left i = (i ≤ length log) × (isRest left (drop i log) ≡ isLog log)

@@ -5,10 +5,6 @@ use Rattle.join.proofs.Tests.{after-note, after-head, after-data}
 use borrow.Author.Needs.{needs}
 use Rattle.join.proofs.left_after.Statement.{statement}
 use Rattle.join.proofs.left_after.Tie as tie
-use Rattle.join.proofs.left_after.Reads as reads
-use Rattle.join.proofs.left_after.Lts as lts
-use Rattle.join.proofs.kind.Reads as kind-reads
-use Rattle.join.proofs.low.Reads as low-reads
 
 returns : tie.Need-returns
 returns c = after-note (c .before .before .before .args .left) (c .before .before .before .args .w) (c .before .before .if1 .taken) (omega (arith, c .before .kind .ensures, c .if2 .taken))

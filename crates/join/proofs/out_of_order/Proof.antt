@@ -8,10 +8,6 @@ use mathlib.Core.Bool.{not}
 use borrow.Author.Needs.{needs}
 use Rattle.join.proofs.out_of_order.Statement.{statement}
 use Rattle.join.proofs.out_of_order.Tie as tie
-use Rattle.join.proofs.out_of_order.Reads as reads
-use Rattle.join.proofs.out_of_order.Lts as lts
-use Rattle.join.proofs.next_packet.Reads as next-packet-reads
-use Rattle.join.proofs.rising.Reads as rising-reads
 
 returns : tie.Need-returns
 returns c =

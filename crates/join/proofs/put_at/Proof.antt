@@ -13,13 +13,6 @@ use Rattle.buffer.proofs.Laws.{put-then}
 use borrow.Author.Needs.{needs}
 use Rattle.join.proofs.put_at.Statement.{statement}
 use Rattle.join.proofs.put_at.Tie as tie
-use Rattle.join.proofs.put_at.Reads as reads
-use Rattle.join.proofs.put_at.Lts as lts
-use Rattle.join.proofs.is_packet.Reads as is-packet-reads
-use Rattle.join.proofs.number.Reads as number-reads
-use Rattle.join.proofs.put_partner.Reads as put-partner-reads
-use Rattle.join.proofs.put_words.Reads as put-words-reads
-use Rattle.join.proofs.run_end.Reads as run-end-reads
 
 returns : tie.Need-returns
 returns c =

@@ -11,9 +11,6 @@ use lib.ListN.{length, drop}
 use mathlib.Core.List.{List, []}
 use Rattle.join.proofs.put_joined.Statement.{statement}
 use Rattle.join.proofs.put_joined.Tie as tie
-use Rattle.join.proofs.put_joined.Reads as reads
-use Rattle.join.proofs.put_joined.Lts as lts
-use Rattle.join.proofs.put_at.Reads as put-at-reads
 
 abbrev Inv-loop : tie.InvT-loop
 Inv-loop result₀ core enhanced places at₀ i₀ result at i =

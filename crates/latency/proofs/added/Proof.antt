@@ -4,9 +4,6 @@ use Rattle.latency.proofs.Ticks.{at-count, added-count, added-none}
 use borrow.Author.Needs.{needs}
 use Rattle.latency.proofs.added.Statement.{statement}
 use Rattle.latency.proofs.added.Tie as tie
-use Rattle.latency.proofs.added.Reads as reads
-use Rattle.latency.proofs.added.Lts as lts
-use Rattle.latency.proofs.wide.Reads as wide-reads
 
 mul-wide : tie.Need-mul-wide
 mul-wide c =

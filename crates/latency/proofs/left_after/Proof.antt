@@ -6,10 +6,6 @@ use Rattle.latency.specs.Latency.{left}
 use Rattle.latency.proofs.Ticks.{ticks-most, turn-fits, turn-left}
 use Rattle.latency.proofs.left_after.Statement.{statement}
 use Rattle.latency.proofs.left_after.Tie as tie
-use Rattle.latency.proofs.left_after.Reads as reads
-use Rattle.latency.proofs.left_after.Lts as lts
-use Rattle.latency.proofs.added.Reads as added-reads
-use Rattle.latency.proofs.taken.Reads as taken-reads
 
 abbrev Inv-loop : tie.InvT-loop
 Inv-loop counts n v first kept₀ t₀ kept t = (t ≤ first) × (kept ≡ left n counts v t)

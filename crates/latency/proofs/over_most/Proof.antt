@@ -7,8 +7,6 @@ use Prim.Native.Nat.{_-_, _≤_}
 use lib.ListN.{length, drop}
 use Rattle.latency.proofs.over_most.Statement.{statement}
 use Rattle.latency.proofs.over_most.Tie as tie
-use Rattle.latency.proofs.over_most.Reads as reads
-use Rattle.latency.proofs.over_most.Lts as lts
 
 abbrev Inv-loop : tie.InvT-loop
 Inv-loop counts i₀ i = (i ≤ length counts) × (overMost (drop i counts) ≡ overMost counts)

@@ -10,11 +10,6 @@ use Rattle.latency.proofs.Ticks.{ticks-most, turn-waiting, turn-fits, t
 use Rattle.latency.proofs.Turns.{row-turn, row-end}
 use Rattle.latency.proofs.show.Statement.{statement}
 use Rattle.latency.proofs.show.Tie as tie
-use Rattle.latency.proofs.show.Reads as reads
-use Rattle.latency.proofs.show.Lts as lts
-use Rattle.latency.proofs.added.Reads as added-reads
-use Rattle.latency.proofs.left_after.Reads as left-after-reads
-use Rattle.latency.proofs.taken.Reads as taken-reads
 
 abbrev Inv-loop : tie.InvT-loop
 Inv-loop counts n v first count row₀ kept₀ k₀ row kept k =

@@ -9,10 +9,6 @@ use Rattle.latency.proofs.Turns.{row-none}
 use borrow.Author.Needs.{needs}
 use Rattle.latency.proofs.show_from.Statement.{statement}
 use Rattle.latency.proofs.show_from.Tie as tie
-use Rattle.latency.proofs.show_from.Reads as reads
-use Rattle.latency.proofs.show_from.Lts as lts
-use Rattle.latency.proofs.show.Reads as show-reads
-use Rattle.latency.proofs.shown_count.Reads as shown-count-reads
 
 mul-shown-count : tie.Need-mul-shown-count
 mul-shown-count c =

@@ -4,10 +4,6 @@ use Rattle.latency.proofs.Reports.{answer-by}
 use borrow.Author.Needs.{needs}
 use Rattle.latency.proofs.smallest.Statement.{statement}
 use Rattle.latency.proofs.smallest.Tie as tie
-use Rattle.latency.proofs.smallest.Reads as reads
-use Rattle.latency.proofs.smallest.Lts as lts
-use Rattle.latency.proofs.smallest_of.Reads as smallest-of-reads
-use Rattle.latency.proofs.spacing_for.Reads as spacing-for-reads
 
 smallest-of-requires : tie.Need-smallest-of-requires
 smallest-of-requires c κs =

@@ -7,9 +7,6 @@ use Rattle.latency.specs.Latency.{smallestOf}
 use Rattle.latency.proofs.Answers.{here, further, none-left}
 use Rattle.latency.proofs.smallest_of.Statement.{statement}
 use Rattle.latency.proofs.smallest_of.Tie as tie
-use Rattle.latency.proofs.smallest_of.Reads as reads
-use Rattle.latency.proofs.smallest_of.Lts as lts
-use Rattle.latency.proofs.runs_dry.Reads as runs-dry-reads
 
 abbrev Inv-loop : tie.InvT-loop
 Inv-loop counts n v₀ v = (v ≤ 8) × (smallestOf n counts v (8 - v) ≡ smallestOf n counts 0 8)

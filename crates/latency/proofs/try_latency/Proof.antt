@@ -4,10 +4,6 @@ use Rattle.latency.proofs.Reports.{trial-by}
 use borrow.Author.Needs.{needs}
 use Rattle.latency.proofs.try_latency.Statement.{statement}
 use Rattle.latency.proofs.try_latency.Tie as tie
-use Rattle.latency.proofs.try_latency.Reads as reads
-use Rattle.latency.proofs.try_latency.Lts as lts
-use Rattle.latency.proofs.spacing_for.Reads as spacing-for-reads
-use Rattle.latency.proofs.trial_of.Reads as trial-of-reads
 
 trial-of-requires : tie.Need-trial-of-requires
 trial-of-requires c κs =

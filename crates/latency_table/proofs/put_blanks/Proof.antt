@@ -1,13 +1,9 @@
 use borrow.Author.Needs.{needs}
-use native.Mathlib.Omega.{arith}
 use mathlib.Core.Path.{_≡_}
-use Prim.Native.Nat.{_+_, _-_, _*_, _≤_, _<_}
+use Prim.Native.Nat.{_-_}
 use lib.ListN.{length}
 use Rattle.latency_table.proofs.put_blanks.Statement.{statement}
 use Rattle.latency_table.proofs.put_blanks.Tie as tie
-use Rattle.latency_table.proofs.put_blanks.Reads as reads
-use Rattle.latency_table.proofs.put_blanks.Lts as lts
-use Rattle.text.proofs.put.Reads as put-reads
 
 pub put-blanks-spec : {M : Type 1} → statement M
 put-blanks-spec =

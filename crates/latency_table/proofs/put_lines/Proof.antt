@@ -1,14 +1,9 @@
 use borrow.Author.Needs.{needs}
-use native.Mathlib.Omega.{arith}
 use mathlib.Core.Path.{_≡_}
-use Prim.Native.Nat.{_+_, _-_, _*_, _≤_, _<_}
+use Prim.Native.Nat.{_-_}
 use lib.ListN.{length}
 use Rattle.latency_table.proofs.put_lines.Statement.{statement}
 use Rattle.latency_table.proofs.put_lines.Tie as tie
-use Rattle.latency_table.proofs.put_lines.Reads as reads
-use Rattle.latency_table.proofs.put_lines.Lts as lts
-use Rattle.latency.proofs.try_latency.Reads as try-latency-reads
-use Rattle.latency_table.proofs.put_line.Reads as put-line-reads
 
 pub put-lines-spec : {M : Type 1} → statement M
 put-lines-spec =

@@ -6,9 +6,6 @@ use borrow.Author.Needs.{needs}
 use Rattle.log.proofs.Filling.{in-second}
 use Rattle.log.proofs.byte_of.Statement.{statement}
 use Rattle.log.proofs.byte_of.Tie as tie
-use Rattle.log.proofs.byte_of.Reads as reads
-use Rattle.log.proofs.byte_of.Lts as lts
-use Rattle.log.proofs.wide.Reads as wide-reads
 
 returns : tie.Need-returns
 returns c =

@@ -6,11 +6,6 @@ use mathlib.Core.List.{List, _++_}
 use borrow.Author.Needs.{needs}
 use Rattle.log.proofs.data_word.Statement.{statement}
 use Rattle.log.proofs.data_word.Tie as tie
-use Rattle.log.proofs.data_word.Reads as reads
-use Rattle.log.proofs.data_word.Lts as lts
-use Rattle.log.proofs.byte_of.Reads as byte-of-reads
-use Rattle.log.proofs.count_of.Reads as count-of-reads
-use Rattle.log.proofs.word_of.Reads as word-of-reads
 
 returns : tie.Need-returns
 returns c =

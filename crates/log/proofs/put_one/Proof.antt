@@ -1,16 +1,12 @@
 use native.Mathlib.Omega.{arith}
-use mathlib.Core.Path.{_≡_, refl, ap, sym, _∙_}
-use Prim.Native.Nat.{ℕ, _+_, _-_, _*_, _≤_, _<_}
-use lib.ListN.{length, take, drop, getD, set, length-set, length-append}
-use mathlib.Core.List.{List, [], _∷_, _++_}
+use Prim.Native.Nat.{ℕ, _+_, _-_, _<_}
+use lib.ListN.{length, length-append}
+use mathlib.Core.List.{List, _++_}
 use borrow.Author.Needs.{needs}
 use denote.Ref.{now}
 use Rattle.log.proofs.Filling.{none-more, one-more, counted}
 use Rattle.log.proofs.put_one.Statement.{statement}
 use Rattle.log.proofs.put_one.Tie as tie
-use Rattle.log.proofs.put_one.Reads as reads
-use Rattle.log.proofs.put_one.Lts as lts
-use Rattle.log.proofs.data_word.Reads as data-word-reads
 
 -- the bytes of both slices
 abbrev bytes : tie.After-data-word → List ℕ

@@ -10,11 +10,6 @@ use Rattle.buffer.proofs.Laws.{put-cons}
 use Rattle.log.specs.Log.{word, dataWords, entryWords}
 use Rattle.log.proofs.put_packet.Statement.{statement}
 use Rattle.log.proofs.put_packet.Tie as tie
-use Rattle.log.proofs.put_packet.Reads as reads
-use Rattle.log.proofs.put_packet.Lts as lts
-use Rattle.log.proofs.put_bytes.Reads as put-bytes-reads
-use Rattle.log.proofs.wide.Reads as wide-reads
-use Rattle.log.proofs.word_of.Reads as word-of-reads
 
 slice-write-log : tie.Need-slice-write-log
 unfolding entryWords

@@ -10,10 +10,6 @@ use Rattle.buffer.proofs.Laws.{put-cons}
 use Rattle.log.specs.Log.{dataWords, entryWords}
 use Rattle.log.proofs.put_psd.Statement.{statement}
 use Rattle.log.proofs.put_psd.Tie as tie
-use Rattle.log.proofs.put_psd.Reads as reads
-use Rattle.log.proofs.put_psd.Lts as lts
-use Rattle.log.proofs.put_bytes.Reads as put-bytes-reads
-use Rattle.log.proofs.word_of.Reads as word-of-reads
 
 slice-write-log : tie.Need-slice-write-log
 unfolding entryWords

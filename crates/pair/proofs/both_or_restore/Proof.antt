@@ -8,10 +8,6 @@ use Rattle.pair.proofs.Judging.{both-kept, both-put-back}
 use borrow.Author.Needs.{needs}
 use Rattle.pair.proofs.both_or_restore.Statement.{statement}
 use Rattle.pair.proofs.both_or_restore.Tie as tie
-use Rattle.pair.proofs.both_or_restore.Reads as reads
-use Rattle.pair.proofs.both_or_restore.Lts as lts
-use Rattle.pair.proofs.receive_both.Reads as receive-both-reads
-use Rattle.header.proofs.put_front.Reads as put-front-reads
 
 returns : tie.Need-returns
 returns c =

@@ -3,11 +3,6 @@ use Rattle.pair.proofs.Judging.{stream-number, reader-number}
 use borrow.Author.Needs.{needs}
 use Rattle.pair.proofs.judge_copy.Statement.{statement}
 use Rattle.pair.proofs.judge_copy.Tie as tie
-use Rattle.pair.proofs.judge_copy.Reads as reads
-use Rattle.pair.proofs.judge_copy.Lts as lts
-use Rattle.layout.proofs.control_word.Reads as control-word-reads
-use Rattle.pdu.proofs.judge.Reads as judge-reads
-use Rattle.receiver.proofs.wrong_stream.Reads as wrong-stream-reads
 
 returns : tie.Need-returns
 returns c =

@@ -3,10 +3,6 @@ use Rattle.pair.proofs.Lowest.{pair-wrong}
 use borrow.Author.Needs.{needs}
 use Rattle.pair.proofs.judge_pair.Statement.{statement}
 use Rattle.pair.proofs.judge_pair.Tie as tie
-use Rattle.pair.proofs.judge_pair.Reads as reads
-use Rattle.pair.proofs.judge_pair.Lts as lts
-use Rattle.pair.proofs.judge_copy.Reads as judge-copy-reads
-use Rattle.pair.proofs.lower_of.Reads as lower-of-reads
 
 returns : tie.Need-returns
 returns c =

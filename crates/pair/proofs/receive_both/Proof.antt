@@ -6,12 +6,6 @@ use Rattle.pair.proofs.Judging.{right-copy, la-inside, judged-call, dif
 use borrow.Author.Needs.{needs}
 use Rattle.pair.proofs.receive_both.Statement.{statement}
 use Rattle.pair.proofs.receive_both.Tie as tie
-use Rattle.pair.proofs.receive_both.Reads as reads
-use Rattle.pair.proofs.receive_both.Lts as lts
-use Rattle.pair.proofs.differs.Reads as differs-reads
-use Rattle.pair.proofs.judge_pair.Reads as judge-pair-reads
-use Rattle.diversity.proofs.receive_alike.Reads as receive-alike-reads
-use Rattle.receiver.proofs.refused.Reads as refused-reads
 
 returns : tie.Need-returns
 returns c =

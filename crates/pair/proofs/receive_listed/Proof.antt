@@ -7,15 +7,6 @@ use Rattle.pair.proofs.Calling.{both-true, not-both, early-call, Known,
 use borrow.Author.Needs.{needs}
 use Rattle.pair.proofs.receive_listed.Statement.{statement}
 use Rattle.pair.proofs.receive_listed.Tie as tie
-use Rattle.pair.proofs.receive_listed.Reads as reads
-use Rattle.pair.proofs.receive_listed.Lts as lts
-use Rattle.correction.proofs.correct.Reads as correct-reads
-use Rattle.pair.proofs.both_or_restore.Reads as both-or-restore-reads
-use Rattle.pair.proofs.is_corrected.Reads as is-corrected-reads
-use Rattle.header.proofs.header_of.Reads as header-of-reads
-use Rattle.receiver.proofs.listed_refusal.Reads as listed-refusal-reads
-use Rattle.receiver.proofs.receive_or_restore.Reads as receive-or-restore-reads
-use Rattle.receiver.proofs.refused.Reads as refused-reads
 
 returns : tie.Need-returns
 returns c =

@@ -1,9 +1,7 @@
 use borrow.Author.Needs.{needs}
 use native.Mathlib.Omega.{arith}
-use mathlib.Core.Path.{_≡_, refl, ap, sym, _∙_}
-use Prim.Native.Nat.{ℕ, _+_, _-_, _*_, _≤_, _<_}
-use lib.ListN.{length, take, drop, getD, set, length-set}
-use mathlib.Core.List.{List, [], _∷_, _++_}
+use mathlib.Core.Path.{_≡_, sym, _∙_}
+use Prim.Native.Nat.{_-_, _≤_}
 use denote.Ref.{now}
 use mathlib.Core.Bool.{true, false}
 use Rattle.pdu.specs.Reading.{anyBelow, wrongLocator}
@@ -11,9 +9,6 @@ use Rattle.pdu.proofs.Any.{any-start, any-next}
 use Rattle.pdu.proofs.Lowest.{lowest-found, lowest-none}
 use Rattle.pdu.proofs.first_wrong.Statement.{statement}
 use Rattle.pdu.proofs.first_wrong.Tie as tie
-use Rattle.pdu.proofs.first_wrong.Reads as reads
-use Rattle.pdu.proofs.first_wrong.Lts as lts
-use Rattle.pdu.proofs.wrong_locator.Reads as wrong-locator-reads
 
 abbrev Inv-loop : tie.InvT-loop
 Inv-loop y width c nop k₀ k = (k ≤ c .nop) × (anyBelow k (wrongLocator width c y) ≡ false)

@@ -1,18 +1,10 @@
-use native.Mathlib.Omega.{arith}
-use mathlib.Core.Path.{_≡_, refl, ap, sym, _∙_}
-use Prim.Native.Nat.{ℕ, _+_, _-_, _*_, _≤_, _<_}
-use lib.ListN.{length, take, drop, getD, set, length-set}
-use mathlib.Core.List.{List, [], _∷_, _++_}
+use mathlib.Core.Path.{sym, _∙_}
+use Prim.Native.Nat.{_-_}
 use borrow.Author.Needs.{needs}
 use denote.Ref.{now}
 use Rattle.pdu.proofs.Assembling.{none-wrong, listed-accepted, listed-refused}
 use Rattle.pdu.proofs.read_listed.Statement.{statement}
 use Rattle.pdu.proofs.read_listed.Tie as tie
-use Rattle.pdu.proofs.read_listed.Reads as reads
-use Rattle.pdu.proofs.read_listed.Lts as lts
-use Rattle.pdu.proofs.accepted_reading.Reads as accepted-reading-reads
-use Rattle.pdu.proofs.judge.Reads as judge-reads
-use Rattle.pdu.proofs.refused_reading.Reads as refused-reading-reads
 
 accepted-reading-requires : tie.Need-accepted-reading-requires
 accepted-reading-requires c κs =

@@ -5,14 +5,8 @@ use native.Mathlib.Omega.{arith}
 use mathlib.Core.Path.{_≡_}
 use Prim.Native.Nat.{ℕ}
 use mathlib.Core.List.{List}
-use borrow.Author.Needs.{needs}
 use Rattle.reassembly.proofs.accept.Statement.{statement}
 use Rattle.reassembly.proofs.accept.Tie as tie
-use Rattle.reassembly.proofs.accept.Reads as reads
-use Rattle.reassembly.proofs.accept.Lts as lts
-use Rattle.reassembly.proofs.begin.Reads as begin-reads
-use Rattle.reassembly.proofs.contents.Reads as contents-reads
-use Rattle.reassembly.proofs.withhold.Reads as withhold-reads
 
 begin-requires : tie.Need-begin-requires
 begin-requires c κs =

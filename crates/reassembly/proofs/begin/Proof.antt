@@ -8,10 +8,6 @@ use mathlib.Core.Path.{_≡_, sym, _∙_}
 use borrow.Author.Needs.{needs}
 use Rattle.reassembly.proofs.begin.Statement.{statement}
 use Rattle.reassembly.proofs.begin.Tie as tie
-use Rattle.reassembly.proofs.begin.Reads as reads
-use Rattle.reassembly.proofs.begin.Lts as lts
-use Rattle.reassembly.proofs.drop_noted.Reads as drop-noted-reads
-use Rattle.reassembly.proofs.first_cause.Reads as first-cause-reads
 
 first-cause-requires : tie.Need-first-cause-requires
 first-cause-requires c κs = c .before .pre .0

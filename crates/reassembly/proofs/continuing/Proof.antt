@@ -1,15 +1,11 @@
 use denote.Ref.{now}
 use Rattle.layout.specs.Control.{pieceNumber}
-use Rattle.reassembly.specs.Run.{Marked}
 use Rattle.reassembly.proofs.Laws.{did-nothing, same-outcome, same-room}
 use Rattle.reassembly.proofs.Whole.{none-held, no-piece, one-piece}
 use native.Mathlib.Omega.{arith}
 use borrow.Author.Needs.{needs}
 use Rattle.reassembly.proofs.continuing.Statement.{statement}
 use Rattle.reassembly.proofs.continuing.Tie as tie
-use Rattle.reassembly.proofs.continuing.Reads as reads
-use Rattle.reassembly.proofs.continuing.Lts as lts
-use Rattle.reassembly.proofs.piece_at.Reads as piece-at-reads
 
 returns : tie.Need-returns
 returns c =

@@ -5,13 +5,6 @@ use mathlib.Core.Path.{subst, sym}
 use Rattle.reassembly.specs.Count.{Bounded}
 use Rattle.reassembly.proofs.count_contents.Statement.{statement}
 use Rattle.reassembly.proofs.count_contents.Tie as tie
-use Rattle.reassembly.proofs.count_contents.Reads as reads
-use Rattle.reassembly.proofs.count_contents.Lts as lts
-use Rattle.reassembly.proofs.add_words.Reads as add-words-reads
-use Rattle.reassembly.proofs.count_continuing.Reads as count-continuing-reads
-use Rattle.reassembly.proofs.count_pieces.Reads as count-pieces-reads
-use Rattle.reassembly.proofs.count_psd.Reads as count-psd-reads
-use Rattle.reassembly.proofs.place.Reads as place-reads
 
 add-words-requires : tie.Need-add-words-requires
 add-words-requires c κs = (c .before .pre .1 .0 .0, omega arith)

@@ -1,20 +1,10 @@
-use borrow.Author.Tests.{eq-eqb, ne-eqb}
-use lib.Dec.{eqb}
-use mathlib.Core.Bool.{true, false}
-use mathlib.Core.Path.{_≡_, refl, _∙_}
-use Prim.Native.Nat.{ℕ, _+_, _-_}
+use mathlib.Core.Path.{_∙_}
+use Prim.Native.Nat.{_-_}
 use native.Mathlib.Omega.{arith}
 use Rattle.reassembly.proofs.Counts.{none-counted, no-piece-counted, piece-counted, count-small, bounded-more}
 use borrow.Author.Needs.{needs}
 use Rattle.reassembly.proofs.count_continuing.Statement.{statement}
 use Rattle.reassembly.proofs.count_continuing.Tie as tie
-use Rattle.reassembly.proofs.count_continuing.Reads as reads
-use Rattle.reassembly.proofs.count_continuing.Lts as lts
-use Rattle.reassembly.proofs.add_piece.Reads as add-piece-reads
-use Rattle.reassembly.proofs.count_piece.Reads as count-piece-reads
-use Rattle.reassembly.proofs.ends_here.Reads as ends-here-reads
-use Rattle.reassembly.proofs.piece_number.Reads as piece-number-reads
-use Rattle.reassembly.proofs.place.Reads as place-reads
 
 returns : tie.Need-returns
 returns c =

@@ -3,8 +3,6 @@ use Rattle.reassembly.specs.Count.{countFinish}
 use native.Mathlib.Omega.{arith}
 use Rattle.reassembly.proofs.count_finish.Statement.{statement}
 use Rattle.reassembly.proofs.count_finish.Tie as tie
-use Rattle.reassembly.proofs.count_finish.Reads as reads
-use Rattle.reassembly.proofs.count_finish.Lts as lts
 
 returns : tie.Need-returns
 unfolding countFinish

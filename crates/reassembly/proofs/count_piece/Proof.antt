@@ -6,9 +6,6 @@ use native.Mathlib.Omega.{arith}
 use mathlib.Core.Path.{_≡_, refl}
 use Rattle.reassembly.proofs.count_piece.Statement.{statement}
 use Rattle.reassembly.proofs.count_piece.Tie as tie
-use Rattle.reassembly.proofs.count_piece.Reads as reads
-use Rattle.reassembly.proofs.count_piece.Lts as lts
-use Rattle.reassembly.proofs.count_finish.Reads as count-finish-reads
 
 returns : tie.Need-returns
 unfolding countPiece

@@ -3,8 +3,6 @@ use native.Mathlib.Omega.{arith}
 use mathlib.Core.Path.{refl}
 use Rattle.reassembly.proofs.count_psd.Statement.{statement}
 use Rattle.reassembly.proofs.count_psd.Tie as tie
-use Rattle.reassembly.proofs.count_psd.Reads as reads
-use Rattle.reassembly.proofs.count_psd.Lts as lts
 
 returns : tie.Need-returns
 returns c = rw (eq-eqb (c .before .args .n) 0 (c .if1 .taken)) (refl, omega arith)

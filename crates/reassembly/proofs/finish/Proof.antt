@@ -7,11 +7,6 @@ use lib.ListN.{length, take}
 use borrow.Author.Needs.{needs}
 use Rattle.reassembly.proofs.finish.Statement.{statement}
 use Rattle.reassembly.proofs.finish.Tie as tie
-use Rattle.reassembly.proofs.finish.Reads as reads
-use Rattle.reassembly.proofs.finish.Lts as lts
-use Rattle.buffer.proofs.put_bytes.Reads as put-bytes-reads
-use Rattle.log.proofs.put_packet.Reads as put-packet-reads
-use Rattle.reassembly.proofs.drop_noted.Reads as drop-noted-reads
 
 drop-noted-requires : tie.Need-drop-noted-requires
 drop-noted-requires c κs =

@@ -2,10 +2,6 @@ use Rattle.reassembly.proofs.Counts.{all-kept, all-noted, start-bounded
 use native.Mathlib.Omega.{arith}
 use Rattle.reassembly.proofs.forecast_for.Statement.{statement}
 use Rattle.reassembly.proofs.forecast_for.Tie as tie
-use Rattle.reassembly.proofs.forecast_for.Reads as reads
-use Rattle.reassembly.proofs.forecast_for.Lts as lts
-use Rattle.reassembly.proofs.count_contents.Reads as count-contents-reads
-use Rattle.reassembly.proofs.first_cause.Reads as first-cause-reads
 
 first-cause-requires : tie.Need-first-cause-requires
 first-cause-requires c κs = c .pre .0 .0

@@ -3,8 +3,6 @@ use native.Mathlib.Omega.{arith}
 use mathlib.Core.Path.{refl}
 use Rattle.reassembly.proofs.missed_before.Statement.{statement}
 use Rattle.reassembly.proofs.missed_before.Tie as tie
-use Rattle.reassembly.proofs.missed_before.Reads as reads
-use Rattle.reassembly.proofs.missed_before.Lts as lts
 
 returns : tie.Need-returns
 returns c = rw (eq-eqb (c .before .before .args .t .delivered) 0 (omega (arith, c .if1 .taken))) (refl, omega arith)

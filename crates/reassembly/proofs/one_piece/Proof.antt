@@ -6,10 +6,6 @@ use native.Mathlib.Omega.{arith}
 use borrow.Author.Needs.{needs}
 use Rattle.reassembly.proofs.one_piece.Statement.{statement}
 use Rattle.reassembly.proofs.one_piece.Tie as tie
-use Rattle.reassembly.proofs.one_piece.Reads as reads
-use Rattle.reassembly.proofs.one_piece.Lts as lts
-use Rattle.reassembly.proofs.drop_noted.Reads as drop-noted-reads
-use Rattle.reassembly.proofs.finish.Reads as finish-reads
 
 drop-noted-requires : tie.Need-drop-noted-requires
 drop-noted-requires c κs =

@@ -4,9 +4,6 @@ use Prim.Native.Nat.{_+_}
 use borrow.Author.Needs.{needs}
 use Rattle.reassembly.proofs.piece_number.Statement.{statement}
 use Rattle.reassembly.proofs.piece_number.Tie as tie
-use Rattle.reassembly.proofs.piece_number.Reads as reads
-use Rattle.reassembly.proofs.piece_number.Lts as lts
-use Rattle.reassembly.proofs.wide.Reads as wide-reads
 
 returns : tie.Need-returns
 returns c = rw (c .before .if1 .taken, c .wide .ensures .0) refl

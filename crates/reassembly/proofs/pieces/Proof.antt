@@ -11,9 +11,6 @@ use lib.ListN.{length}
 use mathlib.Core.List.{List, []}
 use Rattle.reassembly.proofs.pieces.Statement.{statement}
 use Rattle.reassembly.proofs.pieces.Tie as tie
-use Rattle.reassembly.proofs.pieces.Reads as reads
-use Rattle.reassembly.proofs.pieces.Lts as lts
-use Rattle.reassembly.proofs.piece_at.Reads as piece-at-reads
 
 abbrev Inv-loop : tie.InvT-loop
 Inv-loop head marks pdu carry₀ log₀ causes cur₀ continues₀ k₀ carry log cur continues k =

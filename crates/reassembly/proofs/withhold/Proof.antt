@@ -2,13 +2,8 @@ use denote.Ref.{now}
 use Rattle.reassembly.specs.Run.{Parsed}
 use Rattle.reassembly.proofs.Whole.{note-room, continuing-room, continuing-did}
 use native.Mathlib.Omega.{arith}
-use borrow.Author.Needs.{needs}
 use Rattle.reassembly.proofs.withhold.Statement.{statement}
 use Rattle.reassembly.proofs.withhold.Tie as tie
-use Rattle.reassembly.proofs.withhold.Reads as reads
-use Rattle.reassembly.proofs.withhold.Lts as lts
-use Rattle.reassembly.proofs.continuing.Reads as continuing-reads
-use Rattle.log.proofs.put_note.Reads as put-note-reads
 
 put-note-requires : tie.Need-put-note-requires
 put-note-requires c κs =

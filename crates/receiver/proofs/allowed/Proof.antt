@@ -9,9 +9,6 @@ use Rattle.receiver.proofs.Programs.{over-seven, repeated, allowed-past
 use borrow.Author.Needs.{needs}
 use Rattle.receiver.proofs.allowed.Statement.{statement}
 use Rattle.receiver.proofs.allowed.Tie as tie
-use Rattle.receiver.proofs.allowed.Reads as reads
-use Rattle.receiver.proofs.allowed.Lts as lts
-use Rattle.receiver.proofs.is_listed.Reads as is-listed-reads
 
 abbrev Inv-loop : tie.InvT-loop
 Inv-loop programs i₀ i = (i ≤ length programs) × (allowedPrograms programs ≡ allowedPrograms (drop i programs))

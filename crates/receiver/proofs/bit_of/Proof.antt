@@ -4,9 +4,6 @@ use native.Mathlib.Omega.{arith}
 use borrow.Author.Needs.{needs}
 use Rattle.receiver.proofs.bit_of.Statement.{statement}
 use Rattle.receiver.proofs.bit_of.Tie as tie
-use Rattle.receiver.proofs.bit_of.Reads as reads
-use Rattle.receiver.proofs.bit_of.Lts as lts
-use Rattle.receiver.proofs.is_listed.Reads as is-listed-reads
 
 returns : tie.Need-returns
 returns c = (ap (λ (b : Bool). cond b (c .before .before .before .args .bit) 0) (sym (c .if1 .taken) ∙ c .before .is-listed .ensures), omega arith)

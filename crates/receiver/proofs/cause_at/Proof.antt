@@ -3,10 +3,6 @@ use denote.Ref.{now}
 use borrow.Author.Needs.{needs}
 use Rattle.receiver.proofs.cause_at.Statement.{statement}
 use Rattle.receiver.proofs.cause_at.Tie as tie
-use Rattle.receiver.proofs.cause_at.Reads as reads
-use Rattle.receiver.proofs.cause_at.Lts as lts
-use Rattle.crc.proofs.crc8_from.Reads as crc8-from-reads
-use Rattle.receiver.proofs.place.Reads as place-reads
 
 returns : tie.Need-returns
 returns c =

@@ -7,9 +7,6 @@ use native.Mathlib.Omega.{arith}
 use Prim.Native.Nat.{_-_, _≤_}
 use Rattle.receiver.proofs.causes_of.Statement.{statement}
 use Rattle.receiver.proofs.causes_of.Tie as tie
-use Rattle.receiver.proofs.causes_of.Reads as reads
-use Rattle.receiver.proofs.causes_of.Lts as lts
-use Rattle.receiver.proofs.cause_at.Reads as cause-at-reads
 
 abbrev Inv-loop : tie.InvT-loop
 Inv-loop register y marks nop causes₀ k₀ causes k = (k ≤ nop) × Filled (causeAt register y marks) k causes

@@ -2,9 +2,6 @@ use Rattle.receiver.proofs.Withholding.{entitled-shown, withheld-known,
 use borrow.Author.Needs.{needs}
 use Rattle.receiver.proofs.is_withheld.Statement.{statement}
 use Rattle.receiver.proofs.is_withheld.Tie as tie
-use Rattle.receiver.proofs.is_withheld.Reads as reads
-use Rattle.receiver.proofs.is_withheld.Lts as lts
-use Rattle.receiver.proofs.is_entitled.Reads as is-entitled-reads
 
 returns : tie.Need-returns
 returns c =

@@ -9,13 +9,6 @@ use lib.ListN.{length}
 use borrow.Author.Needs.{needs}
 use Rattle.receiver.proofs.receive_listed.Statement.{statement}
 use Rattle.receiver.proofs.receive_listed.Tie as tie
-use Rattle.receiver.proofs.receive_listed.Reads as reads
-use Rattle.receiver.proofs.receive_listed.Lts as lts
-use Rattle.correction.proofs.correct_marked.Reads as correct-marked-reads
-use Rattle.header.proofs.header_of.Reads as header-of-reads
-use Rattle.receiver.proofs.receive_or_restore.Reads as receive-or-restore-reads
-use Rattle.receiver.proofs.refused.Reads as refused-reads
-use Rattle.receiver.proofs.wrong_state.Reads as wrong-state-reads
 
 returns : tie.Need-returns
 returns c =

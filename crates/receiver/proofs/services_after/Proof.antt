@@ -4,10 +4,6 @@ use Rattle.receiver.proofs.Withholding.{services-kept, services-dropped
 use borrow.Author.Needs.{needs}
 use Rattle.receiver.proofs.services_after.Statement.{statement}
 use Rattle.receiver.proofs.services_after.Tie as tie
-use Rattle.receiver.proofs.services_after.Reads as reads
-use Rattle.receiver.proofs.services_after.Lts as lts
-use Rattle.receiver.proofs.keeps_services.Reads as keeps-services-reads
-use Rattle.receiver.proofs.unknown_services.Reads as unknown-services-reads
 
 returns : tie.Need-returns
 returns c =

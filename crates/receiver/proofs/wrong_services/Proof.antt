@@ -4,9 +4,6 @@ use lib.Dec.{eqb, ltb}
 use borrow.Author.Needs.{needs}
 use Rattle.receiver.proofs.wrong_services.Statement.{statement}
 use Rattle.receiver.proofs.wrong_services.Tie as tie
-use Rattle.receiver.proofs.wrong_services.Reads as reads
-use Rattle.receiver.proofs.wrong_services.Lts as lts
-use Rattle.receiver.proofs.keeps_services.Reads as keeps-services-reads
 
 returns : tie.Need-returns
 returns c =

@@ -3,10 +3,6 @@ use mathlib.Core.Path.{sym, _∙_}
 use borrow.Author.Needs.{needs}
 use Rattle.receiver.proofs.wrong_stream.Statement.{statement}
 use Rattle.receiver.proofs.wrong_stream.Tie as tie
-use Rattle.receiver.proofs.wrong_stream.Reads as reads
-use Rattle.receiver.proofs.wrong_stream.Lts as lts
-use Rattle.modes.proofs.look_up.Reads as look-up-reads
-use Rattle.receiver.proofs.other_stream.Reads as other-stream-reads
 
 returns : tie.Need-returns
 returns c =

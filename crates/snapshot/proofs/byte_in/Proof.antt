@@ -2,8 +2,6 @@ use Rattle.snapshot.proofs.Tests.{byte-first, byte-second, byte-third}
 use borrow.Author.Needs.{needs}
 use Rattle.snapshot.proofs.byte_in.Statement.{statement}
 use Rattle.snapshot.proofs.byte_in.Tie as tie
-use Rattle.snapshot.proofs.byte_in.Reads as reads
-use Rattle.snapshot.proofs.byte_in.Lts as lts
 
 returns : tie.Need-returns
 returns c = byte-first (c .before .args .w) (c .before .args .k) (c .if1 .taken)

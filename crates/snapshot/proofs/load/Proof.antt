@@ -7,8 +7,6 @@ use borrow.Author.Needs.{needs}
 use Rattle.snapshot.proofs.Calls.{load-refused, carry-short, words-wrong, load-held, load-rest, load-done}
 use Rattle.snapshot.proofs.load.Statement.{statement}
 use Rattle.snapshot.proofs.load.Tie as tie
-use Rattle.snapshot.proofs.load.Reads as reads
-use Rattle.snapshot.proofs.load.Lts as lts
 
 -- where the function begins
 abbrev begun : tie.After-place-of → tie.Start

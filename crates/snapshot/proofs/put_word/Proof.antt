@@ -11,8 +11,6 @@ use lib.ListN.{length}
 use borrow.Author.Needs.{needs}
 use Rattle.snapshot.proofs.put_word.Statement.{statement}
 use Rattle.snapshot.proofs.put_word.Tie as tie
-use Rattle.snapshot.proofs.put_word.Reads as reads
-use Rattle.snapshot.proofs.put_word.Lts as lts
 
 returns : tie.Need-returns
 returns c =

@@ -1,14 +1,8 @@
 use borrow.Author.Needs.{needs}
-use native.Mathlib.Omega.{arith}
-use mathlib.Core.Path.{_≡_, refl, ap, sym, _∙_}
-use Prim.Native.Nat.{ℕ, _+_, _-_, _*_, _≤_, _<_}
-use lib.ListN.{length, take, drop, getD, set, length-set}
-use mathlib.Core.List.{List, [], _∷_, _++_}
+use Prim.Native.Nat.{_-_, _≤_}
+use lib.ListN.{length}
 use Rattle.text.proofs.entry.Statement.{statement}
 use Rattle.text.proofs.entry.Tie as tie
-use Rattle.text.proofs.entry.Reads as reads
-use Rattle.text.proofs.entry.Lts as lts
-use Rattle.text.proofs.entry_end.Reads as entry-end-reads
 
 abbrev Inv-loop : tie.InvT-loop
 Inv-loop table number from₀ left₀ from left = from ≤ length table

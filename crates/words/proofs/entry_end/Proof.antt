@@ -1,13 +1,8 @@
 use borrow.Author.Needs.{needs}
-use native.Mathlib.Omega.{arith}
-use mathlib.Core.Path.{_≡_, refl, ap, sym, _∙_}
-use Prim.Native.Nat.{ℕ, _+_, _-_, _*_, _≤_, _<_}
-use lib.ListN.{length, take, drop, getD, set, length-set}
-use mathlib.Core.List.{List, [], _∷_, _++_}
+use Prim.Native.Nat.{_-_, _≤_, _<_}
+use lib.ListN.{length}
 use Rattle.words.proofs.entry_end.Statement.{statement}
 use Rattle.words.proofs.entry_end.Tie as tie
-use Rattle.words.proofs.entry_end.Reads as reads
-use Rattle.words.proofs.entry_end.Lts as lts
 
 -- src/lib.rt:59:17
 -- src/lib.rt:60:5

@@ -1,16 +1,9 @@
 use Rattle.writer.proofs.Judging.{room-none, room-some}
 use denote.Ref.{now}
-use native.Mathlib.Omega.{arith}
-use mathlib.Core.Path.{_≡_, refl, ap, sym, _∙_}
-use Prim.Native.Nat.{ℕ, _+_, _-_, _*_, _≤_, _<_}
-use lib.ListN.{length, take, drop, getD, set, length-set}
-use mathlib.Core.List.{List, [], _∷_, _++_}
+use Prim.Native.Nat.{_-_}
 use borrow.Author.Needs.{needs}
 use Rattle.writer.proofs.no_room.Statement.{statement}
 use Rattle.writer.proofs.no_room.Tie as tie
-use Rattle.writer.proofs.no_room.Reads as reads
-use Rattle.writer.proofs.no_room.Lts as lts
-use Rattle.packing.proofs.overhead.Reads as overhead-reads
 
 returns : tie.Need-returns
 returns c = let a = c .before .before .before .args in room-none (a .m) (a .extra) (a .size) (c .overhead .result) (now (a .lengths)) (c .before .if1 .taken) (c .overhead .ensures .0)

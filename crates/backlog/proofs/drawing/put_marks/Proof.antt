@@ -1,13 +1,9 @@
 use borrow.Author.Needs.{needs}
-use native.Mathlib.Omega.{arith}
 use mathlib.Core.Path.{_≡_}
-use Prim.Native.Nat.{_+_, _-_, _*_, _≤_, _<_}
+use Prim.Native.Nat.{_-_}
 use lib.ListN.{length}
 use Rattle.backlog.proofs.drawing.put_marks.Statement.{statement}
 use Rattle.backlog.proofs.drawing.put_marks.Tie as tie
-use Rattle.backlog.proofs.drawing.put_marks.Reads as reads
-use Rattle.backlog.proofs.drawing.put_marks.Lts as lts
-use Rattle.backlog.proofs.drawing.put_mark.Reads as put-mark-reads
 
 pub put-marks-spec : {M : Type 1} → statement M
 put-marks-spec =

@@ -1,14 +1,9 @@
 use borrow.Author.Needs.{needs}
-use native.Mathlib.Omega.{arith}
 use mathlib.Core.Path.{_≡_}
-use Prim.Native.Nat.{_+_, _-_, _*_, _≤_, _<_}
+use Prim.Native.Nat.{_-_}
 use lib.ListN.{length}
 use Rattle.backlog.proofs.drawing.put_steps.Statement.{statement}
 use Rattle.backlog.proofs.drawing.put_steps.Tie as tie
-use Rattle.backlog.proofs.drawing.put_steps.Reads as reads
-use Rattle.backlog.proofs.drawing.put_steps.Lts as lts
-use Rattle.backlog.proofs.drawing.below.Reads as below-reads
-use Rattle.text.proofs.fill.Reads as fill-reads
 
 pub put-steps-spec : {M : Type 1} → statement M
 put-steps-spec =

@@ -1,15 +1,7 @@
 use borrow.Author.Needs.{needs}
-use native.Mathlib.Omega.{arith}
-use mathlib.Core.Path.{_≡_, refl, ap, sym, _∙_}
-use Prim.Native.Nat.{ℕ, _+_, _-_, _*_, _≤_, _<_}
-use lib.ListN.{length, take, drop, getD, set, length-set}
-use mathlib.Core.List.{List, [], _∷_, _++_}
+use Prim.Native.Nat.{_-_}
 use Rattle.csv.proofs.entry.number_in.Statement.{statement}
 use Rattle.csv.proofs.entry.number_in.Tie as tie
-use Rattle.csv.proofs.entry.number_in.Reads as reads
-use Rattle.csv.proofs.entry.number_in.Lts as lts
-use Rattle.check.proofs.same.Reads as same-reads
-use Rattle.text.proofs.entry.Reads as entry-reads
 
 -- src/entry.rt:80:5
 -- src/entry.rt:81:24

@@ -1,14 +1,8 @@
 use borrow.Author.Needs.{needs}
-use native.Mathlib.Omega.{arith}
-use mathlib.Core.Path.{_≡_, refl, ap, sym, _∙_}
-use Prim.Native.Nat.{ℕ, _+_, _-_, _*_, _≤_, _<_}
-use lib.ListN.{length, take, drop, getD, set, length-set}
-use mathlib.Core.List.{List, [], _∷_, _++_}
+use Prim.Native.Nat.{_-_, _≤_}
+use lib.ListN.{length}
 use Rattle.csv.proofs.fields.field_end.Statement.{statement}
 use Rattle.csv.proofs.fields.field_end.Tie as tie
-use Rattle.csv.proofs.fields.field_end.Reads as reads
-use Rattle.csv.proofs.fields.field_end.Lts as lts
-use Rattle.csv.proofs.fields.quoted_after.Reads as quoted-after-reads
 
 -- src/fields.rt:42:5
 -- src/fields.rt:43:20

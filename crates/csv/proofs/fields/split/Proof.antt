@@ -1,18 +1,8 @@
 use borrow.Author.Needs.{needs}
-use native.Mathlib.Omega.{arith}
-use mathlib.Core.Path.{_≡_, refl, ap, sym, _∙_}
-use Prim.Native.Nat.{ℕ, _+_, _-_, _*_, _≤_, _<_}
-use lib.ListN.{length, take, drop, getD, set, length-set}
-use mathlib.Core.List.{List, [], _∷_, _++_}
+use Prim.Native.Nat.{_+_, _-_}
+use lib.ListN.{length}
 use Rattle.csv.proofs.fields.split.Statement.{statement}
 use Rattle.csv.proofs.fields.split.Tie as tie
-use Rattle.csv.proofs.fields.split.Reads as reads
-use Rattle.csv.proofs.fields.split.Lts as lts
-use Rattle.csv.proofs.fields.counted.Reads as counted-reads
-use Rattle.csv.proofs.fields.field_end.Reads as field-end-reads
-use Rattle.csv.proofs.fields.separator.Reads as separator-reads
-use Rattle.csv.proofs.fields.set_end.Reads as set-end-reads
-use Rattle.std.proofs.num.wrapping_add_usize.Reads as wrapping-add-usize-reads
 
 -- src/fields.rt:80:9
 -- src/fields.rt:85:5

@@ -4,11 +4,6 @@ use mathlib.Core.Path.{sym, _∙_}
 use borrow.Author.Needs.{needs}
 use Rattle.receiver.proofs.Receiver.mark_lost.Statement.{statement}
 use Rattle.receiver.proofs.Receiver.mark_lost.Tie as tie
-use Rattle.receiver.proofs.Receiver.mark_lost.Reads as reads
-use Rattle.receiver.proofs.Receiver.mark_lost.Lts as lts
-use Rattle.modes.proofs.look_up.Reads as look-up-reads
-use Rattle.receiver.proofs.lose_listed.Reads as lose-listed-reads
-use Rattle.receiver.proofs.refused.Reads as refused-reads
 
 lose-listed-requires : tie.Need-lose-listed-requires
 lose-listed-requires c κs =

@@ -4,11 +4,6 @@ use mathlib.Core.Path.{sym, _∙_}
 use borrow.Author.Needs.{needs}
 use Rattle.receiver.proofs.Receiver.receive_marked.Statement.{statement}
 use Rattle.receiver.proofs.Receiver.receive_marked.Tie as tie
-use Rattle.receiver.proofs.Receiver.receive_marked.Reads as reads
-use Rattle.receiver.proofs.Receiver.receive_marked.Lts as lts
-use Rattle.modes.proofs.look_up.Reads as look-up-reads
-use Rattle.receiver.proofs.receive_listed.Reads as receive-listed-reads
-use Rattle.receiver.proofs.refused.Reads as refused-reads
 
 receive-listed-requires : tie.Need-receive-listed-requires
 receive-listed-requires c κs =
