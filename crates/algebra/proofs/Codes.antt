@@ -7,8 +7,8 @@ use native.Mathlib.Omega.{arith}
 use lib.ListN.{length, length-append}
 use Rattle.algebra.specs.Places.{All, below, consIf, keep}
 use Rattle.algebra.proofs.Places.{all-map, all-both, all-below, below-all, keep-all, kept}
-use Rattle.algebra.proofs.Field.{Field, ring, cancel, mul-inv-cancel, sum-zero, law-mul-comm, mul-zero, law-add-self}
-use Rattle.algebra.proofs.PowerSums.{pow, powerSum, Distinct, vanish, sum-raise, sum-filter, sum-none}
+use Rattle.algebra.proofs.Field.{Field, ring, mul-inv-cancel, sum-zero}
+use Rattle.algebra.proofs.PowerSums.{pow, powerSum, Distinct, vanish, sum-raise}
 use Rattle.algebra.proofs.Polynomials.{monic, combine, key, roots}
 use Rattle.algebra.proofs.Elimination.{combine-agree}
 use Rattle.algebra.proofs.ErrorValues.{strip, factor, value}

@@ -1,15 +1,14 @@
 -- Elimination, as far as the first column with no pivot. A row is a sequence; a monic polynomial kills it when its
 -- combination at 0 is zero. What kills the reduced rows kills the rows they came from: nothing else is asked of the steps.
 use mathlib.Core.Path.{_≡_, refl, sym, _∙_, ap}
-use mathlib.Core.List.{List, [], _∷_, _++_}
-use mathlib.Core.Bool.{Bool, true, false}
+use mathlib.Core.List.{List, [], _∷_}
 use Prim.Native.Nat.{ℕ, zero, suc, _+_, _≤_, _<_}
 use native.Mathlib.Omega.{arith}
-use native.Mathlib.Nat.{add-zero as nat-add-zero, add-suc}
+use native.Mathlib.Nat.{add-zero as nat-add-zero}
 use native.Mathlib.Decide.{ℕ-discrete, decLt}
-use lib.ListN.{length, length-append}
-use Rattle.algebra.proofs.Field.{Field, ring, cancel, mul-inv-cancel, sum-zero, law-mul-comm, mul-zero}
-use Rattle.algebra.proofs.Polynomials.{monic, combine}
+use lib.ListN.{length}
+use Rattle.algebra.proofs.Field.{Field, ring, mul-inv-cancel, law-mul-comm, mul-zero}
+use Rattle.algebra.proofs.Polynomials.{combine}
 
 module _ (𝓕 : Field) where
   infixl 65 _⊕_

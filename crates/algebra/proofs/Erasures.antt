@@ -1,13 +1,12 @@
 -- Marked places: the sums filtered by them locate the other errors, and the marked places' factors join the locator.
 use mathlib.Core.Path.{_≡_, refl, sym, _∙_, ap}
-use mathlib.Core.List.{List, [], _∷_, _++_}
-use mathlib.Core.Bool.{Bool, true, false, not}
+use mathlib.Core.List.{List, [], _∷_}
+use mathlib.Core.Bool.{not}
 use Prim.Native.Nat.{ℕ, zero, suc, _+_, _≤_, _<_}
 use native.Mathlib.Omega.{arith}
 use lib.ListN.{length}
 use Rattle.algebra.specs.Places.{below, keep}
 use Rattle.algebra.proofs.Field.{Field, ring, law-mul-assoc}
-use Rattle.algebra.proofs.PowerSums.{powerSum}
 use Rattle.algebra.proofs.Polynomials.{monic, combine}
 use Rattle.algebra.proofs.ErrorValues.{strip, weigh, weigh-factor, factor, strip-sum}
 use Rattle.algebra.proofs.Codes.{zero?, CodeWord, sumAt, located, error-sum}

@@ -1,13 +1,13 @@
 -- The weight at one of several known places, from the power sums: the sums filtered by the other places.
-use mathlib.Core.Path.{_≡_, refl, sym, _∙_, ap}
+use mathlib.Core.Path.{_≡_, sym, _∙_, ap}
 use mathlib.Core.List.{List, [], _∷_, _++_}
-use Prim.Native.Nat.{ℕ, zero, suc, _+_, _≤_, _<_}
+use Prim.Native.Nat.{ℕ, zero, suc, _+_, _<_}
 use native.Mathlib.Omega.{arith}
-use lib.ListN.{length, length-append}
+use lib.ListN.{length}
 use Rattle.algebra.specs.Places.{All}
 use Rattle.algebra.proofs.Places.{all-map, all-back}
-use Rattle.algebra.proofs.Field.{Field, ring, cancel, mul-inv-cancel, sum-zero, law-mul-comm, mul-zero, law-add-self, mul-one, law-mul-assoc}
-use Rattle.algebra.proofs.PowerSums.{pow, powerSum, Distinct, vanish, sum-raise, sum-filter, sum-none}
+use Rattle.algebra.proofs.Field.{Field, ring, cancel, mul-inv-cancel, law-mul-comm, mul-zero, mul-one}
+use Rattle.algebra.proofs.PowerSums.{pow, powerSum, Distinct, sum-filter, sum-none}
 
 module _ (𝓕 : Field) where
   infixl 65 _⊕_

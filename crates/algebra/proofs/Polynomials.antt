@@ -1,13 +1,13 @@
 -- Monic polynomials as the list of their lower coefficients, constant first, and what they do to power sums.
 use mathlib.Core.Path.{_≡_, refl, sym, _∙_, ap}
 use mathlib.Core.List.{List, [], _∷_}
-use Prim.Native.Nat.{ℕ, zero, suc, _+_, _≤_, _<_}
+use Prim.Native.Nat.{ℕ, suc, _+_, _≤_, _<_}
 use native.Mathlib.Omega.{arith}
 use lib.ListN.{length}
 use Rattle.algebra.specs.Places.{All}
 use Rattle.algebra.proofs.Places.{all-both}
-use Rattle.algebra.proofs.Field.{Field, ring, cancel, mul-inv-cancel, sum-zero, law-mul-comm}
-use Rattle.algebra.proofs.PowerSums.{pow, powerSum, Distinct, vanish, sum-raise, sum-filter, sum-none}
+use Rattle.algebra.proofs.Field.{Field, ring, cancel, mul-inv-cancel}
+use Rattle.algebra.proofs.PowerSums.{pow, powerSum, Distinct, vanish, sum-raise}
 
 module _ (𝓕 : Field) where
   infixl 65 _⊕_

@@ -1,13 +1,12 @@
 -- Weighted places and their power sums. A place i stands for the point X i of the field.
-use mathlib.Core.Path.{_≡_, refl, sym, _∙_, ap}
+use mathlib.Core.Path.{_≡_, refl, sym, _∙_}
 use mathlib.Core.List.{List, [], _∷_}
-use Prim.Native.Nat.{ℕ, zero, suc, _+_, _≤_, _<_}
+use Prim.Native.Nat.{ℕ, zero, suc, _<_}
 use native.Mathlib.Omega.{arith}
-use native.Mathlib.Nat.{le-of-suc-le-suc}
 use lib.ListN.{length}
 use Rattle.algebra.specs.Places.{All}
 use Rattle.algebra.proofs.Places.{all-both}
-use Rattle.algebra.proofs.Field.{Field, ring, cancel, mul-zero, sum-zero, law-zero-add, add-zero, law-add-self}
+use Rattle.algebra.proofs.Field.{Field, ring, cancel}
 
 module _ (𝓕 : Field) where
   infixl 65 _⊕_

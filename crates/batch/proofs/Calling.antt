@@ -14,7 +14,7 @@ use Rattle.pieces.specs.Pieces.{total}
 use Rattle.receiver.specs.Steps.{stateTests}
 use Rattle.receiver.specs.declared.Receiver.{Receiver}
 use Rattle.batch.specs.declared.Batch.{Batch}
-use Rattle.batch.specs.Batches.{Result, unchanged, oneByOne, wordEnds, batchNumber, batchReceived, endsAfter}
+use Rattle.batch.specs.Batches.{Result, oneByOne, wordEnds, batchNumber, batchReceived, endsAfter}
 use Rattle.batch.specs.Steps.{leaving, begunWith}
 
 -- where a row applies, those after it make no difference

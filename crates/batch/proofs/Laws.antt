@@ -1,20 +1,20 @@
 -- Laws of batches: one that is accepted takes all its PDUs, one batch is two after another, and the carry stays as long as it has to be.
 use mathlib.Core.Path.{_≡_, refl, sym, ap, ap₂, _∙_}
-use mathlib.Core.Bool.{Bool, true, false, not, cond}
+use mathlib.Core.Bool.{Bool, true, false}
 use mathlib.Core.List.{List, [], _∷_, _++_, append-assoc}
-use Prim.Native.Nat.{ℕ, _+_, _<_, _≤_}
+use Prim.Native.Nat.{ℕ, _+_, _≤_}
 use native.Mathlib.Omega.{arith}
 use lib.Dec.{eqb, ltb}
 use borrow.Author.Tests.{eq-eqb, eqb-true, eqb-false, not-false}
 use lib.ListN.{length, getD, take, drop, take-append-drop, length-append, length-drop}
 use lib.Seq.{length-take-le, take-append-add, drop-append-add}
-use Rattle.refusal.specs.Refusal.{firstOf, anyOf}
+use Rattle.refusal.specs.Refusal.{anyOf}
 use Rattle.refusal.proofs.Rows.{row-off}
 use Rattle.pieces.specs.Pieces.{total}
-use Rattle.receiver.specs.Receiving.{wrongState, receiveAnswer, carryAfter, pduAfter, logAfter}
+use Rattle.receiver.specs.Receiving.{wrongState, carryAfter, pduAfter}
 use Rattle.receiver.specs.declared.Receiver.{Receiver}
 use Rattle.receiver.specs.declared.Received.{Received}
-use Rattle.batch.specs.Batches.{Result, unchanged, followed, oneByOne, batchTests, batchNumber, batchReceived}
+use Rattle.batch.specs.Batches.{Result, followed, oneByOne, batchTests, batchNumber, batchReceived}
 use Rattle.batch.proofs.OneByOne.{followed-none, followed-twice, first, firstLog, first-taken, first-refused, next-taken}
 use Rattle.batch.proofs.Single.{words-fit, log-long, carry-long}
 use Rattle.batch.proofs.Sums.{total-append}

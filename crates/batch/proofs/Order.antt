@@ -1,5 +1,5 @@
 -- The order of 1, 2 and 18, which are judged before the first PDU, and what comes of a batch of no bytes.
-use mathlib.Core.Path.{_≡_, refl}
+use mathlib.Core.Path.{_≡_}
 use mathlib.Core.Bool.{true, false}
 use mathlib.Core.List.{List, [], _∷_}
 use Prim.Native.Nat.{ℕ, _<_, _≤_}

@@ -1,10 +1,10 @@
 -- Exclusive or, the sum of polynomials over GF(2): associative, and a bit times a number is linear in both.
 use mathlib.Core.Path.{_≡_, refl, sym, ap, ap₂, _∙_}
-use Prim.Native.Nat.{ℕ, zero, suc, _+_, _*_, _/_, _%_, _^_, _<_}
-use native.Mathlib.Nat.{mod-lt, mul-zero, add-zero, zero-mul, one-mul}
+use Prim.Native.Nat.{ℕ, zero, suc, _+_, _*_, _/_, _%_, _<_}
+use native.Mathlib.Nat.{mod-lt, add-zero, zero-mul, one-mul}
 use native.Mathlib.Omega.{arith}
 use lib.Arith.{bin-ind}
-use lib.Bits.{bitXor, differ, xor-step, xor-comm, xor-zero-l, xor-zero-r, xor-self, xor-lt, xor-block, xor-shr, xor-mod}
+use lib.Bits.{bitXor, differ, xor-step, xor-comm, xor-zero-l, xor-zero-r, xor-self, xor-block, xor-shr, xor-mod}
 use lib.Dec.{lit<}
 
 -- what holds of 0 and of 1 holds of each remainder by 2

@@ -1,1 +1,1 @@
-// The laws of exclusive or, and of rules that hold over a whole table (see proofs/); they stand on nothing. No code is here.
+// The laws of exclusive or, of tests, and of rules that hold over a whole table (see proofs/); they stand on nothing. No code is here.

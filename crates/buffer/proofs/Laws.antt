@@ -5,7 +5,7 @@ use mathlib.Core.List.{List, [], _∷_, _++_, append-assoc, append-nil}
 use native.Mathlib.Omega.{arith}
 use native.Mathlib.Numerals.{add-one}
 use native.Mathlib.Nat.{add-zero, add-assoc}
-use lib.ListN.{length, take, drop, getD, set, replicate, take-append-drop, drop-of-length-le, length-drop, length-append}
+use lib.ListN.{length, take, drop, getD, set, replicate, take-append-drop, drop-of-length-le, length-drop, length-append, length-set}
 use lib.Seq.{drop-cons, drop-drop, take-at, length-take-le, drop-append-add, set-split}
 use Rattle.buffer.specs.Buffer.{putAt}
 
@@ -59,12 +59,31 @@ put-one l k v h = set-split l k v h ∙ rw (add-one k) (sym (append-assoc (take 
 pub put-cons : (l w : List ℕ) (k v : ℕ) → k < length l → putAt (set l k v) (k + 1) w ≡ putAt l k (v ∷ w)
 put-cons l w k v h = put-then l (set l k v) (putAt (set l k v) (k + 1) w) (v ∷ []) w k (k + 1) (omega arith) refl (put-one l k v h) refl
 
--- a turn of a copy: the first of the bytes that are left is stored
-pub put-turn : (l₀ l s : List ℕ) (at j v : ℕ) → at + j < length l → j < length s → v ≡ getD s j 0 → putAt l (at + j) (drop j s) ≡ putAt l₀ at s
-    → putAt (set l (at + j) v) (at + (j + 1)) (drop (j + 1) s) ≡ putAt l₀ at s
-put-turn l₀ l s at j v h more e i =
+-- ---- a copy, entry by entry
+
+-- a turn stores the first of the entries that are left; w is what the whole comes to
+pub put-turn : (w l s : List ℕ) (k j v : ℕ) → k < length l → j < length s → v ≡ getD s j 0 → putAt l k (drop j s) ≡ w → putAt (set l k v) (k + 1) (drop (j + 1) s) ≡ w
+put-turn w l s k j v h more e i = rw (add-one j) (put-cons l (drop (suc j) s) k v h ∙ rw (e, ← drop-cons s j 0 more) i)
+
+pub put-end : (w l s : List ℕ) (k j : ℕ) → length s ≤ j → putAt l k (drop j s) ≡ w → l ≡ w
+put-end w l s k j all i =
+    let e : drop j s ≡ [] = drop-of-length-le s all in
+    sym (put-nil l k) ∙ rw e at i
+
+-- j entries of s are at their places
+abbrev pub Copied : List ℕ → ℕ → List ℕ → List ℕ → ℕ → Type 0
+Copied l₀ at s l j = (j ≤ length s) × (putAt l (at + j) (drop j s) ≡ putAt l₀ at s) × (length l ≡ length l₀)
+
+pub copy-start : (l s : List ℕ) (at : ℕ) → Copied l at s l 0
+copy-start l s at = (omega arith, rw add-zero refl, refl)
+
+pub copy-turn : (l₀ l s : List ℕ) (at j v : ℕ) → at + length s ≤ length l₀ → j < length s → v ≡ getD s j 0 → Copied l₀ at s l j → Copied l₀ at s (set l (at + j) v) (j + 1)
+copy-turn l₀ l s at j v room more e (b, i, n) =
     let k : at + (j + 1) ≡ at + j + 1 = omega arith in
-    rw (k, add-one j) (put-cons l (drop (suc j) s) (at + j) v h ∙ rw (e, ← drop-cons s j 0 more) i)
+    (omega arith, rw k (put-turn (putAt l₀ at s) l s (at + j) j v (omega arith) more e i), simp length-set n)
+
+pub copy-end : (l₀ l s : List ℕ) (at j : ℕ) → length s ≤ j → Copied l₀ at s l j → l ≡ putAt l₀ at s
+copy-end l₀ l s at j all (b, i, n) = put-end (putAt l₀ at s) l s (at + j) j all i
 
 -- the first bytes kept, and more after them
 pub put-front : (l w : List ℕ) (k : ℕ) → k ≤ length l → putAt l k w ≡ putAt l 0 (take k l ++ w)

@@ -1,9 +1,8 @@
 -- Bits and bursts, computed.
 use mathlib.Core.Path.{_≡_, refl}
 use mathlib.Core.List.{List, [], _∷_, _++_}
-use Prim.Native.Nat.{ℕ, zero, suc, _+_, _/_, _%_, _<_, _≤_}
-use native.Mathlib.Omega.{arith}
-use lib.ListN.{getD, replicate}
+use Prim.Native.Nat.{ℕ, zero, suc, _+_, _/_, _%_}
+use lib.ListN.{replicate}
 use Rattle.crc.specs.Crc.{crcBit, crcBits, crcByte, crcFrom}
 use Rattle.burst.specs.Burst.{topBits, bitsOf}
 

@@ -1,10 +1,10 @@
 -- Document 02, Ask 12: a burst in a piece with its CRC byte is always found, whatever the register starts at.
 use mathlib.Core.Path.{_≡_, refl, sym, ap, _∙_}
 use mathlib.Core.List.{List, [], _∷_, _++_}
-use Prim.Native.Nat.{ℕ, zero, suc, _+_, _*_, _/_, _%_, _<_, _≤_}
+use Prim.Native.Nat.{ℕ, zero, suc, _+_, _*_, _/_, _%_}
 use native.Mathlib.Omega.{arith}
 use lib.Bits.{bitXor, xor-zero-r, xor-self}
-use lib.ListN.{length, getD, length-append}
+use lib.ListN.{length, getD}
 use Rattle.crc.specs.Crc.{divisor, crcBit, crcBits, crcByte, crcFrom}
 use Rattle.bits.proofs.Xor.{mod-xor}
 use Rattle.burst.specs.Burst.{topBits, bitsOf, Burst}

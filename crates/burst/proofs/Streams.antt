@@ -1,15 +1,15 @@
 -- The CRC bit by bit: two streams from one register that differ in at most eight bits in a row leave different registers.
 use mathlib.Core.Path.{_≡_, refl, sym, ap, ap₂, _∙_}
 use mathlib.Core.List.{List, [], _∷_, _++_}
-use Prim.Native.Nat.{ℕ, zero, suc, _+_, _*_, _/_, _%_, _^_, _<_, _≤_}
+use Prim.Native.Nat.{ℕ, zero, suc, _+_, _*_, _/_, _%_, _<_, _≤_}
 use native.Mathlib.Omega.{arith}
-use native.Mathlib.Nat.{zero-add, zero-mul, not-suc-le-zero, le-of-suc-le-suc, mod-lt}
+use native.Mathlib.Nat.{zero-add, not-suc-le-zero, le-of-suc-le-suc}
 use native.Mathlib.Decide.{ℕ-discrete}
-use lib.Bits.{bitXor, differ, xor-zero-l, xor-zero-r, xor-self, xor-lt, xor-shr, xor-mod}
-use lib.Dec.{lit<, lit≤}
+use lib.Bits.{bitXor, xor-zero-l, xor-zero-r, xor-self, xor-lt, xor-shr, xor-mod}
+use lib.Dec.{lit≤}
 use lib.ListN.{length, getD}
 use Rattle.crc.specs.Crc.{divisor, crcBit, crcBits, crcByte, crcFrom}
-use Rattle.bits.proofs.Xor.{by-bit, xor-assoc, xor-swap, bit-times, double, mod-xor}
+use Rattle.bits.proofs.Xor.{by-bit, xor-assoc, xor-swap, bit-times, double}
 use Rattle.burst.specs.Burst.{topBits, bitsOf}
 
 -- ---- bits into the register, one by one

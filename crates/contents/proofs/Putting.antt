@@ -1,11 +1,10 @@
 -- Lists put one after the other, and pieces of known lengths.
 use mathlib.Core.Path.{_≡_, refl, sym, ap, ap₂, _∙_}
 use mathlib.Core.List.{List, [], _∷_, _++_, map, append-assoc}
-use Prim.Native.Nat.{ℕ, zero, suc, _+_, _-_, _<_, _≤_}
+use Prim.Native.Nat.{ℕ, suc, _+_, _-_, _≤_}
 use native.Mathlib.Omega.{arith}
-use native.Mathlib.Nat.{zero-add}
-use lib.ListN.{length, take, drop, replicate, length-append, length-drop}
-use lib.Seq.{length-take-le, take-at}
+use lib.ListN.{length, take, drop, length-append, length-drop}
+use lib.Seq.{length-take-le}
 use Rattle.buffer.specs.Buffer.{putAt}
 use Rattle.buffer.proofs.Laws.{put-then}
 use Rattle.layout.specs.Locators.{locatorSize, locatorBytes}
@@ -13,7 +12,7 @@ use Rattle.layout.proofs.LocatorLaw.{length-locators}
 use Rattle.pieces.proofs.Cutting.{length-from}
 use Rattle.crc.specs.Crc.{crcFrom}
 use Rattle.pieces.specs.Pieces.{cutBy, withCrc, pieceBytes, locatorsFrom, total}
-use Rattle.contents.specs.Contents.{firstPiece, locatorsOf, contents}
+use Rattle.contents.specs.Contents.{contents}
 
 pub four-puts : (z l1 l2 l3 l4 a b x d : List ℕ) (m p q : ℕ) → 8 + length a + length b + length x + length d ≤ length z → m ≡ 8 + length a → p ≡ m + length b → q ≡ p + length x
     → l1 ≡ putAt z 8 a → l2 ≡ putAt l1 m b → l3 ≡ putAt l2 p x → l4 ≡ putAt l3 q d → l4 ≡ putAt z 8 (a ++ (b ++ (x ++ d)))

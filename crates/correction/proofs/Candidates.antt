@@ -16,20 +16,18 @@ use Rattle.field.proofs.Laws.{mul-lt, pow-lt}
 use Rattle.algebra.specs.Places.{All, below, keep}
 use Rattle.algebra.proofs.Places.{kept, kept-below, kept-fall, all-getD, Split, split}
 use Rattle.algebra.proofs.Field.{Field, add-self-left}
-use Rattle.algebra.proofs.PowerSums.{powerSum, Distinct}
 use Rattle.algebra.proofs.Polynomials.{monic, combine}
 use Rattle.algebra.proofs.ErrorValues.{strip, factor}
 use Rattle.algebra.proofs.Erasures.{withMarks, marks-length, marked}
 use Rattle.algebra.proofs.Codes.{zero?, CodeWord, sumAt, zeros, few-zeros, right-elsewhere, right-value}
 use Rattle.algebra.proofs.Gf256.{GF, Byte, plus, times, el, el-add, el-one-one, point}
-use Rattle.header.specs.Header.{sumUp, term, syndrome, syndromes, isCodeWord, distance}
+use Rattle.header.specs.Header.{sumUp, term, syndrome, syndromes}
 use Rattle.header.proofs.CodeWords.{Bytes, syndromes-at, syndromes-length}
-use Rattle.header.proofs.Distances.{all-at}
 use Rattle.header.proofs.Unique.{word, apart, points, syndrome-power, code-word-sound, all-bytes, bytes-all}
 use Rattle.correction.specs.Marks.{unmarkedDistance, Within, CandidateWith, spare}
 use Rattle.elimination.specs.Elimination.{Solved, systemRow, systemOf, unknowns, rightSide, besideRow, beside, entry}
 use Rattle.correction.specs.ErrorPlaces.{located, Search}
-use Rattle.correction.specs.ErrorValues.{entries, stripped, product, others, unlessSame, pointsOf, valueAt, DistinctPlaces, Repaired, Stripped}
+use Rattle.correction.specs.ErrorValues.{entries, stripped, product, others, pointsOf, valueAt, DistinctPlaces, Repaired, Stripped}
 use Rattle.correction.proofs.Filtering.{others-split}
 use Rattle.elimination.proofs.Solving as solving
 use Rattle.correction.proofs.Locating.{locatorFrom, locator-length, locator-kills, places-zeros, few-weights, strip-el, value-el, error-value-lt}

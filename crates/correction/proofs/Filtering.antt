@@ -6,7 +6,7 @@ use native.Mathlib.Omega.{arith}
 use native.Mathlib.Numerals.{add-one}
 use native.Mathlib.Decide.{ℕ-discrete, decLt}
 use lib.ListN.{length, getD, set, take, length-set, length-append, List·getD-eq-default}
-use lib.Seq.{getD-set-same, getD-set-other, take-suc, take-length, length-take-le}
+use lib.Seq.{getD-set-same, getD-set-other, take-suc, length-take-le}
 use lib.Bits.{bitXor, xor-lt}
 use lib.Dec.{lit<}
 use Rattle.field.specs.Field.{mul, inverse, pow}

@@ -1,11 +1,11 @@
 -- From bytes to the field: the locator kills the syndromes, its zeros are those found, and the error value is the formula's.
 use mathlib.Core.Path.{_≡_, refl, sym, _∙_, ap}
 use mathlib.Core.Bool.{Bool, true, false, not, _||_, true≢false}
-use mathlib.Core.List.{List, [], _∷_, _++_, map}
+use mathlib.Core.List.{List, [], _∷_, map}
 use Prim.Native.Nat.{ℕ, zero, suc, _+_, _-_, _<_, _≤_}
 use native.Mathlib.Omega.{arith}
 use native.Mathlib.Decide.{decLt}
-use lib.ListN.{length, getD, set, length-append}
+use lib.ListN.{length, getD}
 use lib.Bits.{bitXor, xor-lt}
 use lib.Dec.{eqb, lit<}
 use borrow.Author.Tests.{eqb-true, eqb-false}
@@ -13,9 +13,9 @@ use Rattle.field.specs.Field.{mul, inverse, pow}
 use Rattle.field.proofs.Laws.{mul-lt, inverse-lt, pow-lt}
 use Rattle.algebra.specs.Places.{All, below, keep}
 use Rattle.algebra.proofs.Places.{one}
-use Rattle.algebra.proofs.Field.{Field, ring, mul-one, mul-zero, mul-inv-cancel, law-add-self, law-mul-comm, law-mul-assoc}
+use Rattle.algebra.proofs.Field.{Field, mul-one, mul-zero, mul-inv-cancel, law-add-self, law-mul-comm, law-mul-assoc}
 use Rattle.algebra.proofs.Polynomials.{combine, monic}
-use Rattle.algebra.proofs.Elimination.{Kills, column, length-column, combine-agree, combine-shift}
+use Rattle.algebra.proofs.Elimination.{Kills, column, combine-agree, combine-shift}
 use Rattle.algebra.proofs.ErrorValues.{strip, factor, factor-off, weigh, weigh-factor}
 use Rattle.algebra.proofs.Erasures.{withMarks, marks-monic}
 use Rattle.algebra.proofs.Codes.{zero?, zero-true, true-zero}

@@ -3,7 +3,7 @@ use mathlib.Core.Path.{_≡_, refl, sym, _∙_, ap, subst}
 use mathlib.Core.Bool.{Bool, true, false, not, _||_, cond}
 use mathlib.Core.List.{List, [], _∷_}
 use mathlib.Core.Option.{Option, none, some}
-use Prim.Native.Nat.{ℕ, zero, suc, _+_, _-_, _*_, _/_, _<_, _≤_}
+use Prim.Native.Nat.{ℕ, suc, _+_, _-_, _*_, _<_, _≤_}
 use native.Mathlib.Omega.{arith}
 use lib.Dec.{eqb}
 use lib.ListN.{length, getD, set, length-set}
@@ -12,9 +12,9 @@ use borrow.Author.Tests.{eqb-true, eqb-false, eq-eqb}
 use Rattle.algebra.specs.Places.{All, below, keep}
 use Rattle.algebra.proofs.Places.{one}
 use Rattle.header.specs.Header.{isCodeWord, distance}
-use Rattle.header.proofs.Distances.{distance-set, all-set}
+use Rattle.header.proofs.Distances.{count, triangle-step, distance-set, all-set}
 use Rattle.header.proofs.Unique.{all-bytes, code-words-apart}
-use Rattle.correction.specs.Correction.{near, atPlace, Near}
+use Rattle.correction.specs.Correction.{near, Near}
 use Rattle.correction.specs.Marks.{isMarked, unmarkedDistance, Within, CandidateWith, atMarks, spare, correctedWith, adopted}
 use Rattle.correction.proofs.Counting.{keep-same, keep-sum, keep-le, keep-none, distance-count}
 use Rattle.correction.proofs.Nearest.{place-hit, place-none, near-sound, near-complete}
@@ -68,19 +68,13 @@ adopted-close (i ∷ marks) b c =
 
 -- ---- at most one code word within reach
 
+unequal : (b : Bool) → count b 0 ≡ one (not b)
+unequal true = refl
+unequal false = refl
+
 triangle-test : (m : Bool) (x y z : ℕ) → one (not (m || eqb y z)) ≤ one (not (m || eqb x y)) + one (not (m || eqb x z))
 triangle-test true x y z = omega arith
-triangle-test false x y z = go (eqb x y) refl (eqb x z) refl (eqb y z) refl
-  where
-    go : (a : Bool) → eqb x y ≡ a → (b : Bool) → eqb x z ≡ b → (c : Bool) → eqb y z ≡ c → one (not c) ≤ one (not a) + one (not b)
-    go true p true q true r = omega arith
-    go true p true q false r = absurd (eqb-false y z r (sym (eqb-true x y p) ∙ eqb-true x z q))
-    go true p false q true r = omega arith
-    go true p false q false r = omega arith
-    go false p true q true r = omega arith
-    go false p true q false r = omega arith
-    go false p false q true r = omega arith
-    go false p false q false r = omega arith
+triangle-test false x y z = rw (← unequal (eqb y z), ← unequal (eqb x y), ← unequal (eqb x z)) (triangle-step x y z 0 0 0 (omega arith))
 
 pub unmarked-triangle : (marks w b c : List ℕ) → length b ≡ length w → unmarkedDistance marks b c ≤ unmarkedDistance marks w b + unmarkedDistance marks w c
 unfolding unmarkedDistance

@@ -1,20 +1,18 @@
 -- Document 02, Ask 3, over the call: with a list of s marked places, a PDU's header is corrected to the one code word for which
 -- twice the differing unmarked bytes plus s is at most eight, and refused with 4 exactly when there is none. With no mark that
 -- is document 00, demand 2: the one code word within four bytes.
-use mathlib.Core.Path.{_≡_, refl, sym, _∙_, ap, subst}
-use mathlib.Core.Bool.{Bool, true, false, true≢false, cond}
+use mathlib.Core.Path.{_≡_, refl, sym, _∙_, ap}
+use mathlib.Core.Bool.{Bool, true, false, true≢false}
 use mathlib.Core.List.{List, [], _++_}
 use mathlib.Core.Option.{Option, none, some}
 use Prim.Native.Nat.{ℕ, _<_, _≤_}
-use native.Mathlib.Omega.{arith}
-use lib.Dec.{eqb}
 use lib.ListN.{length, getD, take, drop}
 use lib.Seq.{length-take-le}
 use Rattle.algebra.specs.Places.{All}
-use Rattle.header.specs.Header.{lengthRefusal, distance}
+use Rattle.header.specs.Header.{lengthRefusal}
 use Rattle.header.proofs.Unique.{all-take}
 use Rattle.header.proofs.Lengths.{length-allowed}
-use Rattle.correction.specs.Correction.{Near, answerFor, headerAfter, correctionOf, correctedPdu}
+use Rattle.correction.specs.Correction.{answerFor, headerAfter}
 use Rattle.correction.specs.Corrects.{Corrects, CorrectsWith}
 use Rattle.correction.specs.Marks.{marksRefusal, Within, correctedWith, correctionWith, correctedPduWith}
 use Rattle.correction.specs.declared.Correction.{Correction}

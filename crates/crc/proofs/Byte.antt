@@ -1,11 +1,11 @@
 -- Eight bits of a byte into the register are eight shifts of the sum of both.
-use mathlib.Core.Path.{_≡_, _∙_, refl, ap, ap₂, sym}
-use Prim.Native.Nat.{ℕ, zero, suc, _+_, _*_, _/_, _%_, _<_}
+use mathlib.Core.Path.{_≡_, _∙_, refl, ap, sym}
+use Prim.Native.Nat.{ℕ, zero, suc, _*_, _/_, _%_}
 use native.Mathlib.Omega.{arith}
-use lib.Bits.{bitXor, xor-zero-r, xor-shr, xor-mod, xor-lt}
+use lib.Bits.{bitXor, xor-zero-r, xor-shr, xor-mod}
 use Rattle.crc.specs.Crc.{divisor, crcBit, crcBits, crcByte}
 use Rattle.crc.specs.Ring.{shiftOne, shifts}
-use Rattle.bits.proofs.Xor.{xor-swap, bit-times, double, mod-xor}
+use Rattle.bits.proofs.Xor.{xor-swap, double, mod-xor}
 
 -- a bit of b into r, with the rest of b beside: as one shift of both together
 one-bit : (r b : ℕ) → bitXor (crcBit r (b / 128 % 2)) (b % 128 * 2) ≡ shiftOne (bitXor r b)

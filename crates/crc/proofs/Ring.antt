@@ -2,12 +2,12 @@
 use mathlib.Core.Path.{_≡_, refl, sym, ap, ap₂, _∙_, subst}
 use mathlib.Core.List.{List, [], _∷_}
 use Prim.Native.Nat.{ℕ, zero, suc, _+_, _-_, _*_, _/_, _%_, _^_, _<_, _≤_}
-use native.Mathlib.Nat.{zero-add, suc-add, add-suc, add-comm, pow-suc, pow-le-pow-right, mod-lt, lt-of-lt-of-le, not-suc-le-zero}
+use native.Mathlib.Nat.{zero-add, suc-add, add-suc, add-comm, suc-mul, mul-le-mul-right, pow-suc, pow-le-pow-right, mod-lt, lt-of-lt-of-le, not-suc-le-zero}
 use native.Mathlib.Omega.{arith}
 use lib.Bits.{bitXor, bitOr, or-shifted-r, xor-comm, xor-lt, xor-shr, xor-mod, xor-zero-l, xor-zero-r, xor-shifted, shifted-half, shifted-even}
 use mathlib.Core.Bool.{cond}
 use lib.Dec.{lit<, lit≤, eqb}
-use lib.Pow.{shl-lt}
+use lib.Pow.{pow-pos, pow-add, shl-lt, shr-lt}
 use lib.ListN.{length, getD, drop, drop-of-length-le}
 use lib.Seq.{drop-cons}
 use Rattle.bits.proofs.Xor.{by-bit, xor-assoc, xor-swap, bit-times, double}
@@ -428,12 +428,15 @@ drop-more l i h = (let e : suc i ≡ i + 1 = omega arith in drop-cons l i 0 h �
 drop-next : (l : List ℕ) (i k : ℕ) → i + k < length l → drop (i + k) l ≡ getD l (i + k) 0 ∷ drop (i + (k + 1)) l
 drop-next l i k h = (let e : i + k + 1 ≡ i + (k + 1) = omega arith in drop-more l (i + k) h ∙ ap (λ (m : ℕ). getD l (i + k) 0 ∷ drop m l) e)
 
+-- c bits above k others
+pub sum-fits : (k c x y : ℕ) → y < 2 ^ k → x % 2 ^ c * 2 ^ k + y < 2 ^ (c + k)
+sum-fits k c x y h =
+    let p : suc (x % 2 ^ c) * 2 ^ k ≤ 2 ^ c * 2 ^ k = mul-le-mul-right (2 ^ k) (mod-lt x (pow-pos c)) in
+    omega (arith, p, h, suc-mul (x % 2 ^ c) (2 ^ k), pow-add 2 c k)
+
 word-lt : (l : List ℕ) (i : ℕ) → Bytes l → wordAt l i < 18446744073709551616
 unfolding wordAt up
-word-lt l i hb = (let p : getD l (i + 7) 0 < 256 = hb (i + 7) in under _ (getD l (i + 7) 0) p)
-  where
-    under : (x y : ℕ) → y < 256 → x % 72057594037927936 * 256 + y < 18446744073709551616
-    under x y h = (let q : x % 72057594037927936 < 72057594037927936 = mod-lt x (lit< tt) in omega arith)
+word-lt l i hb = sum-fits 8 56 _ (getD l (i + 7) 0) (hb (i + 7))
 
 pub word-step : (l : List ℕ) (i r : ℕ) → i + 8 ≤ length l → Bytes l
     → horner r (drop i l) ≡ horner (bitXor (shifts 64 r) (red 64 (wordAt l i))) (drop (i + 8) l)
@@ -452,23 +455,9 @@ word-step l i r h hb =
 
 -- ---- sums that fit
 
-pub high-fits : (x y : ℕ) → y < 18446744073709551616 → x % 72057594037927936 * 256 + y / 72057594037927936 < 18446744073709551616
-high-fits x y h =
-    let p : x % 72057594037927936 < 72057594037927936 = mod-lt x (lit< tt) in
-    let q : y / 72057594037927936 < 256 = omega arith in
-    sum-fits (x % 72057594037927936) (y / 72057594037927936) p q
-  where
-    sum-fits : (m n : ℕ) → m < 72057594037927936 → n < 256 → m * 256 + n < 18446744073709551616
-    sum-fits m n hm hn = omega arith
-
-pub next-fits : (x y : ℕ) → y < 18446744073709551616 → x % 9223372036854775808 * 2 + y / 9223372036854775808 < 18446744073709551616
-next-fits x y h =
-    let p : x % 9223372036854775808 < 9223372036854775808 = mod-lt x (lit< tt) in
-    let q : y / 9223372036854775808 < 2 = omega arith in
-    sum-fits (x % 9223372036854775808) (y / 9223372036854775808) p q
-  where
-    sum-fits : (m n : ℕ) → m < 9223372036854775808 → n < 2 → m * 2 + n < 18446744073709551616
-    sum-fits m n hm hn = omega arith
+-- moved up by k bits, those of another number below
+pub high-fits : (k c x y : ℕ) → y < 2 ^ (k + c) → x % 2 ^ c * 2 ^ k + y / 2 ^ c < 2 ^ (c + k)
+high-fits k c x y h = sum-fits k c x (y / 2 ^ c) (shr-lt k c h)
 
 -- ---- the loops
 
@@ -543,41 +532,13 @@ first-taken g h b hh hb inv n zero z = inv
 first-taken g h b hh hb inv n (suc zero) z = word-again g b h 0 0 hh (lit< tt) hb inv n
 first-taken g h b hh hb inv n (suc (suc k)) z = (let e : suc k ≤ 0 = omega arith in absurd (not-suc-le-zero e))
 
-pub low-fits : (l b : ℕ) → b < 256 → l % 72057594037927936 * 256 + b < 18446744073709551616
-low-fits l b h = (let p : l % 72057594037927936 < 72057594037927936 = mod-lt l (lit< tt) in go (l % 72057594037927936) p)
-  where
-    go : (m : ℕ) → m < 72057594037927936 → m * 256 + b < 18446744073709551616
-    go m hm = omega arith
+-- the highest k bits, times 2
+pub top-fits : (k c h : ℕ) → k ≤ 63 → h < 2 ^ (k + c) → h / 2 ^ c * 2 < 18446744073709551616
+top-fits k c h s b = lt-of-lt-of-le (shl-lt k 1 (shr-lt k c b)) (pow-le-pow-right (lit< tt) {i = k + 1} {j = 64} (omega arith))
 
-pub top-fits : (h : ℕ) → h < 18446744073709551616 → h / 72057594037927936 * 2 < 18446744073709551616
-top-fits h hh = (let q : h / 72057594037927936 < 256 = omega arith in omega arith)
-
-pub far-fits : (x y : ℕ) → y < 18446744073709551616 → x % 4611686018427387904 * 4 + y / 4611686018427387904 < 18446744073709551616
-far-fits x y h =
-    let p : x % 4611686018427387904 < 4611686018427387904 = mod-lt x (lit< tt) in
-    let q : y / 4611686018427387904 < 4 = omega arith in
-    sum-fits (x % 4611686018427387904) (y / 4611686018427387904) p q
-  where
-    sum-fits : (m n : ℕ) → m < 4611686018427387904 → n < 4 → m * 4 + n < 18446744073709551616
-    sum-fits m n hm hn = omega arith
-
-pub far-low-fits : (l : ℕ) → l % 4611686018427387904 * 4 < 18446744073709551616
-far-low-fits l = (let p : l % 4611686018427387904 < 4611686018427387904 = mod-lt l (lit< tt) in go (l % 4611686018427387904) p)
-  where
-    go : (m : ℕ) → m < 4611686018427387904 → m * 4 < 18446744073709551616
-    go m hm = omega arith
-
-pub two-fits : (h : ℕ) → h < 18446744073709551616 → h / 4611686018427387904 * 2 < 18446744073709551616
-two-fits h hh = (let q : h / 4611686018427387904 < 4 = omega arith in omega arith)
-
-pub next-low-fits : (l : ℕ) → l % 9223372036854775808 * 2 < 18446744073709551616
-next-low-fits l = (let p : l % 9223372036854775808 < 9223372036854775808 = mod-lt l (lit< tt) in go (l % 9223372036854775808) p)
-  where
-    go : (m : ℕ) → m < 9223372036854775808 → m * 2 < 18446744073709551616
-    go m hm = omega arith
-
-pub bit-fits : (h : ℕ) → h < 18446744073709551616 → h / 9223372036854775808 * 2 < 18446744073709551616
-bit-fits h hh = (let q : h / 9223372036854775808 < 2 = omega arith in omega arith)
+-- the lowest c bits moved up by k
+pub low-fits : (k c l : ℕ) → l % 2 ^ c * 2 ^ k < 2 ^ (c + k)
+low-fits k c l = shl-lt c k (mod-lt l (pow-pos c))
 
 -- ---- fewer than eight bytes, in 64 bits
 

@@ -50,7 +50,6 @@ use Rattle.delivery.proofs.Batching.{EachCopy, Handing, receiving, pair
 use Rattle.delivery.proofs.Copies.{struck-read}
 use Rattle.delivery.proofs.Lies.{Following}
 use Rattle.delivery.proofs.Counted.{adds-along}
-use Rattle.delivery.proofs.Examples.{second-missing}
 
 -- a PDU that can be received
 abbrev pub Usable : List ℕ → Type 0

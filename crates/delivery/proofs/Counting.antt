@@ -12,7 +12,6 @@ use Rattle.runs.specs.Spans.{packetAt}
 use Rattle.runs.proofs.Spans.{packet-past, packet-first, Stands}
 use Rattle.runs.proofs.Theorem.{cut-none, Unfinished}
 use Rattle.delivery.specs.Delivery.{alreadySent}
-use Rattle.delivery.proofs.Examples.{six-sent}
 
 pub bytes-total : (bs : List (List ℕ)) → total (map length bs) ≡ bytesIn bs
 unfolding total

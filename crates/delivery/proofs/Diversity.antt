@@ -35,7 +35,7 @@ use Rattle.diversity.specs.Diversity.{correctable, pairSaid, pairCome, frontOf,
 use Rattle.pair.proofs.Enough.{Passes, taken, passes-taken, passes-most}
 use Rattle.log.proofs.Same.{same-itself}
 use Rattle.runs.proofs.Events.{came, holderFor}
-use Rattle.diversity.proofs.AfterPair.{pairTold, pairWords, pairTally}
+use Rattle.diversity.proofs.AfterPair.{pairWords, pairTally}
 use Rattle.delivery.proofs.Parts.{answerOf}
 use Rattle.delivery.specs.Delivery.{Station, ofOne, stationAfter, loggedBy, defined, paired, receive}
 use Rattle.delivery.proofs.Copies.{same-slice}

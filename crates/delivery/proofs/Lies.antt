@@ -8,10 +8,10 @@ use native.Mathlib.Nat.{not-suc-le-zero, le-of-suc-le-suc}
 use borrow.Author.Tests.{lt-leb, ltb-true}
 use lib.Dec.{ltb, leb}
 use lib.ListN.{length, take, drop, replicate}
+use Rattle.bits.proofs.Tests.{both}
 use Rattle.runs.specs.Spans.{Fate, lose, read, Mark, verdicts, packetAt, Span, covers, lies, every, dueAt, wholeIndices}
 use Rattle.runs.proofs.Model.{Sized}
 use Rattle.delivery.specs.Delivery.{inReceived}
-use Rattle.delivery.proofs.Examples.{second-lost}
 
 -- received, with every piece taken, or lost
 abbrev pub fateBy : Bool → Fate
@@ -54,13 +54,9 @@ nothing-below zero (s ∷ ss) (b ∷ bs) g j f h =
 nothing-below (suc first) [] bs g j f h = refl
 nothing-below (suc first) (s ∷ ss) bs g j f h = nothing-below first ss bs (g + s .count) j (f .1) (omega arith)
 
-and-right : (a b : Bool) → (a && b) ≡ true → b ≡ true
-and-right true b e = e
-and-right false b e = absurd (let z : _≡_ {A = ℕ} 0 1 = cc in omega arith)
-
 -- a byte of this PDU is in none of those after it
 alone : (first : ℕ) (s : Span) (ss : List Span) (bs : List Bool) (g j : ℕ) → Following g (s ∷ ss) → covers s j ≡ true → inReceived (drop first ss) bs j ≡ false
-alone first s ss bs g j f e = nothing-below first ss bs (g + s .count) j (f .1) (let h = ltb-true j (s .from + s .count) (and-right (leb (s .from) j) _ e) in omega (arith, h, f .0))
+alone first s ss bs g j f e = nothing-below first ss bs (g + s .count) j (f .1) (let h = ltb-true j (s .from + s .count) (both (leb (s .from) j) _ e .1) in omega (arith, h, f .0))
 
 one : (b w more : Bool) (k : ℕ) (m : Mark) → (w ≡ true → more ≡ false) → m ≡ marked more → cond w (verdicts (fateBy b) k) m ≡ marked ((b && w) || more)
 one true true more k m h e = refl

@@ -1,7 +1,7 @@
 -- In which order a pair's rows are judged: 1 and 2 first, then 4 where neither can be corrected, else 5 to 12, then 20, then 13, then 27.
 use mathlib.Core.Path.{_≡_, refl, _∙_}
 use mathlib.Core.Bool.{true, false}
-use mathlib.Core.List.{List, [], _∷_, _++_}
+use mathlib.Core.List.{List, [], _∷_}
 use Prim.Native.Nat.{ℕ, _<_}
 use lib.Dec.{eqb, ltb}
 use lib.ListN.{length, drop}

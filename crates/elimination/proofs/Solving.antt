@@ -1,21 +1,20 @@
 -- The elimination as a whole: the polynomial that it finds makes a zero of each row that it was given.
 use mathlib.Core.Path.{_≡_, refl, sym, _∙_, ap}
-use mathlib.Core.List.{List, [], _∷_}
-use Prim.Native.Nat.{ℕ, zero, suc, _+_, _-_, _<_, _≤_}
+use mathlib.Core.List.{List, []}
+use Prim.Native.Nat.{ℕ, suc, _+_, _-_, _<_, _≤_}
 use native.Mathlib.Omega.{arith}
 use native.Mathlib.Numerals.{add-one}
 use native.Mathlib.Decide.{ℕ-discrete, decLt}
-use lib.ListN.{length, getD, set, length-set}
+use lib.ListN.{length, getD, set}
 use lib.Seq.{getD-set-same, getD-set-other}
-use lib.Bits.{bitXor, xor-lt, xor-zero-l}
+use lib.Bits.{xor-lt, xor-zero-l}
 use lib.Dec.{lit<}
 use Rattle.field.specs.Field.{mul, inverse}
 use Rattle.field.proofs.Laws.{mul-lt, mul-zero-l, inverse-lt}
-use Rattle.elimination.specs.Elimination.{Row, scaledBy, clearedBy, Pivot, Reduce, Column, entry, Chain, begun, next, Solved}
+use Rattle.elimination.specs.Elimination.{clearedBy, Pivot, Reduce, Column, entry, Chain, begun, next, Solved}
 use Rattle.algebra.proofs.Field.{Field}
-use Rattle.algebra.proofs.Polynomials.{combine}
 use Rattle.algebra.proofs.Elimination.{Kills, Reduced, Step, start, kills-step, reduced-step, kills-end, column, length-column}
-use Rattle.algebra.proofs.Gf256.{GF, Byte, plus, times, el, el-zero, el-add, el-mul, el-inv, el-one-one}
+use Rattle.algebra.proofs.Gf256.{GF, Byte, el, el-zero, el-add, el-mul, el-inv, el-one-one}
 
 pub chain-next : (m n n′ : List (List ℕ)) (k p : ℕ) → Chain m k n → k < 4 → ¬ (p ≡ 4) → length n ≡ 4 → Pivot n k p → Reduce n k p n′ → Chain m (k + 1) n′
 chain-next m n n′ k p ch kb d l v e = let h : p ≤ 4 = v .high in rw add-one (next p n′ ch kb (omega arith) l v e)

@@ -7,10 +7,10 @@ use Prim.Native.Nat.{ℕ, zero, suc, _+_, _*_, _<_, _≤_}
 use native.Mathlib.Decide.{decLt}
 use native.Mathlib.Omega.{arith}
 use lib.Bits.{bitXor}
-use lib.Dec.{T, eqb, eqb→eq, ltb, ltb→lt, lit<}
+use lib.Dec.{eqb, eqb→eq, ltb, ltb→lt, lit<}
 use borrow.Author.Tests.{eq-eqb}
-use lib.ListN.{length, getD, replicate, length-replicate, getD-replicate, List·getD-eq-default}
-use Rattle.bits.proofs.Computed.{below, at, every}
+use lib.ListN.{length, getD, replicate, getD-replicate, List·getD-eq-default}
+use Rattle.bits.proofs.Computed.{below, at}
 use Rattle.field.specs.Field.{timesA, mul, shift, pow}
 use Rattle.field.proofs.Laws.{mul-zero-l}
 use Rattle.algebra.specs.Places.{All}
@@ -31,7 +31,7 @@ use Rattle.header.proofs.Distances.{count, count-le, distance-self}
 use Rattle.header.specs.Horner.{value}
 use Rattle.header.proofs.Division.{syndrome-value}
 use Rattle.header.proofs.Unique.{bytes-all}
-use Rattle.correction.specs.Correction.{corrected, Near}
+use Rattle.correction.specs.Correction.{corrected}
 use Rattle.correction.proofs.Decoding.{corrected-some}
 use Rattle.examples.specs.Examples.{generatorWord, zeroing, chosen, Examples}
 

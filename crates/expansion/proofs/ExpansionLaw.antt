@@ -12,7 +12,7 @@ use lib.Seq.{take-take, drop-append-seam}
 use Rattle.expansion.specs.declared.Fields.{Fields}
 use Rattle.expansion.specs.declared.Interpreted.{Interpreted}
 use Rattle.expansion.specs.Expansion.{Field, class, program, ptype, services, septetsOf, septetsOfAll, chained, chainLength, expansionLength, septetsAt, known, moreBytes, fieldOf, before, fieldsFrom, nothing, absorbAll, interpretedAs, interpretation, expansionAt}
-use Rattle.expansion.specs.Writing.{classField, programField, typeField, servicesField, sentFields, expansionBytes, InRange, interpretedOf}
+use Rattle.expansion.specs.Writing.{programField, typeField, servicesField, sentFields, expansionBytes, InRange, interpretedOf}
 use Rattle.expansion.proofs.Interpreting.{skipped, said}
 use Rattle.expansion.proofs.Marks.{all-septets, length-chained, chain-found, septets-back}
 

@@ -1,16 +1,16 @@
 -- The interpretation of septets, field by field.
 use mathlib.Core.Path.{_≡_, refl, sym, ap, ap₂, _∙_}
-use mathlib.Core.Bool.{Bool, true, false, not, cond}
+use mathlib.Core.Bool.{true, false, not, cond}
 use mathlib.Core.List.{List, [], _∷_}
 use mathlib.Core.Option.{Option, none, some}
-use Prim.Native.Nat.{ℕ, zero, suc, _+_, _-_, _*_, _%_, _/_, _<_, _≤_}
+use Prim.Native.Nat.{ℕ, zero, suc, _+_, _-_, _/_, _<_, _≤_}
 use native.Mathlib.Numerals.{add-one}
 use native.Mathlib.Omega.{arith}
 use lib.Dec.{eqb, ltb}
 use lib.ListN.{length, getD, drop, length-drop, drop-of-length-le}
 use lib.Seq.{drop-cons, drop-drop, getD-drop}
 use borrow.Author.Tests.{lt-ltb, le-ltb, eq-eqb, ne-eqb}
-use Rattle.expansion.specs.Expansion.{Field, known, moreBytes, fieldOf, before, fieldsFrom, nothing, absorb, absorbAll, interpretedAs, interpretation, expansionLength, septetsAt, expansionAt}
+use Rattle.expansion.specs.Expansion.{Field, known, moreBytes, fieldOf, before, fieldsFrom, nothing, absorb, interpretedAs, interpretation, expansionLength, septetsAt, expansionAt}
 use Rattle.expansion.specs.declared.Interpreted.{Interpreted}
 
 outcome-before : (v : Interpreted) (f : Field) (o : Option (List Field)) → interpretedAs v (before f o) ≡ interpretedAs (absorb f v) o

@@ -1,15 +1,15 @@
 -- Bit 7 of the bytes that septets are written to.
 use mathlib.Core.Path.{_≡_, refl, sym, ap, _∙_}
-use mathlib.Core.Bool.{Bool, true, false, cond}
+use mathlib.Core.Bool.{true, false}
 use mathlib.Core.List.{List, [], _∷_, _++_, map, append-assoc}
 use mathlib.Core.Option.{none, some}
-use Prim.Native.Nat.{ℕ, zero, suc, _+_, _*_, _-_, _/_, _%_, _<_, _≤_}
+use Prim.Native.Nat.{ℕ, suc, _+_, _-_, _%_, _<_, _≤_}
 use native.Mathlib.Omega.{arith}
 use lib.Dec.{ltb}
 use lib.ListN.{length, getD, take, set, length-map}
 use lib.Seq.{length-take-le, take-set-lt, getD-take}
 use borrow.Author.Tests.{lt-ltb, le-ltb}
-use Rattle.expansion.specs.Expansion.{Field, class, program, ptype, services, septetsOf, septetsOfAll, chained, oneMore, chainLength}
+use Rattle.expansion.specs.Expansion.{Field, class, program, ptype, services, septetsOf, septetsOfAll, chained, chainLength}
 use Rattle.expansion.specs.Writing.{marked}
 
 -- every one is a septet

@@ -1,11 +1,11 @@
 -- The laws of the field. Every nonzero byte is a power of a, so products are sums of exponents.
-use mathlib.Core.Path.{_≡_, refl, sym, ap, ap₂, _∙_, subst}
+use mathlib.Core.Path.{_≡_, refl, sym, ap, _∙_, subst}
 use mathlib.Core.Bool.{Bool, true, false, cond, true≢false}
-use mathlib.Core.Logic.{⊎-elim, _⊎_, inl, inr}
-use Prim.Native.Nat.{ℕ, zero, suc, _+_, _-_, _*_, _/_, _%_, _^_, _<_, _≤_}
-use native.Mathlib.Nat.{mod-lt, mul-zero, add-zero, zero-add, suc-add, add-suc, add-comm, div-add-mod', not-suc-le-zero, eq-zero-or-pos, zero-mul, suc-mul}
+use mathlib.Core.Logic.{⊎-elim, _⊎_}
+use Prim.Native.Nat.{ℕ, zero, suc, _+_, _-_, _*_, _/_, _%_, _<_}
+use native.Mathlib.Nat.{zero-add, suc-add, add-comm, div-add-mod', not-suc-le-zero, eq-zero-or-pos, zero-mul, suc-mul}
 use native.Mathlib.Omega.{arith}
-use lib.Bits.{bitXor, xor-lt, xor-zero-l, xor-zero-r, xor-self}
+use lib.Bits.{bitXor, xor-self}
 use native.Mathlib.Decide.{ℕ-discrete}
 use lib.Dec.{eqb, eqb→eq, lit<}
 use borrow.Author.Tests.{eq-eqb, eqb-true}
@@ -13,7 +13,7 @@ use lib.ListN.{getD}
 use Rattle.field.specs.Field.{timesA, mulBits, mul, shift, pow, lastBelow, inverse}
 use Rattle.bits.proofs.Computed.{below}
 use Rattle.field.proofs.Linear.{timesA-add, timesA-zero, timesA-lt, mul-add-l, mul-add-r, mul-timesA}
-use Rattle.field.proofs.Tables.{logTable, log-lt, log-rule, pow-rule, pow-injective}
+use Rattle.field.proofs.Tables.{logTable, log-lt, log-rule, pow-injective}
 
 -- ---- times a power of a
 

@@ -1,12 +1,12 @@
 -- The tables of the code, and the test of each.
-use mathlib.Core.Path.{_≡_, _∙_, refl, ap, subst, sym}
-use mathlib.Core.Bool.{Bool, true, false}
+use mathlib.Core.Path.{_≡_, _∙_, refl, ap, sym}
+use mathlib.Core.Bool.{Bool, true}
 use mathlib.Core.List.{List, [], _∷_}
-use Prim.Native.Nat.{ℕ, zero, suc, _+_, _<_}
+use Prim.Native.Nat.{ℕ, zero, suc, _<_}
 use native.Mathlib.Nat.{le-of-suc-le-suc, not-suc-le-zero}
 use native.Mathlib.Omega.{arith}
-use lib.Dec.{T, eqb, ltb, eqb→eq, ltb→lt, lit<}
-use lib.ListN.{length, getD, take}
+use lib.Dec.{T, eqb, ltb, eqb→eq, ltb→lt}
+use lib.ListN.{getD, take}
 use lib.Seq.{getD-take}
 use Rattle.field.specs.Field.{timesA, shift, pow}
 use Rattle.bits.proofs.Computed.{both, both-left, both-right, at}

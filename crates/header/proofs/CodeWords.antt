@@ -1,31 +1,24 @@
 -- What a code word is, syndrome by syndrome.
 use mathlib.Core.Path.{_≡_, refl, sym, ap, ap₂, _∙_}
-use mathlib.Core.Bool.{Bool, true, false, _&&_, true≢false}
+use mathlib.Core.Bool.{true, _&&_}
 use mathlib.Core.List.{List, [], _∷_, map}
-use Prim.Native.Nat.{ℕ, zero, suc, _*_, _<_, _≤_}
+use Prim.Native.Nat.{ℕ, zero, suc, _<_}
 use native.Mathlib.Omega.{arith}
-use lib.Dec.{eqb, eqb→eq, lit<}
+use lib.Dec.{eqb, eqb→eq}
 use lib.ListN.{length, getD}
 use borrow.Author.Tests.{eqb-true, eq-eqb}
 use Rattle.bits.proofs.Computed.{below}
+use Rattle.bits.proofs.Tests.{both}
 use Rattle.header.specs.Header.{syndrome, syndromes, allZero, isCodeWord}
 
 -- every entry is a byte, and so is what stands for one past the end
 abbrev pub Bytes : List ℕ → Type 0
 Bytes w = (i : ℕ) → getD w i 0 < 256
 
-and-left : (a b : Bool) → (a && b) ≡ true → a ≡ true
-and-left true b e = refl
-and-left false b e = e
-
-and-right : (a b : Bool) → (a && b) ≡ true → b ≡ true
-and-right true b e = e
-and-right false b e = absurd (true≢false (sym e))
-
 pub all-zero-at : (l : List ℕ) → allZero l ≡ true → (k : ℕ) → k < length l → getD l k 0 ≡ 0
 all-zero-at [] e k h = absurd (omega arith)
-all-zero-at (x ∷ l) e zero h = eqb-true x 0 (and-left (eqb x 0) (allZero l) e)
-all-zero-at (x ∷ l) e (suc k) h = all-zero-at l (and-right (eqb x 0) (allZero l) e) k (omega arith)
+all-zero-at (x ∷ l) e zero h = eqb-true x 0 (both (eqb x 0) (allZero l) e .0)
+all-zero-at (x ∷ l) e (suc k) h = all-zero-at l (both (eqb x 0) (allZero l) e .1) k (omega arith)
 
 at-all-zero : (l : List ℕ) → ((k : ℕ) → k < length l → getD l k 0 ≡ 0) → allZero l ≡ true
 at-all-zero [] h = refl

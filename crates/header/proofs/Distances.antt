@@ -1,5 +1,5 @@
 -- Laws of the distance of two words.
-use mathlib.Core.Path.{_≡_, refl, sym, _∙_, ap}
+use mathlib.Core.Path.{_≡_, refl, sym, _∙_}
 use mathlib.Core.List.{List, [], _∷_, _++_}
 use mathlib.Core.Bool.{Bool, true, false, cond}
 use Prim.Native.Nat.{ℕ, zero, suc, _+_, _≤_, _<_}
@@ -70,7 +70,7 @@ distance-zero (x ∷ w) (y ∷ c) l e = go (eqb x y) refl e (λ p. distance-zero
     go true p z r = let h : x ≡ y = eqb-true x y p in let t : w ≡ c = r z in cc
     go false p z r = absurd (omega arith)
 
-triangle-step : (x y z : ℕ) (d e f : ℕ) → f ≤ d + e → count (eqb y z) f ≤ count (eqb x y) d + count (eqb x z) e
+pub triangle-step : (x y z : ℕ) (d e f : ℕ) → f ≤ d + e → count (eqb y z) f ≤ count (eqb x y) d + count (eqb x z) e
 triangle-step x y z d e f l = go (eqb x y) refl (eqb x z) refl (eqb y z) refl
   where
     go : (a : Bool) → eqb x y ≡ a → (b : Bool) → eqb x z ≡ b → (c : Bool) → eqb y z ≡ c → count c f ≤ count a d + count b e

@@ -2,18 +2,18 @@
 use mathlib.Core.Path.{_≡_, refl, sym, ap, ap₂, _∙_, subst}
 use mathlib.Core.Bool.{Bool, true}
 use mathlib.Core.List.{List, [], _∷_, _++_, map}
-use Prim.Native.Nat.{ℕ, zero, suc, _+_, _-_, _*_, _<_, _≤_}
-use native.Mathlib.Nat.{zero-mul, suc-mul, add-comm, le-of-suc-le-suc, not-suc-le-zero}
+use Prim.Native.Nat.{ℕ, zero, suc, _+_, _-_, _*_, _<_}
+use native.Mathlib.Nat.{zero-mul, suc-mul, add-comm}
 use native.Mathlib.Omega.{arith}
 use lib.Bits.{bitXor, xor-comm, xor-self, xor-zero-r, xor-lt}
-use lib.Dec.{T, eqb, eqb→eq, lit<}
-use lib.ListN.{length, getD, take, replicate, length-append}
+use lib.Dec.{eqb, eqb→eq, lit<}
+use lib.ListN.{length, getD, take, length-append}
 use lib.Seq.{ext-getD, slice}
 use Rattle.field.specs.Field.{timesA, mul, shift, pow}
 use Rattle.bits.proofs.Computed.{below}
 use Rattle.field.proofs.Linear.{mul-add-l}
 use Rattle.bits.proofs.Xor.{xor-assoc, xor-swap}
-use Rattle.field.proofs.Laws.{shift-xor, shift-zero, shift-add, shift-lt, mul-shift, mul-comm, mul-pow, mul-lt, mul-zero-l, mul-one-l, pow-lt}
+use Rattle.field.proofs.Laws.{shift-xor, shift-zero, shift-add, mul-shift, mul-comm, mul-pow, mul-lt, mul-zero-l, mul-one-l, pow-lt}
 use Rattle.header.specs.Header.{sumUp, term, syndrome, isCodeWord, exponents, tap, divideStep, remainder, parityOf}
 use Rattle.header.specs.Horner.{value}
 use Rattle.header.proofs.CodeWords.{Bytes, zero-code-word}

@@ -1,6 +1,5 @@
 -- Eight bytes in one number: sums and products of all of them at once, and the remainder that eight more bytes leave.
-use mathlib.Core.Path.{_≡_, refl, sym, ap, ap₂, _∙_, subst}
-use mathlib.Core.Bool.{Bool, true}
+use mathlib.Core.Path.{_≡_, refl, sym, ap, ap₂, _∙_}
 use mathlib.Core.List.{List, [], _∷_, _++_, map}
 use Prim.Native.Nat.{ℕ, zero, suc, _+_, _-_, _*_, _/_, _%_, _^_, _<_, _≤_}
 use native.Mathlib.Nat.{mod-lt, zero-mul, add-zero, suc-mul, add-comm}
@@ -14,7 +13,7 @@ use Rattle.field.specs.Field.{timesA, mulBits, mul, shift, pow}
 use Rattle.bits.proofs.Computed.{below}
 use Rattle.bits.proofs.Xor.{xor-assoc}
 use Rattle.field.proofs.Linear.{mul-add-l, mul-add-r, mul-timesA, timesA-lt}
-use Rattle.field.proofs.Laws.{mul-lt, mul-comm, mul-assoc, mul-one-l, mul-zero-l, mul-zero-r, mul-shift, shift-xor, shift-add, shift-zero, pow-lt}
+use Rattle.field.proofs.Laws.{mul-comm, mul-assoc, mul-one-l, mul-zero-l, mul-zero-r, mul-shift, shift-xor, shift-add, shift-zero, pow-lt}
 use Rattle.header.specs.Header.{exponents, tap, divideStep, remainder, parityOf, syndromes}
 use Rattle.header.specs.Horner.{value, values}
 use Rattle.header.specs.Packed.{pack, unpacked, lowCoefficients, timesAll, leftOf, LeftOver}

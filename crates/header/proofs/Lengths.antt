@@ -1,12 +1,12 @@
 -- Which PDU lengths are refused, and what a PDU of a length that is not has in its first 96 bytes.
-use mathlib.Core.Path.{_≡_, refl, sym, ap, ap₂, _∙_}
-use mathlib.Core.Bool.{Bool, true, false, _&&_, cond}
-use mathlib.Core.List.{List, [], _∷_, _++_, append-nil}
-use Prim.Native.Nat.{ℕ, zero, suc, _+_, _<_, _≤_}
+use mathlib.Core.Path.{_≡_, ap, _∙_}
+use mathlib.Core.Bool.{true, false}
+use mathlib.Core.List.{List, _++_, append-nil}
+use Prim.Native.Nat.{ℕ, _+_, _<_, _≤_}
 use native.Mathlib.Omega.{arith}
-use lib.Dec.{eqb, leb}
+use lib.Dec.{leb}
 use lib.ListN.{length, take, drop, replicate, drop-of-length-le}
-use lib.Seq.{slice, take-all, length-take-le}
+use lib.Seq.{take-all, length-take-le}
 use borrow.Author.Tests.{le-leb, lt-leb}
 use Rattle.header.specs.Header.{parityOf, headerOf, frontReplaced, lengthRefusal, withParity}
 

@@ -6,12 +6,11 @@ use mathlib.Core.List.{List, [], _∷_, _++_}
 use Prim.Native.Nat.{ℕ, zero, suc, _+_, _-_, _*_, _<_, _≤_}
 use native.Mathlib.Nat.{mul-suc, mul-zero, zero-add, suc-add}
 use native.Mathlib.Omega.{arith}
-use lib.Bits.{bitXor}
 use lib.Dec.{eqb, lit<}
 use lib.ListN.{length, getD, take, drop, length-append, length-drop}
 use lib.Seq.{ext-getD, slice, take-all, take-at, take-nil, take-append-add, length-take-le}
 use borrow.Author.Tests.{eqb-true, eqb-false}
-use Rattle.field.specs.Field.{mul, pow, shift}
+use Rattle.field.specs.Field.{pow, shift}
 use Rattle.field.proofs.Laws.{pow-add}
 use Rattle.algebra.specs.Places.{All, below, keep}
 use Rattle.algebra.proofs.Places.{one, front, all-join}

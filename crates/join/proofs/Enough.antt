@@ -9,7 +9,8 @@ use lib.ListN.{length, length-append}
 use borrow.Author.Tests.{lt-ltb, ltb-true, eqb-true, ne-eqb}
 use Rattle.log.specs.Log.{Entry, packet, psd, note, entryWords, logWords}
 use Rattle.join.specs.Join.{entriesOf, isLog, numbersOf, countedFrom, risingAfter, rising, outOfOrder, withBit29, partnerOf, sideBySide, resultWords, joinRefusal}
-use Rattle.join.proofs.Entries.{both, log-words}
+use Rattle.bits.proofs.Tests.{both}
+use Rattle.join.proofs.Entries.{log-words}
 
 -- ---- numbers that rise are distinct
 

@@ -1,25 +1,18 @@
 -- Words read as entries: reading undoes the layout, and what is read fits its bits.
-use mathlib.Core.Path.{_≡_, refl, sym, ap, ap₂, _∙_}
-use mathlib.Core.Bool.{Bool, true, false, _&&_, cond, true≢false}
+use mathlib.Core.Path.{_≡_, refl, ap, ap₂, _∙_}
+use mathlib.Core.Bool.{Bool, true, false, _&&_, cond}
 use mathlib.Core.List.{List, [], _∷_, _++_, append-nil}
 use Prim.Native.Nat.{ℕ, zero, suc, _+_, _/_, _%_, _<_, _≤_}
 use native.Mathlib.Omega.{arith}
 use lib.Dec.{eqb, leb, ltb}
 use lib.ListN.{length, take}
 use borrow.Author.Tests.{eq-eqb, ne-eqb, leb-true, ltb-true}
+use Rattle.bits.proofs.Tests.{both}
 use Rattle.log.specs.Log.{Entry, packet, psd, note, word, dataWord, dataWords, entryWords, logWords, kindOf, sameList, dataBytes}
 use Rattle.log.proofs.Packets.{Bytes, FitAll}
 use Rattle.log.proofs.Same.{same-itself, same-true}
 use Rattle.join.specs.Join.{dataOf, begunEntry, entriesOf, sized, allSized, isLog}
 use Rattle.join.proofs.Fields.{kind-of, high-of, low-of, number-of, data-kind, data-bytes, high-most, low-most, number-most}
-
-pub both : (a b : Bool) → (a && b) ≡ true → (a ≡ true) × (b ≡ true)
-both true b e = (refl, e)
-both false b e = absurd (true≢false (sym e))
-
-pub one-and : (a b : Bool) → a ≡ true → b ≡ true → (a && b) ≡ true
-one-and true b e f = f
-one-and false b e f = e
 
 -- ---- data words
 

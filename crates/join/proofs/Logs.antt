@@ -10,7 +10,8 @@ use Rattle.log.specs.Log.{Entry}
 use Rattle.log.proofs.Words.{log-append}
 use Rattle.log.proofs.Packets.{fit-append}
 use Rattle.join.specs.Join.{entriesOf, sized, allSized, isLog, numbersOf, outOfOrder, resultWords, joinRefusal}
-use Rattle.join.proofs.Entries.{both, one-and, words-log, log-words}
+use Rattle.bits.proofs.Tests.{both, one-and}
+use Rattle.join.proofs.Entries.{words-log, log-words}
 
 pub sized-append : (a b : List Entry) → allSized a ≡ true → allSized b ≡ true → allSized (a ++ b) ≡ true
 unfolding allSized

@@ -13,7 +13,8 @@ use Rattle.join.specs.Join.{high, low, entriesOf, sized, allSized, isLog
 use Rattle.join.specs.Scan.{headFitsAs, unusedZero, dataFits, fits, leftAfter, isRest}
 use Rattle.join.proofs.Fields.{kind-of, high-of, low-of, data-kind, data-high, data-low, from-fields, high-most, low-most, data-fields}
 use Rattle.join.proofs.Tests.{unused-one, right-count, packet-length, psd-length, note-fits, fits-head, fits-data, after-note, after-head, after-data, head-of}
-use Rattle.join.proofs.Entries.{both, one-and, words-log, log-words}
+use Rattle.bits.proofs.Tests.{both, one-and}
+use Rattle.join.proofs.Entries.{words-log, log-words}
 
 -- ---- the words of entries pass
 

@@ -13,7 +13,7 @@ use Rattle.reassembly.specs.Reassembly.{Piece, Said, Partial, nothing, beginnin
 use Rattle.reassembly.proofs.Laws.{delivered}
 use Rattle.reassembly.proofs.Fitting.{SanePieces}
 use Rattle.join.specs.Join.{sized, allSized}
-use Rattle.join.proofs.Entries.{one-and}
+use Rattle.bits.proofs.Tests.{one-and}
 use Rattle.layout.specs.Control.{pieceNumber}
 
 abbrev Filled : Entry → Type 0

@@ -15,7 +15,6 @@ use Rattle.joinable.specs.Joinable.{NeverRefused}
 use Rattle.joinable.proofs.Calls.{no-words, received-log, carry-bytes, lost-log}
 use Rattle.joinable.proofs.Batches.{batch-log}
 use Rattle.joinable.proofs.Pairs.{pair-log}
-use Rattle.joinable.proofs.Examples.{lost-counted}
 
 -- ---- a call: its log as far as its answer counts, and the carry after it
 

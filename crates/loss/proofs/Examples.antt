@@ -1,6 +1,6 @@
 -- The column after small logs, computed.
 use mathlib.Core.Path.{_≡_, refl}
-use mathlib.Core.List.{List, [], _∷_}
+use mathlib.Core.List.{[], _∷_}
 use Prim.Native.Nat.{ℕ}
 use Rattle.reassembly.specs.Tally.{Tally, noTally, counted}
 use Rattle.loss.specs.Column.{afterWord, afterWords}

@@ -1,15 +1,15 @@
 -- What the placing rule keeps: the pieces fit, they are within the count limit, they are parts of what is offered, and none is empty.
-use mathlib.Core.Path.{_≡_, refl, sym, ap, ap₂, subst, _∙_}
+use mathlib.Core.Path.{_≡_, refl, sym, _∙_}
 use mathlib.Core.Bool.{Bool, true, false, cond}
 use mathlib.Core.List.{List, [], _∷_, _++_}
-use Prim.Native.Nat.{ℕ, zero, suc, _+_, _*_, _/_, _-_, _<_, _≤_}
+use Prim.Native.Nat.{ℕ, zero, suc, _+_, _-_, _<_, _≤_}
 use native.Mathlib.Omega.{arith}
-use lib.Dec.{eqb, leb, T}
+use lib.Dec.{eqb, leb}
 use borrow.Author.Tests.{ne-eqb, leb-false, le-leb}
 use lib.ListN.{length}
 use Rattle.pieces.specs.Pieces.{total}
-use Rattle.packing.specs.Packing.{overhead, mostPieces, fit, wholesFrom, partAfter, partFrom, ifAny, pieceLengths, wholes, part}
-use Rattle.packing.proofs.Fitting.{fit-most, fit-room, fit-past, fit-within}
+use Rattle.packing.specs.Packing.{overhead, mostPieces, fit, wholesFrom, partAfter, partFrom, ifAny, pieceLengths, part}
+use Rattle.packing.proofs.Fitting.{fit-most, fit-room, fit-within}
 
 -- the bytes that are left of the packets offered
 abbrev pub left : ℕ → List ℕ → ℕ

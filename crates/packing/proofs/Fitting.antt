@@ -1,16 +1,12 @@
 -- What it means that pieces fit.
-use mathlib.Core.Path.{_≡_, refl, sym, subst}
-use mathlib.Core.Bool.{Bool, true, false, _&&_, cond}
-use Prim.Native.Nat.{ℕ, zero, suc, _+_, _*_, _/_, _-_, _<_, _≤_}
-use native.Mathlib.Omega.{arith}
+use mathlib.Core.Path.{_≡_}
+use mathlib.Core.Bool.{true, false}
+use Prim.Native.Nat.{ℕ, suc, _+_, _-_, _≤_}
 use native.Mathlib.Numerals.{add-one}
-use lib.Dec.{eqb, leb, T}
+use lib.Dec.{leb}
 use borrow.Author.Tests.{leb-true, le-leb}
+use Rattle.bits.proofs.Tests.{both}
 use Rattle.packing.specs.Packing.{overhead, mostPieces, fit, partAfter}
-
-both : (a b : Bool) → (a && b) ≡ true → (a ≡ true) × (b ≡ true)
-both true b e = (refl, e)
-both false b e = absurd (subst T (sym e) tt)
 
 module _ (width extra size k used : ℕ) where
   pub fit-most : fit width extra size k used ≡ true → k ≤ mostPieces width extra

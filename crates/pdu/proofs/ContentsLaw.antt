@@ -1,7 +1,7 @@
 -- Reading the locators, PSD and pieces that were written gives them.
 use mathlib.Core.Path.{_≡_, refl, sym, ap, ap₂, _∙_}
 use mathlib.Core.List.{List, [], _∷_, _++_, map, append-assoc}
-use Prim.Native.Nat.{ℕ, zero, suc, _+_, _-_, _<_, _≤_}
+use Prim.Native.Nat.{ℕ, zero, suc, _+_, _-_, _<_}
 use native.Mathlib.Omega.{arith}
 use lib.ListN.{length, getD, take, drop, length-append}
 use lib.Seq.{take-at, drop-at, getD-append-add}
@@ -11,7 +11,7 @@ use Rattle.layout.proofs.LocatorLaw.{roof, locator-law, length-locators}
 use Rattle.crc.specs.Crc.{crcFrom}
 use Rattle.pieces.specs.Pieces.{withCrc, pieceBytes, locatorsFrom}
 use Rattle.pieces.proofs.Cutting.{length-from}
-use Rattle.pdu.specs.Reading.{markAt, startAt, lengthAt}
+use Rattle.pdu.specs.Reading.{startAt, lengthAt}
 use Rattle.contents.specs.Contents.{firstPiece, locatorsOf, contents}
 
 -- where piece k starts, with the first at a place and these locators

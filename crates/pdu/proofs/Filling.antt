@@ -1,17 +1,17 @@
 -- Arrays of 64 entries, filled from the front.
-use mathlib.Core.Path.{_≡_, refl, sym, ap, ap₂, _∙_, subst}
+use mathlib.Core.Path.{_≡_, refl, sym, ap, ap₂, _∙_}
 use mathlib.Core.Bool.{Bool, true, false, _||_, cond, true≢false}
-use mathlib.Core.List.{List, [], _∷_}
+use mathlib.Core.List.{List, _∷_}
 use Prim.Native.Nat.{ℕ, zero, suc, _+_, _-_, _<_, _≤_}
 use native.Mathlib.Decide.{ℕ-discrete, decLt}
 use native.Mathlib.Omega.{arith}
-use lib.Dec.{eqb, ltb, leb}
-use lib.ListN.{length, getD, set, replicate, length-set, length-replicate, getD-replicate}
+use lib.Dec.{ltb, leb}
+use lib.ListN.{length, getD, set, replicate, length-set, getD-replicate}
 use lib.Seq.{getD-set-same, getD-set-other, ext-getD}
 use borrow.Author.Tests.{lt-ltb, le-ltb, ltb-false}
 use Rattle.layout.specs.Locators.{locatorAt}
 use Rattle.layout.specs.declared.ControlWord.{ControlWord}
-use Rattle.pdu.specs.Reading.{markAt, startAt, wrongLocator, anyBelow, filledFrom, filledTo}
+use Rattle.pdu.specs.Reading.{startAt, wrongLocator, anyBelow, filledFrom, filledTo}
 
 -- the first k entries are f's, the others 0
 pub record Filled (f : ℕ → ℕ) (k : ℕ) (s : List ℕ) : Type 0 where

@@ -1,18 +1,17 @@
 -- A PDU that holds contents which may be sent is accepted, and reading it gives them.
 use mathlib.Core.Path.{_≡_, refl, sym, ap, ap₂, subst, _∙_}
 use mathlib.Core.Bool.{Bool, true, false, not, _&&_, _||_, cond}
-use mathlib.Core.List.{List, [], _∷_, _++_, map, append-assoc}
+use mathlib.Core.List.{List, [], _∷_, _++_, append-assoc}
 use Prim.Native.Nat.{ℕ, zero, suc, _+_, _-_, _<_, _≤_}
 use native.Mathlib.Omega.{arith}
-use native.Mathlib.Decide.{ℕ-discrete}
-use lib.Dec.{eqb, ltb, leb, T}
-use borrow.Author.Tests.{lt-ltb, le-ltb, lt-leb, eq-eqb, ne-eqb, ltb-true, ltb-false, eqb-true}
+use lib.Dec.{eqb, ltb, leb}
+use borrow.Author.Tests.{le-ltb, lt-leb, eq-eqb, ltb-true, ltb-false, eqb-true}
 use lib.ListN.{length, getD, take, drop, length-append}
-use Rattle.refusal.specs.Refusal.{firstOf, anyOf}
+use Rattle.refusal.specs.Refusal.{firstOf}
 use Rattle.modes.specs.Modes.{listing, listingNumber}
 use Rattle.modes.specs.declared.Mode.{Mode}
 use Rattle.modes.specs.declared.Listing.{Listing}
-use Rattle.modes.specs.declared.Listing.the-variants.{Listed, Refused}
+use Rattle.modes.specs.declared.Listing.the-variants.{Listed}
 use Rattle.layout.specs.Control.{controlAt, controlBytes, InWidth}
 use Rattle.layout.specs.declared.ControlWord.{ControlWord}
 use Rattle.layout.specs.Locators.{locatorSize, locatorAt}
@@ -24,9 +23,8 @@ use Rattle.expansion.specs.declared.Fields.{Fields}
 use Rattle.expansion.specs.declared.Interpreted.{Interpreted}
 use Rattle.expansion.proofs.ExpansionLaw.{expansion-law, none-sent}
 use Rattle.correction.specs.Correction.{correctedPdu}
-use Rattle.crc.specs.Crc.{crcFrom}
 use Rattle.contents.specs.Contents.{firstPiece, locatorsOf, contents}
-use Rattle.pdu.specs.Reading.{afterLocators, expansionCount, fieldsOf, markAt, startAt, lengthAt, wrongLocator, anyBelow, wrongFlags, wrongLa, wrongDisplacement, readerTests, listingOf, modeIn, correctedTests, judged, widthOf, psdOf, answered, accepted, refused, readNumber, wrongOf, readingBy, readingOf, readPdu}
+use Rattle.pdu.specs.Reading.{afterLocators, expansionCount, fieldsOf, markAt, startAt, wrongLocator, anyBelow, wrongFlags, wrongLa, wrongDisplacement, readerTests, listingOf, modeIn, correctedTests, judged, widthOf, psdOf, answered, accepted, refused, readNumber, wrongOf, readingBy, readingOf, readPdu}
 use Rattle.pdu.specs.PieceRead.{PieceRead}
 use Rattle.pdu.specs.declared.Part.{Part}
 use Rattle.pdu.proofs.ContentsLaw.{locators-back, locators-below, written-length, expansion-back, psd-back, pieces-back}

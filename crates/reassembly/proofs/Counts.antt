@@ -4,7 +4,7 @@ use mathlib.Core.Path.{_≡_, refl, ap, sym, _∙_}
 use mathlib.Core.Bool.{Bool, true, false, cond}
 use mathlib.Core.List.{List, [], _∷_, _++_}
 use native.Mathlib.Omega.{arith}
-use native.Mathlib.Nat.{zero-add, add-zero, add-assoc}
+use native.Mathlib.Nat.{add-zero}
 use borrow.Author.Tests.{ltb-false, ne-eqb}
 use lib.Dec.{ltb, eqb, eqb·suc-zero}
 use lib.ListN.{length, getD, length-append}
@@ -12,7 +12,7 @@ use lib.Seq.{length-take-le}
 use Rattle.log.specs.Log.{Entry, packet, psd, note, logWords}
 use Rattle.log.proofs.Words.{entry-length, log-append}
 use Rattle.layout.specs.Control.{pieceNumber}
-use Rattle.reassembly.specs.Reassembly.{Piece, Partial, nothing, beginning, Outcome, dropped, kept, psdEntries, finished, joined, pieceStep, piecesStep, endsHere, continuingStep, contentsStep, received}
+use Rattle.reassembly.specs.Reassembly.{Piece, Partial, nothing, beginning, Outcome, dropped, kept, psdEntries, finished, joined, pieceStep, piecesStep, continuingStep, contentsStep, received}
 use Rattle.reassembly.specs.Rights.{under}
 use Rattle.reassembly.specs.Run.{partialBytes, partialOf, placeAt, lengthBy, pieceAt, pieceOf, piecesFrom, endsAt, Marked, psdBy, Parsed, saidOf, memoryBy, firstCause, begun}
 use Rattle.reassembly.specs.Tally.{Tally, counted, tallied}

@@ -7,7 +7,6 @@ use native.Mathlib.Omega.{arith}
 use borrow.Author.Tests.{ltb-false}
 use lib.Dec.{ltb, eqb}
 use lib.ListN.{length, length-append}
-use Rattle.log.specs.Log.{Entry}
 use Rattle.log.proofs.Packets.{Bytes, FitAll, fit-append}
 use Rattle.layout.specs.Control.{pieceNumber}
 use Rattle.reassembly.specs.Reassembly.{Piece, Said, Partial, nothing, beginning, Memory, Outcome, dropped, kept, inSequence, sequenceStep, beginningStep, psdEntries, finished, joined, pieceStep, endsHere, piecesStep, continuingStep, contentsStep, received}

@@ -1,6 +1,6 @@
 -- Laws of delivered and missing (document 02, Ask 14).
-use Prim.Native.Nat.{ℕ, suc, _+_, _*_, _%_, _≤_, _<_}
-use mathlib.Core.Path.{_≡_, refl, ap, _∙_}
+use Prim.Native.Nat.{ℕ, suc, _+_, _*_, _%_, _≤_}
+use mathlib.Core.Path.{_≡_, refl, ap}
 use mathlib.Core.Bool.{Bool, true, false, _||_, _&&_, cond}
 use mathlib.Core.List.{List, [], _∷_, _++_}
 use native.Mathlib.Omega.{arith}
@@ -10,7 +10,7 @@ use lib.ListN.{length, length-append}
 use Rattle.log.specs.Log.{Entry, packet, psd, note, packetsOf}
 use Rattle.log.proofs.Packets.{FitAll}
 use Rattle.layout.specs.Control.{pieceNumber}
-use Rattle.reassembly.specs.Reassembly.{Piece, Said, Partial, nothing, beginning, Memory, Outcome, dropped, kept, inSequence, sequenceStep, beginningStep, psdEntries, finished, joined, pieceStep, endsHere, piecesStep, continuingStep, contentsStep, received}
+use Rattle.reassembly.specs.Reassembly.{Piece, Said, Partial, nothing, beginning, Memory, Outcome, dropped, kept, inSequence, sequenceStep, beginningStep, finished, joined, pieceStep, endsHere, piecesStep, continuingStep, contentsStep, received}
 use Rattle.reassembly.specs.Tally.{Tally, gap, counted, tallied, Grows, Countable, passesLimit}
 use Rattle.reassembly.proofs.Laws.{delivered}
 use Rattle.reassembly.proofs.Withheld.{packets-append, psd-quiet}

@@ -1,13 +1,13 @@
 -- A withheld PDU is to the packets and to what is held as a PDU all of whose pieces are wrong, but for one that continues a packet.
-use Prim.Native.Nat.{ℕ, zero, suc}
-use mathlib.Core.Path.{_≡_, refl, sym, ap, ap₂, _∙_}
+use Prim.Native.Nat.{ℕ, suc}
+use mathlib.Core.Path.{_≡_, refl, sym, ap, _∙_}
 use mathlib.Core.Bool.{Bool, true, false, cond}
 use mathlib.Core.List.{List, [], _∷_, _++_, append-nil}
 use native.Mathlib.Omega.{arith}
 use lib.Dec.{eqb}
 use Rattle.log.specs.Log.{Entry, packet, psd, note, packetsOf}
 use Rattle.layout.specs.Control.{pieceNumber}
-use Rattle.reassembly.specs.Reassembly.{Piece, Said, Partial, nothing, beginning, Memory, Outcome, dropped, kept, sequenceStep, beginningStep, psdEntries, joined, pieceStep, endsHere, piecesStep, continuingStep, contentsStep, received, remembered}
+use Rattle.reassembly.specs.Reassembly.{Piece, Said, Partial, nothing, beginning, Memory, Outcome, dropped, sequenceStep, beginningStep, psdEntries, joined, pieceStep, endsHere, piecesStep, continuingStep, contentsStep, received}
 use Rattle.reassembly.proofs.Runs.{ends-drops}
 
 -- ---- the packets of a log

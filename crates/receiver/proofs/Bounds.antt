@@ -1,5 +1,5 @@
 -- How many bytes are held after a PDU, and how many words are written for it.
-use mathlib.Core.Path.{_≡_, refl, sym, ap, _∙_, subst}
+use mathlib.Core.Path.{_≡_, refl, sym, ap, subst}
 use mathlib.Core.Bool.{Bool, true, false}
 use mathlib.Core.List.{List}
 use Prim.Native.Nat.{ℕ, zero, suc, _+_, _≤_}
@@ -8,7 +8,7 @@ use lib.ListN.{length, getD, drop, length-take}
 use Rattle.log.specs.Log.{logWords}
 use Rattle.reassembly.specs.Reassembly.{Partial, nothing, beginning, Outcome, received, piecesStep, endsHere, continuingStep, contentsStep}
 use Rattle.reassembly.specs.Rights.{under}
-use Rattle.reassembly.specs.Run.{partialBytes, partialOf, placeAt, lengthBy, pieceAt, pieceOf, piecesFrom, Marked, psdBy, Parsed, saidOf, memoryBy, firstCause}
+use Rattle.reassembly.specs.Run.{partialBytes, partialOf, placeAt, lengthBy, pieceAt, pieceOf, piecesFrom, Marked, Parsed, saidOf, memoryBy, firstCause}
 use Rattle.reassembly.specs.declared.Head.{Head}
 use Rattle.reassembly.specs.declared.State.{State}
 use Rattle.reassembly.proofs.Bound.{pieceBytes, bound}

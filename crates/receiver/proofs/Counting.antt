@@ -1,18 +1,18 @@
 -- Document 02, Ask 14: delivered and missing over a call, and when it is refused with 27.
-use mathlib.Core.Path.{_≡_, refl, sym, ap, subst, _∙_}
+use mathlib.Core.Path.{_≡_, refl, sym, ap, _∙_}
 use mathlib.Core.Bool.{Bool, true, false, not, _&&_, cond}
 use mathlib.Core.List.{List, [], _∷_}
 use mathlib.Core.Option.{Option}
-use Prim.Native.Nat.{ℕ, _+_, _<_, _≤_}
+use Prim.Native.Nat.{ℕ, _<_, _≤_}
 use native.Mathlib.Omega.{arith}
 use lib.Dec.{eqb, ltb}
 use lib.ListN.{length, getD, drop}
-use borrow.Author.Tests.{eqb-true, ltb-false, lt-ltb, le-ltb, eq-eqb, ne-eqb}
+use borrow.Author.Tests.{eqb-true, ltb-false, lt-ltb, le-ltb, eq-eqb}
 use Rattle.refusal.specs.Refusal.{firstOf, anyOf}
 use Rattle.refusal.proofs.Rows.{past, passed, never, row-on, none-at}
 use Rattle.log.specs.Log.{packetsOf}
 use Rattle.reassembly.specs.Reassembly.{Memory}
-use Rattle.reassembly.specs.Tally.{Tally, tallied, Grows, Countable, passesLimit}
+use Rattle.reassembly.specs.Tally.{Tally, Grows, Countable, passesLimit}
 use Rattle.reassembly.proofs.Tallies.{not-passed, tally-quiet, tally-grows, FairTally}
 use Rattle.receiver.proofs.AfterReceiving.{receivedWords, tallyAfter}
 use Rattle.receiver.specs.Receiving.{remembering, tallyOf, wrongCounts, wrongState, outcome, receiveTests, receiveNumber, receiveAnswer, lostTests, lostNumber, lostAnswer}

@@ -11,7 +11,6 @@ use Rattle.modes.specs.declared.Listing.{Listing}
 use Rattle.modes.specs.declared.Listing.the-variants.{Listed, Refused}
 use Rattle.modes.proofs.Lines.{refusal-five}
 use Rattle.receiver.specs.Entitling.{allowedPrograms, maskOf}
-use Rattle.receiver.specs.declared.Opened.{Opened}
 use Rattle.receiver.specs.Receiving.{noReceiver, fresh, openingNumber, openedBy, openedFor, receiveNumber, lostNumber}
 
 abbrev rows : Listing → Bool → ℕ

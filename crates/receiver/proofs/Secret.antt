@@ -1,9 +1,9 @@
 -- Document 02, Ask 10: nothing of a withheld PDU but its front reaches the log, the carry or the receiver (specs/Secrecy.antt).
 use mathlib.Core.Path.{_≡_, refl, sym, ap, ap₂, _∙_}
-use mathlib.Core.Bool.{Bool, true, false, not, _&&_, cond}
+use mathlib.Core.Bool.{true, false}
 use mathlib.Core.List.{List}
 use mathlib.Core.Option.{Option, some}
-use Prim.Native.Nat.{ℕ, _+_, _<_, _≤_}
+use Prim.Native.Nat.{ℕ}
 use native.Mathlib.Omega.{arith}
 use lib.Dec.{eqb}
 use lib.ListN.{length, getD}
@@ -18,7 +18,7 @@ use Rattle.correction.specs.Marks.{correctedPduWith}
 use Rattle.expansion.specs.declared.Interpreted.{Interpreted}
 use Rattle.pdu.specs.Reading.{fieldsOf, modeIn, listingOf}
 use Rattle.pdu.proofs.Ignored.{control-same}
-use Rattle.reassembly.specs.Reassembly.{Said, Partial, nothing, Outcome, beginningStep, sequenceStep, received, remembered}
+use Rattle.reassembly.specs.Reassembly.{Said, nothing, Outcome, beginningStep, sequenceStep, received, remembered}
 use Rattle.reassembly.specs.Rights.{Label, forgetting, inForce, keptAfter, withheldBy}
 use Rattle.reassembly.specs.Holder.{Come}
 use Rattle.reassembly.specs.Run.{partialBytes}

@@ -20,7 +20,6 @@ use Rattle.runs.proofs.Model.{isDue, wanted, runMarks, AllFit, Sized}
 use Rattle.runs.proofs.Transmissions.{Transmission, plansFrom, eventsFrom, dueFrom}
 use Rattle.runs.specs.Transmissions.{Close, lastIndex, AddsUp}
 use Rattle.runs.proofs.Entitled.{entitled-run}
-use Rattle.runs.proofs.Wrong.{value-stays}
 
 -- ---- a receiver's counts are those of its log
 

@@ -16,7 +16,6 @@ use Rattle.runs.proofs.Model.{sentAfter, saidOf, eventOf as eventIn, ev
 use Rattle.runs.specs.Transmissions.{Way, gone, here}
 use Rattle.runs.proofs.Transmissions.{Transmission, planOf, fateOf, keptOf, plansFrom, eventOf, eventsFrom}
 use Rattle.runs.proofs.Theorem.{run-delivers}
-use Rattle.runs.proofs.Wrong.{value-stays}
 
 module _ (rights : Rights) (range : ℕ) where
   -- the receiver takes q for the next sequence

@@ -17,7 +17,6 @@ use Rattle.runs.specs.Transmissions.{Way, gone, here}
 use Rattle.runs.proofs.Transmissions.{fateOf, keptOf, planOf}
 use Rattle.runs.proofs.Calls.{Load, transmissionOf, speechesFrom, heard, fatesAlong, labelsOf}
 use Rattle.runs.specs.Withheld.{Arrival, arrivalsFrom, lastSent, withheldAt, fateIn, fatesTold}
-use Rattle.runs.proofs.Wrong.{lost-unknown, others-left, unknown-withheld, own-value}
 
 module _ (rights : Rights) (range : ℕ) where
   -- what is kept after these PDUs

@@ -14,7 +14,6 @@ use Rattle.reassembly.specs.Reassembly.{Partial, nothing, beginning, Outcome, d
 use Rattle.reassembly.proofs.Laws.{delivered}
 use Rattle.runs.specs.Spans.{Mark}
 use Rattle.runs.proofs.Model.{allTaken, isDue, wanted, Sized}
-use Rattle.runs.proofs.Wrong.{value-stays}
 
 -- ---- marks
 

@@ -14,7 +14,6 @@ use Rattle.runs.proofs.Model.{cut, Fits, sentAfter, Plan, later, marks,
 use Rattle.runs.specs.Spans.{Mark, verdicts, packetAt, covers, lies, every, wholeIndices, dueAt, entriesAt}
 use Rattle.runs.proofs.Transmissions.{dueFrom}
 use Rattle.runs.proofs.Theorem.{cut-none, marks-part, marks-whole, Unfinished, unfinished-zero, unfinished-next, sized-drop}
-use Rattle.runs.proofs.Wrong.{value-stays}
 
 -- ---- the packets that are due, by their marks
 

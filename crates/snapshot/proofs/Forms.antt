@@ -15,7 +15,7 @@ use Rattle.snapshot.proofs.Bytes.{has-bytes, value-bytes, counts-bytes,
 use Rattle.snapshot.proofs.Parts.{partWords, hasPart, valuePart, has-parts, value-parts, bytes-parts, counts-parts, programsValue, headParts, head-parts}
 use Rattle.snapshot.proofs.Counts.{Counted, has-counts, value-counts, bytes-counts, from-counts, delivered-back, missing-back, last-back}
 use Rattle.snapshot.proofs.Fields.{Laid, in-bits}
-use Rattle.snapshot.proofs.Same.{one-and}
+use Rattle.bits.proofs.Tests.{one-and}
 
 -- an absent kind means zero: register 0; nothing entitled and services unknown
 pub record Absent (k : Kinds) (r : Receiver) : Type 0 where

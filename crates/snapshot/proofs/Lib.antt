@@ -8,5 +8,4 @@ pub mod Forms
 pub mod Parts
 pub mod Reading
 pub mod Round
-pub mod Same
 pub mod Tests

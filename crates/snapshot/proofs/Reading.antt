@@ -6,10 +6,8 @@ use Prim.Native.Nat.{ℕ, zero, suc, _+_, _-_, _*_, _/_, _%_, _<_, _≤_, min}
 use native.Mathlib.Omega.{arith}
 use native.Mathlib.Numerals.{add-one}
 use lib.Dec.{eqb, ltb}
-use lib.ListN.{length, getD, take, drop, set, length-append, length-drop, take-append-drop, drop-of-length-le}
+use lib.ListN.{length, getD, take, drop, length-append, length-drop, take-append-drop, drop-of-length-le}
 use lib.Seq.{drop-cons, drop-append-seam, getD-drop, take-at}
-use Rattle.buffer.specs.Buffer.{putAt}
-use Rattle.buffer.proofs.Laws.{put-nil, put-cons}
 use borrow.Author.Tests.{eq-eqb, ne-eqb, eqb-true, lt-ltb, le-ltb}
 use Rattle.log.specs.Log.{dataWords, sameList, dataBytes}
 use Rattle.log.proofs.Packets.{Bytes}
@@ -21,7 +19,7 @@ use Rattle.snapshot.proofs.Bytes.{byteWord, bytes-more, bytes-back, byt
 use Rattle.snapshot.proofs.Parts.{InBits, headParts, head-parts, bytes-parts, counts-parts}
 use Rattle.snapshot.proofs.Counts.{Counted, bytes-counts, from-counts}
 use Rattle.snapshot.proofs.Fields.{programs-small}
-use Rattle.snapshot.proofs.Same.{both, one-and, agree}
+use Rattle.bits.proofs.Tests.{both, one-and, agree}
 
 -- ---- the first word of a kind
 
@@ -349,16 +347,6 @@ module _ (left from : ℕ) (ws : List ℕ) (e : areBytes left (drop from ws) ≡
 
   pub byte-from : (j : ℕ) → j < left → byteIn (getD ws (from + j / 3) 0) (j % 3) ≡ getD (bytesIn (drop from ws)) j 0
   byte-from j h = sym (byte-at left (drop from ws) j e h ∙ ap (λ (w : ℕ). byteIn w (j % 3)) (getD-drop from ws (j / 3) 0))
-
--- a turn of their copy
-pub copy-turn : (l₀ l s : List ℕ) (j v : ℕ) → j < length l → j < length s → v ≡ getD s j 0 → putAt l j (drop j s) ≡ putAt l₀ 0 s
-    → putAt (set l j v) (j + 1) (drop (j + 1) s) ≡ putAt l₀ 0 s
-copy-turn l₀ l s j v h more e i =
-    ap (λ (n : ℕ). putAt (set l j v) (j + 1) (drop n s)) (add-one j)
-    ∙ put-cons l (drop (suc j) s) j v h ∙ ap (putAt l j) (ap (λ (x : ℕ). x ∷ drop (suc j) s) e ∙ sym (drop-cons s j 0 more)) ∙ i
-
-pub copy-end : (l₀ l s : List ℕ) (j : ℕ) → length s ≤ j → putAt l j (drop j s) ≡ putAt l₀ 0 s → l ≡ putAt l₀ 0 s
-copy-end l₀ l s j h i = sym (put-nil l j) ∙ ap (putAt l j) (sym (gone s j h)) ∙ i
 
 -- ---- a list cut where one of its two parts begins
 

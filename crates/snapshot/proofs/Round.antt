@@ -23,7 +23,7 @@ use Rattle.snapshot.proofs.Parts.{headParts, head-parts, parts-length}
 use Rattle.snapshot.proofs.Counts.{counts-few}
 use Rattle.snapshot.proofs.Fields.{laid}
 use Rattle.snapshot.proofs.Forms.{Absent, receiver-in, bytes-in, formed}
-use Rattle.snapshot.proofs.Same.{both}
+use Rattle.bits.proofs.Tests.{both}
 
 -- ---- the words of a receiver are accepted, today's and those of older firmware
 

@@ -1,15 +1,14 @@
 -- One turn of reading a number.
-use mathlib.Core.Path.{_≡_, refl, ap, sym, _∙_}
-use mathlib.Core.Bool.{Bool, true, cond}
-use mathlib.Core.List.{List, [], _∷_}
-use Prim.Native.Nat.{ℕ, suc, _+_, _<_, _≤_}
+use mathlib.Core.Path.{_≡_}
+use mathlib.Core.Bool.{true, cond}
+use mathlib.Core.List.{List}
+use Prim.Native.Nat.{ℕ, _+_, _<_, _≤_}
 use native.Mathlib.Numerals.{add-one}
 use lib.Dec.{ltb}
 use lib.ListN.{length, drop, getD, drop-of-length-le}
 use lib.Seq.{drop-cons}
 use borrow.Author.Tests.{lt-ltb, le-ltb}
 use Rattle.text.specs.Text.{withDigit, noNumber, readFrom, numberOf}
-use Rattle.text.specs.declared.Number.{Number}
 
 module _ (t : List ℕ) (v i : ℕ) (h : i < length t) where
   read-turn : readFrom v (drop i t) ≡ cond (ltb 4294967295 (withDigit v (getD t i 0))) noNumber (readFrom (withDigit v (getD t i 0)) (drop (i + 1) t))

@@ -1,23 +1,20 @@
 -- What holds of a writing call that no row of the table turns down.
-use mathlib.Core.Path.{_≡_, refl, sym, ap, ap₂, subst, _∙_}
-use mathlib.Core.Bool.{Bool, true, false, not, _&&_, _||_, cond}
+use mathlib.Core.Path.{_≡_, refl, sym, _∙_}
+use mathlib.Core.Bool.{Bool, true, false, not, _&&_, _||_}
 use mathlib.Core.List.{List, [], _∷_, _++_}
-use Prim.Native.Nat.{ℕ, zero, suc, _+_, _*_, _/_, _-_, _<_, _≤_}
+use Prim.Native.Nat.{ℕ, zero, suc, _+_, _-_, _<_, _≤_}
 use native.Mathlib.Omega.{arith}
-use lib.Dec.{eqb, ltb, leb, T}
-use borrow.Author.Tests.{ltb-false, ltb-true, leb-false, eqb-true, eqb-false, eq-eqb, ne-eqb, not-false}
+use lib.Dec.{eqb, ltb, leb}
+use borrow.Author.Tests.{ltb-false, leb-false, eqb-true, eq-eqb, ne-eqb, not-false}
 use lib.ListN.{length, drop, length-drop, length-append}
 use Rattle.refusal.specs.Refusal.{firstOf, anyOf}
-use Rattle.modes.specs.Modes.{listing}
 use Rattle.modes.specs.declared.Mode.{Mode}
-use Rattle.modes.specs.declared.Listing.{Listing}
-use Rattle.modes.specs.declared.Listing.the-variants.{Listed, Refused}
 use Rattle.layout.specs.Locators.{locatorSize}
 use Rattle.layout.proofs.LocatorLaw.{size-grows}
 use Rattle.settings.specs.Settings.{brokenRules, wrongValues}
 use Rattle.settings.specs.declared.Settings.{Settings}
 use Rattle.pieces.specs.Pieces.{total}
-use Rattle.packing.specs.Packing.{overhead, mostPieces, wholes, part, ifAny, pieceLengths}
+use Rattle.packing.specs.Packing.{overhead, mostPieces, wholes, part, ifAny}
 use Rattle.packing.proofs.Limit.{most-small, la-below}
 use Rattle.packing.proofs.Bounds.{left, Kept, kept}
 use Rattle.writer.specs.Writing.{wrongLengths, wrongUnfinished, wrongWriter, wrongSize, wrongPackets, wrongExtra, noRoom, expansionOf, extraOf, writerTests, placedLengths, endedOf, partOf}

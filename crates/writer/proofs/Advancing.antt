@@ -1,8 +1,8 @@
 -- A writer's state after an accepted call, and what it sent.
 use mathlib.Core.Path.{_≡_, refl, sym, ap, subst, _∙_}
 use mathlib.Core.Bool.{Bool, true, false, _||_, cond}
-use mathlib.Core.List.{List, [], _∷_, _++_}
-use Prim.Native.Nat.{ℕ, zero, suc, _+_, _%_, _<_, _≤_}
+use mathlib.Core.List.{List, [], _∷_}
+use Prim.Native.Nat.{ℕ, _+_, _%_, _<_, _≤_}
 use native.Mathlib.Omega.{arith}
 use native.Mathlib.Nat.{mod-lt}
 use lib.Dec.{eqb, ltb, leb}
@@ -12,7 +12,7 @@ use Rattle.refusal.specs.Refusal.{anyOf, firstOf}
 use Rattle.modes.specs.Modes.{listing}
 use Rattle.modes.specs.declared.Mode.{Mode}
 use Rattle.modes.specs.declared.Listing.{Listing}
-use Rattle.modes.specs.declared.Listing.the-variants.{Listed, Refused}
+use Rattle.modes.specs.declared.Listing.the-variants.{Listed}
 use Rattle.layout.specs.Control.{bit, pieceNumber}
 use Rattle.modes.proofs.Listable.{listable}
 use Rattle.settings.specs.declared.Settings.{Settings}

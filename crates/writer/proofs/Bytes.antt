@@ -1,8 +1,8 @@
 -- All that a PDU is composed of are bytes.
-use mathlib.Core.Path.{_≡_, refl, sym, ap, subst, _∙_}
+use mathlib.Core.Path.{_≡_}
 use mathlib.Core.Bool.{Bool, true, false, cond}
 use mathlib.Core.List.{List, [], _∷_, _++_}
-use Prim.Native.Nat.{ℕ, zero, suc, _+_, _-_, _*_, _%_, _/_, _<_, _≤_}
+use Prim.Native.Nat.{ℕ, zero, suc, _+_, _-_, _<_, _≤_}
 use native.Mathlib.Omega.{arith}
 use lib.Dec.{eqb}
 use lib.ListN.{length, take, drop, replicate, length-drop}
@@ -12,7 +12,7 @@ use Rattle.algebra.proofs.Places.{all-join}
 use Rattle.header.proofs.Unique.{all-drop}
 use Rattle.crc.specs.Crc.{crcFrom}
 use Rattle.crc.proofs.Below.{crc-below}
-use Rattle.layout.specs.Control.{bit, byte8, byte9, byte10, byte11, byte12, controlBytes}
+use Rattle.layout.specs.Control.{bit, controlBytes}
 use Rattle.layout.specs.declared.ControlWord.{ControlWord}
 use Rattle.layout.specs.Locators.{bytes16, bytes12, locatorBytes}
 use Rattle.expansion.specs.Expansion.{septetsOfAll, chained}

@@ -1,6 +1,6 @@
 -- A writing call, accepted or refused.
-use mathlib.Core.Path.{_≡_, refl, sym, ap, subst, _∙_}
-use mathlib.Core.Bool.{Bool, true, false, cond}
+use mathlib.Core.Path.{_≡_, sym, ap, subst, _∙_}
+use mathlib.Core.Bool.{true, false}
 use mathlib.Core.List.{List}
 use Prim.Native.Nat.{ℕ}
 use lib.Dec.{eqb}
@@ -9,7 +9,7 @@ use Rattle.refusal.specs.Refusal.{firstOf}
 use Rattle.modes.specs.Modes.{listing}
 use Rattle.modes.specs.declared.Mode.{Mode}
 use Rattle.modes.specs.declared.Listing.{Listing}
-use Rattle.modes.specs.declared.Listing.the-variants.{Listed, Refused}
+use Rattle.modes.specs.declared.Listing.the-variants.{Listed}
 use Rattle.settings.specs.declared.Settings.{Settings}
 use Rattle.writer.specs.Writing.{writerTests, acceptedAnswer, refusedWrite, pduOf, answerIn, pduIn, writeAnswer, writtenPdu}
 use Rattle.writer.specs.declared.Writer.{Writer}

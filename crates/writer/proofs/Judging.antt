@@ -1,13 +1,13 @@
 -- The writer's tests, as its code makes them.
-use mathlib.Core.Path.{_≡_, refl, sym, ap, ap₂, subst, _∙_}
-use mathlib.Core.Bool.{Bool, true, false, not, _&&_, _||_}
+use mathlib.Core.Path.{_≡_, refl, sym, ap, subst}
+use mathlib.Core.Bool.{Bool, true, false, _||_}
 use mathlib.Core.List.{List, [], _∷_}
 use Prim.Native.Nat.{ℕ, zero, suc, _+_, _<_, _≤_}
 use native.Mathlib.Omega.{arith}
-use lib.Dec.{eqb, ltb, leb, T}
+use lib.Dec.{ltb, T}
 use lib.ListN.{length, getD}
 use borrow.Author.Tests.{lt-ltb, ltb-false}
-use Rattle.refusal.specs.Refusal.{firstOf, anyOf}
+use Rattle.refusal.specs.Refusal.{anyOf}
 use Rattle.modes.specs.declared.Mode.{Mode}
 use Rattle.packing.specs.Packing.{overhead}
 use Rattle.writer.specs.Writing.{wrongSize, wrongExtra, noRoom}

@@ -2,14 +2,10 @@
 use mathlib.Core.Path.{_≡_, refl, sym, ap, _∙_}
 use Prim.Native.Nat.{ℕ}
 use Rattle.modes.specs.Modes.{listing}
-use Rattle.modes.specs.declared.Mode.{Mode}
 use Rattle.modes.specs.declared.Listing.{Listing}
-use Rattle.modes.specs.declared.Listing.the-variants.{Listed, Refused}
 use mathlib.Core.List.{List}
 use Rattle.settings.specs.declared.Settings.{Settings}
 use Rattle.writer.specs.Writing.{noWriter, openedAs, writerOpened, writeAnswer}
-use Rattle.writer.specs.declared.Writer.{Writer}
-use Rattle.writer.specs.declared.Opened.{Opened}
 
 pub opened-by : (l k : Listing) (mode stream register : ℕ) → l ≡ listing mode stream → l ≡ k → openedAs k mode stream register ≡ writerOpened mode stream register
 unfolding writerOpened

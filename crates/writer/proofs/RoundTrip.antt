@@ -1,9 +1,9 @@
 -- Document 00, demand 2: reading a PDU that an accepted call wrote gives its fields, PSD and pieces, every CRC right; its header is a
 -- code word; and with at most four of the first 96 bytes altered it is the same.
-use mathlib.Core.Path.{_≡_, refl, sym, ap, ap₂, subst, _∙_}
+use mathlib.Core.Path.{_≡_, refl, sym, ap, subst, _∙_}
 use mathlib.Core.Bool.{Bool, true, false, cond}
-use mathlib.Core.List.{List, [], _∷_, _++_, append-assoc}
-use Prim.Native.Nat.{ℕ, zero, suc, _+_, _-_, _<_, _≤_}
+use mathlib.Core.List.{List, [], _++_, append-assoc}
+use Prim.Native.Nat.{ℕ, _+_, _-_}
 use native.Mathlib.Omega.{arith}
 use lib.Dec.{eqb}
 use borrow.Author.Tests.{eqb-true, eqb-false}
@@ -17,23 +17,20 @@ use Rattle.modes.specs.declared.Mode.{Mode}
 use Rattle.modes.specs.declared.Listing.{Listing}
 use Rattle.modes.specs.declared.Listing.the-variants.{Listed, Refused}
 use Rattle.modes.proofs.Listable.{listable}
-use Rattle.header.specs.Header.{isCodeWord, distance, remainder, parityOf, withParity}
+use Rattle.header.specs.Header.{isCodeWord, remainder, parityOf}
 use Rattle.header.proofs.Unique.{written-code-word, all-bytes, all-take, all-drop, bytes-all}
 use Rattle.header.proofs.Division.{parity-length, remainder-bytes}
 use Rattle.header.proofs.Lengths.{length-allowed, parity-written}
-use Rattle.correction.specs.Correction.{Near, correctionOf, correctedPdu}
-use Rattle.correction.specs.declared.Correction.the-variants.{Corrected}
+use Rattle.correction.specs.Correction.{Near, correctedPdu}
 use Rattle.correction.proofs.Theorem.{corrects, corrects-with}
 use Rattle.layout.specs.Control.{controlAt, controlBytes}
 use Rattle.layout.specs.declared.ControlWord.{ControlWord}
 use Rattle.layout.specs.Locators.{locatorSize}
-use Rattle.expansion.specs.Writing.{expansionBytes, interpretedOf}
 use Rattle.settings.specs.Settings.{fieldsFor}
 use Rattle.settings.specs.declared.Settings.{Settings}
 use Rattle.packing.specs.Packing.{overhead}
 use Rattle.contents.specs.Contents.{contents}
-use Rattle.pdu.specs.Reading.{fieldsOf, psdOf, judged, widthOf, accepted, readNumber, readPdu, answered}
-use Rattle.pdu.specs.declared.Reading.{Reading}
+use Rattle.pdu.specs.Reading.{fieldsOf, psdOf, judged, widthOf, readNumber}
 use Rattle.pdu.proofs.Restoring.{corrected-number}
 use Rattle.pdu.specs.PieceRead.{PieceRead}
 use Rattle.pdu.proofs.ReadBack.{Sendable, control-back, accepted-back, width-back, fields-back, psd-place, psd-bytes, pieces-read, read-accepted, answer-fields, answer-psd}

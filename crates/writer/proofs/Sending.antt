@@ -1,36 +1,34 @@
 -- What an accepted call sends is what a reader takes.
-use mathlib.Core.Path.{_≡_, refl, sym, ap, ap₂, subst, _∙_}
+use mathlib.Core.Path.{_≡_, refl, sym, ap, subst, _∙_}
 use mathlib.Core.Logic.{_⊎_, inl, inr}
 use mathlib.Core.Bool.{Bool, true, false, not, _&&_, _||_, cond}
-use mathlib.Core.List.{List, [], _∷_, _++_, map}
-use Prim.Native.Nat.{ℕ, zero, suc, _+_, _-_, _%_, _<_, _≤_}
+use mathlib.Core.List.{List, [], _∷_}
+use Prim.Native.Nat.{ℕ, zero, suc, _+_, _-_, _<_, _≤_}
 use native.Mathlib.Omega.{arith}
 use lib.Dec.{eqb, ltb, leb, T}
-use borrow.Author.Tests.{ltb-false, leb-false, eqb-true, eqb-false, eq-eqb, ne-eqb, le-ltb, not-false, ltb-true}
+use borrow.Author.Tests.{ltb-false, leb-false, eqb-true, eqb-false, eq-eqb, ne-eqb, not-false}
 use lib.ListN.{length, getD, drop, List·getD-map}
 use Rattle.refusal.specs.Refusal.{anyOf}
 use Rattle.modes.specs.Modes.{listing}
 use Rattle.modes.specs.declared.Mode.{Mode}
 use Rattle.modes.specs.declared.Listing.the-variants.{Listed}
-use Rattle.modes.proofs.Listable.{Listable, listable}
+use Rattle.modes.proofs.Listable.{listable}
 use Rattle.layout.specs.Control.{InWidth}
 use Rattle.layout.specs.declared.ControlWord.{ControlWord}
 use Rattle.layout.proofs.LocatorLaw.{roof}
-use Rattle.expansion.specs.Writing.{InRange, interpretedOf, expansionBytes}
-use Rattle.settings.specs.Settings.{brokenRules, wrongValues, fieldsFor, programOf, classOne, accessOne}
+use Rattle.expansion.specs.Writing.{InRange}
+use Rattle.settings.specs.Settings.{brokenRules, wrongValues, fieldsFor}
 use Rattle.settings.specs.declared.Settings.{Settings}
 use Rattle.expansion.specs.declared.Fields.{Fields}
-use Rattle.pieces.specs.Pieces.{cutBy, total}
-use Rattle.packing.specs.Packing.{overhead, wholes, part, ifAny, pieceLengths, partFrom}
+use Rattle.packing.specs.Packing.{overhead, part, pieceLengths, partFrom}
 use Rattle.packing.proofs.Limit.{most-small, one-piece}
-use Rattle.packing.proofs.Bounds.{Bytes, Positive, Kept, kept, some-placed}
-use Rattle.contents.specs.Contents.{firstPiece}
+use Rattle.packing.proofs.Bounds.{Bytes, Positive, kept, some-placed}
 use Rattle.contents.proofs.Putting.{cut-count, cut-lengths}
 use Rattle.pdu.proofs.ReadBack.{Sendable}
-use Rattle.writer.specs.Writing.{wrongLengths, wrongUnfinished, noRoom, expansionOf, extraOf, placedLengths, endedOf, partOf, piecesOf, controlFor}
+use Rattle.writer.specs.Writing.{wrongLengths, wrongUnfinished, noRoom, extraOf, placedLengths, piecesOf, controlFor}
 use Rattle.writer.specs.declared.Writer.{Writer}
-use Rattle.writer.proofs.Accepted.{Fine, overhead-fits, enough, few, fits}
-use Rattle.writer.proofs.Judging.{never, none-at, first-fails, second-fails}
+use Rattle.writer.proofs.Accepted.{Fine, overhead-fits, enough, few}
+use Rattle.writer.proofs.Judging.{none-at, first-fails, second-fails}
 
 -- ---- settings that no row turns down are within their widths
 

@@ -5,17 +5,8 @@ use lib.ListN.{length}
 use Rattle.ahead.proofs.move_bytes.Statement.{statement}
 use Rattle.ahead.proofs.move_bytes.Tie as tie
 
-abbrev Inv-loop : tie.InvT-loop
-Inv-loop buf₀ from to n₀ at₀ buf n at = (n ≤ at) × (length buf ≡ length buf₀)
-
-abbrev μ-loop : tie.MeasureT-loop
-μ-loop buf₀ from to n₀ at₀ buf n at = to - at
-
 pub move-bytes-spec : {M : Type 1} → statement M
 move-bytes-spec =
-    tie.close
-    (tie.spec
-    Inv-loop
-    μ-loop
+    tie.close (tie.spec (λ buf₀ from to n₀ at₀ buf n at. (n ≤ at) × (length buf ≡ length buf₀)) (λ buf₀ from to n₀ at₀ buf n at. to - at)
     (λ c. search needs) (λ c. search needs) (λ c. search needs) (λ c. search needs) (λ c. search needs) (λ c. search needs) (λ c. search needs)
     (λ c. search needs) (λ c. search needs) (λ c. search needs) (λ c. search needs))

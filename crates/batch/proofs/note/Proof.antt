@@ -5,8 +5,6 @@ use native.Mathlib.Omega.{arith}
 use borrow.Author.Needs.{needs}
 use Rattle.batch.proofs.note.Statement.{statement}
 use Rattle.batch.proofs.note.Tie as tie
-use Rattle.batch.proofs.note.Reads as reads
-use Rattle.batch.proofs.note.Lts as lts
 
 returns : tie.Need-returns
 returns c = let a = c .before .args in sym (set-out (now (a .list)) (a .at) (a .number) (omega (arith, c .if1 .taken)))

@@ -1,20 +1,15 @@
 use Rattle.batch.proofs.Along.{Along, endsLeft, at-start, at-end, ends-at-start, ends-at-end, stops, turns}
 use Rattle.pieces.proofs.Cutting.{total-drop}
-use Rattle.pieces.specs.Pieces.{total}
 use Rattle.batch.specs.Batches.{oneByOne}
 use Rattle.batch.specs.declared.Batch.{Batch}
 use denote.Ref.{now}
-use mathlib.Core.Path.{_≡_, refl, sym, ap, _∙_}
-use Prim.Native.Nat.{ℕ, _+_, _-_, _≤_, _<_}
+use mathlib.Core.Path.{_≡_, refl, ap, _∙_}
+use Prim.Native.Nat.{_-_}
 use native.Mathlib.Omega.{arith}
-use lib.ListN.{length, take, drop, length-take, length-drop}
+use lib.ListN.{length, drop, length-take, length-drop}
 use borrow.Author.Needs.{needs}
 use Rattle.batch.proofs.receive_each.Statement.{statement}
 use Rattle.batch.proofs.receive_each.Tie as tie
-use Rattle.batch.proofs.receive_each.Reads as reads
-use Rattle.batch.proofs.receive_each.Lts as lts
-use Rattle.batch.proofs.begun.Reads as begun-reads
-use Rattle.batch.proofs.receive_next.Reads as receive-next-reads
 
 abbrev Inv-loop : tie.InvT-loop
 Inv-loop carry₀ pdus₀ lengths log₀ ends₀ b₀ from₀ i₀ carry pdus log ends b from i =
@@ -100,26 +95,8 @@ returns-2 c =
 
 pub receive-each-spec : {M : Type 1} → statement M
 receive-each-spec =
-    tie.close
-    (tie.spec
-    Inv-loop
-    μ-loop
-    (λ c κs. search needs)
-    loop-holds
-    (λ c. search needs) (λ c. search needs)
-    add-to
-    (λ c. search needs) (λ c. search needs)
-    part-receive-next-end
-    (λ c. search needs)
-    sub-receive-next-2
-    part-receive-next-start-2
-    (λ c. search needs)
-    receive-next-requires
-    (λ c. search needs) (λ c. search needs) (λ c. search needs) (λ c. search needs)
-    returns
-    (λ c κs. search needs)
-    add-i
-    (λ c. search needs)
-    loop-again
-    (λ c. search needs) (λ c. search needs) (λ c. search needs) (λ c. search needs)
-    returns-2)
+    tie.close (tie.spec Inv-loop μ-loop
+    (λ c κs. search needs) loop-holds (λ c. search needs) (λ c. search needs) add-to (λ c. search needs) (λ c. search needs) part-receive-next-end
+    (λ c. search needs) sub-receive-next-2 part-receive-next-start-2 (λ c. search needs) receive-next-requires (λ c. search needs) (λ c. search needs)
+    (λ c. search needs) (λ c. search needs) returns (λ c κs. search needs) add-i (λ c. search needs) loop-again (λ c. search needs) (λ c. search needs)
+    (λ c. search needs) (λ c. search needs) returns-2)

@@ -1,17 +1,14 @@
 use Rattle.batch.proofs.Counting.{counted-refused, counted-taken}
 use Rattle.batch.proofs.Single.{words-fit}
 use denote.Ref.{now}
-use mathlib.Core.Path.{_≡_, refl}
+use mathlib.Core.Path.{refl}
 use mathlib.Core.List.{[]}
-use Prim.Native.Nat.{ℕ, _≤_}
+use Prim.Native.Nat.{_≤_}
 use lib.ListN.{length}
 use native.Mathlib.Omega.{arith}
 use borrow.Author.Needs.{needs}
 use Rattle.batch.proofs.receive_next.Statement.{statement}
 use Rattle.batch.proofs.receive_next.Tie as tie
-use Rattle.batch.proofs.receive_next.Reads as reads
-use Rattle.batch.proofs.receive_next.Lts as lts
-use Rattle.receiver.proofs.Receiver.receive.Reads as receive-reads
 
 add-words : tie.Need-add-words
 add-words c =
@@ -38,12 +35,5 @@ returns-2 c =
 
 pub receive-next-spec : {M : Type 1} → statement M
 receive-next-spec =
-    tie.close
-    (tie.spec
-    (λ c κs. search needs) (λ c. search needs)
-    add-words
-    add-taken
-    (λ c. search needs) (λ c. search needs) (λ c. search needs)
-    returns
-    (λ c. search needs) (λ c. search needs) (λ c. search needs)
-    returns-2)
+    tie.close (tie.spec (λ c κs. search needs) (λ c. search needs) add-words add-taken (λ c. search needs) (λ c. search needs) (λ c. search needs) returns
+    (λ c. search needs) (λ c. search needs) (λ c. search needs) returns-2)

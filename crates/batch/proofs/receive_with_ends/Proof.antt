@@ -5,12 +5,6 @@ use borrow.Author.Tests.{not-true, not-false}
 use borrow.Author.Needs.{needs}
 use Rattle.batch.proofs.receive_with_ends.Statement.{statement}
 use Rattle.batch.proofs.receive_with_ends.Tie as tie
-use Rattle.batch.proofs.receive_with_ends.Reads as reads
-use Rattle.batch.proofs.receive_with_ends.Lts as lts
-use Rattle.batch.proofs.begun.Reads as begun-reads
-use Rattle.batch.proofs.receive_each.Reads as receive-each-reads
-use Rattle.batch.proofs.sums_to.Reads as sums-to-reads
-use Rattle.receiver.proofs.Receiver.state_refusal.Reads as state-refusal-reads
 
 returns : tie.Need-returns
 returns c =
@@ -42,12 +36,5 @@ returns-3 c =
 
 pub receive-with-ends-spec : {M : Type 1} → statement M
 receive-with-ends-spec =
-    tie.close
-    (tie.spec
-    (λ c κs. search needs) (λ c κs. search needs)
-    returns
-    (λ c κs. search needs) (λ c κs. search needs)
-    returns-2
-    receive-each-requires
-    (λ c. search needs) (λ c. search needs) (λ c. search needs) (λ c. search needs)
-    returns-3)
+    tie.close (tie.spec (λ c κs. search needs) (λ c κs. search needs) returns (λ c κs. search needs) (λ c κs. search needs) returns-2 receive-each-requires
+    (λ c. search needs) (λ c. search needs) (λ c. search needs) (λ c. search needs) returns-3)

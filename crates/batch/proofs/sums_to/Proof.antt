@@ -5,13 +5,11 @@ use denote.Ref.{now}
 use borrow.Author.Needs.{needs}
 use borrow.Author.Tests.{ne-eqb}
 use native.Mathlib.Omega.{arith}
-use mathlib.Core.Path.{_≡_, refl, ap, sym, _∙_}
-use Prim.Native.Nat.{ℕ, _+_, _-_, _≤_, _<_}
+use mathlib.Core.Path.{_≡_, refl, sym}
+use Prim.Native.Nat.{_+_, _-_}
 use lib.ListN.{length, drop}
 use Rattle.batch.proofs.sums_to.Statement.{statement}
 use Rattle.batch.proofs.sums_to.Tie as tie
-use Rattle.batch.proofs.sums_to.Reads as reads
-use Rattle.batch.proofs.sums_to.Lts as lts
 
 abbrev Inv-loop : tie.InvT-loop
 Inv-loop lengths bytes left₀ i₀ left i = left + total lengths ≡ bytes + total (drop i lengths)
@@ -44,13 +42,5 @@ returns-2 c =
 
 pub sums-to-spec : {M : Type 1} → statement M
 sums-to-spec =
-    tie.close
-    (tie.spec
-    Inv-loop
-    μ-loop
-    loop-holds
-    (λ c. search needs) (λ c. search needs)
-    returns
-    (λ c. search needs) (λ c. search needs)
-    loop-again
-    returns-2)
+    tie.close (tie.spec Inv-loop μ-loop
+    loop-holds (λ c. search needs) (λ c. search needs) returns (λ c. search needs) (λ c. search needs) loop-again returns-2)

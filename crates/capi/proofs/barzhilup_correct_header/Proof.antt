@@ -1,12 +1,8 @@
-use mathlib.Core.Path.{_≡_, ap, _∙_}
+use mathlib.Core.Path.{ap, _∙_}
 use borrow.Author.Needs.{needs}
 use Rattle.correction.specs.Correction.{correctionNumber, countOf}
 use Rattle.capi.proofs.barzhilup_correct_header.Statement.{statement}
 use Rattle.capi.proofs.barzhilup_correct_header.Tie as tie
-use Rattle.capi.proofs.barzhilup_correct_header.Reads as reads
-use Rattle.capi.proofs.barzhilup_correct_header.Lts as lts
-use Rattle.capi.proofs.in_numbers.Reads as in-numbers-reads
-use Rattle.correction.proofs.correct.Reads as correct-reads
 
 returns : tie.Need-returns
 returns c =
@@ -14,5 +10,4 @@ returns c =
     (c .in-numbers .ensures .0 ∙ ap correctionNumber (r .ensures .0), (c .in-numbers .ensures .1 ∙ ap countOf (r .ensures .0), r .ensures .1))
 
 pub barzhilup-correct-header-spec : {M : Type 1} → statement M
-barzhilup-correct-header-spec =
-    tie.close (tie.spec (λ c κs. search needs) (λ c κs. search needs) (λ c. search needs) returns)
+barzhilup-correct-header-spec = tie.close (tie.spec (λ c κs. search needs) (λ c κs. search needs) (λ c. search needs) returns)

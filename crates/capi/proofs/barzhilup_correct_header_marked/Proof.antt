@@ -1,12 +1,8 @@
-use mathlib.Core.Path.{_≡_, ap, _∙_}
+use mathlib.Core.Path.{ap, _∙_}
 use borrow.Author.Needs.{needs}
 use Rattle.correction.specs.Correction.{correctionNumber, countOf}
 use Rattle.capi.proofs.barzhilup_correct_header_marked.Statement.{statement}
 use Rattle.capi.proofs.barzhilup_correct_header_marked.Tie as tie
-use Rattle.capi.proofs.barzhilup_correct_header_marked.Reads as reads
-use Rattle.capi.proofs.barzhilup_correct_header_marked.Lts as lts
-use Rattle.capi.proofs.in_numbers.Reads as in-numbers-reads
-use Rattle.correction.proofs.correct_marked.Reads as correct-marked-reads
 
 returns : tie.Need-returns
 returns c =
@@ -14,5 +10,4 @@ returns c =
     (c .in-numbers .ensures .0 ∙ ap correctionNumber (r .ensures .0), (c .in-numbers .ensures .1 ∙ ap countOf (r .ensures .0), r .ensures .1))
 
 pub barzhilup-correct-header-marked-spec : {M : Type 1} → statement M
-barzhilup-correct-header-marked-spec =
-    tie.close (tie.spec (λ c κs. search needs) (λ c κs. search needs) (λ c. search needs) returns)
+barzhilup-correct-header-marked-spec = tie.close (tie.spec (λ c κs. search needs) (λ c κs. search needs) (λ c. search needs) returns)

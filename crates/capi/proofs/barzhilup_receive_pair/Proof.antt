@@ -1,14 +1,10 @@
 use borrow.Author.Needs.{needs}
 use Rattle.capi.proofs.barzhilup_receive_pair.Statement.{statement}
 use Rattle.capi.proofs.barzhilup_receive_pair.Tie as tie
-use Rattle.capi.proofs.barzhilup_receive_pair.Reads as reads
-use Rattle.capi.proofs.barzhilup_receive_pair.Lts as lts
-use Rattle.pair.proofs.receive.Reads as receive-reads
 
 returns : tie.Need-returns
 returns c = c .before .before .before .before .before .before .before .before .receive .ensures
 
 pub barzhilup-receive-pair-spec : {M : Type 1} → statement M
 barzhilup-receive-pair-spec =
-    tie.close
-    (tie.spec (λ c κs. search needs) (λ c. search needs) (λ c. search needs) (λ c. search needs) (λ c. search needs) returns)
+    tie.close (tie.spec (λ c κs. search needs) (λ c. search needs) (λ c. search needs) (λ c. search needs) (λ c. search needs) returns)

@@ -3,10 +3,6 @@ use borrow.Author.Needs.{needs}
 use Rattle.latency.specs.Latency.{latencyRefusal, latencyOf, isFound}
 use Rattle.capi.proofs.barzhilup_smallest_latency.Statement.{statement}
 use Rattle.capi.proofs.barzhilup_smallest_latency.Tie as tie
-use Rattle.capi.proofs.barzhilup_smallest_latency.Reads as reads
-use Rattle.capi.proofs.barzhilup_smallest_latency.Lts as lts
-use Rattle.capi.proofs.smallest_in_numbers.Reads as smallest-in-numbers-reads
-use Rattle.latency.proofs.smallest.Reads as smallest-reads
 
 returns : tie.Need-returns
 returns c =
@@ -15,5 +11,4 @@ returns c =
     (n .0 ∙ ap latencyRefusal e, (n .1 .0 ∙ ap latencyOf e, n .1 .1 ∙ ap isFound e))
 
 pub barzhilup-smallest-latency-spec : {M : Type 1} → statement M
-barzhilup-smallest-latency-spec =
-    tie.close (tie.spec (λ c κs. search needs) (λ c κs. search needs) returns)
+barzhilup-smallest-latency-spec = tie.close (tie.spec (λ c κs. search needs) (λ c κs. search needs) returns)

@@ -1,13 +1,9 @@
 use borrow.Author.Needs.{needs}
 use Rattle.capi.proofs.barzhilup_waiting_packets.Statement.{statement}
 use Rattle.capi.proofs.barzhilup_waiting_packets.Tie as tie
-use Rattle.capi.proofs.barzhilup_waiting_packets.Reads as reads
-use Rattle.capi.proofs.barzhilup_waiting_packets.Lts as lts
-use Rattle.latency.proofs.show_waiting.Reads as show-waiting-reads
 
 returns : tie.Need-returns
 returns c = c .before .before .show-waiting .ensures
 
 pub barzhilup-waiting-packets-spec : {M : Type 1} → statement M
-barzhilup-waiting-packets-spec =
-    tie.close (tie.spec (λ c κs. search needs) (λ c. search needs) returns)
+barzhilup-waiting-packets-spec = tie.close (tie.spec (λ c κs. search needs) (λ c. search needs) returns)

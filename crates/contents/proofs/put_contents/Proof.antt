@@ -1,28 +1,17 @@
 use Rattle.contents.proofs.Putting.{first, two-puts}
-use Rattle.contents.specs.Contents.{contents}
 use Rattle.pieces.proofs.Cutting.{length-from}
-use Rattle.pieces.specs.Pieces.{cutBy, pieceBytes, locatorsFrom, total}
-use Rattle.layout.proofs.LocatorLaw.{length-locators}
-use Rattle.layout.specs.Locators.{locatorBytes, locatorSize}
-use Rattle.buffer.proofs.Laws.{put-then}
-use Rattle.buffer.specs.Buffer.{putAt}
-use lib.ListN.{replicate, length-replicate, length-append, length-drop}
-use borrow.Author.Needs.{counted-is}
+use Rattle.pieces.specs.Pieces.{locatorsFrom, total}
+use Rattle.layout.specs.Locators.{locatorSize}
+use lib.ListN.{replicate, length-replicate, length-drop}
 use denote.Ref.{now}
 use native.Mathlib.Omega.{arith}
-use mathlib.Core.Path.{_≡_, refl, ap, sym, _∙_}
-use Prim.Native.Nat.{ℕ, _+_, _-_, _*_, _≤_, _<_}
-use lib.ListN.{length, take, drop, getD, set, length-set}
-use mathlib.Core.List.{List, [], _∷_, _++_}
+use mathlib.Core.Path.{_≡_, ap, sym, _∙_}
+use Prim.Native.Nat.{ℕ, _+_, _-_, _≤_}
+use lib.ListN.{length, take, drop}
+use mathlib.Core.List.{List}
 use borrow.Author.Needs.{needs}
 use Rattle.contents.proofs.put_contents.Statement.{statement}
 use Rattle.contents.proofs.put_contents.Tie as tie
-use Rattle.contents.proofs.put_contents.Reads as reads
-use Rattle.contents.proofs.put_contents.Lts as lts
-use Rattle.contents.proofs.put_front.Reads as put-front-reads
-use Rattle.layout.proofs.locator_size.Reads as locator-size-reads
-use Rattle.pieces.proofs.locators.Reads as locators-reads
-use Rattle.pieces.proofs.put_pieces.Reads as put-pieces-reads
 
 slice-aggregate-put-front : tie.Need-slice-aggregate-put-front
 slice-aggregate-put-front c = sym (ap length (c .before .before .locators .ensures .1) ∙ length-from (now (c .before .before .before .before .before .before .before .before .before .args .lengths)) _)
@@ -52,11 +41,5 @@ returns c =
 
 pub put-contents-spec : {M : Type 1} → statement M
 put-contents-spec =
-    tie.close
-    (tie.spec
-    (λ c. search needs) (λ c κs. search needs) (λ c. search needs) (λ c. search needs) (λ c. search needs) (λ c. search needs) (λ c κs. search needs)
-    (λ c. search needs)
-    slice-aggregate-put-front
-    put-front-requires
-    (λ c κs. search needs) (λ c. search needs)
-    returns)
+    tie.close (tie.spec (λ c. search needs) (λ c κs. search needs) (λ c. search needs) (λ c. search needs) (λ c. search needs) (λ c. search needs)
+    (λ c κs. search needs) (λ c. search needs) slice-aggregate-put-front put-front-requires (λ c κs. search needs) (λ c. search needs) returns)

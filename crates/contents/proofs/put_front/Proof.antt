@@ -5,19 +5,13 @@ use Rattle.buffer.specs.Buffer.{putAt}
 use lib.ListN.{replicate, length-replicate}
 use denote.Ref.{now}
 use native.Mathlib.Omega.{arith}
-use mathlib.Core.Path.{_≡_, refl, ap, sym, _∙_}
-use Prim.Native.Nat.{ℕ, _+_, _-_, _*_, _≤_, _<_}
-use lib.ListN.{length, take, drop, getD, set, length-set}
-use mathlib.Core.List.{List, [], _∷_, _++_}
+use mathlib.Core.Path.{_≡_, refl, ap, _∙_}
+use Prim.Native.Nat.{ℕ, _+_, _-_, _≤_}
+use lib.ListN.{length}
+use mathlib.Core.List.{List}
 use borrow.Author.Needs.{needs}
 use Rattle.contents.proofs.put_front.Statement.{statement}
 use Rattle.contents.proofs.put_front.Tie as tie
-use Rattle.contents.proofs.put_front.Reads as reads
-use Rattle.contents.proofs.put_front.Lts as lts
-use Rattle.buffer.proofs.clear.Reads as clear-reads
-use Rattle.buffer.proofs.put_bytes.Reads as put-bytes-reads
-use Rattle.layout.proofs.locator_size.Reads as locator-size-reads
-use Rattle.layout.proofs.put_locators.Reads as put-locators-reads
 
 put-bytes-requires : tie.Need-put-bytes-requires
 put-bytes-requires c κs = search needs
@@ -38,9 +32,5 @@ returns c =
 
 pub put-front-spec : {M : Type 1} → statement M
 put-front-spec =
-    tie.close
-    (tie.spec
-    (λ c. search needs) (λ c κs. search needs) (λ c. search needs) (λ c κs. search needs) (λ c. search needs)
-    put-bytes-requires
-    (λ c κs. search needs) (λ c κs. search needs) (λ c. search needs) (λ c κs. search needs) (λ c. search needs)
-    returns)
+    tie.close (tie.spec (λ c. search needs) (λ c κs. search needs) (λ c. search needs) (λ c κs. search needs) (λ c. search needs) put-bytes-requires
+    (λ c κs. search needs) (λ c κs. search needs) (λ c. search needs) (λ c κs. search needs) (λ c. search needs) returns)

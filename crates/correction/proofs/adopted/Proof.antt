@@ -1,18 +1,14 @@
 use borrow.Author.Needs.{needs}
 use native.Mathlib.Omega.{arith}
-use mathlib.Core.Path.{_≡_, refl, ap, sym, _∙_}
-use Prim.Native.Nat.{ℕ, _+_, _-_, _*_, _≤_, _<_}
-use lib.ListN.{length, take, drop, getD, set, length-set}
-use mathlib.Core.List.{List, [], _∷_, _++_}
+use mathlib.Core.Path.{_≡_, refl, sym}
+use Prim.Native.Nat.{ℕ, _+_, _-_, _≤_, _<_}
+use lib.ListN.{length, drop, getD, set}
 use mathlib.Core.Path.{subst}
 use Rattle.algebra.proofs.Places.{all-getD}
 use Rattle.correction.specs.Marks.{adopted as adoptedFrom}
 use Rattle.correction.proofs.MarkLists.{allowed-inside, adopted-next, adopted-end}
 use Rattle.correction.proofs.adopted.Statement.{statement}
 use Rattle.correction.proofs.adopted.Tie as tie
-use Rattle.correction.proofs.adopted.Reads as reads
-use Rattle.correction.proofs.adopted.Lts as lts
-use Rattle.correction.proofs.place.Reads as place-reads
 
 abbrev Inv-loop : tie.InvT-loop
 Inv-loop header other marks out₀ k₀ out k = (k ≤ length marks) × (adoptedFrom (drop k marks) out other ≡ adoptedFrom marks header other)
@@ -51,14 +47,5 @@ returns c = adopted-end _ _ _ (c .before .loop .k) _ (omega arith) (c .before .l
 
 pub adopted-spec : {M : Type 1} → statement M
 adopted-spec =
-    tie.close
-    (tie.spec
-    Inv-loop
-    μ-loop
-    loop-holds
-    (λ c. search needs) (λ c κs. search needs)
-    element-copy-out-out
-    array-write-out
-    (λ c. search needs) (λ c. search needs)
-    loop-again
-    returns)
+    tie.close (tie.spec Inv-loop μ-loop
+    loop-holds (λ c. search needs) (λ c κs. search needs) element-copy-out-out array-write-out (λ c. search needs) (λ c. search needs) loop-again returns)

@@ -1,8 +1,7 @@
-use native.Mathlib.Omega.{arith}
-use mathlib.Core.Path.{_≡_, refl, ap, ap₂, sym, _∙_, subst}
-use Prim.Native.Nat.{ℕ, _+_, _-_, _*_, _≤_, _<_}
-use lib.ListN.{length, take, drop, getD, set, length-set}
-use mathlib.Core.List.{List, [], _∷_, _++_}
+use mathlib.Core.Path.{_≡_, ap, ap₂, _∙_, subst}
+use Prim.Native.Nat.{ℕ, _-_, _≤_, _<_}
+use lib.ListN.{length}
+use mathlib.Core.List.{List}
 use borrow.Author.Needs.{needs}
 use Rattle.algebra.specs.Places.{All}
 use Rattle.correction.specs.Marks.{spare}
@@ -11,15 +10,6 @@ use Rattle.correction.proofs.MarkLists.{allowed-inside}
 use Rattle.correction.proofs.Candidates.{system-back, few-places, distinct-places, candidate-word}
 use Rattle.correction.proofs.candidate.Statement.{statement}
 use Rattle.correction.proofs.candidate.Tie as tie
-use Rattle.correction.proofs.candidate.Reads as reads
-use Rattle.correction.proofs.candidate.Lts as lts
-use Rattle.elimination.proofs.eliminate.Reads as eliminate-reads
-use Rattle.correction.proofs.error_places.Reads as error-places-reads
-use Rattle.correction.proofs.repaired.Reads as repaired-reads
-use Rattle.correction.proofs.spare.Reads as spare-reads
-use Rattle.correction.proofs.stripped.Reads as stripped-reads
-use Rattle.elimination.proofs.right_side.Reads as right-side-reads
-use Rattle.elimination.proofs.system.Reads as system-reads
 
 -- where the syndromes are filtered, and where the function begins, seen from the elimination
 abbrev filtering : tie.After-eliminate → tie.After-stripped
@@ -68,9 +58,5 @@ returns c =
 
 pub candidate-spec : {M : Type 1} → statement M
 candidate-spec =
-    tie.close
-    (tie.spec
-    (λ c κs. search needs) (λ c κs. search needs) (λ c κs. search needs) (λ c κs. search needs) (λ c κs. search needs)
-    error-places-requires
-    repaired-requires
-    returns)
+    tie.close (tie.spec (λ c κs. search needs) (λ c κs. search needs) (λ c κs. search needs) (λ c κs. search needs) (λ c κs. search needs) error-places-requires
+    repaired-requires returns)

@@ -1,8 +1,7 @@
 use native.Mathlib.Omega.{arith}
-use mathlib.Core.Path.{_≡_, refl, ap, sym, _∙_}
-use Prim.Native.Nat.{ℕ, _+_, _-_, _*_, _≤_, _<_}
-use lib.ListN.{length, take, drop, getD, set, length-set}
-use mathlib.Core.List.{List, [], _∷_, _++_}
+use mathlib.Core.Path.{_≡_, sym, _∙_}
+use Prim.Native.Nat.{ℕ, _-_, _≤_, _<_}
+use lib.ListN.{length, getD}
 use borrow.Author.Needs.{needs}
 use denote.Ref.{now}
 use Rattle.header.proofs.Lengths.{short-refused, long-refused}
@@ -12,12 +11,6 @@ use Rattle.correction.proofs.MarkLists.{allowed-marks}
 use Rattle.correction.proofs.Answers.{length-refused, marks-refused, header-all-bytes, pdu-answered}
 use Rattle.correction.proofs.correct_marked.Statement.{statement}
 use Rattle.correction.proofs.correct_marked.Tie as tie
-use Rattle.correction.proofs.correct_marked.Reads as reads
-use Rattle.correction.proofs.correct_marked.Lts as lts
-use Rattle.correction.proofs.decode.Reads as decode-reads
-use Rattle.correction.proofs.marks_refusal.Reads as marks-refusal-reads
-use Rattle.header.proofs.header_of.Reads as header-of-reads
-use Rattle.header.proofs.put_front.Reads as put-front-reads
 
 -- where the function begins
 abbrev begin : tie.After-header-of → tie.Start
@@ -57,13 +50,5 @@ returns-4 c =
 
 pub correct-marked-spec : {M : Type 1} → statement M
 correct-marked-spec =
-    tie.close
-    (tie.spec
-    returns
-    returns-2
-    (λ c κs. search needs)
-    returns-3
-    (λ c κs. search needs)
-    decode-requires
-    (λ c. search needs) (λ c κs. search needs) (λ c. search needs)
-    returns-4)
+    tie.close (tie.spec returns returns-2 (λ c κs. search needs) returns-3 (λ c κs. search needs) decode-requires (λ c. search needs) (λ c κs. search needs)
+    (λ c. search needs) returns-4)

@@ -1,24 +1,12 @@
 use native.Mathlib.Omega.{arith}
-use mathlib.Core.Path.{_≡_, refl, ap, sym, _∙_}
-use Prim.Native.Nat.{ℕ, _+_, _-_, _*_, _≤_, _<_}
-use lib.ListN.{length, take, drop, getD, set, length-set}
-use mathlib.Core.List.{List, [], _∷_, _++_}
+use mathlib.Core.Path.{_≡_, ap, sym, _∙_}
+use Prim.Native.Nat.{_-_}
+use lib.ListN.{length}
 use borrow.Author.Needs.{needs}
 use Rattle.header.specs.Header.{isCodeWord, allZero}
 use Rattle.correction.proofs.Answers.{answer-clean, answer-far, answer-wrong, answer-corrected}
 use Rattle.correction.proofs.decode.Statement.{statement}
 use Rattle.correction.proofs.decode.Tie as tie
-use Rattle.correction.proofs.decode.Reads as reads
-use Rattle.correction.proofs.decode.Lts as lts
-use Rattle.field.proofs.logarithms.Reads as logarithms-reads
-use Rattle.field.proofs.powers.Reads as powers-reads
-use Rattle.correction.proofs.adopted.Reads as adopted-reads
-use Rattle.correction.proofs.candidate.Reads as candidate-reads
-use Rattle.correction.proofs.refused.Reads as refused-reads
-use Rattle.correction.proofs.spare.Reads as spare-reads
-use Rattle.header.proofs.all_zero.Reads as all-zero-reads
-use Rattle.header.proofs.is_code_word_by.Reads as is-code-word-by-reads
-use Rattle.header.proofs.syndromes_by.Reads as syndromes-by-reads
 
 -- where the function begins, seen from the syndromes and from the candidate
 abbrev begin : tie.After-syndromes-by → tie.Start
@@ -79,15 +67,6 @@ returns-4 c =
 
 pub decode-spec : {M : Type 1} → statement M
 decode-spec =
-    tie.close
-    (tie.spec
-    (λ c κs. search needs) (λ c κs. search needs) (λ c κs. search needs) (λ c κs. search needs)
-    returns
-    candidate-requires
-    adopted-requires
-    (λ c κs. search needs) (λ c κs. search needs) (λ c. search needs) (λ c κs. search needs)
-    returns-2
-    (λ c κs. search needs) (λ c κs. search needs)
-    returns-3
-    (λ c κs. search needs)
-    returns-4)
+    tie.close (tie.spec (λ c κs. search needs) (λ c κs. search needs) (λ c κs. search needs) (λ c κs. search needs) returns candidate-requires adopted-requires
+    (λ c κs. search needs) (λ c κs. search needs) (λ c. search needs) (λ c κs. search needs) returns-2 (λ c κs. search needs) (λ c κs. search needs) returns-3
+    (λ c κs. search needs) returns-4)

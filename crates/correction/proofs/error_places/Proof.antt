@@ -1,16 +1,11 @@
-use mathlib.Core.Path.{_≡_, refl, sym, _∙_, ap}
-use mathlib.Core.List.{List, [], _∷_}
-use Prim.Native.Nat.{ℕ, zero, suc, _+_, _-_, _<_, _≤_}
+use mathlib.Core.Path.{_≡_}
+use Prim.Native.Nat.{_-_, _<_, _≤_}
 use native.Mathlib.Omega.{arith}
-use lib.ListN.{length, getD, set, length-set}
 use borrow.Author.Needs.{needs}
 use Rattle.correction.specs.ErrorPlaces.{Search, located}
 use Rattle.correction.proofs.Searching.{search-start, loop-hit, loop-miss, loop-room}
 use Rattle.correction.proofs.error_places.Statement.{statement}
 use Rattle.correction.proofs.error_places.Tie as tie
-use Rattle.correction.proofs.error_places.Reads as reads
-use Rattle.correction.proofs.error_places.Lts as lts
-use Rattle.correction.proofs.is_located.Reads as is-located-reads
 
 abbrev Inv-loop : tie.InvT-loop
 Inv-loop powers logarithms coefficients degree marks count₀ places₀ m₀ count places m = (m ≤ 96) × Search (located marks coefficients degree) m count places
@@ -61,17 +56,6 @@ returns c = let e : c .before .loop .m ≡ 0 = omega arith in rw e at (c .before
 
 pub error-places-spec : {M : Type 1} → statement M
 error-places-spec =
-    tie.close
-    (tie.spec
-    Inv-loop
-    μ-loop
-    loop-holds
-    (λ c. search needs) (λ c κs. search needs)
-    mul-places
-    array-write-places
-    add-count
-    (λ c. search needs)
-    loop-again
-    (λ c. search needs)
-    loop-again-2
-    returns)
+    tie.close (tie.spec Inv-loop μ-loop
+    loop-holds (λ c. search needs) (λ c κs. search needs) mul-places array-write-places add-count (λ c. search needs) loop-again (λ c. search needs)
+    loop-again-2 returns)

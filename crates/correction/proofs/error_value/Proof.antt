@@ -1,20 +1,10 @@
-use mathlib.Core.Path.{_≡_, refl, sym, _∙_, ap}
-use mathlib.Core.List.{List, [], _∷_}
 use mathlib.Core.Logic.{⊎-elim}
-use Prim.Native.Nat.{ℕ, zero, suc, _+_, _-_, _<_, _≤_}
+use Prim.Native.Nat.{_-_, _≤_}
 use native.Mathlib.Omega.{arith}
-use lib.ListN.{length, getD, set, length-set}
-use lib.Bits.{bitXor}
 use borrow.Author.Needs.{needs}
-use Rattle.field.specs.Field.{mul, inverse}
 use Rattle.correction.proofs.Filtering.{Working, working-start, working-skip, working-next, working-end}
 use Rattle.correction.proofs.error_value.Statement.{statement}
 use Rattle.correction.proofs.error_value.Tie as tie
-use Rattle.correction.proofs.error_value.Reads as reads
-use Rattle.correction.proofs.error_value.Lts as lts
-use Rattle.correction.proofs.filtered.Reads as filtered-reads
-use Rattle.field.proofs.inverse_by.Reads as inverse-by-reads
-use Rattle.field.proofs.product_by.Reads as product-by-reads
 
 abbrev Inv-loop : tie.InvT-loop
 Inv-loop powers logarithms m k z at t₀ f₀ q₀ t f q = (q ≤ m) × Working t₀ z k q t f
@@ -40,13 +30,6 @@ returns c = working-end (c .before .before .before .before .args .s) (c .before 
 
 pub error-value-spec : {M : Type 1} → statement M
 error-value-spec =
-    tie.close
-    (tie.spec
-    Inv-loop
-    μ-loop
-    (λ c. search needs)
-    loop-holds
-    (λ c. search needs) (λ c κs. search needs) (λ c κs. search needs) (λ c. search needs) (λ c. search needs)
-    loop-again
-    (λ c κs. search needs) (λ c. search needs) (λ c κs. search needs)
-    returns)
+    tie.close (tie.spec Inv-loop μ-loop
+    (λ c. search needs) loop-holds (λ c. search needs) (λ c κs. search needs) (λ c κs. search needs) (λ c. search needs) (λ c. search needs) loop-again
+    (λ c κs. search needs) (λ c. search needs) (λ c κs. search needs) returns)

@@ -1,19 +1,9 @@
-use mathlib.Core.Path.{_≡_, refl, sym, _∙_, ap}
-use mathlib.Core.List.{List, [], _∷_}
-use mathlib.Core.Logic.{⊎-elim}
-use Prim.Native.Nat.{ℕ, zero, suc, _+_, _-_, _<_, _≤_}
+use Prim.Native.Nat.{_-_, _≤_}
 use native.Mathlib.Omega.{arith}
-use lib.ListN.{length, getD, set, length-set}
-use lib.Bits.{bitXor}
 use borrow.Author.Needs.{needs}
-use Rattle.field.specs.Field.{mul, inverse, pow}
-use Rattle.correction.proofs.Searching.{Evaluated, evaluate-start, evaluate-next, evaluate-end, search-start, search-hit, search-miss, search-room}
-use Rattle.correction.specs.ErrorPlaces.{Search, valueFrom}
+use Rattle.correction.proofs.Searching.{Evaluated, evaluate-start, evaluate-next, evaluate-end}
 use Rattle.correction.proofs.evaluate.Statement.{statement}
 use Rattle.correction.proofs.evaluate.Tie as tie
-use Rattle.correction.proofs.evaluate.Reads as reads
-use Rattle.correction.proofs.evaluate.Lts as lts
-use Rattle.field.proofs.product_by.Reads as product-by-reads
 
 abbrev Inv-loop : tie.InvT-loop
 Inv-loop powers logarithms degree x coefficients v₀ i₀ v i = (i ≤ 4) × Evaluated coefficients degree x i v
@@ -32,11 +22,5 @@ returns c = evaluate-end _ _ _ (c .before .loop .i) (c .before .loop .v) (omega 
 
 pub evaluate-spec : {M : Type 1} → statement M
 evaluate-spec =
-    tie.close
-    (tie.spec
-    Inv-loop
-    μ-loop
-    loop-holds
-    (λ c. search needs) (λ c. search needs) (λ c κs. search needs) (λ c. search needs)
-    loop-again
-    returns)
+    tie.close (tie.spec Inv-loop μ-loop
+    loop-holds (λ c. search needs) (λ c. search needs) (λ c κs. search needs) (λ c. search needs) loop-again returns)

@@ -1,18 +1,13 @@
-use mathlib.Core.Path.{_≡_, refl, sym, _∙_, ap}
-use mathlib.Core.List.{List, [], _∷_}
-use Prim.Native.Nat.{ℕ, zero, suc, _+_, _-_, _<_, _≤_}
+use mathlib.Core.Path.{ap}
+use Prim.Native.Nat.{ℕ, _+_, _-_, _≤_}
 use native.Mathlib.Omega.{arith}
-use lib.ListN.{length, getD, set, length-set}
+use lib.ListN.{getD}
 use lib.Bits.{bitXor}
 use borrow.Author.Needs.{needs}
-use Rattle.field.specs.Field.{mul, inverse}
 use Rattle.correction.specs.ErrorValues.{Filtered}
 use Rattle.correction.proofs.Filtering.{filtered-next, filtered-end}
 use Rattle.correction.proofs.filtered.Statement.{statement}
 use Rattle.correction.proofs.filtered.Tie as tie
-use Rattle.correction.proofs.filtered.Reads as reads
-use Rattle.correction.proofs.filtered.Lts as lts
-use Rattle.field.proofs.product_by.Reads as product-by-reads
 
 abbrev Inv-loop : tie.InvT-loop
 Inv-loop powers logarithms x t out₀ j₀ out j = (j ≤ 7) × Filtered t x out j
@@ -35,11 +30,6 @@ returns c = filtered-end _ _ _ (c .before .loop .j) (omega arith) (c .before .lo
 
 pub filtered-spec : {M : Type 1} → statement M
 filtered-spec =
-    tie.close
-    (tie.spec
-    Inv-loop
-    μ-loop
-    loop-holds
-    (λ c. search needs) (λ c. search needs) (λ c. search needs) (λ c κs. search needs) (λ c. search needs) (λ c. search needs) (λ c. search needs)
-    loop-again
-    returns)
+    tie.close (tie.spec Inv-loop μ-loop
+    loop-holds (λ c. search needs) (λ c. search needs) (λ c. search needs) (λ c κs. search needs) (λ c. search needs) (λ c. search needs) (λ c. search needs)
+    loop-again returns)

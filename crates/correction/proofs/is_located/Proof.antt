@@ -1,19 +1,11 @@
-use native.Mathlib.Omega.{arith}
-use mathlib.Core.Path.{_≡_, refl, ap, sym, _∙_}
-use Prim.Native.Nat.{ℕ, _+_, _-_, _*_, _≤_, _<_}
-use lib.ListN.{length, take, drop, getD, set, length-set}
-use mathlib.Core.List.{List, [], _∷_, _++_}
+use mathlib.Core.Path.{ap, sym, _∙_}
+use Prim.Native.Nat.{ℕ, _-_}
 use borrow.Author.Needs.{needs}
 use mathlib.Core.Bool.{Bool, _||_}
 use lib.Dec.{eqb}
 use Rattle.correction.specs.ErrorPlaces.{root, valueFrom}
 use Rattle.correction.proofs.is_located.Statement.{statement}
 use Rattle.correction.proofs.is_located.Tie as tie
-use Rattle.correction.proofs.is_located.Reads as reads
-use Rattle.correction.proofs.is_located.Lts as lts
-use Rattle.correction.proofs.evaluate.Reads as evaluate-reads
-use Rattle.correction.proofs.is_marked.Reads as is-marked-reads
-use Rattle.field.proofs.power_by.Reads as power-by-reads
 
 returns : tie.Need-returns
 returns c = ap (λ (b : Bool). b || root (c .before .before .before .args .coefficients) (c .before .before .before .args .degree) (c .before .before .before .args .i)) (sym (c .if1 .taken) ∙ c .before .is-marked .ensures)
@@ -26,5 +18,4 @@ returns-2 c =
     ∙ ap (λ (b : Bool). b || root (a .coefficients) (a .degree) (a .i)) (sym (c .before .before .if1 .left) ∙ m .is-marked .ensures)
 
 pub is-located-spec : {M : Type 1} → statement M
-is-located-spec =
-    tie.close (tie.spec (λ c κs. search needs) returns (λ c κs. search needs) (λ c κs. search needs) returns-2)
+is-located-spec = tie.close (tie.spec (λ c κs. search needs) returns (λ c κs. search needs) (λ c κs. search needs) returns-2)

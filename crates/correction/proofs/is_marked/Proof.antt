@@ -1,16 +1,12 @@
 use borrow.Author.Needs.{needs}
 use native.Mathlib.Omega.{arith}
-use mathlib.Core.Path.{_≡_, refl, ap, sym, _∙_}
-use Prim.Native.Nat.{ℕ, _+_, _-_, _*_, _≤_, _<_}
-use lib.ListN.{length, take, drop, getD, set, length-set}
-use mathlib.Core.List.{List, [], _∷_, _++_}
+use mathlib.Core.Path.{_≡_, refl, sym, _∙_}
+use Prim.Native.Nat.{_-_, _≤_}
+use lib.ListN.{length, drop}
 use Rattle.correction.specs.Marks.{isMarked}
 use Rattle.correction.proofs.MarkLists.{marked-here, marked-past, marked-end}
 use Rattle.correction.proofs.is_marked.Statement.{statement}
 use Rattle.correction.proofs.is_marked.Tie as tie
-use Rattle.correction.proofs.is_marked.Reads as reads
-use Rattle.correction.proofs.is_marked.Lts as lts
-use Rattle.correction.proofs.place.Reads as place-reads
 
 abbrev Inv-loop : tie.InvT-loop
 Inv-loop marks i k₀ k = (k ≤ length marks) × (isMarked marks i ≡ isMarked (drop k marks) i)
@@ -32,13 +28,5 @@ returns-2 c = marked-end _ _ (c .before .loop .k) (omega arith) (c .before .loop
 
 pub is-marked-spec : {M : Type 1} → statement M
 is-marked-spec =
-    tie.close
-    (tie.spec
-    Inv-loop
-    μ-loop
-    loop-holds
-    (λ c. search needs) (λ c κs. search needs)
-    returns
-    (λ c. search needs) (λ c. search needs)
-    loop-again
-    returns-2)
+    tie.close (tie.spec Inv-loop μ-loop
+    loop-holds (λ c. search needs) (λ c κs. search needs) returns (λ c. search needs) (λ c. search needs) loop-again returns-2)

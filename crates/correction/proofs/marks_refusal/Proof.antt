@@ -1,17 +1,13 @@
 use borrow.Author.Needs.{needs}
 use native.Mathlib.Omega.{arith}
 use mathlib.Core.Path.{_≡_, refl, ap, sym, _∙_}
-use Prim.Native.Nat.{ℕ, _+_, _-_, _*_, _≤_, _<_}
-use lib.ListN.{length, take, drop, getD, set, length-set}
-use mathlib.Core.List.{List, [], _∷_, _++_}
+use Prim.Native.Nat.{ℕ, _+_, _-_, _≤_}
+use lib.ListN.{length, drop}
+use mathlib.Core.List.{List}
 use Rattle.correction.specs.Marks.{isMarked, allowedMarks}
 use Rattle.correction.proofs.MarkLists.{marks-from, many-refused, over-refused, repeated-refused, allowed-past, marks-taken}
 use Rattle.correction.proofs.marks_refusal.Statement.{statement}
 use Rattle.correction.proofs.marks_refusal.Tie as tie
-use Rattle.correction.proofs.marks_refusal.Reads as reads
-use Rattle.correction.proofs.marks_refusal.Lts as lts
-use Rattle.correction.proofs.is_marked.Reads as is-marked-reads
-use Rattle.correction.proofs.place.Reads as place-reads
 
 abbrev Inv-loop : tie.InvT-loop
 Inv-loop marks k₀ k = (k ≤ length marks) × (allowedMarks marks ≡ allowedMarks (drop k marks))
@@ -52,16 +48,6 @@ returns-4 c = marks-taken _ (c .before .loop .k) (omega arith) (c .before .loop 
 
 pub marks-refusal-spec : {M : Type 1} → statement M
 marks-refusal-spec =
-    tie.close
-    (tie.spec
-    Inv-loop
-    μ-loop
-    returns
-    loop-holds
-    (λ c. search needs) (λ c κs. search needs)
-    returns-2
-    (λ c. search needs) (λ c. search needs) (λ c. search needs) (λ c. search needs) (λ c κs. search needs)
-    returns-3
-    (λ c. search needs)
-    loop-again
-    returns-4)
+    tie.close (tie.spec Inv-loop μ-loop
+    returns loop-holds (λ c. search needs) (λ c κs. search needs) returns-2 (λ c. search needs) (λ c. search needs) (λ c. search needs) (λ c. search needs)
+    (λ c κs. search needs) returns-3 (λ c. search needs) loop-again returns-4)

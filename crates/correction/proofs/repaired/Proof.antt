@@ -1,18 +1,14 @@
 use borrow.Author.Needs.{needs}
 use native.Mathlib.Omega.{arith}
-use mathlib.Core.Path.{_≡_, refl, ap, sym, _∙_}
-use Prim.Native.Nat.{ℕ, _+_, _-_, _*_, _≤_, _<_}
-use lib.ListN.{length, take, drop, getD, set, length-set}
-use mathlib.Core.List.{List, [], _∷_, _++_}
+use mathlib.Core.Path.{ap, _∙_}
+use Prim.Native.Nat.{ℕ, _-_, _≤_}
+use lib.ListN.{getD}
+use mathlib.Core.List.{List}
 use lib.Bits.{bitXor}
 use Rattle.correction.specs.ErrorValues.{valueAt, Repaired}
 use Rattle.correction.proofs.Repairing.{repaired-start, repaired-next, repaired-end}
 use Rattle.correction.proofs.repaired.Statement.{statement}
 use Rattle.correction.proofs.repaired.Tie as tie
-use Rattle.correction.proofs.repaired.Reads as reads
-use Rattle.correction.proofs.repaired.Lts as lts
-use Rattle.correction.proofs.error_value.Reads as error-value-reads
-use Rattle.correction.proofs.points.Reads as points-reads
 
 abbrev Inv-loop : tie.InvT-loop
 Inv-loop powers logarithms s m header places z out₀ k₀ out k = (k ≤ m) × Repaired header s places m k out
@@ -43,16 +39,6 @@ returns c = repaired-end _ _ _ _ (c .before .loop .k) _ (omega arith) (c .before
 
 pub repaired-spec : {M : Type 1} → statement M
 repaired-spec =
-    tie.close
-    (tie.spec
-    Inv-loop
-    μ-loop
-    (λ c κs. search needs)
-    loop-holds
-    (λ c. search needs) (λ c. search needs)
-    array-read-out
-    (λ c κs. search needs)
-    array-write-out
-    (λ c. search needs) (λ c. search needs)
-    loop-again
-    returns)
+    tie.close (tie.spec Inv-loop μ-loop
+    (λ c κs. search needs) loop-holds (λ c. search needs) (λ c. search needs) array-read-out (λ c κs. search needs) array-write-out (λ c. search needs)
+    (λ c. search needs) loop-again returns)

@@ -1,19 +1,13 @@
 use borrow.Author.Needs.{needs}
 use native.Mathlib.Omega.{arith}
-use mathlib.Core.Path.{_≡_, refl, ap, sym, _∙_}
-use Prim.Native.Nat.{ℕ, _+_, _-_, _*_, _≤_, _<_}
-use lib.ListN.{length, take, drop, getD, set, length-set}
-use mathlib.Core.List.{List, [], _∷_, _++_}
+use mathlib.Core.Path.{ap, _∙_}
+use Prim.Native.Nat.{_-_, _≤_}
+use lib.ListN.{length}
 use Rattle.field.specs.Field.{pow}
 use Rattle.correction.specs.ErrorValues.{Stripped}
 use Rattle.correction.proofs.Filtering.{stripped-start, stripped-next, stripped-end}
 use Rattle.correction.proofs.stripped.Statement.{statement}
 use Rattle.correction.proofs.stripped.Tie as tie
-use Rattle.correction.proofs.stripped.Reads as reads
-use Rattle.correction.proofs.stripped.Lts as lts
-use Rattle.correction.proofs.filtered.Reads as filtered-reads
-use Rattle.correction.proofs.place.Reads as place-reads
-use Rattle.field.proofs.power_by.Reads as power-by-reads
 
 abbrev Inv-loop : tie.InvT-loop
 Inv-loop powers logarithms marks t₀ k₀ t k = (k ≤ length marks) × Stripped t₀ marks k t
@@ -37,11 +31,6 @@ returns c = stripped-end _ _ (c .before .loop .k) _ (omega arith) (c .before .lo
 
 pub stripped-spec : {M : Type 1} → statement M
 stripped-spec =
-    tie.close
-    (tie.spec
-    Inv-loop
-    μ-loop
-    loop-holds
-    (λ c. search needs) (λ c κs. search needs) (λ c κs. search needs) (λ c κs. search needs) (λ c. search needs) (λ c. search needs)
-    loop-again
+    tie.close (tie.spec Inv-loop μ-loop
+    loop-holds (λ c. search needs) (λ c κs. search needs) (λ c κs. search needs) (λ c κs. search needs) (λ c. search needs) (λ c. search needs) loop-again
     returns)

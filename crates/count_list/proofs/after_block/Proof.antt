@@ -1,25 +1,13 @@
 use borrow.Author.Needs.{needs}
-use native.Mathlib.Omega.{arith}
 use mathlib.Core.Path.{_≡_}
-use Prim.Native.Nat.{_+_, _-_, _*_, _≤_, _<_}
+use Prim.Native.Nat.{_-_, _≤_}
 use lib.ListN.{length}
 use Rattle.count_list.proofs.after_block.Statement.{statement}
 use Rattle.count_list.proofs.after_block.Tie as tie
-use Rattle.count_list.proofs.after_block.Reads as reads
-use Rattle.count_list.proofs.after_block.Lts as lts
-use Rattle.count_list.proofs.after.Reads as after-reads
-
-abbrev Inv-loop : tie.InvT-loop
-Inv-loop block counts₀ list₀ i₀ counts list i = (i ≤ length block) × (length counts ≡ length counts₀)
-
-abbrev μ-loop : tie.MeasureT-loop
-μ-loop block counts₀ list₀ i₀ counts list i = length block - i
 
 pub after-block-spec : {M : Type 1} → statement M
 after-block-spec =
-    tie.close
-    (tie.spec
-    Inv-loop
-    μ-loop
+    tie.close (tie.spec (λ block counts₀ list₀ i₀ counts list i. (i ≤ length block) × (length counts ≡ length counts₀))
+    (λ block counts₀ list₀ i₀ counts list i. length block - i)
     (λ c. search needs) (λ c. search needs) (λ c κs. search needs) (λ c. search needs) (λ c. search needs) (λ c. search needs) (λ c. search needs)
     (λ c. search needs) (λ c. search needs) (λ c. search needs))

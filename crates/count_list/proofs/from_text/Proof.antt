@@ -1,30 +1,14 @@
 use borrow.Author.Needs.{needs}
-use native.Mathlib.Omega.{arith}
 use mathlib.Core.Path.{_≡_}
-use Prim.Native.Nat.{_+_, _-_, _*_, _≤_, _<_}
+use Prim.Native.Nat.{_+_, _-_}
 use lib.ListN.{length}
 use Rattle.count_list.proofs.from_text.Statement.{statement}
 use Rattle.count_list.proofs.from_text.Tie as tie
-use Rattle.count_list.proofs.from_text.Reads as reads
-use Rattle.count_list.proofs.from_text.Lts as lts
-use Rattle.bytes.proofs.scan.find.Reads as find-reads
-use Rattle.count_list.proofs.empty.Reads as empty-reads
-use Rattle.count_list.proofs.stopped.Reads as stopped-reads
-use Rattle.count_list.proofs.stored.Reads as stored-reads
-use Rattle.text.proofs.parse.Reads as parse-reads
-
-abbrev Inv-loop : tie.InvT-loop
-Inv-loop text counts₀ list₀ at₀ counts list at = length counts ≡ length counts₀
-
-abbrev μ-loop : tie.MeasureT-loop
-μ-loop text counts₀ list₀ at₀ counts list at = length text + 1 - at
 
 pub from-text-spec : {M : Type 1} → statement M
 from-text-spec =
-    tie.close
-    (tie.spec
-    Inv-loop
-    μ-loop
+    tie.close (tie.spec (λ text counts₀ list₀ at₀ counts list at. length counts ≡ length counts₀)
+    (λ text counts₀ list₀ at₀ counts list at. length text + 1 - at)
     (λ c κs. search needs) (λ c. search needs) (λ c κs. search needs) (λ c. search needs) (λ c. search needs) (λ c. search needs) (λ c κs. search needs)
     (λ c κs. search needs) (λ c. search needs) (λ c. search needs) (λ c κs. search needs) (λ c. search needs) (λ c. search needs) (λ c. search needs)
     (λ c κs. search needs) (λ c. search needs) (λ c. search needs))

@@ -5,17 +5,8 @@ use lib.ListN.{length}
 use Rattle.counts.proofs.add_log.Statement.{statement}
 use Rattle.counts.proofs.add_log.Tie as tie
 
-abbrev Inv-loop : tie.InvT-loop
-Inv-loop counts₀ log i₀ counts i = (length counts ≡ length counts₀) × (i ≤ length log)
-
-abbrev μ-loop : tie.MeasureT-loop
-μ-loop counts₀ log i₀ counts i = length log - i
-
 pub add-log-spec : {M : Type 1} → statement M
 add-log-spec =
-    tie.close
-    (tie.spec
-    Inv-loop
-    μ-loop
+    tie.close (tie.spec (λ counts₀ log i₀ counts i. (length counts ≡ length counts₀) × (i ≤ length log)) (λ counts₀ log i₀ counts i. length log - i)
     (λ c. search needs) (λ c. search needs) (λ c. search needs) (λ c κs. search needs) (λ c κs. search needs) (λ c. search needs) (λ c. search needs)
     (λ c. search needs) (λ c. search needs) (λ c. search needs))

@@ -1,18 +1,14 @@
 -- `crc::by_1` meets its contract: before each turn the bits kept, and the bytes left, have the CRC of all.
-use mathlib.Core.Path.{_≡_, refl, ap, ap₂, sym, _∙_}
+use mathlib.Core.Path.{_≡_, refl, ap₂, _∙_}
 use mathlib.Core.List.{List}
 use native.Mathlib.Omega.{arith}
 use Prim.Native.Nat.{ℕ, _+_, _-_, _%_, _≤_, _<_}
-use lib.ListN.{length, drop, getD}
+use lib.ListN.{length, drop}
 use Rattle.crc.specs.Ring.{shifts, val, horner}
 use Rattle.crc.proofs.Ring.{push-again}
 use borrow.Author.Needs.{needs}
 use Rattle.crc.proofs.by_1.Statement.{statement}
 use Rattle.crc.proofs.by_1.Tie as tie
-use Rattle.crc.proofs.by_1.Reads as reads
-use Rattle.crc.proofs.by_1.Lts as lts
-use Rattle.crc.proofs.push_high.Reads as push-high-reads
-use Rattle.crc.proofs.push_low.Reads as push-low-reads
 
 abbrev Inv-loop : tie.InvT-loop
 Inv-loop h l bytes from head h₀ l₀ i₀ h' l' i =
@@ -51,12 +47,5 @@ returns c = c .by-16 .ensures ∙ c .before .before .loop .inv .4
 
 pub by-1-spec : {M : Type 1} → statement M
 by-1-spec =
-    tie.close
-    (tie.spec
-    Inv-loop
-    μ-loop
-    loop-holds
-    (λ c κs. search needs) (λ c. search needs) (λ c κs. search needs) (λ c. search needs) (λ c. search needs)
-    loop-again
-    by-16-requires
-    returns)
+    tie.close (tie.spec Inv-loop μ-loop
+    loop-holds (λ c κs. search needs) (λ c. search needs) (λ c κs. search needs) (λ c. search needs) (λ c. search needs) loop-again by-16-requires returns)

@@ -3,20 +3,12 @@ use borrow.Author.Needs.{needs}
 use Rattle.crc.specs.Ring.{shifts, val, horner, nextHigh, nextLow, farHigh, farLow}
 use Rattle.crc.proofs.Ring.{three, far-again, done}
 use native.Mathlib.Omega.{arith}
-use mathlib.Core.Path.{_≡_, refl, ap, ap₂, sym, _∙_}
+use mathlib.Core.Path.{_≡_, refl, ap, ap₂, _∙_}
 use Prim.Native.Nat.{ℕ, _+_, _-_, _%_, _≤_, _<_}
-use lib.ListN.{length, take, drop, getD, set, length-set}
-use mathlib.Core.List.{List, [], _∷_, _++_}
+use lib.ListN.{length, drop}
+use mathlib.Core.List.{List}
 use Rattle.crc.proofs.by_32.Statement.{statement}
 use Rattle.crc.proofs.by_32.Tie as tie
-use Rattle.crc.proofs.by_32.Reads as reads
-use Rattle.crc.proofs.by_32.Lts as lts
-use Rattle.crc.proofs.far_high.Reads as far-high-reads
-use Rattle.crc.proofs.far_low.Reads as far-low-reads
-use Rattle.crc.proofs.finish.Reads as finish-reads
-use Rattle.crc.proofs.next_high.Reads as next-high-reads
-use Rattle.crc.proofs.next_low.Reads as next-low-reads
-use Rattle.crc.proofs.word.Reads as word-reads
 
 abbrev Inv-loop : tie.InvT-loop
 Inv-loop h l bytes from h₀ l₀ i₀ h' l' i =
@@ -58,13 +50,7 @@ returns c =
 
 pub by-32-spec : {M : Type 1} → statement M
 by-32-spec =
-    tie.close
-    (tie.spec
-    Inv-loop
-    μ-loop
-    loop-holds
-    (λ c κs. search needs) (λ c. search needs) (λ c κs. search needs) (λ c. search needs) (λ c κs. search needs) (λ c κs. search needs) (λ c. search needs)
-    (λ c κs. search needs) (λ c κs. search needs) (λ c κs. search needs) (λ c κs. search needs) (λ c. search needs) (λ c. search needs)
-    loop-again
-    (λ c κs. search needs)
-    returns)
+    tie.close (tie.spec Inv-loop μ-loop
+    loop-holds (λ c κs. search needs) (λ c. search needs) (λ c κs. search needs) (λ c. search needs) (λ c κs. search needs) (λ c κs. search needs)
+    (λ c. search needs) (λ c κs. search needs) (λ c κs. search needs) (λ c κs. search needs) (λ c κs. search needs) (λ c. search needs) (λ c. search needs)
+    loop-again (λ c κs. search needs) returns)

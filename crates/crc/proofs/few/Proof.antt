@@ -54,15 +54,6 @@ returns c =
 
 pub few-spec : {M : Type 1} → statement M
 few-spec =
-    tie.close
-    (tie.spec
-    Inv-loop
-    μ-loop
-    (λ c κs. search needs)
-    loop-holds
-    (λ c. search needs) (λ c κs. search needs)
-    mul-w
-    (λ c. search needs) (λ c. search needs)
-    loop-again
-    (λ c κs. search needs)
+    tie.close (tie.spec Inv-loop μ-loop
+    (λ c κs. search needs) loop-holds (λ c. search needs) (λ c κs. search needs) mul-w (λ c. search needs) (λ c. search needs) loop-again (λ c κs. search needs)
     returns)

@@ -1,18 +1,9 @@
 -- `crc::reduced64` meets its contract.
-use native.Mathlib.Omega.{arith}
-use mathlib.Core.Path.{_≡_, refl, ap, sym, _∙_}
-use Prim.Native.Nat.{ℕ, _+_, _-_, _*_, _≤_, _<_}
-use lib.ListN.{length, take, drop, getD, set, length-set}
-use mathlib.Core.List.{List, [], _∷_, _++_}
+use Prim.Native.Nat.{_-_}
 use borrow.Author.Needs.{needs}
 use Rattle.crc.proofs.Folding.{reduced-red}
 use Rattle.crc.proofs.reduced64.Statement.{statement}
 use Rattle.crc.proofs.reduced64.Tie as tie
-use Rattle.crc.proofs.reduced64.Reads as reads
-use Rattle.crc.proofs.reduced64.Lts as lts
-use Rattle.crc.proofs.fold16.Reads as fold16-reads
-use Rattle.crc.proofs.fold32.Reads as fold32-reads
-use Rattle.crc.proofs.fold8.Reads as fold8-reads
 
 returns : tie.Need-returns
 returns c =
@@ -23,6 +14,4 @@ returns c =
     (d .ensures .0) (d .ensures .1) (s .ensures .0) (s .ensures .1) (c .fold8 .ensures .0) (c .fold8 .ensures .1)
 
 pub reduced64-spec : {M : Type 1} → statement M
-reduced64-spec =
-    tie.close
-    (tie.spec (λ c κs. search needs) (λ c κs. search needs) (λ c κs. search needs) (λ c. search needs) returns)
+reduced64-spec = tie.close (tie.spec (λ c κs. search needs) (λ c κs. search needs) (λ c κs. search needs) (λ c. search needs) returns)

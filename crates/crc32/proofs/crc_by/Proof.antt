@@ -1,17 +1,13 @@
 use borrow.Author.Needs.{needs}
 use native.Mathlib.Omega.{arith}
 use mathlib.Core.Path.{_≡_, refl, ap, sym, _∙_}
-use Prim.Native.Nat.{ℕ, _+_, _-_, _*_, _≤_, _<_}
-use lib.ListN.{length, take, drop, getD, set, length-set}
-use mathlib.Core.List.{List, [], _∷_, _++_}
+use Prim.Native.Nat.{ℕ, _+_, _-_, _≤_, _<_}
+use lib.ListN.{length, drop}
 use lib.Bits.{bitXor}
 use Rattle.crc32.specs.Crc32.{crc32From, entriesBytes}
 use Rattle.crc32.proofs.Laws.{next-word, no-word}
 use Rattle.crc32.proofs.crc_by.Statement.{statement}
 use Rattle.crc32.proofs.crc_by.Tie as tie
-use Rattle.crc32.proofs.crc_by.Reads as reads
-use Rattle.crc32.proofs.crc_by.Lts as lts
-use Rattle.crc32.proofs.with_word.Reads as with-word-reads
 
 abbrev Inv-loop : tie.InvT-loop
 Inv-loop tables words register₀ i₀ register i = (i ≤ length words) × (crc32From register (entriesBytes (drop i words)) ≡ crc32From 4294967295 (entriesBytes words))
@@ -39,11 +35,5 @@ returns c =
 
 pub crc-by-spec : {M : Type 1} → statement M
 crc-by-spec =
-    tie.close
-    (tie.spec
-    Inv-loop
-    μ-loop
-    loop-holds
-    (λ c. search needs) (λ c. search needs) (λ c κs. search needs) (λ c. search needs) (λ c. search needs)
-    loop-again
-    returns)
+    tie.close (tie.spec Inv-loop μ-loop
+    loop-holds (λ c. search needs) (λ c. search needs) (λ c κs. search needs) (λ c. search needs) (λ c. search needs) loop-again returns)

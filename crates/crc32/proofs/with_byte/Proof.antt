@@ -1,15 +1,8 @@
-use native.Mathlib.Omega.{arith}
-use mathlib.Core.Path.{_≡_, refl, ap, sym, _∙_}
-use Prim.Native.Nat.{ℕ, _+_, _-_, _*_, _≤_, _<_}
-use lib.ListN.{length, take, drop, getD, set, length-set}
-use mathlib.Core.List.{List, [], _∷_, _++_}
+use Prim.Native.Nat.{_-_}
 use borrow.Author.Needs.{needs}
 use Rattle.crc32.proofs.Laws.{looked-up}
 use Rattle.crc32.proofs.with_byte.Statement.{statement}
 use Rattle.crc32.proofs.with_byte.Tie as tie
-use Rattle.crc32.proofs.with_byte.Reads as reads
-use Rattle.crc32.proofs.with_byte.Lts as lts
-use Rattle.crc32.proofs.place.Reads as place-reads
 
 returns : tie.Need-returns
 returns c =

@@ -1,15 +1,8 @@
-use native.Mathlib.Omega.{arith}
-use mathlib.Core.Path.{_≡_, refl, ap, sym, _∙_}
-use Prim.Native.Nat.{ℕ, _+_, _-_, _*_, _≤_, _<_}
-use lib.ListN.{length, take, drop, getD, set, length-set}
-use mathlib.Core.List.{List, [], _∷_, _++_}
+use Prim.Native.Nat.{_-_}
 use borrow.Author.Needs.{needs}
 use Rattle.crc32.proofs.Laws.{three-looked-up}
 use Rattle.crc32.proofs.with_three.Statement.{statement}
 use Rattle.crc32.proofs.with_three.Tie as tie
-use Rattle.crc32.proofs.with_three.Reads as reads
-use Rattle.crc32.proofs.with_three.Lts as lts
-use Rattle.crc32.proofs.place.Reads as place-reads
 
 returns : tie.Need-returns
 returns c =
@@ -21,8 +14,5 @@ returns c =
 
 pub with-three-spec : {M : Type 1} → statement M
 with-three-spec =
-    tie.close
-    (tie.spec
-    (λ c κs. search needs) (λ c. search needs) (λ c. search needs) (λ c. search needs) (λ c κs. search needs) (λ c. search needs) (λ c. search needs)
-    (λ c. search needs) (λ c κs. search needs) (λ c. search needs) (λ c. search needs)
-    returns)
+    tie.close (tie.spec (λ c κs. search needs) (λ c. search needs) (λ c. search needs) (λ c. search needs) (λ c κs. search needs) (λ c. search needs)
+    (λ c. search needs) (λ c. search needs) (λ c κs. search needs) (λ c. search needs) (λ c. search needs) returns)

@@ -1,18 +1,11 @@
-use native.Mathlib.Omega.{arith}
-use mathlib.Core.Path.{_≡_, refl, ap, sym, _∙_}
-use Prim.Native.Nat.{ℕ, _+_, _-_, _*_, _≤_, _<_}
-use lib.ListN.{length, take, drop, getD, set, length-set}
-use mathlib.Core.List.{List, [], _∷_, _++_}
+use mathlib.Core.Path.{ap, sym, _∙_}
+use Prim.Native.Nat.{ℕ, _-_}
 use borrow.Author.Needs.{needs}
 use Prim.Native.Nat.{_/_, _%_}
 use Rattle.crc32.specs.Crc32.{crc32Byte}
 use Rattle.crc32.proofs.Laws.{three-in, two-in, one-in}
 use Rattle.crc32.proofs.with_word.Statement.{statement}
 use Rattle.crc32.proofs.with_word.Tie as tie
-use Rattle.crc32.proofs.with_word.Reads as reads
-use Rattle.crc32.proofs.with_word.Lts as lts
-use Rattle.crc32.proofs.with_byte.Reads as with-byte-reads
-use Rattle.crc32.proofs.with_three.Reads as with-three-reads
 
 returns : tie.Need-returns
 returns c =
@@ -33,11 +26,4 @@ returns-3 c =
     d .with-byte .ensures ∙ sym (one-in (a .register) (a .word) (d .before .if1 .left) (c .if2 .left))
 
 pub with-word-spec : {M : Type 1} → statement M
-with-word-spec =
-    tie.close
-    (tie.spec
-    (λ c κs. search needs)
-    returns
-    (λ c κs. search needs) (λ c κs. search needs)
-    returns-2
-    returns-3)
+with-word-spec = tie.close (tie.spec (λ c κs. search needs) returns (λ c κs. search needs) (λ c κs. search needs) returns-2 returns-3)

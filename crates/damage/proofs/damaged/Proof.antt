@@ -3,11 +3,6 @@ use mathlib.Core.Path.{ap₂, _∙_}
 use Rattle.damage.specs.Damage.{differing}
 use Rattle.damage.proofs.damaged.Statement.{statement}
 use Rattle.damage.proofs.damaged.Tie as tie
-use Rattle.damage.proofs.damaged.Reads as reads
-use Rattle.damage.proofs.damaged.Lts as lts
-use Rattle.damage.proofs.alter.Reads as alter-reads
-use Rattle.damage.proofs.differing_places.Reads as differing-places-reads
-use Rattle.header.proofs.header_of.Reads as header-of-reads
 
 returns : tie.Need-returns
 returns c =
@@ -17,8 +12,4 @@ returns c =
     (a .alter .ensures .0, (a .alter .ensures .1 .0, (a .alter .ensures .1 .1, (d .0, d .1 ∙ ap₂ (differing 0) (a .before .before .header-of .ensures) (h .header-of2 .ensures)))))
 
 pub damaged-spec : {M : Type 1} → statement M
-damaged-spec =
-    tie.close
-    (tie.spec
-    (λ c κs. search needs) (λ c κs. search needs) (λ c κs. search needs) (λ c κs. search needs) (λ c. search needs)
-    returns)
+damaged-spec = tie.close (tie.spec (λ c κs. search needs) (λ c κs. search needs) (λ c κs. search needs) (λ c κs. search needs) (λ c. search needs) returns)

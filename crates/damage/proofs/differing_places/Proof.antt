@@ -7,8 +7,6 @@ use lib.Seq.{length-take-le}
 use Rattle.damage.proofs.Listing.{Listed, passed, listed, all-listed}
 use Rattle.damage.proofs.differing_places.Statement.{statement}
 use Rattle.damage.proofs.differing_places.Tie as tie
-use Rattle.damage.proofs.differing_places.Reads as reads
-use Rattle.damage.proofs.differing_places.Lts as lts
 
 abbrev Inv-loop : tie.InvT-loop
 Inv-loop before after places₀ count₀ place₀ places count place =
@@ -41,13 +39,6 @@ returns c =
 
 pub differing-places-spec : {M : Type 1} → statement M
 differing-places-spec =
-    tie.close
-    (tie.spec
-    Inv-loop
-    μ-loop
-    loop-holds
-    (λ c. search needs) (λ c. search needs) (λ c. search needs) (λ c. search needs)
-    loop-again
-    (λ c. search needs) (λ c. search needs) (λ c. search needs) (λ c. search needs) (λ c. search needs)
-    loop-again-2
-    returns)
+    tie.close (tie.spec Inv-loop μ-loop
+    loop-holds (λ c. search needs) (λ c. search needs) (λ c. search needs) (λ c. search needs) loop-again (λ c. search needs) (λ c. search needs)
+    (λ c. search needs) (λ c. search needs) (λ c. search needs) loop-again-2 returns)

@@ -3,8 +3,6 @@ use Rattle.diversity.proofs.Choosing.{better-first, better-second}
 use borrow.Author.Needs.{needs}
 use Rattle.diversity.proofs.better_of.Statement.{statement}
 use Rattle.diversity.proofs.better_of.Tie as tie
-use Rattle.diversity.proofs.better_of.Reads as reads
-use Rattle.diversity.proofs.better_of.Lts as lts
 
 returns : tie.Need-returns
 returns c =
@@ -20,10 +18,5 @@ returns-2 c =
 
 pub better-of-spec : {M : Type 1} → statement M
 better-of-spec =
-    tie.close
-    (tie.spec
-    (λ c. search needs) (λ c. search needs)
-    returns
-    (λ c. search needs) (λ c. search needs) (λ c. search needs) (λ c. search needs)
-    returns-2
-    (λ c. search needs) (λ c. search needs) (λ c. search needs))
+    tie.close (tie.spec (λ c. search needs) (λ c. search needs) returns (λ c. search needs) (λ c. search needs) (λ c. search needs) (λ c. search needs)
+    returns-2 (λ c. search needs) (λ c. search needs) (λ c. search needs))

@@ -2,10 +2,6 @@ use Rattle.diversity.proofs.Choosing.{choice-is}
 use borrow.Author.Needs.{needs}
 use Rattle.diversity.proofs.choice.Statement.{statement}
 use Rattle.diversity.proofs.choice.Tie as tie
-use Rattle.diversity.proofs.choice.Reads as reads
-use Rattle.diversity.proofs.choice.Lts as lts
-use Rattle.diversity.proofs.better_of.Reads as better-of-reads
-use Rattle.diversity.proofs.count.Reads as count-reads
 
 returns : tie.Need-returns
 returns c =

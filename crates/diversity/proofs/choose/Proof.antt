@@ -3,9 +3,6 @@ use Rattle.diversity.proofs.Choosing.{is-first, is-second, is-neither}
 use borrow.Author.Needs.{needs}
 use Rattle.diversity.proofs.choose.Statement.{statement}
 use Rattle.diversity.proofs.choose.Tie as tie
-use Rattle.diversity.proofs.choose.Reads as reads
-use Rattle.diversity.proofs.choose.Lts as lts
-use Rattle.diversity.proofs.choice.Reads as choice-reads
 
 returns : tie.Need-returns
 returns c = rw (is-first _ _ _ (c .before .choice .ensures) (c .if1 .taken)) refl
@@ -19,5 +16,4 @@ returns-3 c =
     rw (is-neither _ _ _ (e .before .before .choice .ensures) (e .before .if1 .left) (e .if2 .left)) (refl, refl)
 
 pub choose-spec : {M : Type 1} → statement M
-choose-spec =
-    tie.close (tie.spec (λ c κs. search needs) returns returns-2 (λ c. search needs) returns-3)
+choose-spec = tie.close (tie.spec (λ c κs. search needs) returns returns-2 (λ c. search needs) returns-3)

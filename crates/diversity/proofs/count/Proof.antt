@@ -4,10 +4,6 @@ use Rattle.diversity.proofs.Choosing.{count-short, count-long, count-he
 use borrow.Author.Needs.{needs}
 use Rattle.diversity.proofs.count.Statement.{statement}
 use Rattle.diversity.proofs.count.Tie as tie
-use Rattle.diversity.proofs.count.Reads as reads
-use Rattle.diversity.proofs.count.Lts as lts
-use Rattle.correction.proofs.correct.Reads as correct-reads
-use Rattle.header.proofs.header_of.Reads as header-of-reads
 
 returns : tie.Need-returns
 returns c = count-short _ (c .if1 .taken)
@@ -22,10 +18,4 @@ returns-3 c =
     count-header (now (h .before .before .before .before .args .pdu)) (h .header-of .result) _ (omega (arith, h .before .before .if1 .left)) (omega (arith, h .before .if2 .left)) (h .header-of .ensures) (k .correct .ensures .0)
 
 pub count-spec : {M : Type 1} → statement M
-count-spec =
-    tie.close
-    (tie.spec
-    returns
-    returns-2
-    (λ c κs. search needs) (λ c. search needs) (λ c κs. search needs)
-    returns-3)
+count-spec = tie.close (tie.spec returns returns-2 (λ c κs. search needs) (λ c. search needs) (λ c κs. search needs) returns-3)

@@ -1,6 +1,6 @@
 use denote.Ref.{now}
 use mathlib.Core.Path.{_≡_, refl, sym, ap, _∙_}
-use Prim.Native.Nat.{ℕ, _+_, _-_, _≤_}
+use Prim.Native.Nat.{ℕ, _-_, _≤_}
 use native.Mathlib.Omega.{arith}
 use lib.ListN.{length}
 use Rattle.diversity.specs.Steps.{mixed, inPlaces}
@@ -9,8 +9,6 @@ use Rattle.diversity.proofs.Exchanging.{within-none, within-more}
 use borrow.Author.Needs.{needs}
 use Rattle.diversity.proofs.exchange.Statement.{statement}
 use Rattle.diversity.proofs.exchange.Tie as tie
-use Rattle.diversity.proofs.exchange.Reads as reads
-use Rattle.diversity.proofs.exchange.Lts as lts
 
 abbrev Inv-loop : tie.InvT-loop
 Inv-loop first₀ second₀ from to i₀ first second i = ((from ≤ i) × (i ≤ to)) × ((first ≡ mixed (inPlaces from i) first₀ second₀) × (second ≡ mixed (inPlaces from i) second₀ first₀))
@@ -32,17 +30,8 @@ loop-holds c =
 slice-read-b : tie.Need-slice-read-b Inv-loop μ-loop
 slice-read-b c = omega (arith, first-long (c .before .before))
 
-slice-read-first : tie.Need-slice-read-first Inv-loop μ-loop
-slice-read-first c = omega (arith, second-long (c .before .before .before))
-
 slice-write-first : tie.Need-slice-write-first Inv-loop μ-loop
 slice-write-first c = omega (arith, first-long (c .before .before .before))
-
-slice-write-second : tie.Need-slice-write-second Inv-loop μ-loop
-slice-write-second c = omega (arith, second-long (c .before .before .before))
-
-loop-less : tie.Need-loop-less Inv-loop μ-loop
-loop-less c = omega arith
 
 loop-again : tie.Need-loop-again Inv-loop μ-loop
 loop-again c =
@@ -73,18 +62,6 @@ returns c =
 
 pub exchange-spec : {M : Type 1} → statement M
 exchange-spec =
-    tie.close
-    (tie.spec
-    Inv-loop
-    μ-loop
-    loop-holds
-    slice-read-b
-    slice-read-first
-    slice-write-first
-    slice-write-second
-    (λ c. search needs)
-    loop-less
-    loop-again
-    same-length
-    same-length-2
-    returns)
+    tie.close (tie.spec Inv-loop μ-loop
+    loop-holds slice-read-b (λ c. omega (arith, second-long (c .before .before .before))) slice-write-first
+    (λ c. omega (arith, second-long (c .before .before .before))) (λ c. search needs) (λ c. omega arith) loop-again same-length same-length-2 returns)

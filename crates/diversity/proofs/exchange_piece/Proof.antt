@@ -5,10 +5,6 @@ use Rattle.diversity.proofs.Exchanging.{piece-stays, piece-goes}
 use borrow.Author.Needs.{needs}
 use Rattle.diversity.proofs.exchange_piece.Statement.{statement}
 use Rattle.diversity.proofs.exchange_piece.Tie as tie
-use Rattle.diversity.proofs.exchange_piece.Reads as reads
-use Rattle.diversity.proofs.exchange_piece.Lts as lts
-use Rattle.diversity.proofs.exchange.Reads as exchange-reads
-use Rattle.diversity.proofs.place.Reads as place-reads
 
 returns : tie.Need-returns
 returns c =
@@ -29,9 +25,5 @@ returns-2 c =
 
 pub exchange-piece-spec : {M : Type 1} → statement M
 exchange-piece-spec =
-    tie.close
-    (tie.spec
-    returns
-    (λ c. search needs) (λ c. search needs) (λ c κs. search needs) (λ c. search needs) (λ c. search needs) (λ c. search needs) (λ c. search needs)
-    (λ c κs. search needs) (λ c κs. search needs) (λ c. search needs) (λ c. search needs)
-    returns-2)
+    tie.close (tie.spec returns (λ c. search needs) (λ c. search needs) (λ c κs. search needs) (λ c. search needs) (λ c. search needs) (λ c. search needs)
+    (λ c. search needs) (λ c κs. search needs) (λ c κs. search needs) (λ c. search needs) (λ c. search needs) returns-2)

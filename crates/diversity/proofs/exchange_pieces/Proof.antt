@@ -9,9 +9,6 @@ use Rattle.diversity.proofs.Exchanging.{exchanged-none, exchanged-more}
 use borrow.Author.Needs.{needs}
 use Rattle.diversity.proofs.exchange_pieces.Statement.{statement}
 use Rattle.diversity.proofs.exchange_pieces.Tie as tie
-use Rattle.diversity.proofs.exchange_pieces.Reads as reads
-use Rattle.diversity.proofs.exchange_pieces.Lts as lts
-use Rattle.diversity.proofs.exchange_piece.Reads as exchange-piece-reads
 
 abbrev Inv-loop : tie.InvT-loop
 Inv-loop first₀ second₀ marks nop causes k₀ first second k = (k ≤ nop) × ((first ≡ mixed (exchanged marks causes k) first₀ second₀) × (second ≡ mixed (exchanged marks causes k) second₀ first₀))
@@ -38,9 +35,6 @@ exchange-piece-requires c κs =
     let k = p .loop .k in
     let h = t .loop-test .taken in
     ((omega (arith, w .0 .few), w .0 .rising k h), (omega (arith, w .0 .within k h, first-long p), first-long p ∙ w .1 ∙ sym (second-long p)))
-
-loop-less : tie.Need-loop-less Inv-loop μ-loop
-loop-less c = omega arith
 
 loop-again : tie.Need-loop-again Inv-loop μ-loop
 loop-again c =
@@ -72,16 +66,5 @@ returns c =
 
 pub exchange-pieces-spec : {M : Type 1} → statement M
 exchange-pieces-spec =
-    tie.close
-    (tie.spec
-    Inv-loop
-    μ-loop
-    loop-holds
-    (λ c. search needs)
-    exchange-piece-requires
-    (λ c. search needs)
-    loop-less
-    loop-again
-    same-length
-    same-length-2
-    returns)
+    tie.close (tie.spec Inv-loop μ-loop
+    loop-holds (λ c. search needs) exchange-piece-requires (λ c. search needs) (λ c. omega arith) loop-again same-length same-length-2 returns)

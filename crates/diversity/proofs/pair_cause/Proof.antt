@@ -4,10 +4,6 @@ use Rattle.diversity.proofs.Pairing.{second-cause, taken-cause, first-c
 use borrow.Author.Needs.{needs}
 use Rattle.diversity.proofs.pair_cause.Statement.{statement}
 use Rattle.diversity.proofs.pair_cause.Tie as tie
-use Rattle.diversity.proofs.pair_cause.Reads as reads
-use Rattle.diversity.proofs.pair_cause.Lts as lts
-use Rattle.diversity.proofs.same_piece.Reads as same-piece-reads
-use Rattle.receiver.proofs.cause_at.Reads as cause-at-reads
 
 returns : tie.Need-returns
 returns c =
@@ -39,13 +35,4 @@ returns-4 c =
     apart-cause (a .register) (now (a .first)) (now (a .second)) (a .marks) (a .k) (a .cause) (s .pre .1 .1) (omega (arith, p .before .if1 .left)) _ _ (q .cause-at2 .ensures) (c .if3 .left) (p .same-piece .ensures) (q .before .if2 .left)
 
 pub pair-cause-spec : {M : Type 1} → statement M
-pair-cause-spec =
-    tie.close
-    (tie.spec
-    (λ c κs. search needs)
-    returns
-    (λ c κs. search needs)
-    returns-2
-    (λ c κs. search needs)
-    returns-3
-    returns-4)
+pair-cause-spec = tie.close (tie.spec (λ c κs. search needs) returns (λ c κs. search needs) returns-2 (λ c κs. search needs) returns-3 returns-4)

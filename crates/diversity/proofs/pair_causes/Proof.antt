@@ -7,9 +7,6 @@ use Rattle.diversity.specs.Steps.{pairCauseAt}
 use borrow.Author.Needs.{needs}
 use Rattle.diversity.proofs.pair_causes.Statement.{statement}
 use Rattle.diversity.proofs.pair_causes.Tie as tie
-use Rattle.diversity.proofs.pair_causes.Reads as reads
-use Rattle.diversity.proofs.pair_causes.Lts as lts
-use Rattle.diversity.proofs.pair_cause.Reads as pair-cause-reads
 
 abbrev Inv-loop : tie.InvT-loop
 Inv-loop register first second marks nop causes both₀ k₀ both k = (k ≤ nop) × Filled (pairCauseAt register first second marks) k both
@@ -46,13 +43,5 @@ returns c =
 
 pub pair-causes-spec : {M : Type 1} → statement M
 pair-causes-spec =
-    tie.close
-    (tie.spec
-    Inv-loop
-    μ-loop
-    loop-holds
-    (λ c. search needs)
-    pair-cause-requires
-    (λ c. search needs) (λ c. search needs) (λ c. search needs)
-    loop-again
-    returns)
+    tie.close (tie.spec Inv-loop μ-loop
+    loop-holds (λ c. search needs) pair-cause-requires (λ c. search needs) (λ c. search needs) (λ c. search needs) loop-again returns)

@@ -6,14 +6,6 @@ use Rattle.diversity.proofs.Alike.{alike-length, few, marked-first, mar
 use borrow.Author.Needs.{needs}
 use Rattle.diversity.proofs.receive_alike.Statement.{statement}
 use Rattle.diversity.proofs.receive_alike.Tie as tie
-use Rattle.diversity.proofs.receive_alike.Reads as reads
-use Rattle.diversity.proofs.receive_alike.Lts as lts
-use Rattle.diversity.proofs.pair_causes.Reads as pair-causes-reads
-use Rattle.diversity.proofs.receive_exchanged.Reads as receive-exchanged-reads
-use Rattle.layout.proofs.control_word.Reads as control-word-reads
-use Rattle.receiver.proofs.causes_of.Reads as causes-of-reads
-use Rattle.receiver.proofs.head_of.Reads as head-of-reads
-use Rattle.receiver.proofs.marks_of.Reads as marks-of-reads
 
 marks-of-requires : tie.Need-marks-of-requires
 marks-of-requires c κs =
@@ -71,13 +63,5 @@ returns c =
 
 pub receive-alike-spec : {M : Type 1} → statement M
 receive-alike-spec =
-    tie.close
-    (tie.spec
-    (λ c κs. search needs) (λ c. search needs)
-    marks-of-requires
-    causes-of-requires
-    pair-causes-requires
-    (λ c κs. search needs)
-    receive-exchanged-requires
-    (λ c. search needs) (λ c. search needs) (λ c. search needs) (λ c. search needs)
-    returns)
+    tie.close (tie.spec (λ c κs. search needs) (λ c. search needs) marks-of-requires causes-of-requires pair-causes-requires (λ c κs. search needs)
+    receive-exchanged-requires (λ c. search needs) (λ c. search needs) (λ c. search needs) (λ c. search needs) returns)

@@ -9,10 +9,6 @@ use Rattle.diversity.proofs.Mixing.{mixed-long, mixed-back}
 use borrow.Author.Needs.{needs}
 use Rattle.diversity.proofs.receive_exchanged.Statement.{statement}
 use Rattle.diversity.proofs.receive_exchanged.Tie as tie
-use Rattle.diversity.proofs.receive_exchanged.Reads as reads
-use Rattle.diversity.proofs.receive_exchanged.Lts as lts
-use Rattle.diversity.proofs.exchange_pieces.Reads as exchange-pieces-reads
-use Rattle.receiver.proofs.receive_parsed.Reads as receive-parsed-reads
 
 receive-parsed-requires : tie.Need-receive-parsed-requires
 receive-parsed-requires c κs =
@@ -49,10 +45,5 @@ returns c =
 
 pub receive-exchanged-spec : {M : Type 1} → statement M
 receive-exchanged-spec =
-    tie.close
-    (tie.spec
-    (λ c κs. search needs)
-    receive-parsed-requires
-    exchange-pieces-requires-2
-    (λ c. search needs) (λ c. search needs) (λ c. search needs) (λ c. search needs)
-    returns)
+    tie.close (tie.spec (λ c κs. search needs) receive-parsed-requires exchange-pieces-requires-2 (λ c. search needs) (λ c. search needs) (λ c. search needs)
+    (λ c. search needs) returns)

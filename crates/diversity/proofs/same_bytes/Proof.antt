@@ -6,11 +6,8 @@ use lib.Dec.{eqb}
 use lib.ListN.{length, getD, take}
 use Rattle.log.specs.Log.{sameList}
 use Rattle.diversity.proofs.Bytes.{and-comm, same-lengths, same-start, same-turn, same-end}
-use borrow.Author.Needs.{needs}
 use Rattle.diversity.proofs.same_bytes.Statement.{statement}
 use Rattle.diversity.proofs.same_bytes.Tie as tie
-use Rattle.diversity.proofs.same_bytes.Reads as reads
-use Rattle.diversity.proofs.same_bytes.Lts as lts
 
 abbrev Inv-loop : tie.InvT-loop
 Inv-loop a b same₀ i₀ same i = ((i ≤ length a) × (length a ≡ length b)) × (same ≡ sameList (take i a) (take i b))
@@ -23,18 +20,6 @@ returns c = same-lengths _ _ (c .if1 .taken)
 
 loop-holds : tie.Need-loop-holds Inv-loop μ-loop
 loop-holds c = let a = c .before .args in ((omega arith, omega (arith, c .if1 .left)), same-start (now (a .a)) (now (a .b)))
-
-shared-slice-read-same : tie.Need-shared-slice-read-same Inv-loop μ-loop
-shared-slice-read-same c = omega arith
-
-shared-slice-read-same-2 : tie.Need-shared-slice-read-same-2 Inv-loop μ-loop
-shared-slice-read-same-2 c = omega arith
-
-add-i : tie.Need-add-i Inv-loop μ-loop
-add-i c = omega arith
-
-loop-less : tie.Need-loop-less Inv-loop μ-loop
-loop-less c = omega arith
 
 loop-again : tie.Need-loop-again Inv-loop μ-loop
 loop-again c =
@@ -52,15 +37,5 @@ returns-2 c =
 
 pub same-bytes-spec : {M : Type 1} → statement M
 same-bytes-spec =
-    tie.close
-    (tie.spec
-    Inv-loop
-    μ-loop
-    returns
-    loop-holds
-    shared-slice-read-same
-    shared-slice-read-same-2
-    add-i
-    loop-less
-    loop-again
-    returns-2)
+    tie.close (tie.spec Inv-loop μ-loop
+    returns loop-holds (λ c. omega arith) (λ c. omega arith) (λ c. omega arith) (λ c. omega arith) loop-again returns-2)

@@ -5,10 +5,6 @@ use Rattle.diversity.proofs.Pairing.{piece-of}
 use borrow.Author.Needs.{needs}
 use Rattle.diversity.proofs.same_piece.Statement.{statement}
 use Rattle.diversity.proofs.same_piece.Tie as tie
-use Rattle.diversity.proofs.same_piece.Reads as reads
-use Rattle.diversity.proofs.same_piece.Lts as lts
-use Rattle.diversity.proofs.place.Reads as place-reads
-use Rattle.diversity.proofs.same_bytes.Reads as same-bytes-reads
 
 returns : tie.Need-returns
 returns c =
@@ -20,9 +16,6 @@ returns c =
 
 pub same-piece-spec : {M : Type 1} → statement M
 same-piece-spec =
-    tie.close
-    (tie.spec
-    (λ c. search needs) (λ c. search needs) (λ c κs. search needs) (λ c. search needs) (λ c. search needs) (λ c. search needs) (λ c. search needs)
-    (λ c κs. search needs) (λ c. search needs) (λ c. search needs) (λ c. search needs) (λ c. search needs) (λ c. search needs) (λ c. search needs)
-    (λ c κs. search needs)
-    returns)
+    tie.close (tie.spec (λ c. search needs) (λ c. search needs) (λ c κs. search needs) (λ c. search needs) (λ c. search needs) (λ c. search needs)
+    (λ c. search needs) (λ c κs. search needs) (λ c. search needs) (λ c. search needs) (λ c. search needs) (λ c. search needs) (λ c. search needs)
+    (λ c. search needs) (λ c κs. search needs) returns)

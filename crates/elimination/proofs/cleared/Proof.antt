@@ -1,17 +1,13 @@
-use mathlib.Core.Path.{_≡_, refl, sym, _∙_, ap}
-use Prim.Native.Nat.{ℕ, zero, suc, _+_, _-_, _<_, _≤_}
+use mathlib.Core.Path.{ap}
+use Prim.Native.Nat.{ℕ, _-_, _≤_}
 use native.Mathlib.Omega.{arith}
-use lib.ListN.{length, getD, set, length-set}
+use lib.ListN.{getD}
 use lib.Bits.{bitXor}
 use borrow.Author.Needs.{needs}
-use Rattle.field.specs.Field.{mul, inverse}
-use Rattle.elimination.specs.Elimination.{Row, scaledBy, clearedBy}
+use Rattle.elimination.specs.Elimination.{Row, clearedBy}
 use Rattle.elimination.proofs.Steps.{begin, grow, finish}
 use Rattle.elimination.proofs.cleared.Statement.{statement}
 use Rattle.elimination.proofs.cleared.Tie as tie
-use Rattle.elimination.proofs.cleared.Reads as reads
-use Rattle.elimination.proofs.cleared.Lts as lts
-use Rattle.field.proofs.product_by.Reads as product-by-reads
 
 abbrev Inv-loop : tie.InvT-loop
 Inv-loop powers logarithms k row p b out₀ i₀ out i = (i ≤ 4) × Row 4 (clearedBy row p k) out i
@@ -35,12 +31,6 @@ returns c = finish _ _ _ (c .before .loop .i) (omega arith) (c .before .loop .in
 
 pub cleared-spec : {M : Type 1} → statement M
 cleared-spec =
-    tie.close
-    (tie.spec
-    Inv-loop
-    μ-loop
-    (λ c. search needs)
-    loop-holds
-    (λ c. search needs) (λ c. search needs) (λ c κs. search needs) (λ c. search needs) (λ c. search needs) (λ c. search needs)
-    loop-again
-    returns)
+    tie.close (tie.spec Inv-loop μ-loop
+    (λ c. search needs) loop-holds (λ c. search needs) (λ c. search needs) (λ c κs. search needs) (λ c. search needs) (λ c. search needs) (λ c. search needs)
+    loop-again returns)

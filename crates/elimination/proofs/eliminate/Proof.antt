@@ -1,20 +1,13 @@
 use borrow.Author.Needs.{needs}
 use native.Mathlib.Omega.{arith}
-use mathlib.Core.Path.{_≡_, refl, ap, sym, _∙_}
-use Prim.Native.Nat.{ℕ, _+_, _-_, _*_, _≤_, _<_}
-use lib.ListN.{length, take, drop, getD, set, length-set}
-use mathlib.Core.List.{List, [], _∷_, _++_}
+use mathlib.Core.Path.{_≡_, refl}
+use Prim.Native.Nat.{_-_, _≤_, _<_}
+use lib.ListN.{length}
 use Rattle.elimination.specs.Elimination.{Chain, begun, beside}
 use Rattle.elimination.proofs.Solving.{chain-next, solved-here, solved-full}
 use Rattle.elimination.proofs.Steps.{pivot-beside, column-beside, right-column, reduce-beside}
 use Rattle.elimination.proofs.eliminate.Statement.{statement}
 use Rattle.elimination.proofs.eliminate.Tie as tie
-use Rattle.elimination.proofs.eliminate.Reads as reads
-use Rattle.elimination.proofs.eliminate.Lts as lts
-use Rattle.elimination.proofs.column.Reads as column-reads
-use Rattle.elimination.proofs.pivot.Reads as pivot-reads
-use Rattle.elimination.proofs.reduce.Reads as reduce-reads
-use Rattle.elimination.proofs.reduce_right.Reads as reduce-right-reads
 
 abbrev Inv-loop : tie.InvT-loop
 Inv-loop powers logarithms rows₀ right₀ k₀ rows right k = (k ≤ 4) × (length rows ≡ 4) × (length right ≡ 4) × Chain (beside rows₀ right₀) k (beside rows right)
@@ -63,15 +56,6 @@ returns-2 c =
 
 pub eliminate-spec : {M : Type 1} → statement M
 eliminate-spec =
-    tie.close
-    (tie.spec
-    Inv-loop
-    μ-loop
-    loop-holds
-    (λ c κs. search needs) (λ c κs. search needs)
-    returns
-    reduce-right-requires
-    reduce-requires
-    (λ c. search needs) (λ c. search needs)
-    loop-again
+    tie.close (tie.spec Inv-loop μ-loop
+    loop-holds (λ c κs. search needs) (λ c κs. search needs) returns reduce-right-requires reduce-requires (λ c. search needs) (λ c. search needs) loop-again
     returns-2)

@@ -1,17 +1,12 @@
-use mathlib.Core.Path.{_≡_, refl, sym, _∙_, ap}
-use Prim.Native.Nat.{ℕ, zero, suc, _+_, _-_, _<_, _≤_}
+use mathlib.Core.Path.{_≡_}
+use Prim.Native.Nat.{ℕ, _-_, _<_, _≤_}
 use native.Mathlib.Omega.{arith}
-use lib.ListN.{length, getD, set, length-set}
-use mathlib.Core.List.{List, [], _∷_}
-use lib.Bits.{bitXor}
+use lib.ListN.{getD}
+use mathlib.Core.List.{[]}
 use borrow.Author.Needs.{needs}
-use Rattle.field.specs.Field.{mul, inverse}
-use Rattle.elimination.specs.Elimination.{Row, scaledBy, clearedBy}
-use Rattle.elimination.proofs.Steps.{begin, grow, finish, zeros-again}
+use Rattle.elimination.proofs.Steps.{zeros-again}
 use Rattle.elimination.proofs.pivot.Statement.{statement}
 use Rattle.elimination.proofs.pivot.Tie as tie
-use Rattle.elimination.proofs.pivot.Reads as reads
-use Rattle.elimination.proofs.pivot.Lts as lts
 
 abbrev Inv-loop : tie.InvT-loop
 Inv-loop k m r₀ r = (k ≤ r) × (r ≤ 4) × ((i : ℕ) → k ≤ i → i < r → getD (getD m i []) k 0 ≡ 0)
@@ -33,13 +28,5 @@ returns-2 c = record { low = omega arith; high = omega arith; zeros = λ i a b. 
 
 pub pivot-spec : {M : Type 1} → statement M
 pivot-spec =
-    tie.close
-    (tie.spec
-    Inv-loop
-    μ-loop
-    loop-holds
-    (λ c. search needs) (λ c. search needs) (λ c. search needs)
-    returns
-    (λ c. search needs) (λ c. search needs)
-    loop-again
-    returns-2)
+    tie.close (tie.spec Inv-loop μ-loop
+    loop-holds (λ c. search needs) (λ c. search needs) (λ c. search needs) returns (λ c. search needs) (λ c. search needs) loop-again returns-2)

@@ -1,19 +1,10 @@
-use mathlib.Core.Path.{_≡_, refl, sym, _∙_, ap}
-use mathlib.Core.List.{List, [], _∷_}
-use Prim.Native.Nat.{ℕ, zero, suc, _+_, _-_, _<_, _≤_}
+use Prim.Native.Nat.{_-_, _≤_}
 use native.Mathlib.Omega.{arith}
-use lib.ListN.{length, getD, set, length-set}
-use lib.Seq.{getD-set-same, getD-set-other}
 use mathlib.Core.Logic.{⊎-elim}
 use borrow.Author.Needs.{needs}
-use Rattle.elimination.specs.Elimination.{Row, scaledBy, clearedBy, Reduce}
 use Rattle.elimination.proofs.Steps.{Clear, clear-begin, clear-skip, clear-row, reduce-end}
 use Rattle.elimination.proofs.reduce.Statement.{statement}
 use Rattle.elimination.proofs.reduce.Tie as tie
-use Rattle.elimination.proofs.reduce.Reads as reads
-use Rattle.elimination.proofs.reduce.Lts as lts
-use Rattle.elimination.proofs.cleared.Reads as cleared-reads
-use Rattle.elimination.proofs.scaled.Reads as scaled-reads
 
 abbrev Inv-loop : tie.InvT-loop
 Inv-loop powers logarithms k p b top out₀ r₀ out r = (r ≤ 4) × Clear out₀ top k out r
@@ -38,13 +29,7 @@ returns c = reduce-end _ _ _ _ _ (c .before .loop .r) (omega arith) (c .before .
 
 pub reduce-spec : {M : Type 1} → statement M
 reduce-spec =
-    tie.close
-    (tie.spec
-    Inv-loop
-    μ-loop
+    tie.close (tie.spec Inv-loop μ-loop
     (λ c. search needs) (λ c. search needs) (λ c. search needs) (λ c κs. search needs) (λ c. search needs) (λ c. search needs) (λ c. search needs)
-    (λ c. search needs) (λ c. search needs) (λ c. search needs)
-    loop-holds
-    (λ c. search needs) (λ c. search needs) (λ c κs. search needs) (λ c. search needs) (λ c. search needs) (λ c. search needs) (λ c. search needs)
-    loop-again
-    returns)
+    (λ c. search needs) (λ c. search needs) (λ c. search needs) loop-holds (λ c. search needs) (λ c. search needs) (λ c κs. search needs) (λ c. search needs)
+    (λ c. search needs) (λ c. search needs) (λ c. search needs) loop-again returns)

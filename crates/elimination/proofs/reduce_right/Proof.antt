@@ -1,19 +1,15 @@
 use borrow.Author.Needs.{needs}
 use native.Mathlib.Omega.{arith}
-use mathlib.Core.Path.{_≡_, refl, ap, sym, _∙_}
-use Prim.Native.Nat.{ℕ, _+_, _-_, _*_, _≤_, _<_}
-use lib.ListN.{length, take, drop, getD, set, length-set}
-use mathlib.Core.List.{List, [], _∷_, _++_}
+use mathlib.Core.Path.{ap, _∙_}
+use Prim.Native.Nat.{ℕ, _-_, _≤_}
+use lib.ListN.{getD}
+use mathlib.Core.List.{[]}
 use mathlib.Core.Logic.{⊎-elim}
 use lib.Bits.{bitXor}
-use Rattle.field.specs.Field.{mul, inverse}
+use Rattle.field.specs.Field.{mul}
 use Rattle.elimination.proofs.Steps.{ClearRight, right-begin, right-skip, right-row, right-end}
 use Rattle.elimination.proofs.reduce_right.Statement.{statement}
 use Rattle.elimination.proofs.reduce_right.Tie as tie
-use Rattle.elimination.proofs.reduce_right.Reads as reads
-use Rattle.elimination.proofs.reduce_right.Lts as lts
-use Rattle.field.proofs.inverse_by.Reads as inverse-by-reads
-use Rattle.field.proofs.product_by.Reads as product-by-reads
 
 abbrev Inv-loop : tie.InvT-loop
 Inv-loop powers logarithms k p v top rows out₀ r₀ out r = (r ≤ 4) × ClearRight out₀ (λ i. getD (getD rows i []) k 0) top k out r
@@ -41,14 +37,8 @@ returns c =
 
 pub reduce-right-spec : {M : Type 1} → statement M
 reduce-right-spec =
-    tie.close
-    (tie.spec
-    Inv-loop
-    μ-loop
+    tie.close (tie.spec Inv-loop μ-loop
     (λ c. search needs) (λ c. search needs) (λ c. search needs) (λ c κs. search needs) (λ c. search needs) (λ c κs. search needs) (λ c. search needs)
-    (λ c. search needs) (λ c. search needs) (λ c. search needs) (λ c. search needs) (λ c. search needs) (λ c. search needs)
-    loop-holds
-    (λ c. search needs) (λ c. search needs) (λ c. search needs) (λ c. search needs) (λ c κs. search needs) (λ c. search needs) (λ c. search needs)
-    (λ c. search needs)
-    loop-again
+    (λ c. search needs) (λ c. search needs) (λ c. search needs) (λ c. search needs) (λ c. search needs) (λ c. search needs) loop-holds (λ c. search needs)
+    (λ c. search needs) (λ c. search needs) (λ c. search needs) (λ c κs. search needs) (λ c. search needs) (λ c. search needs) (λ c. search needs) loop-again
     returns)

@@ -1,18 +1,13 @@
-use mathlib.Core.Path.{_≡_, refl, sym, _∙_, ap}
-use Prim.Native.Nat.{ℕ, zero, suc, _+_, _-_, _<_, _≤_}
+use mathlib.Core.Path.{_∙_, ap}
+use Prim.Native.Nat.{ℕ, _-_, _≤_}
 use native.Mathlib.Omega.{arith}
-use lib.ListN.{length, getD, set, length-set}
-use lib.Bits.{bitXor}
+use lib.ListN.{getD}
 use borrow.Author.Needs.{needs}
-use Rattle.field.specs.Field.{mul, inverse}
-use Rattle.elimination.specs.Elimination.{Row, scaledBy, clearedBy}
+use Rattle.field.specs.Field.{mul}
+use Rattle.elimination.specs.Elimination.{Row, scaledBy}
 use Rattle.elimination.proofs.Steps.{begin, grow, finish}
 use Rattle.elimination.proofs.scaled.Statement.{statement}
 use Rattle.elimination.proofs.scaled.Tie as tie
-use Rattle.elimination.proofs.scaled.Reads as reads
-use Rattle.elimination.proofs.scaled.Lts as lts
-use Rattle.field.proofs.inverse_by.Reads as inverse-by-reads
-use Rattle.field.proofs.product_by.Reads as product-by-reads
 
 abbrev Inv-loop : tie.InvT-loop
 Inv-loop powers logarithms b row v out₀ i₀ out i = (i ≤ 4) × Row 4 (scaledBy row b) out i
@@ -35,12 +30,5 @@ returns c = finish _ _ _ (c .before .loop .i) (omega arith) (c .before .loop .in
 
 pub scaled-spec : {M : Type 1} → statement M
 scaled-spec =
-    tie.close
-    (tie.spec
-    Inv-loop
-    μ-loop
-    (λ c κs. search needs)
-    loop-holds
-    (λ c. search needs) (λ c κs. search needs) (λ c. search needs) (λ c. search needs) (λ c. search needs)
-    loop-again
-    returns)
+    tie.close (tie.spec Inv-loop μ-loop
+    (λ c κs. search needs) loop-holds (λ c. search needs) (λ c κs. search needs) (λ c. search needs) (λ c. search needs) (λ c. search needs) loop-again returns)

@@ -6,12 +6,6 @@ use lib.ListN.{length}
 use Rattle.log.proofs.Examples.{of-packet-5}
 use Rattle.examples.proofs.log_line.Statement.{statement}
 use Rattle.examples.proofs.log_line.Tie as tie
-use Rattle.examples.proofs.log_line.Reads as reads
-use Rattle.examples.proofs.log_line.Lts as lts
-use Rattle.examples.proofs.end_line.Reads as end-line-reads
-use Rattle.examples.proofs.hex_word.Reads as hex-word-reads
-use Rattle.examples.proofs.say.Reads as say-reads
-use Rattle.log.proofs.put_packet.Reads as put-packet-reads
 
 abbrev Inv-loop : tie.InvT-loop
 Inv-loop words i₀ i = (i ≤ 3) × (length words ≡ 3)
@@ -25,11 +19,7 @@ put-packet-requires c κs = (omega arith, rw of-packet-5 (omega arith))
 
 pub log-line-spec : {M : Type 1} → statement M
 log-line-spec =
-    tie.close
-    (tie.spec
-    Inv-loop
-    μ-loop
-    (λ c. search needs) (λ c. search needs) (λ c. search needs)
-    put-packet-requires
-    (λ c. search needs) (λ c κs. search needs) (λ c. search needs) (λ c. search needs) (λ c. search needs) (λ c κs. search needs) (λ c. search needs)
-    (λ c. search needs) (λ c. search needs) (λ c κs. search needs) (λ c. search needs))
+    tie.close (tie.spec Inv-loop μ-loop
+    (λ c. search needs) (λ c. search needs) (λ c. search needs) put-packet-requires (λ c. search needs) (λ c κs. search needs) (λ c. search needs)
+    (λ c. search needs) (λ c. search needs) (λ c κs. search needs) (λ c. search needs) (λ c. search needs) (λ c. search needs) (λ c κs. search needs)
+    (λ c. search needs))

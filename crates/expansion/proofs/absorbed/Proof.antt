@@ -1,16 +1,8 @@
-use native.Mathlib.Omega.{arith}
-use mathlib.Core.Path.{_≡_, refl, ap, sym, _∙_}
-use Prim.Native.Nat.{ℕ, _+_, _-_, _*_, _≤_, _<_}
-use lib.ListN.{length, take, drop, getD, set, length-set}
-use mathlib.Core.List.{List, [], _∷_, _++_}
+use Prim.Native.Nat.{_-_}
 use borrow.Author.Needs.{needs}
 use Rattle.expansion.proofs.Absorbing.{with-class, with-displacement, with-program, with-type, with-services}
 use Rattle.expansion.proofs.absorbed.Statement.{statement}
 use Rattle.expansion.proofs.absorbed.Tie as tie
-use Rattle.expansion.proofs.absorbed.Reads as reads
-use Rattle.expansion.proofs.absorbed.Lts as lts
-use Rattle.expansion.proofs.fourteen.Reads as fourteen-reads
-use Rattle.expansion.proofs.twenty_one.Reads as twenty-one-reads
 
 returns : tie.Need-returns
 returns c = with-class _ _ _ _ _ _ (c .match .keys1)
@@ -31,11 +23,4 @@ returns-5 c = with-services _ _ _ _ _ _ _ (c .before .match .rest .0 .0 .1) (c .
 
 pub absorbed-spec : {M : Type 1} → statement M
 absorbed-spec =
-    tie.close
-    (tie.spec
-    (λ c κs. search needs) (λ c. search needs) (λ c. search needs) (λ c κs. search needs)
-    returns
-    returns-2
-    returns-3
-    returns-4
-    returns-5)
+    tie.close (tie.spec (λ c κs. search needs) (λ c. search needs) (λ c. search needs) (λ c κs. search needs) returns returns-2 returns-3 returns-4 returns-5)

@@ -1,21 +1,13 @@
 use native.Mathlib.Omega.{arith}
-use mathlib.Core.Path.{_≡_, refl, ap, sym, _∙_}
-use Prim.Native.Nat.{ℕ, _+_, _-_, _*_, _≤_, _<_}
-use lib.ListN.{length, take, drop, getD, set, length-set}
-use mathlib.Core.List.{List, [], _∷_, _++_}
+use mathlib.Core.Path.{_≡_, ap, _∙_}
+use Prim.Native.Nat.{_+_, _-_}
+use mathlib.Core.List.{[], _++_}
 use borrow.Author.Needs.{needs}
 use Rattle.expansion.specs.Expansion.{septetsOfAll}
-use Rattle.expansion.specs.Writing.{classField, programField, typeField, servicesField, sentFields, marked, expansionBytes}
-use Rattle.expansion.proofs.Marks.{all-septets}
+use Rattle.expansion.specs.Writing.{classField, programField, typeField, servicesField, sentFields, marked}
 use Rattle.expansion.proofs.Putting.{soFar, further, four, none-put, some-put}
 use Rattle.expansion.proofs.expansion_bytes.Statement.{statement}
 use Rattle.expansion.proofs.expansion_bytes.Tie as tie
-use Rattle.expansion.proofs.expansion_bytes.Reads as reads
-use Rattle.expansion.proofs.expansion_bytes.Lts as lts
-use Rattle.expansion.proofs.put_class.Reads as put-class-reads
-use Rattle.expansion.proofs.put_program.Reads as put-program-reads
-use Rattle.expansion.proofs.put_services.Reads as put-services-reads
-use Rattle.expansion.proofs.put_type.Reads as put-type-reads
 
 -- bit 7 set in each
 all : (c : tie.After-put-services) → soFar (c .put-services .result) ≡ marked (septetsOfAll (sentFields (c .before .before .before .before .args .x)))
@@ -43,9 +35,5 @@ returns-2 c =
 
 pub expansion-bytes-spec : {M : Type 1} → statement M
 expansion-bytes-spec =
-    tie.close
-    (tie.spec
-    (λ c κs. search needs) (λ c κs. search needs) (λ c κs. search needs) (λ c κs. search needs)
-    returns
-    (λ c. search needs) (λ c. search needs) (λ c. search needs) (λ c. search needs)
-    returns-2)
+    tie.close (tie.spec (λ c κs. search needs) (λ c κs. search needs) (λ c κs. search needs) (λ c κs. search needs) returns (λ c. search needs)
+    (λ c. search needs) (λ c. search needs) (λ c. search needs) returns-2)

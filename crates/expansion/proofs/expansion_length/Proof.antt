@@ -1,15 +1,10 @@
 use borrow.Author.Needs.{needs}
 use denote.Ref.{now}
 use native.Mathlib.Omega.{arith}
-use mathlib.Core.Path.{_≡_, refl, ap, sym, _∙_}
-use Prim.Native.Nat.{ℕ, _+_, _-_, _*_, _≤_, _<_}
-use lib.ListN.{length, take, drop, getD, set, length-set}
-use mathlib.Core.List.{List, [], _∷_, _++_}
+use Prim.Native.Nat.{_-_, _≤_}
 use Rattle.expansion.proofs.Chains.{Left, left-start, left-past-la, left-past-end, left-full, left-found, left-next}
 use Rattle.expansion.proofs.expansion_length.Statement.{statement}
 use Rattle.expansion.proofs.expansion_length.Tie as tie
-use Rattle.expansion.proofs.expansion_length.Reads as reads
-use Rattle.expansion.proofs.expansion_length.Lts as lts
 
 abbrev Inv-loop : tie.InvT-loop
 Inv-loop pdu at la last i₀ i = (i ≤ 16) × Left pdu at la i
@@ -47,16 +42,6 @@ returns-4 c = left-full _ _ _ (c .before .loop .i) (omega arith) (c .before .loo
 
 pub expansion-length-spec : {M : Type 1} → statement M
 expansion-length-spec =
-    tie.close
-    (tie.spec
-    Inv-loop
-    μ-loop
-    loop-holds
-    (λ c. search needs)
-    returns
-    returns-2
-    (λ c. search needs) (λ c. search needs)
-    returns-3
-    (λ c. search needs) (λ c. search needs)
-    loop-again
+    tie.close (tie.spec Inv-loop μ-loop
+    loop-holds (λ c. search needs) returns returns-2 (λ c. search needs) (λ c. search needs) returns-3 (λ c. search needs) (λ c. search needs) loop-again
     returns-4)

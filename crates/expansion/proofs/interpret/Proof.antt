@@ -1,25 +1,18 @@
 use borrow.Author.Needs.{needs}
 use native.Mathlib.Omega.{arith}
-use mathlib.Core.Path.{_≡_, refl, ap, sym, _∙_}
-use Prim.Native.Nat.{ℕ, _+_, _-_, _*_, _≤_, _<_}
-use lib.ListN.{length, take, drop, getD, set, length-set}
-use mathlib.Core.List.{List, [], _∷_, _++_}
+use mathlib.Core.Path.{_≡_, ap, sym, _∙_}
+use Prim.Native.Nat.{ℕ, _+_, _-_, _≤_, _<_}
+use lib.ListN.{length}
+use mathlib.Core.List.{List}
 use denote.Ref.{now}
 use mathlib.Core.Path.{subst}
 use Prim.Native.Nat.{_/_}
 use borrow.Author.Tests.{not-true, not-false}
-use Rattle.expansion.specs.Expansion.{septetsAt, interpretedAs, fieldsFrom, moreBytes, fieldOf, absorb}
+use Rattle.expansion.specs.Expansion.{septetsAt, interpretedAs, fieldsFrom, moreBytes}
 use Rattle.expansion.specs.declared.Interpreted.{Interpreted}
 use Rattle.expansion.proofs.Interpreting.{Left, left-start, left-end, left-order, left-unknown, left-class-zero, left-cut, left-next}
 use Rattle.expansion.proofs.interpret.Statement.{statement}
 use Rattle.expansion.proofs.interpret.Tie as tie
-use Rattle.expansion.proofs.interpret.Reads as reads
-use Rattle.expansion.proofs.interpret.Lts as lts
-use Rattle.expansion.proofs.absorbed.Reads as absorbed-reads
-use Rattle.expansion.proofs.known.Reads as known-reads
-use Rattle.expansion.proofs.more_bytes.Reads as more-bytes-reads
-use Rattle.expansion.proofs.nothing.Reads as nothing-reads
-use Rattle.expansion.proofs.septet.Reads as septet-reads
 
 abbrev Inv-loop : tie.InvT-loop
 Inv-loop pdu at n v₀ next₀ i₀ v next i = (i ≤ n) × Left (septetsAt pdu at n) v next i
@@ -119,24 +112,8 @@ returns-5 c =
 
 pub interpret-spec : {M : Type 1} → statement M
 interpret-spec =
-    tie.close
-    (tie.spec
-    Inv-loop
-    μ-loop
-    (λ c κs. search needs)
-    loop-holds
-    (λ c κs. search needs) (λ c κs. search needs)
-    returns
-    (λ c κs. search needs)
-    returns-2
-    (λ c κs. search needs)
-    returns-3
-    (λ c κs. search needs) (λ c. search needs) (λ c. search needs) (λ c κs. search needs)
-    returns-4
-    (λ c. search needs) (λ c κs. search needs) (λ c. search needs) (λ c κs. search needs) (λ c. search needs) (λ c κs. search needs) (λ c κs. search needs)
-    (λ c. search needs)
-    add-i
-    add-i-2
-    loop-less
-    loop-again
-    returns-5)
+    tie.close (tie.spec Inv-loop μ-loop
+    (λ c κs. search needs) loop-holds (λ c κs. search needs) (λ c κs. search needs) returns (λ c κs. search needs) returns-2 (λ c κs. search needs) returns-3
+    (λ c κs. search needs) (λ c. search needs) (λ c. search needs) (λ c κs. search needs) returns-4 (λ c. search needs) (λ c κs. search needs)
+    (λ c. search needs) (λ c κs. search needs) (λ c. search needs) (λ c κs. search needs) (λ c κs. search needs) (λ c. search needs) add-i add-i-2 loop-less
+    loop-again returns-5)

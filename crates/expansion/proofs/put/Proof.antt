@@ -1,14 +1,11 @@
 use native.Mathlib.Omega.{arith}
-use mathlib.Core.Path.{_≡_, refl, ap, sym, _∙_}
-use Prim.Native.Nat.{ℕ, _+_, _-_, _*_, _≤_, _<_}
-use lib.ListN.{length, take, drop, getD, set, length-set}
-use mathlib.Core.List.{List, [], _∷_, _++_}
+use mathlib.Core.Path.{_≡_, refl, _∙_}
+use Prim.Native.Nat.{_-_}
+use lib.ListN.{length, length-set}
 use borrow.Author.Needs.{needs}
 use Rattle.expansion.proofs.Putting.{full, one-more}
 use Rattle.expansion.proofs.put.Statement.{statement}
 use Rattle.expansion.proofs.put.Tie as tie
-use Rattle.expansion.proofs.put.Reads as reads
-use Rattle.expansion.proofs.put.Lts as lts
 
 returns : tie.Need-returns
 returns c =

@@ -1,17 +1,11 @@
 use native.Mathlib.Omega.{arith}
-use mathlib.Core.Path.{_≡_, refl, ap, sym, _∙_}
-use Prim.Native.Nat.{ℕ, _+_, _-_, _*_, _≤_, _<_}
-use lib.ListN.{length, take, drop, getD, set, length-set}
-use mathlib.Core.List.{List, [], _∷_, _++_}
+use Prim.Native.Nat.{_-_}
 use borrow.Author.Needs.{needs}
-use Prim.Native.Nat.{_%_, _/_}
+use Prim.Native.Nat.{_%_}
 use Rattle.expansion.specs.Expansion.{class}
 use Rattle.expansion.proofs.Putting.{soFar, one, not-put, all-put}
 use Rattle.expansion.proofs.put_class.Statement.{statement}
 use Rattle.expansion.proofs.put_class.Tie as tie
-use Rattle.expansion.proofs.put_class.Reads as reads
-use Rattle.expansion.proofs.put_class.Lts as lts
-use Rattle.expansion.proofs.put.Reads as put-reads
 
 returns : tie.Need-returns
 returns c =

@@ -1,8 +1,7 @@
 use native.Mathlib.Omega.{arith}
-use mathlib.Core.Path.{_≡_, refl, ap, sym, _∙_}
-use Prim.Native.Nat.{ℕ, _+_, _-_, _*_, _≤_, _<_}
-use lib.ListN.{length, take, drop, getD, set, length-set}
-use mathlib.Core.List.{List, [], _∷_, _++_}
+use mathlib.Core.Path.{_≡_}
+use Prim.Native.Nat.{_+_, _-_, _*_}
+use mathlib.Core.List.{[], _∷_}
 use borrow.Author.Needs.{needs}
 use mathlib.Core.Bool.{cond}
 use mathlib.Core.Option.{some, none}
@@ -11,10 +10,6 @@ use Rattle.expansion.specs.Expansion.{program}
 use Rattle.expansion.proofs.Putting.{soFar, one, further, not-put, all-put, with, without}
 use Rattle.expansion.proofs.put_program.Statement.{statement}
 use Rattle.expansion.proofs.put_program.Tie as tie
-use Rattle.expansion.proofs.put_program.Reads as reads
-use Rattle.expansion.proofs.put_program.Lts as lts
-use Rattle.expansion.proofs.low.Reads as low-reads
-use Rattle.expansion.proofs.put.Reads as put-reads
 
 returns : tie.Need-returns
 returns c =
@@ -51,11 +46,6 @@ returns-3 c =
 
 pub put-program-spec : {M : Type 1} → statement M
 put-program-spec =
-    tie.close
-    (tie.spec
-    returns
-    (λ c. search needs) (λ c. search needs) (λ c κs. search needs)
-    returns-2
-    (λ c. search needs) (λ c. search needs) (λ c. search needs) (λ c κs. search needs) (λ c. search needs) (λ c κs. search needs) (λ c κs. search needs)
-    (λ c. search needs) (λ c κs. search needs) (λ c κs. search needs)
-    returns-3)
+    tie.close (tie.spec returns (λ c. search needs) (λ c. search needs) (λ c κs. search needs) returns-2 (λ c. search needs) (λ c. search needs)
+    (λ c. search needs) (λ c κs. search needs) (λ c. search needs) (λ c κs. search needs) (λ c κs. search needs) (λ c. search needs) (λ c κs. search needs)
+    (λ c κs. search needs) returns-3)

@@ -1,18 +1,13 @@
 use native.Mathlib.Omega.{arith}
-use mathlib.Core.Path.{_≡_, refl, ap, sym, _∙_}
-use Prim.Native.Nat.{ℕ, _+_, _-_, _*_, _≤_, _<_}
-use lib.ListN.{length, take, drop, getD, set, length-set}
-use mathlib.Core.List.{List, [], _∷_, _++_}
+use mathlib.Core.Path.{_≡_}
+use Prim.Native.Nat.{_+_, _-_}
+use mathlib.Core.List.{[], _∷_}
 use borrow.Author.Needs.{needs}
 use Prim.Native.Nat.{_%_, _/_}
 use Rattle.expansion.specs.Expansion.{services}
 use Rattle.expansion.proofs.Putting.{soFar, full, one, further, not-put, all-put}
 use Rattle.expansion.proofs.put_services.Statement.{statement}
 use Rattle.expansion.proofs.put_services.Tie as tie
-use Rattle.expansion.proofs.put_services.Reads as reads
-use Rattle.expansion.proofs.put_services.Lts as lts
-use Rattle.expansion.proofs.low.Reads as low-reads
-use Rattle.expansion.proofs.put.Reads as put-reads
 
 returns : tie.Need-returns
 returns c =
@@ -38,9 +33,5 @@ returns-2 c =
 
 pub put-services-spec : {M : Type 1} → statement M
 put-services-spec =
-    tie.close
-    (tie.spec
-    returns
-    (λ c. search needs) (λ c. search needs) (λ c κs. search needs) (λ c κs. search needs) (λ c κs. search needs) (λ c κs. search needs) (λ c κs. search needs)
-    (λ c κs. search needs) (λ c κs. search needs)
-    returns-2)
+    tie.close (tie.spec returns (λ c. search needs) (λ c. search needs) (λ c κs. search needs) (λ c κs. search needs) (λ c κs. search needs)
+    (λ c κs. search needs) (λ c κs. search needs) (λ c κs. search needs) (λ c κs. search needs) returns-2)

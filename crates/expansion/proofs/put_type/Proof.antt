@@ -1,17 +1,12 @@
 use native.Mathlib.Omega.{arith}
-use mathlib.Core.Path.{_≡_, refl, ap, sym, _∙_}
-use Prim.Native.Nat.{ℕ, _+_, _-_, _*_, _≤_, _<_}
-use lib.ListN.{length, take, drop, getD, set, length-set}
-use mathlib.Core.List.{List, [], _∷_, _++_}
+use Prim.Native.Nat.{_+_, _-_, _*_}
+use mathlib.Core.List.{[], _∷_}
 use borrow.Author.Needs.{needs}
 use Prim.Native.Nat.{_%_, _/_}
 use Rattle.expansion.specs.Expansion.{ptype}
 use Rattle.expansion.proofs.Putting.{soFar, one, further, not-put, all-put}
 use Rattle.expansion.proofs.put_type.Statement.{statement}
 use Rattle.expansion.proofs.put_type.Tie as tie
-use Rattle.expansion.proofs.put_type.Reads as reads
-use Rattle.expansion.proofs.put_type.Lts as lts
-use Rattle.expansion.proofs.put.Reads as put-reads
 
 returns : tie.Need-returns
 returns c =
@@ -31,5 +26,4 @@ returns-2 c =
     )
 
 pub put-type-spec : {M : Type 1} → statement M
-put-type-spec =
-    tie.close (tie.spec returns (λ c. search needs) (λ c. search needs) (λ c. search needs) (λ c κs. search needs) (λ c κs. search needs) returns-2)
+put-type-spec = tie.close (tie.spec returns (λ c. search needs) (λ c. search needs) (λ c. search needs) (λ c κs. search needs) (λ c κs. search needs) returns-2)

@@ -1,8 +1,7 @@
 use native.Mathlib.Omega.{arith}
-use mathlib.Core.Path.{_≡_, refl, ap, sym, _∙_}
-use Prim.Native.Nat.{ℕ, _+_, _-_, _*_, _≤_, _<_}
-use lib.ListN.{length, take, drop, getD, set, length-set}
-use mathlib.Core.List.{List, [], _∷_, _++_}
+use mathlib.Core.Path.{_≡_, sym, _∙_}
+use Prim.Native.Nat.{ℕ, _-_}
+use lib.ListN.{length}
 use borrow.Author.Needs.{needs}
 use denote.Ref.{now}
 use mathlib.Core.Path.{subst}
@@ -11,11 +10,6 @@ use Rattle.expansion.proofs.Chains.{expansion-few, expansion-there}
 use Rattle.expansion.proofs.Interpreting.{broken, said}
 use Rattle.expansion.proofs.read_expansion.Statement.{statement}
 use Rattle.expansion.proofs.read_expansion.Tie as tie
-use Rattle.expansion.proofs.read_expansion.Reads as reads
-use Rattle.expansion.proofs.read_expansion.Lts as lts
-use Rattle.expansion.proofs.expansion_length.Reads as expansion-length-reads
-use Rattle.expansion.proofs.interpret.Reads as interpret-reads
-use Rattle.expansion.proofs.nothing.Reads as nothing-reads
 
 returns : tie.Need-returns
 returns c =
@@ -41,6 +35,4 @@ returns-2 c =
     ((l .expansion-length .ensures, omega (arith, l .expansion-length .ensures, expansion-few (now (a .pdu)) (a .at) (a .la))), said (now (a .pdu)) (a .at) (a .la) (l .expansion-length .result) (c .interpret .result) e (l .expansion-length .ensures) (c .interpret .ensures))
 
 pub read-expansion-spec : {M : Type 1} → statement M
-read-expansion-spec =
-    tie.close
-    (tie.spec (λ c κs. search needs) (λ c κs. search needs) returns interpret-requires returns-2)
+read-expansion-spec = tie.close (tie.spec (λ c κs. search needs) (λ c κs. search needs) returns interpret-requires returns-2)

@@ -1,17 +1,12 @@
 use native.Mathlib.Omega.{arith}
-use mathlib.Core.Path.{_≡_, refl, ap, sym, _∙_}
-use Prim.Native.Nat.{ℕ, _+_, _-_, _*_, _≤_, _<_}
-use lib.ListN.{length, take, drop, getD, set, length-set}
-use mathlib.Core.List.{List, [], _∷_, _++_}
+use mathlib.Core.Path.{ap, _∙_}
+use Prim.Native.Nat.{ℕ, _-_, _<_}
 use borrow.Author.Needs.{needs}
 use lib.Dec.{lit<}
 use Prim.Native.Nat.{_%_}
 use Rattle.expansion.proofs.Absorbing.{septet-inside, septet-outside}
 use Rattle.expansion.proofs.septet.Statement.{statement}
 use Rattle.expansion.proofs.septet.Tie as tie
-use Rattle.expansion.proofs.septet.Reads as reads
-use Rattle.expansion.proofs.septet.Lts as lts
-use Rattle.layout.proofs.byte_at.Reads as byte-at-reads
 
 returns : tie.Need-returns
 returns c = (ap (λ (x : ℕ). x % 128) (c .byte-at .ensures) ∙ septet-inside _ _ _ _ (c .before .if1 .taken), omega arith)

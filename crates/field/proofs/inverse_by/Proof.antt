@@ -1,5 +1,5 @@
 -- `field::inverse_by` meets its contract: a to the power 255 less the logarithm is the byte whose product with x is 1.
-use mathlib.Core.Path.{_≡_, _∙_, ap, sym}
+use mathlib.Core.Path.{_∙_, ap, sym}
 use Rattle.field.specs.Field.{inverse, pow}
 use Rattle.field.proofs.Laws.{inverse-zero, inverse-only, pow-inverse, pow-lt}
 use borrow.Author.Needs.{needs}

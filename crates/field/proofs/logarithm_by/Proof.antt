@@ -3,8 +3,6 @@ use native.Mathlib.Omega.{arith}
 use borrow.Author.Needs.{needs}
 use Rattle.field.proofs.logarithm_by.Statement.{statement}
 use Rattle.field.proofs.logarithm_by.Tie as tie
-use Rattle.field.proofs.logarithm_by.Reads as reads
-use Rattle.field.proofs.logarithm_by.Lts as lts
 
 cast-result : tie.Need-cast-result
 cast-result c = omega (arith, c .before .pre .0 .small (c .before .args .x) (c .before .pre .1) (c .before .fits .x .fits))

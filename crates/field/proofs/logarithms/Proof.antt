@@ -2,8 +2,6 @@
 use Rattle.field.proofs.Tables.{logTable, log-lt, log-rule}
 use Rattle.field.proofs.logarithms.Statement.{statement}
 use Rattle.field.proofs.logarithms.Tie as tie
-use Rattle.field.proofs.logarithms.Reads as reads
-use Rattle.field.proofs.logarithms.Lts as lts
 
 returns : tie.Need-returns
 unfolding logTable

@@ -8,8 +8,6 @@ use Rattle.field.proofs.Laws.{pow-mod}
 use borrow.Author.Needs.{needs}
 use Rattle.field.proofs.power_by.Statement.{statement}
 use Rattle.field.proofs.power_by.Tie as tie
-use Rattle.field.proofs.power_by.Reads as reads
-use Rattle.field.proofs.power_by.Lts as lts
 
 returns : tie.Need-returns
 returns c =

@@ -2,8 +2,6 @@
 use Rattle.field.proofs.Tables.{longTable, long-rule}
 use Rattle.field.proofs.powers.Statement.{statement}
 use Rattle.field.proofs.powers.Tie as tie
-use Rattle.field.proofs.powers.Reads as reads
-use Rattle.field.proofs.powers.Lts as lts
 
 returns : tie.Need-returns
 unfolding longTable

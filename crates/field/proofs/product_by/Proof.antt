@@ -7,9 +7,6 @@ use Rattle.field.proofs.Laws.{pow-add, mul-zero-l, mul-zero-r}
 use borrow.Author.Needs.{needs}
 use Rattle.field.proofs.product_by.Statement.{statement}
 use Rattle.field.proofs.product_by.Tie as tie
-use Rattle.field.proofs.product_by.Reads as reads
-use Rattle.field.proofs.product_by.Lts as lts
-use Rattle.field.proofs.logarithm_by.Reads as logarithm-by-reads
 
 returns : tie.Need-returns
 returns c = sym (ap (λ (x : ℕ). mul x (c .before .args .y)) (c .if1 .taken) ∙ mul-zero-l (c .before .args .y))
@@ -26,10 +23,4 @@ returns-3 c =
     ∙ ap₂ mul (l .before .logarithm-by .ensures .1) (l .logarithm-by2 .ensures .1)
 
 pub product-by-spec : {M : Type 1} → statement M
-product-by-spec =
-    tie.close
-    (tie.spec
-    returns
-    returns-2
-    (λ c κs. search needs) (λ c κs. search needs) (λ c. search needs) (λ c. search needs)
-    returns-3)
+product-by-spec = tie.close (tie.spec returns returns-2 (λ c κs. search needs) (λ c κs. search needs) (λ c. search needs) (λ c. search needs) returns-3)

@@ -4,18 +4,8 @@ use borrow.Author.Needs.{needs}
 use Rattle.frame_logs.proofs.next.Statement.{statement}
 use Rattle.frame_logs.proofs.next.Tie as tie
 
-returns : tie.Need-returns
-returns c = counts-of _ _ (omega arith)
-
-returns-2 : tie.Need-returns-2
-returns-2 c = counts-of _ _ (omega arith)
-
 pub next-spec : {M : Type 1} → statement M
 next-spec =
-    tie.close
-    (tie.spec
-    (λ c κs. search needs)
-    returns
-    (λ c κs. search needs) (λ c κs. search needs) (λ c. search needs)
-    returns-2
-    (λ c. search needs) (λ c. search needs) (λ c κs. search needs) (λ c. search needs) (λ c. search needs) (λ c. search needs))
+    tie.close (tie.spec (λ c κs. search needs) (λ c. counts-of _ _ (omega arith)) (λ c κs. search needs) (λ c κs. search needs) (λ c. search needs)
+    (λ c. counts-of _ _ (omega arith)) (λ c. search needs) (λ c. search needs) (λ c κs. search needs) (λ c. search needs) (λ c. search needs)
+    (λ c. search needs))

@@ -6,18 +6,9 @@ use Rattle.io.specs.Counts.{Counts}
 use Rattle.frame_logs.proofs.put_words.Statement.{statement}
 use Rattle.frame_logs.proofs.put_words.Tie as tie
 
-abbrev Inv-loop : tie.InvT-loop
-Inv-loop log₀ start bytes at₀ i₀ log at i = (Counts at log) × (length log ≡ length log₀) × (i ≤ length bytes)
-
-abbrev μ-loop : tie.MeasureT-loop
-μ-loop log₀ start bytes at₀ i₀ log at i = length bytes - i
-
 pub put-words-spec : {M : Type 1} → statement M
 put-words-spec =
-    tie.close
-    (tie.spec
-    Inv-loop
-    μ-loop
-    (λ c. search needs) (λ c. search needs) (λ c. search needs) (λ c. search needs) (λ c. search needs) (λ c. search needs) (λ c. search needs)
-    (λ c. search needs) (λ c. search needs) (λ c. search needs) (λ c. search needs) (λ c κs. search needs) (λ c κs. search needs) (λ c. search needs)
-    (λ c. search needs) (λ c. search needs) (λ c. search needs) (λ c. search needs))
+    tie.close (tie.spec (λ log₀ start bytes at₀ i₀ log at i. (Counts at log) × (length log ≡ length log₀) × (i ≤ length bytes))
+    (λ log₀ start bytes at₀ i₀ log at i. length bytes - i) (λ c. search needs) (λ c. search needs) (λ c. search needs) (λ c. search needs) (λ c. search needs)
+    (λ c. search needs) (λ c. search needs) (λ c. search needs) (λ c. search needs) (λ c. search needs) (λ c. search needs) (λ c κs. search needs)
+    (λ c κs. search needs) (λ c. search needs) (λ c. search needs) (λ c. search needs) (λ c. search needs) (λ c. search needs))

@@ -1,9 +1,9 @@
 use borrow.Author.Needs.{needs}
 use native.Mathlib.Omega.{arith}
 use mathlib.Core.Path.{_≡_, refl, ap, sym, _∙_}
-use Prim.Native.Nat.{ℕ, suc, _+_, _-_, _*_, _≤_, _<_}
-use lib.ListN.{length, take, drop, getD, set, length-set}
-use mathlib.Core.List.{List, [], _∷_, _++_}
+use Prim.Native.Nat.{ℕ, suc, _+_, _-_, _≤_, _<_}
+use lib.ListN.{length, drop, getD}
+use mathlib.Core.List.{List}
 use lib.ListN.{drop-of-length-le}
 use lib.Seq.{drop-cons}
 use lib.Dec.{eqb}
@@ -13,8 +13,6 @@ use borrow.Author.Tests.{eq-eqb, ne-eqb}
 use Rattle.header.specs.Header.{allZero}
 use Rattle.header.proofs.all_zero.Statement.{statement}
 use Rattle.header.proofs.all_zero.Tie as tie
-use Rattle.header.proofs.all_zero.Reads as reads
-use Rattle.header.proofs.all_zero.Lts as lts
 
 -- a zero can be left out
 zero-more : (s : List ℕ) (i : ℕ) → i < length s → getD s i 0 ≡ 0 → allZero (drop (i + 1) s) ≡ allZero (drop i s)
@@ -57,14 +55,4 @@ returns-2 c =
     sym (ap allZero (drop-of-length-le (p .before .args .t1) h)) ∙ p .loop .inv .1
 
 pub all-zero-spec : {M : Type 1} → statement M
-all-zero-spec =
-    tie.close
-    (tie.spec
-    Inv-loop
-    μ-loop
-    loop-holds
-    (λ c. search needs)
-    returns
-    (λ c. search needs) (λ c. search needs)
-    loop-again
-    returns-2)
+all-zero-spec = tie.close (tie.spec Inv-loop μ-loop loop-holds (λ c. search needs) returns (λ c. search needs) (λ c. search needs) loop-again returns-2)

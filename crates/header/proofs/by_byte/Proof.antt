@@ -1,19 +1,12 @@
 -- `header::by_byte` meets its contract.
 use native.Mathlib.Omega.{arith}
-use mathlib.Core.Path.{_≡_, refl, ap, sym, _∙_}
-use Prim.Native.Nat.{ℕ, _+_, _-_, _*_, _≤_, _<_}
-use lib.ListN.{length, take, drop, getD, set, length-set}
-use mathlib.Core.List.{List, [], _∷_, _++_}
+use Prim.Native.Nat.{_-_, _<_}
 use borrow.Author.Needs.{needs}
 use lib.Dec.{lit<}
 use Rattle.field.specs.Field.{timesA}
 use Rattle.header.proofs.Lanes.{once, twice, halves}
 use Rattle.header.proofs.by_byte.Statement.{statement}
 use Rattle.header.proofs.by_byte.Tie as tie
-use Rattle.header.proofs.by_byte.Reads as reads
-use Rattle.header.proofs.by_byte.Lts as lts
-use Rattle.header.proofs.by_half.Reads as by-half-reads
-use Rattle.header.proofs.doubled.Reads as doubled-reads
 
 returns : tie.Need-returns
 unfolding timesA
@@ -28,7 +21,5 @@ returns c =
 
 pub by-byte-spec : {M : Type 1} → statement M
 by-byte-spec =
-    tie.close
-    (tie.spec
-    (λ c κs. search needs) (λ c κs. search needs) (λ c κs. search needs) (λ c κs. search needs) (λ c κs. search needs) (λ c κs. search needs)
-    returns)
+    tie.close (tie.spec (λ c κs. search needs) (λ c κs. search needs) (λ c κs. search needs) (λ c κs. search needs) (λ c κs. search needs)
+    (λ c κs. search needs) returns)

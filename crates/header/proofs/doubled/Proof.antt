@@ -1,16 +1,10 @@
 -- `header::doubled` meets its contract.
-use borrow.Author.Needs.{needs}
 use lib.Bits.{and-le-r}
 use Rattle.header.proofs.Lanes.{doubled-bytes}
 use native.Mathlib.Omega.{arith}
-use mathlib.Core.Path.{_≡_, refl, ap, sym, _∙_}
-use Prim.Native.Nat.{ℕ, _+_, _-_, _*_, _≤_, _<_}
-use lib.ListN.{length, take, drop, getD, set, length-set}
-use mathlib.Core.List.{List, [], _∷_, _++_}
+use Prim.Native.Nat.{_-_}
 use Rattle.header.proofs.doubled.Statement.{statement}
 use Rattle.header.proofs.doubled.Tie as tie
-use Rattle.header.proofs.doubled.Reads as reads
-use Rattle.header.proofs.doubled.Lts as lts
 
 mul-result : tie.Need-mul-result
 mul-result c = omega (arith, and-le-r (c .args .w) 0x7f7f7f7f7f7f7f7f)

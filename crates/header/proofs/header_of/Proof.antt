@@ -1,17 +1,15 @@
-use mathlib.Core.Path.{_≡_, _∙_, ap, ap₂, sym, refl, subst}
-use mathlib.Core.List.{List, [], _∷_, _++_}
-use Prim.Native.Nat.{ℕ, zero, suc, _+_, _-_, _<_, _≤_}
+use mathlib.Core.Path.{_≡_, _∙_, ap, ap₂, sym, refl}
+use mathlib.Core.List.{List, _++_}
+use Prim.Native.Nat.{ℕ, _+_, _-_, _<_, _≤_}
 use native.Mathlib.Nat.{zero-add}
 use native.Mathlib.Omega.{arith}
 use borrow.Author.Needs.{needs}
-use lib.ListN.{getD, length, set, take, drop, replicate, length-set, drop-of-length-le}
-use lib.Seq.{paste, paste-zero, take-all}
+use lib.ListN.{getD, length, take, drop, replicate, length-set, drop-of-length-le}
+use lib.Seq.{paste, take-all}
 use Rattle.header.specs.Header.{headerOf}
 use Rattle.header.proofs.Copies.{paste-more}
 use Rattle.header.proofs.header_of.Statement.{statement}
 use Rattle.header.proofs.header_of.Tie as tie
-use Rattle.header.proofs.header_of.Reads as reads
-use Rattle.header.proofs.header_of.Lts as lts
 
 abbrev Inv-loop : tie.InvT-loop
 Inv-loop pdu header₀ i₀ header i = (i ≤ 96) × (i ≤ length pdu) × (length header ≡ 96) × (header ≡ paste (replicate 96 0) 0 pdu i)
@@ -54,12 +52,5 @@ returns-2 c = full _ _ (c .before .loop .i) (omega arith) (omega arith) (c .befo
 
 pub header-of-spec : {M : Type 1} → statement M
 header-of-spec =
-    tie.close
-    (tie.spec
-    Inv-loop
-    μ-loop
-    loop-holds
-    returns
-    (λ c. search needs) (λ c. search needs) (λ c. search needs) (λ c. search needs)
-    loop-again
-    returns-2)
+    tie.close (tie.spec Inv-loop μ-loop
+    loop-holds returns (λ c. search needs) (λ c. search needs) (λ c. search needs) (λ c. search needs) loop-again returns-2)

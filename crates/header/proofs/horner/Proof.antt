@@ -6,10 +6,6 @@ use Rattle.header.specs.Horner.{hornerAt}
 use borrow.Author.Needs.{needs}
 use Rattle.header.proofs.horner.Statement.{statement}
 use Rattle.header.proofs.horner.Tie as tie
-use Rattle.header.proofs.horner.Reads as reads
-use Rattle.header.proofs.horner.Lts as lts
-use Rattle.field.proofs.product_by.Reads as product-by-reads
-use Rattle.header.proofs.point.Reads as point-reads
 
 returns : tie.Need-returns
 unfolding hornerAt

@@ -2,9 +2,6 @@ use Rattle.header.specs.Horner.{hornerStep}
 use borrow.Author.Needs.{needs}
 use Rattle.header.proofs.horner_step.Statement.{statement}
 use Rattle.header.proofs.horner_step.Tie as tie
-use Rattle.header.proofs.horner_step.Reads as reads
-use Rattle.header.proofs.horner_step.Lts as lts
-use Rattle.header.proofs.horner.Reads as horner-reads
 
 returns : tie.Need-returns
 unfolding hornerStep
@@ -22,8 +19,5 @@ returns c =
 
 pub horner-step-spec : {M : Type 1} → statement M
 horner-step-spec =
-    tie.close
-    (tie.spec
-    (λ c κs. search needs) (λ c κs. search needs) (λ c κs. search needs) (λ c κs. search needs) (λ c κs. search needs) (λ c κs. search needs)
-    (λ c κs. search needs) (λ c κs. search needs)
-    returns)
+    tie.close (tie.spec (λ c κs. search needs) (λ c κs. search needs) (λ c κs. search needs) (λ c κs. search needs) (λ c κs. search needs)
+    (λ c κs. search needs) (λ c κs. search needs) (λ c κs. search needs) returns)

@@ -1,18 +1,12 @@
 -- `header::next` meets its contract.
 use native.Mathlib.Omega.{arith}
-use mathlib.Core.Path.{_≡_, refl, ap, sym, _∙_}
-use Prim.Native.Nat.{ℕ, _+_, _-_, _*_, _≤_, _<_}
-use lib.ListN.{length, take, drop, getD, set, length-set}
-use mathlib.Core.List.{List, [], _∷_, _++_}
+use mathlib.Core.Path.{ap, _∙_}
+use Prim.Native.Nat.{_-_}
 use borrow.Author.Needs.{needs}
 use Rattle.header.specs.Packed.{timesAll}
 use Rattle.header.proofs.Lanes.{next-step}
 use Rattle.header.proofs.next.Statement.{statement}
 use Rattle.header.proofs.next.Tie as tie
-use Rattle.header.proofs.next.Reads as reads
-use Rattle.header.proofs.next.Lts as lts
-use Rattle.header.proofs.by_byte.Reads as by-byte-reads
-use Rattle.header.proofs.x8.Reads as x8-reads
 
 returns : tie.Need-returns
 returns c = next-step (c .before .before .args .r) (c .by-byte .result) (omega arith) (c .by-byte .ensures ∙ ap (timesAll _) (c .before .x8 .ensures))

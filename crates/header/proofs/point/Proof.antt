@@ -5,8 +5,6 @@ use Rattle.header.specs.Horner.{points}
 use borrow.Author.Needs.{needs}
 use Rattle.header.proofs.point.Statement.{statement}
 use Rattle.header.proofs.point.Tie as tie
-use Rattle.header.proofs.point.Reads as reads
-use Rattle.header.proofs.point.Lts as lts
 
 returns : tie.Need-returns
 unfolding points pow shift timesA

@@ -1,9 +1,9 @@
 use borrow.Author.Needs.{needs}
 use native.Mathlib.Omega.{arith}
-use mathlib.Core.Path.{_≡_, refl, ap, sym, _∙_}
-use Prim.Native.Nat.{ℕ, _+_, _-_, _*_, _≤_, _<_}
-use lib.ListN.{length, take, drop, getD, set, length-set}
-use mathlib.Core.List.{List, [], _∷_, _++_}
+use mathlib.Core.Path.{_≡_, refl, sym, _∙_}
+use Prim.Native.Nat.{ℕ, _+_, _-_, _≤_}
+use lib.ListN.{length, take, drop, getD, length-set}
+use mathlib.Core.List.{List, _++_}
 use lib.ListN.{drop-of-length-le}
 use lib.Seq.{paste, take-all}
 use denote.Ref.{now}
@@ -13,8 +13,6 @@ use Rattle.header.specs.Header.{frontReplaced}
 use Rattle.header.proofs.Copies.{paste-more}
 use Rattle.header.proofs.put_front.Statement.{statement}
 use Rattle.header.proofs.put_front.Tie as tie
-use Rattle.header.proofs.put_front.Reads as reads
-use Rattle.header.proofs.put_front.Lts as lts
 
 -- the PDU is full
 full : (p f q : List ℕ) (i : ℕ) → i ≡ length p → i ≤ length f → q ≡ paste p 0 f i → q ≡ frontReplaced p f
@@ -60,14 +58,6 @@ returns-2 c =
 
 pub put-front-spec : {M : Type 1} → statement M
 put-front-spec =
-    tie.close
-    (tie.spec
-    Inv-loop
-    μ-loop
-    loop-holds
-    (λ c. search needs)
-    returns
-    (λ c. search needs) (λ c. search needs) (λ c. search needs) (λ c. search needs)
-    loop-again
-    (λ c. search needs)
+    tie.close (tie.spec Inv-loop μ-loop
+    loop-holds (λ c. search needs) returns (λ c. search needs) (λ c. search needs) (λ c. search needs) (λ c. search needs) loop-again (λ c. search needs)
     returns-2)

@@ -4,18 +4,12 @@ use denote.Ref.{now}
 use Rattle.header.specs.Packed.{LeftOver}
 use Rattle.header.proofs.Lanes.{next-left, nothing-left, eight-more, parity-left}
 use native.Mathlib.Omega.{arith}
-use mathlib.Core.Path.{_≡_, refl, ap, sym, _∙_, subst}
-use Prim.Native.Nat.{ℕ, _+_, _-_, _*_, _%_, _≤_, _<_}
-use lib.ListN.{length, take, drop, getD, set, length-set}
-use mathlib.Core.List.{List, [], _∷_, _++_}
+use mathlib.Core.Path.{_≡_, refl, sym, subst}
+use Prim.Native.Nat.{ℕ, _+_, _-_, _%_, _≤_}
+use lib.ListN.{drop}
+use mathlib.Core.List.{List}
 use Rattle.header.proofs.remainder.Statement.{statement}
 use Rattle.header.proofs.remainder.Tie as tie
-use Rattle.header.proofs.remainder.Reads as reads
-use Rattle.header.proofs.remainder.Lts as lts
-use Rattle.header.proofs.step.Reads as step-reads
-use Rattle.header.proofs.next.Reads as next-reads
-use Rattle.header.proofs.word.Reads as word-reads
-use Rattle.header.proofs.x8.Reads as x8-reads
 
 abbrev Inv-loop : tie.InvT-loop
 Inv-loop header a b c d e f g h r₀ i₀ r i = (8 ≤ i) × (i ≤ 96) × (i % 8 ≡ 0) × LeftOver r (drop i header)
@@ -61,15 +55,6 @@ returns c =
 
 pub remainder-spec : {M : Type 1} → statement M
 remainder-spec =
-    tie.close
-    (tie.spec
-    Inv-loop
-    μ-loop
+    tie.close (tie.spec Inv-loop μ-loop
     (λ c κs. search needs) (λ c κs. search needs) (λ c κs. search needs) (λ c κs. search needs) (λ c κs. search needs) (λ c κs. search needs)
-    (λ c κs. search needs) (λ c κs. search needs)
-    loop-holds
-    (λ c. search needs) (λ c κs. search needs)
-    step-requires
-    (λ c. search needs)
-    loop-again
-    returns)
+    (λ c κs. search needs) (λ c κs. search needs) loop-holds (λ c. search needs) (λ c κs. search needs) step-requires (λ c. search needs) loop-again returns)

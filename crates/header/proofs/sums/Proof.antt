@@ -6,9 +6,6 @@ use Rattle.header.proofs.HornersRule.{sumsFrom, sums-start, sums-next, 
 use borrow.Author.Needs.{needs}
 use Rattle.header.proofs.sums.Statement.{statement}
 use Rattle.header.proofs.sums.Tie as tie
-use Rattle.header.proofs.sums.Reads as reads
-use Rattle.header.proofs.sums.Lts as lts
-use Rattle.header.proofs.horner_step.Reads as horner-step-reads
 
 abbrev Inv-loop : tie.InvT-loop
 Inv-loop powers logarithms bytes s₀ i₀ s i = (i ≤ 8) × (s ≡ sumsFrom i bytes)
@@ -35,11 +32,5 @@ returns c =
 
 pub sums-spec : {M : Type 1} → statement M
 sums-spec =
-    tie.close
-    (tie.spec
-    Inv-loop
-    μ-loop
-    loop-holds
-    (λ c. search needs) (λ c. search needs) (λ c κs. search needs) (λ c. search needs)
-    loop-again
-    returns)
+    tie.close (tie.spec Inv-loop μ-loop
+    loop-holds (λ c. search needs) (λ c. search needs) (λ c κs. search needs) (λ c. search needs) loop-again returns)

@@ -15,10 +15,4 @@ returns-2 : tie.Need-returns-2
 returns-2 c = c .sums .ensures ∙ c .before .before .before .before .rest .ensures
 
 pub syndromes-by-spec : {M : Type 1} → statement M
-syndromes-by-spec =
-    tie.close
-    (tie.spec
-    (λ c κs. search needs) (λ c κs. search needs)
-    returns
-    (λ c. search needs) (λ c κs. search needs)
-    returns-2)
+syndromes-by-spec = tie.close (tie.spec (λ c κs. search needs) (λ c κs. search needs) returns (λ c. search needs) (λ c κs. search needs) returns-2)

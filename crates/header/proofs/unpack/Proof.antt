@@ -3,9 +3,6 @@ use Rattle.header.specs.Packed.{unpacked}
 use borrow.Author.Needs.{needs}
 use Rattle.header.proofs.unpack.Statement.{statement}
 use Rattle.header.proofs.unpack.Tie as tie
-use Rattle.header.proofs.unpack.Reads as reads
-use Rattle.header.proofs.unpack.Lts as lts
-use Rattle.header.proofs.byte_from.Reads as byte-from-reads
 
 returns : tie.Need-returns
 unfolding unpacked
@@ -23,8 +20,5 @@ returns c =
 
 pub unpack-spec : {M : Type 1} → statement M
 unpack-spec =
-    tie.close
-    (tie.spec
-    (λ c κs. search needs) (λ c κs. search needs) (λ c κs. search needs) (λ c κs. search needs) (λ c κs. search needs) (λ c κs. search needs)
-    (λ c κs. search needs) (λ c κs. search needs)
-    returns)
+    tie.close (tie.spec (λ c κs. search needs) (λ c κs. search needs) (λ c κs. search needs) (λ c κs. search needs) (λ c κs. search needs)
+    (λ c κs. search needs) (λ c κs. search needs) (λ c κs. search needs) returns)

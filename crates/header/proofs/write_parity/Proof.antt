@@ -1,20 +1,15 @@
 use native.Mathlib.Omega.{arith}
-use mathlib.Core.Path.{_≡_, refl, ap, sym, _∙_}
-use Prim.Native.Nat.{ℕ, _+_, _-_, _*_, _≤_, _<_}
-use lib.ListN.{length, take, drop, getD, set, length-set}
-use mathlib.Core.List.{List, [], _∷_, _++_}
+use mathlib.Core.Path.{_≡_, ap, sym, _∙_}
+use Prim.Native.Nat.{ℕ, _+_, _-_, _≤_}
+use lib.ListN.{length, drop}
+use mathlib.Core.List.{List, _++_}
 use borrow.Author.Needs.{needs}
 use denote.Ref.{now}
-use Rattle.header.specs.Header.{parityOf, headerOf, frontReplaced, lengthRefusal, withParity}
+use Rattle.header.specs.Header.{parityOf, frontReplaced, lengthRefusal, withParity}
 use Rattle.header.proofs.Lengths.{short-refused, long-refused, length-allowed, parity-of-header, parity-refused, parity-written, front-fits}
 use Rattle.header.proofs.Division.{parity-length}
 use Rattle.header.proofs.write_parity.Statement.{statement}
 use Rattle.header.proofs.write_parity.Tie as tie
-use Rattle.header.proofs.write_parity.Reads as reads
-use Rattle.header.proofs.write_parity.Lts as lts
-use Rattle.header.proofs.parity.Reads as parity-reads
-use Rattle.header.proofs.header_of.Reads as header-of-reads
-use Rattle.header.proofs.put_front.Reads as put-front-reads
 
 written : (w v p : List ℕ) → p ≡ parityOf w → 8 ≤ length w → v ≡ frontReplaced w p → lengthRefusal (length w) ≡ 0 → v ≡ withParity w
 written w v p q h r e =
@@ -43,9 +38,5 @@ returns-3 c =
 
 pub write-parity-spec : {M : Type 1} → statement M
 write-parity-spec =
-    tie.close
-    (tie.spec
-    returns
-    returns-2
-    (λ c κs. search needs) (λ c κs. search needs) (λ c. search needs) (λ c κs. search needs) (λ c. search needs)
+    tie.close (tie.spec returns returns-2 (λ c κs. search needs) (λ c κs. search needs) (λ c. search needs) (λ c κs. search needs) (λ c. search needs)
     returns-3)

@@ -5,12 +5,6 @@ use Rattle.join.specs.Scan.{unusedZero}
 use borrow.Author.Needs.{needs}
 use Rattle.join.proofs.data_fits.Statement.{statement}
 use Rattle.join.proofs.data_fits.Tie as tie
-use Rattle.join.proofs.data_fits.Reads as reads
-use Rattle.join.proofs.data_fits.Lts as lts
-use Rattle.join.proofs.high.Reads as high-reads
-use Rattle.join.proofs.kind.Reads as kind-reads
-use Rattle.join.proofs.low.Reads as low-reads
-use Rattle.join.proofs.unused_zero.Reads as unused-zero-reads
 
 returns : tie.Need-returns
 returns c = other-kind (c .before .before .args .n) (c .before .before .args .w) (λ e. c .if1 .taken (c .before .kind .ensures ∙ e))
@@ -26,12 +20,4 @@ returns-3 c =
     (ap (λ (h : ℕ). h / 256) (sym (c .before .before .before .high .ensures)) ∙ c .before .before .if2 .left)
 
 pub data-fits-spec : {M : Type 1} → statement M
-data-fits-spec =
-    tie.close
-    (tie.spec
-    (λ c κs. search needs)
-    returns
-    (λ c κs. search needs)
-    returns-2
-    (λ c κs. search needs) (λ c κs. search needs)
-    returns-3)
+data-fits-spec = tie.close (tie.spec (λ c κs. search needs) returns (λ c κs. search needs) returns-2 (λ c κs. search needs) (λ c κs. search needs) returns-3)

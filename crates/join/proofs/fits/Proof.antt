@@ -4,13 +4,6 @@ use Rattle.join.proofs.Tests.{head-of, fits-head, fits-data}
 use borrow.Author.Needs.{needs}
 use Rattle.join.proofs.fits.Statement.{statement}
 use Rattle.join.proofs.fits.Tie as tie
-use Rattle.join.proofs.fits.Reads as reads
-use Rattle.join.proofs.fits.Lts as lts
-use Rattle.join.proofs.data_fits.Reads as data-fits-reads
-use Rattle.join.proofs.head_fits.Reads as head-fits-reads
-use Rattle.join.proofs.high.Reads as high-reads
-use Rattle.join.proofs.kind.Reads as kind-reads
-use Rattle.join.proofs.low.Reads as low-reads
 
 returns : tie.Need-returns
 returns c =
@@ -26,11 +19,5 @@ returns-3 c = c .data-fits2 .ensures ∙ fits-data (c .before .before .before .a
 
 pub fits-spec : {M : Type 1} → statement M
 fits-spec =
-    tie.close
-    (tie.spec
-    (λ c κs. search needs) (λ c κs. search needs) (λ c κs. search needs) (λ c κs. search needs)
-    returns
-    (λ c κs. search needs)
-    returns-2
-    (λ c κs. search needs)
-    returns-3)
+    tie.close (tie.spec (λ c κs. search needs) (λ c κs. search needs) (λ c κs. search needs) (λ c κs. search needs) returns (λ c κs. search needs) returns-2
+    (λ c κs. search needs) returns-3)

@@ -8,9 +8,6 @@ use Prim.Native.Nat.{_+_, _-_, _≤_}
 use lib.ListN.{length, drop}
 use Rattle.join.proofs.has_room.Statement.{statement}
 use Rattle.join.proofs.has_room.Tie as tie
-use Rattle.join.proofs.has_room.Reads as reads
-use Rattle.join.proofs.has_room.Lts as lts
-use Rattle.join.proofs.length_at.Reads as length-at-reads
 
 abbrev Inv-loop : tie.InvT-loop
 Inv-loop core enhanced places room words₀ i₀ words i = (i ≤ length core) × (words ≤ room) × (words + length (joinedWords enhanced (drop i core)) ≡ length (joinedWords enhanced core))
@@ -46,13 +43,5 @@ returns-2 c =
 
 pub has-room-spec : {M : Type 1} → statement M
 has-room-spec =
-    tie.close
-    (tie.spec
-    Inv-loop
-    μ-loop
-    loop-holds
-    (λ c κs. search needs) (λ c. search needs)
-    returns
-    (λ c. search needs) (λ c. search needs)
-    loop-again
-    returns-2)
+    tie.close (tie.spec Inv-loop μ-loop
+    loop-holds (λ c κs. search needs) (λ c. search needs) returns (λ c. search needs) (λ c. search needs) loop-again returns-2)

@@ -6,10 +6,6 @@ use Rattle.join.specs.Scan.{headFitsAs}
 use borrow.Author.Needs.{needs}
 use Rattle.join.proofs.head_fits.Statement.{statement}
 use Rattle.join.proofs.head_fits.Tie as tie
-use Rattle.join.proofs.head_fits.Reads as reads
-use Rattle.join.proofs.head_fits.Lts as lts
-use Rattle.join.proofs.packet_fits.Reads as packet-fits-reads
-use Rattle.join.proofs.psd_fits.Reads as psd-fits-reads
 
 returns : tie.Need-returns
 returns c = c .packet-fits .ensures ∙ ap (λ (k : ℕ). headFitsAs k (c .before .before .args .h) (c .before .before .args .l)) (sym (c .before .match .keys1))
@@ -24,6 +20,4 @@ returns-4 : tie.Need-returns-4
 returns-4 c = note-fits (c .before .args .h) (c .before .args .l) (c .before .args .k) (omega arith)
 
 pub head-fits-spec : {M : Type 1} → statement M
-head-fits-spec =
-    tie.close
-    (tie.spec (λ c κs. search needs) (λ c κs. search needs) returns returns-2 returns-3 returns-4)
+head-fits-spec = tie.close (tie.spec (λ c κs. search needs) (λ c κs. search needs) returns returns-2 returns-3 returns-4)

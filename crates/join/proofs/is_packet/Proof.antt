@@ -4,9 +4,6 @@ use lib.Dec.{eqb}
 use borrow.Author.Needs.{needs}
 use Rattle.join.proofs.is_packet.Statement.{statement}
 use Rattle.join.proofs.is_packet.Tie as tie
-use Rattle.join.proofs.is_packet.Reads as reads
-use Rattle.join.proofs.is_packet.Lts as lts
-use Rattle.join.proofs.kind.Reads as kind-reads
 
 returns : tie.Need-returns
 returns c = ap (λ (k : ℕ). eqb k 0) (c .kind .ensures)

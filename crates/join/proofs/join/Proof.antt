@@ -25,11 +25,5 @@ returns-2 c =
 
 pub join-spec : {M : Type 1} → statement M
 join-spec =
-    tie.close
-    (tie.spec
-    (λ c κs. search needs) (λ c. search needs) (λ c κs. search needs)
-    returns
-    (λ c. search needs)
-    put-joined-requires
-    (λ c. search needs)
+    tie.close (tie.spec (λ c κs. search needs) (λ c. search needs) (λ c κs. search needs) returns (λ c. search needs) put-joined-requires (λ c. search needs)
     returns-2)

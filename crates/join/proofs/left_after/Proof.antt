@@ -5,10 +5,6 @@ use Rattle.join.proofs.Tests.{after-note, after-head, after-data}
 use borrow.Author.Needs.{needs}
 use Rattle.join.proofs.left_after.Statement.{statement}
 use Rattle.join.proofs.left_after.Tie as tie
-use Rattle.join.proofs.left_after.Reads as reads
-use Rattle.join.proofs.left_after.Lts as lts
-use Rattle.join.proofs.kind.Reads as kind-reads
-use Rattle.join.proofs.low.Reads as low-reads
 
 returns : tie.Need-returns
 returns c = after-note (c .before .before .before .args .left) (c .before .before .before .args .w) (c .before .before .if1 .taken) (omega (arith, c .before .kind .ensures, c .if2 .taken))
@@ -23,5 +19,4 @@ returns-4 : tie.Need-returns-4
 returns-4 c = after-data (c .before .before .args .left) (c .before .before .args .w) (c .before .before .args .left - 3) (omega arith) refl
 
 pub left-after-spec : {M : Type 1} → statement M
-left-after-spec =
-    tie.close (tie.spec (λ c κs. search needs) returns (λ c κs. search needs) returns-2 returns-3 returns-4)
+left-after-spec = tie.close (tie.spec (λ c κs. search needs) returns (λ c κs. search needs) returns-2 returns-3 returns-4)

@@ -8,12 +8,6 @@ use Rattle.join.specs.Scan.{partner}
 use borrow.Author.Needs.{needs}
 use Rattle.join.proofs.length_at.Statement.{statement}
 use Rattle.join.proofs.length_at.Tie as tie
-use Rattle.join.proofs.length_at.Reads as reads
-use Rattle.join.proofs.length_at.Lts as lts
-use Rattle.join.proofs.is_packet.Reads as is-packet-reads
-use Rattle.join.proofs.number.Reads as number-reads
-use Rattle.join.proofs.partner_length.Reads as partner-length-reads
-use Rattle.join.proofs.run_end.Reads as run-end-reads
 
 returns : tie.Need-returns
 returns c =
@@ -32,9 +26,5 @@ returns-2 c =
 
 pub length-at-spec : {M : Type 1} → statement M
 length-at-spec =
-    tie.close
-    (tie.spec
-    (λ c. search needs) (λ c. search needs) (λ c κs. search needs)
-    returns
-    (λ c. search needs) (λ c κs. search needs) (λ c. search needs) (λ c κs. search needs) (λ c κs. search needs) (λ c. search needs)
-    returns-2)
+    tie.close (tie.spec (λ c. search needs) (λ c. search needs) (λ c κs. search needs) returns (λ c. search needs) (λ c κs. search needs) (λ c. search needs)
+    (λ c κs. search needs) (λ c κs. search needs) (λ c. search needs) returns-2)

@@ -7,9 +7,6 @@ use Prim.Native.Nat.{_-_, _≤_}
 use lib.ListN.{length, drop}
 use Rattle.join.proofs.next_packet.Statement.{statement}
 use Rattle.join.proofs.next_packet.Tie as tie
-use Rattle.join.proofs.next_packet.Reads as reads
-use Rattle.join.proofs.next_packet.Lts as lts
-use Rattle.join.proofs.is_packet.Reads as is-packet-reads
 
 abbrev Inv-loop : tie.InvT-loop
 Inv-loop log from i₀ i = (from ≤ i) × (i ≤ length log) × (numbers (drop i log) ≡ numbers (drop from log))
@@ -40,13 +37,5 @@ returns-2 c =
 
 pub next-packet-spec : {M : Type 1} → statement M
 next-packet-spec =
-    tie.close
-    (tie.spec
-    Inv-loop
-    μ-loop
-    loop-holds
-    (λ c. search needs) (λ c. search needs) (λ c κs. search needs)
-    returns
-    (λ c. search needs) (λ c. search needs)
-    loop-again
-    returns-2)
+    tie.close (tie.spec Inv-loop μ-loop
+    loop-holds (λ c. search needs) (λ c. search needs) (λ c κs. search needs) returns (λ c. search needs) (λ c. search needs) loop-again returns-2)

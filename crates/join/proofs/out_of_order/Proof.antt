@@ -8,10 +8,6 @@ use mathlib.Core.Bool.{not}
 use borrow.Author.Needs.{needs}
 use Rattle.join.proofs.out_of_order.Statement.{statement}
 use Rattle.join.proofs.out_of_order.Tie as tie
-use Rattle.join.proofs.out_of_order.Reads as reads
-use Rattle.join.proofs.out_of_order.Lts as lts
-use Rattle.join.proofs.next_packet.Reads as next-packet-reads
-use Rattle.join.proofs.rising.Reads as rising-reads
 
 returns : tie.Need-returns
 returns c =
@@ -35,6 +31,4 @@ returns-3 c =
     ∙ core-rises (a .core .now) (a .enhanced .now) (s .result) (s .ensures .1 .0) h (s .ensures .1 .1 h) (sym (c .before .before .rising .ensures) ∙ not-false _ (c .before .if2 .left))
 
 pub out-of-order-spec : {M : Type 1} → statement M
-out-of-order-spec =
-    tie.close
-    (tie.spec (λ c κs. search needs) returns (λ c κs. search needs) returns-2 (λ c κs. search needs) returns-3)
+out-of-order-spec = tie.close (tie.spec (λ c κs. search needs) returns (λ c κs. search needs) returns-2 (λ c κs. search needs) returns-3)

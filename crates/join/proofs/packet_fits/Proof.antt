@@ -2,8 +2,6 @@ use Rattle.join.proofs.Tests.{packet-wide, packet-empty, packet-length}
 use native.Mathlib.Omega.{arith}
 use Rattle.join.proofs.packet_fits.Statement.{statement}
 use Rattle.join.proofs.packet_fits.Tie as tie
-use Rattle.join.proofs.packet_fits.Reads as reads
-use Rattle.join.proofs.packet_fits.Lts as lts
 
 returns : tie.Need-returns
 returns c = packet-wide (c .before .args .h) (c .before .args .l) (omega arith)

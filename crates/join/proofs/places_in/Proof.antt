@@ -34,13 +34,5 @@ returns c =
 
 pub places-in-spec : {M : Type 1} → statement M
 places-in-spec =
-    tie.close
-    (tie.spec
-    Inv-loop
-    μ-loop
-    loop-holds
-    (λ c. search needs) (λ c. search needs)
-    keep-place-requires
-    (λ c. search needs)
-    loop-again
-    returns)
+    tie.close (tie.spec Inv-loop μ-loop
+    loop-holds (λ c. search needs) (λ c. search needs) keep-place-requires (λ c. search needs) loop-again returns)

@@ -1,8 +1,6 @@
 use Rattle.join.proofs.Tests.{psd-wide, psd-length}
 use Rattle.join.proofs.psd_fits.Statement.{statement}
 use Rattle.join.proofs.psd_fits.Tie as tie
-use Rattle.join.proofs.psd_fits.Reads as reads
-use Rattle.join.proofs.psd_fits.Lts as lts
 
 returns : tie.Need-returns
 returns c = psd-wide (c .before .args .h) (c .before .args .l) (c .if1 .taken)

@@ -13,13 +13,6 @@ use Rattle.buffer.proofs.Laws.{put-then}
 use borrow.Author.Needs.{needs}
 use Rattle.join.proofs.put_at.Statement.{statement}
 use Rattle.join.proofs.put_at.Tie as tie
-use Rattle.join.proofs.put_at.Reads as reads
-use Rattle.join.proofs.put_at.Lts as lts
-use Rattle.join.proofs.is_packet.Reads as is-packet-reads
-use Rattle.join.proofs.number.Reads as number-reads
-use Rattle.join.proofs.put_partner.Reads as put-partner-reads
-use Rattle.join.proofs.put_words.Reads as put-words-reads
-use Rattle.join.proofs.run_end.Reads as run-end-reads
 
 returns : tie.Need-returns
 returns c =
@@ -69,13 +62,6 @@ returns-2 c =
 
 pub put-at-spec : {M : Type 1} → statement M
 put-at-spec =
-    tie.close
-    (tie.spec
-    (λ c. search needs) (λ c. search needs) (λ c κs. search needs)
-    returns
-    (λ c. search needs) (λ c κs. search needs) (λ c. search needs) (λ c. search needs) (λ c. search needs) (λ c. search needs)
-    put-words-requires
-    (λ c. search needs) (λ c. search needs) (λ c κs. search needs)
-    put-partner-requires
-    (λ c. search needs)
-    returns-2)
+    tie.close (tie.spec (λ c. search needs) (λ c. search needs) (λ c κs. search needs) returns (λ c. search needs) (λ c κs. search needs) (λ c. search needs)
+    (λ c. search needs) (λ c. search needs) (λ c. search needs) put-words-requires (λ c. search needs) (λ c. search needs) (λ c κs. search needs)
+    put-partner-requires (λ c. search needs) returns-2)

@@ -11,9 +11,6 @@ use lib.ListN.{length, drop}
 use mathlib.Core.List.{List, []}
 use Rattle.join.proofs.put_joined.Statement.{statement}
 use Rattle.join.proofs.put_joined.Tie as tie
-use Rattle.join.proofs.put_joined.Reads as reads
-use Rattle.join.proofs.put_joined.Lts as lts
-use Rattle.join.proofs.put_at.Reads as put-at-reads
 
 abbrev Inv-loop : tie.InvT-loop
 Inv-loop result₀ core enhanced places at₀ i₀ result at i =
@@ -61,14 +58,4 @@ returns c =
     )
 
 pub put-joined-spec : {M : Type 1} → statement M
-put-joined-spec =
-    tie.close
-    (tie.spec
-    Inv-loop
-    μ-loop
-    loop-holds
-    put-at-requires
-    (λ c. search needs) (λ c. search needs)
-    loop-again
-    (λ c. search needs)
-    returns)
+put-joined-spec = tie.close (tie.spec Inv-loop μ-loop loop-holds put-at-requires (λ c. search needs) (λ c. search needs) loop-again (λ c. search needs) returns)

@@ -11,11 +11,6 @@ use Rattle.buffer.proofs.Laws.{put-cons}
 use borrow.Author.Needs.{needs}
 use Rattle.join.proofs.put_partner.Statement.{statement}
 use Rattle.join.proofs.put_partner.Tie as tie
-use Rattle.join.proofs.put_partner.Reads as reads
-use Rattle.join.proofs.put_partner.Lts as lts
-use Rattle.join.proofs.place_of.Reads as place-of-reads
-use Rattle.join.proofs.put_words.Reads as put-words-reads
-use Rattle.join.proofs.run_end.Reads as run-end-reads
 
 returns : tie.Need-returns
 returns c = put-none (c .before .before .before .before .before .args .result .now) (partner (c .before .before .before .before .before .args .enhanced .now) (c .before .before .before .before .before .args .n)) (c .before .before .before .before .before .args .at) (partner-none (c .before .before .before .before .before .args .enhanced .now) (c .before .before .before .before .before .args .n) (c .before .place-of .result) (c .before .place-of .ensures .1) (c .if1 .taken))
@@ -57,14 +52,6 @@ returns-2 c =
 
 pub put-partner-spec : {M : Type 1} → statement M
 put-partner-spec =
-    tie.close
-    (tie.spec
-    (λ c κs. search needs)
-    returns
-    (λ c. search needs) (λ c κs. search needs) (λ c. search needs) (λ c. search needs) (λ c. search needs)
-    slice-write-result
-    (λ c. search needs) (λ c. search needs) (λ c. search needs) (λ c. search needs) (λ c. search needs) (λ c. search needs)
-    put-words-requires
-    (λ c. search needs) (λ c. search needs)
-    same-length
-    returns-2)
+    tie.close (tie.spec (λ c κs. search needs) returns (λ c. search needs) (λ c κs. search needs) (λ c. search needs) (λ c. search needs) (λ c. search needs)
+    slice-write-result (λ c. search needs) (λ c. search needs) (λ c. search needs) (λ c. search needs) (λ c. search needs) (λ c. search needs)
+    put-words-requires (λ c. search needs) (λ c. search needs) same-length returns-2)

@@ -1,50 +1,33 @@
-use native.Mathlib.Nat.{add-zero}
-use lib.ListN.{drop-of-length-le}
 use denote.Ref.{now}
-use Rattle.buffer.specs.Buffer.{putAt}
-use Rattle.buffer.proofs.Laws.{put-turn, put-nil}
-use borrow.Author.Needs.{needs}
+use mathlib.Core.Path.{refl}
+use Prim.Native.Nat.{_-_}
+use lib.ListN.{length}
 use native.Mathlib.Omega.{arith}
-use mathlib.Core.Path.{_≡_, refl, sym, _∙_}
-use Prim.Native.Nat.{_+_, _-_, _≤_}
-use lib.ListN.{length, drop, length-set}
-use mathlib.Core.List.{[]}
+use borrow.Author.Needs.{needs}
+use Rattle.buffer.proofs.Laws.{Copied, copy-start, copy-turn, copy-end}
 use Rattle.join.proofs.put_words.Statement.{statement}
 use Rattle.join.proofs.put_words.Tie as tie
-use Rattle.join.proofs.put_words.Reads as reads
-use Rattle.join.proofs.put_words.Lts as lts
 
 abbrev Inv-loop : tie.InvT-loop
-Inv-loop dst₀ at src j₀ dst j = (j ≤ length src) × (putAt dst (at + j) (drop j src) ≡ putAt dst₀ at src) × (length dst ≡ length dst₀)
+Inv-loop dst₀ at src j₀ dst j = Copied dst₀ at src dst j
 
 abbrev μ-loop : tie.MeasureT-loop
 μ-loop dst₀ at src j₀ dst j = length src - j
-
-loop-holds : tie.Need-loop-holds Inv-loop μ-loop
-loop-holds c = (omega arith, rw add-zero refl, refl)
 
 loop-again : tie.Need-loop-again Inv-loop μ-loop
 loop-again c =
     let p = c .before .before in
     let a = p .before .args in
-    (omega arith, put-turn (now (a .dst)) (p .loop .dst) (now (a .src)) (a .at) (p .loop .j) _ (omega arith) (c .before .loop-test .taken) refl (p .loop .inv .1), simp length-set (p .loop .inv .2))
+    copy-turn (now (a .dst)) (p .loop .dst) (now (a .src)) (a .at) (p .loop .j) _ (omega arith) (c .before .loop-test .taken) refl (p .loop .inv)
 
 returns : tie.Need-returns Inv-loop μ-loop
 returns c =
     let p = c .before in
     let a = p .before .args in
-    let e : drop (p .loop .j) (now (a .src)) ≡ [] = drop-of-length-le (now (a .src)) (c .loop-test .left) in
-    let t : putAt (p .loop .dst) (a .at + p .loop .j) [] ≡ putAt (now (a .dst)) (a .at) (now (a .src)) = rw e at (p .loop .inv .1) in
-    sym (put-nil (p .loop .dst) (a .at + p .loop .j)) ∙ t
+    copy-end (now (a .dst)) (p .loop .dst) (now (a .src)) (a .at) (p .loop .j) (c .loop-test .left) (p .loop .inv)
 
 pub put-words-spec : {M : Type 1} → statement M
 put-words-spec =
-    tie.close
-    (tie.spec
-    Inv-loop
-    μ-loop
-    loop-holds
-    (λ c. search needs) (λ c. search needs) (λ c. search needs) (λ c. search needs) (λ c. search needs) (λ c. search needs) (λ c. search needs)
-    loop-again
-    (λ c. search needs)
-    returns)
+    tie.close (tie.spec Inv-loop μ-loop
+    (λ c. copy-start (now (c .args .dst)) (now (c .args .src)) (c .args .at)) (λ c. search needs) (λ c. search needs) (λ c. search needs) (λ c. search needs)
+    (λ c. search needs) (λ c. search needs) (λ c. search needs) loop-again (λ c. search needs) returns)

@@ -4,11 +4,6 @@ use borrow.Author.Tests.{not-true, not-false}
 use borrow.Author.Needs.{needs}
 use Rattle.join.proofs.refusal.Statement.{statement}
 use Rattle.join.proofs.refusal.Tie as tie
-use Rattle.join.proofs.refusal.Reads as reads
-use Rattle.join.proofs.refusal.Lts as lts
-use Rattle.join.proofs.out_of_order.Reads as out-of-order-reads
-use Rattle.join.proofs.is_log.Reads as is-log-reads
-use Rattle.join.proofs.has_room.Reads as has-room-reads
 
 returns : tie.Need-returns
 returns c = core-no-log (c .before .before .before .before .before .args .core .now) (c .before .before .before .before .before .args .enhanced .now) (c .before .before .before .before .before .args .room) (sym (c .before .is-log .ensures) ∙ not-true _ (c .if1 .taken))
@@ -41,14 +36,5 @@ returns-5 c =
 
 pub refusal-spec : {M : Type 1} → statement M
 refusal-spec =
-    tie.close
-    (tie.spec
-    (λ c κs. search needs)
-    returns
-    (λ c κs. search needs)
-    returns-2
-    (λ c κs. search needs)
-    returns-3
-    (λ c κs. search needs)
-    returns-4
+    tie.close (tie.spec (λ c κs. search needs) returns (λ c κs. search needs) returns-2 (λ c κs. search needs) returns-3 (λ c κs. search needs) returns-4
     returns-5)

@@ -9,11 +9,6 @@ use Prim.Native.Nat.{_-_, _≤_, _<_}
 use lib.ListN.{length, drop, getD}
 use Rattle.join.proofs.rising.Statement.{statement}
 use Rattle.join.proofs.rising.Tie as tie
-use Rattle.join.proofs.rising.Reads as reads
-use Rattle.join.proofs.rising.Lts as lts
-use Rattle.join.proofs.counted.Reads as counted-reads
-use Rattle.join.proofs.next_packet.Reads as next-packet-reads
-use Rattle.join.proofs.number.Reads as number-reads
 
 abbrev Inv-loop : tie.InvT-loop
 Inv-loop log start first last₀ i₀ last i = (i ≤ length log) × (risingAfter first last (numbers (drop i log)) ≡ rising (numbers log)) × (i < length log → isPacket (getD log i 0) ≡ true)
@@ -61,16 +56,7 @@ returns-3 c = rising-end (c .before .before .before .before .before .before .bef
 
 pub rising-spec : {M : Type 1} → statement M
 rising-spec =
-    tie.close
-    (tie.spec
-    Inv-loop
-    μ-loop
-    (λ c κs. search needs)
-    returns
-    (λ c. search needs) (λ c. search needs) (λ c κs. search needs) (λ c. search needs) (λ c κs. search needs)
-    loop-holds
-    (λ c. search needs) (λ c. search needs) (λ c κs. search needs) (λ c κs. search needs)
-    returns-2
-    (λ c. search needs) (λ c κs. search needs) (λ c. search needs)
-    loop-again
-    returns-3)
+    tie.close (tie.spec Inv-loop μ-loop
+    (λ c κs. search needs) returns (λ c. search needs) (λ c. search needs) (λ c κs. search needs) (λ c. search needs) (λ c κs. search needs) loop-holds
+    (λ c. search needs) (λ c. search needs) (λ c κs. search needs) (λ c κs. search needs) returns-2 (λ c. search needs) (λ c κs. search needs)
+    (λ c. search needs) loop-again returns-3)

@@ -9,9 +9,6 @@ use lib.ListN.{length, drop}
 use mathlib.Core.List.{_++_}
 use Rattle.join.proofs.run_end.Statement.{statement}
 use Rattle.join.proofs.run_end.Tie as tie
-use Rattle.join.proofs.run_end.Reads as reads
-use Rattle.join.proofs.run_end.Lts as lts
-use Rattle.join.proofs.kind.Reads as kind-reads
 
 abbrev Inv-loop : tie.InvT-loop
 Inv-loop log from i₀ i = (from ≤ i) × (i ≤ length log) × (slice from i log ++ dataRun (drop i log) ≡ dataRun (drop from log))
@@ -42,13 +39,5 @@ returns-2 c =
 
 pub run-end-spec : {M : Type 1} → statement M
 run-end-spec =
-    tie.close
-    (tie.spec
-    Inv-loop
-    μ-loop
-    loop-holds
-    (λ c. search needs) (λ c. search needs) (λ c κs. search needs)
-    returns
-    (λ c. search needs) (λ c. search needs)
-    loop-again
-    returns-2)
+    tie.close (tie.spec Inv-loop μ-loop
+    loop-holds (λ c. search needs) (λ c. search needs) (λ c κs. search needs) returns (λ c. search needs) (λ c. search needs) loop-again returns-2)

@@ -1,8 +1,6 @@
 use Rattle.join.proofs.Tests.{unused-two, unused-one, unused-none}
 use Rattle.join.proofs.unused_zero.Statement.{statement}
 use Rattle.join.proofs.unused_zero.Tie as tie
-use Rattle.join.proofs.unused_zero.Reads as reads
-use Rattle.join.proofs.unused_zero.Lts as lts
 
 returns : tie.Need-returns
 returns c = unused-two (c .before .args .n) (c .before .args .l) (c .if1 .taken)

@@ -4,9 +4,6 @@ use Rattle.latency.proofs.Ticks.{at-count, added-count, added-none}
 use borrow.Author.Needs.{needs}
 use Rattle.latency.proofs.added.Statement.{statement}
 use Rattle.latency.proofs.added.Tie as tie
-use Rattle.latency.proofs.added.Reads as reads
-use Rattle.latency.proofs.added.Lts as lts
-use Rattle.latency.proofs.wide.Reads as wide-reads
 
 mul-wide : tie.Need-mul-wide
 mul-wide c =
@@ -29,6 +26,4 @@ returns-2 c =
     added-none (a .n) (a .t) (a .counts .now) (λ e. omega arith)
 
 pub added-spec : {M : Type 1} → statement M
-added-spec =
-    tie.close
-    (tie.spec (λ c. search needs) (λ c. search needs) mul-wide shared-slice-read-wide (λ c κs. search needs) returns returns-2)
+added-spec = tie.close (tie.spec (λ c. search needs) (λ c. search needs) mul-wide shared-slice-read-wide (λ c κs. search needs) returns returns-2)

@@ -5,9 +5,6 @@ use Rattle.latency.proofs.Counts.{refused-none, refused-many, refused-o
 use borrow.Author.Needs.{needs}
 use Rattle.latency.proofs.counts_refused.Statement.{statement}
 use Rattle.latency.proofs.counts_refused.Tie as tie
-use Rattle.latency.proofs.counts_refused.Reads as reads
-use Rattle.latency.proofs.counts_refused.Lts as lts
-use Rattle.latency.proofs.over_most.Reads as over-most-reads
 
 returns : tie.Need-returns
 returns c = refused-none (c .before .before .args .counts .now) (c .if1 .taken)

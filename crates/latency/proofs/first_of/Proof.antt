@@ -2,8 +2,6 @@ use native.Mathlib.Omega.{arith}
 use borrow.Author.Tests.{eq-eqb, ne-eqb}
 use Rattle.latency.proofs.first_of.Statement.{statement}
 use Rattle.latency.proofs.first_of.Tie as tie
-use Rattle.latency.proofs.first_of.Reads as reads
-use Rattle.latency.proofs.first_of.Lts as lts
 
 returns : tie.Need-returns
 returns c = simp (ne-eqb (c .before .before .args .before .dry) 0 (λ e. omega arith))

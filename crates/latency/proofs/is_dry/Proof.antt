@@ -3,9 +3,6 @@ use Rattle.latency.proofs.Ticks.{early-dry, late-dry}
 use borrow.Author.Needs.{needs}
 use Rattle.latency.proofs.is_dry.Statement.{statement}
 use Rattle.latency.proofs.is_dry.Tie as tie
-use Rattle.latency.proofs.is_dry.Reads as reads
-use Rattle.latency.proofs.is_dry.Lts as lts
-use Rattle.latency.proofs.start.Reads as start-reads
 
 returns : tie.Need-returns
 returns c =

@@ -6,10 +6,6 @@ use Rattle.latency.specs.Latency.{left}
 use Rattle.latency.proofs.Ticks.{ticks-most, turn-fits, turn-left}
 use Rattle.latency.proofs.left_after.Statement.{statement}
 use Rattle.latency.proofs.left_after.Tie as tie
-use Rattle.latency.proofs.left_after.Reads as reads
-use Rattle.latency.proofs.left_after.Lts as lts
-use Rattle.latency.proofs.added.Reads as added-reads
-use Rattle.latency.proofs.taken.Reads as taken-reads
 
 abbrev Inv-loop : tie.InvT-loop
 Inv-loop counts n v first kept₀ t₀ kept t = (t ≤ first) × (kept ≡ left n counts v t)
@@ -38,9 +34,6 @@ add-t c =
     let s = c .before .before .before .before .before in
     omega (arith, s .pre .1, ticks-most (s .args .n) (s .args .counts .now) (s .pre .0))
 
-loop-less : tie.Need-loop-less Inv-loop μ-loop
-loop-less c = omega arith
-
 loop-again : tie.Need-loop-again Inv-loop μ-loop
 loop-again c =
     let l = c .before .before .before .loop in
@@ -58,16 +51,5 @@ returns c =
 
 pub left-after-spec : {M : Type 1} → statement M
 left-after-spec =
-    tie.close
-    (tie.spec
-    Inv-loop
-    μ-loop
-    loop-holds
-    added-requires
-    add-waiting
-    (λ c κs. search needs)
-    sub-kept
-    add-t
-    loop-less
-    loop-again
-    returns)
+    tie.close (tie.spec Inv-loop μ-loop
+    loop-holds added-requires add-waiting (λ c κs. search needs) sub-kept add-t (λ c. omega arith) loop-again returns)

@@ -7,8 +7,6 @@ use Prim.Native.Nat.{_-_, _≤_}
 use lib.ListN.{length, drop}
 use Rattle.latency.proofs.over_most.Statement.{statement}
 use Rattle.latency.proofs.over_most.Tie as tie
-use Rattle.latency.proofs.over_most.Reads as reads
-use Rattle.latency.proofs.over_most.Lts as lts
 
 abbrev Inv-loop : tie.InvT-loop
 Inv-loop counts i₀ i = (i ≤ length counts) × (overMost (drop i counts) ≡ overMost counts)
@@ -36,13 +34,5 @@ returns-2 c =
 
 pub over-most-spec : {M : Type 1} → statement M
 over-most-spec =
-    tie.close
-    (tie.spec
-    Inv-loop
-    μ-loop
-    loop-holds
-    (λ c. search needs) (λ c. search needs)
-    returns
-    (λ c. search needs) (λ c. search needs)
-    loop-again
-    returns-2)
+    tie.close (tie.spec Inv-loop μ-loop
+    loop-holds (λ c. search needs) (λ c. search needs) returns (λ c. search needs) (λ c. search needs) loop-again returns-2)

@@ -8,14 +8,6 @@ use Rattle.latency.proofs.Ticks.{ticks-most, turn-waiting, turn-fits, t
 use Rattle.latency.proofs.Turns.{tally-turn, tally-small, one-most}
 use Rattle.latency.proofs.run.Statement.{statement}
 use Rattle.latency.proofs.run.Tie as tie
-use Rattle.latency.proofs.run.Reads as reads
-use Rattle.latency.proofs.run.Lts as lts
-use Rattle.latency.proofs.added.Reads as added-reads
-use Rattle.latency.proofs.first_of.Reads as first-of-reads
-use Rattle.latency.proofs.greater.Reads as greater-reads
-use Rattle.latency.proofs.is_dry.Reads as is-dry-reads
-use Rattle.latency.proofs.one_if.Reads as one-if-reads
-use Rattle.latency.proofs.taken.Reads as taken-reads
 
 abbrev Inv-loop : tie.InvT-loop
 Inv-loop counts n v q₀ kept₀ end t₀ q kept t = (t ≤ ticks n counts) × (kept ≡ left n counts v t) × (q ≡ tally n counts v t)
@@ -54,9 +46,6 @@ add-t c =
     let s = c .before .before .before .before .before .before .before .before .before .before in
     omega (arith, ticks-most (s .args .n) (s .args .counts .now) (s .pre))
 
-loop-less : tie.Need-loop-less Inv-loop μ-loop
-loop-less c = omega arith
-
 loop-again : tie.Need-loop-again Inv-loop μ-loop
 loop-again c =
     let g = c .before in
@@ -84,19 +73,6 @@ returns c =
 
 pub run-spec : {M : Type 1} → statement M
 run-spec =
-    tie.close
-    (tie.spec
-    Inv-loop
-    μ-loop
-    mul-end
-    loop-holds
-    added-requires
-    add-waiting
-    (λ c κs. search needs) (λ c κs. search needs)
-    add-t14
-    (λ c κs. search needs) (λ c κs. search needs) (λ c κs. search needs)
-    sub-kept
-    add-t
-    loop-less
-    loop-again
-    returns)
+    tie.close (tie.spec Inv-loop μ-loop
+    mul-end loop-holds added-requires add-waiting (λ c κs. search needs) (λ c κs. search needs) add-t14 (λ c κs. search needs) (λ c κs. search needs)
+    (λ c κs. search needs) sub-kept add-t (λ c. omega arith) loop-again returns)

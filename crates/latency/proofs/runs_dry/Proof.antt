@@ -5,9 +5,6 @@ use Rattle.latency.specs.declared.Tally.{Tally}
 use Rattle.latency.specs.Latency.{runsDry}
 use Rattle.latency.proofs.runs_dry.Statement.{statement}
 use Rattle.latency.proofs.runs_dry.Tie as tie
-use Rattle.latency.proofs.runs_dry.Reads as reads
-use Rattle.latency.proofs.runs_dry.Lts as lts
-use Rattle.latency.proofs.run.Reads as run-reads
 
 returns : tie.Need-returns
 unfolding runsDry

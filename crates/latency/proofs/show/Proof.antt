@@ -10,11 +10,6 @@ use Rattle.latency.proofs.Ticks.{ticks-most, turn-waiting, turn-fits, t
 use Rattle.latency.proofs.Turns.{row-turn, row-end}
 use Rattle.latency.proofs.show.Statement.{statement}
 use Rattle.latency.proofs.show.Tie as tie
-use Rattle.latency.proofs.show.Reads as reads
-use Rattle.latency.proofs.show.Lts as lts
-use Rattle.latency.proofs.added.Reads as added-reads
-use Rattle.latency.proofs.left_after.Reads as left-after-reads
-use Rattle.latency.proofs.taken.Reads as taken-reads
 
 abbrev Inv-loop : tie.InvT-loop
 Inv-loop counts n v first count row₀ kept₀ k₀ row kept k =
@@ -77,9 +72,6 @@ add-k c =
     let s = c .before .before .before .before .before .before .before in
     omega (arith, s .pre .1, ticks-most (s .args .n) (s .args .counts .now) (s .pre .0))
 
-loop-less : tie.Need-loop-less Inv-loop μ-loop
-loop-less c = omega arith
-
 loop-again : tie.Need-loop-again Inv-loop μ-loop
 loop-again c =
     let w = c .before in
@@ -101,22 +93,6 @@ returns c =
 
 pub show-spec : {M : Type 1} → statement M
 show-spec =
-    tie.close
-    (tie.spec
-    Inv-loop
-    μ-loop
-    left-after-requires
-    loop-holds
-    add-t
-    added-requires
-    add-waiting
-    cast-row
-    mul-row
-    slice-write-row
-    (λ c κs. search needs)
-    sub-kept
-    add-k
-    loop-less
-    loop-again
-    (λ c. search needs)
-    returns)
+    tie.close (tie.spec Inv-loop μ-loop
+    left-after-requires loop-holds add-t added-requires add-waiting cast-row mul-row slice-write-row (λ c κs. search needs) sub-kept add-k (λ c. omega arith)
+    loop-again (λ c. search needs) returns)

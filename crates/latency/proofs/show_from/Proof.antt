@@ -9,10 +9,6 @@ use Rattle.latency.proofs.Turns.{row-none}
 use borrow.Author.Needs.{needs}
 use Rattle.latency.proofs.show_from.Statement.{statement}
 use Rattle.latency.proofs.show_from.Tie as tie
-use Rattle.latency.proofs.show_from.Reads as reads
-use Rattle.latency.proofs.show_from.Lts as lts
-use Rattle.latency.proofs.show.Reads as show-reads
-use Rattle.latency.proofs.shown_count.Reads as shown-count-reads
 
 mul-shown-count : tie.Need-mul-shown-count
 mul-shown-count c =
@@ -34,6 +30,4 @@ returns-2 c =
     (e, w .show .ensures ∙ ap (λ (x : ℕ). putAt (now (a .row)) 0 (waitingFrom (a .n) (a .counts .now) (a .v) (a .first) x)) e)
 
 pub show-from-spec : {M : Type 1} → statement M
-show-from-spec =
-    tie.close
-    (tie.spec mul-shown-count (λ c κs. search needs) returns (λ c κs. search needs) (λ c. search needs) returns-2)
+show-from-spec = tie.close (tie.spec mul-shown-count (λ c κs. search needs) returns (λ c κs. search needs) (λ c. search needs) returns-2)

@@ -9,10 +9,6 @@ use Rattle.latency.proofs.Turns.{count-most}
 use borrow.Author.Needs.{needs}
 use Rattle.latency.proofs.show_waiting.Statement.{statement}
 use Rattle.latency.proofs.show_waiting.Tie as tie
-use Rattle.latency.proofs.show_waiting.Reads as reads
-use Rattle.latency.proofs.show_waiting.Lts as lts
-use Rattle.latency.proofs.show_from.Reads as show-from-reads
-use Rattle.latency.proofs.spacing_for.Reads as spacing-for-reads
 
 show-from-requires : tie.Need-show-from-requires
 show-from-requires c κs =
@@ -53,11 +49,4 @@ returns-2 c =
 
 pub show-waiting-spec : {M : Type 1} → statement M
 show-waiting-spec =
-    tie.close
-    (tie.spec
-    (λ c κs. search needs) (λ c. search needs) (λ c. search needs)
-    show-from-requires
-    cast-t14
-    returns
-    (λ c. search needs)
-    returns-2)
+    tie.close (tie.spec (λ c κs. search needs) (λ c. search needs) (λ c. search needs) show-from-requires cast-t14 returns (λ c. search needs) returns-2)

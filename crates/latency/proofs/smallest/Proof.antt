@@ -4,10 +4,6 @@ use Rattle.latency.proofs.Reports.{answer-by}
 use borrow.Author.Needs.{needs}
 use Rattle.latency.proofs.smallest.Statement.{statement}
 use Rattle.latency.proofs.smallest.Tie as tie
-use Rattle.latency.proofs.smallest.Reads as reads
-use Rattle.latency.proofs.smallest.Lts as lts
-use Rattle.latency.proofs.smallest_of.Reads as smallest-of-reads
-use Rattle.latency.proofs.spacing_for.Reads as spacing-for-reads
 
 smallest-of-requires : tie.Need-smallest-of-requires
 smallest-of-requires c κs =
@@ -28,10 +24,4 @@ returns-2 c =
     c .smallest-of .ensures ∙ answer-by (a .mode) (a .stream) (a .counts .now) _ _ (u .before .before .spacing-for .ensures) (u .n .given .1)
 
 pub smallest-spec : {M : Type 1} → statement M
-smallest-spec =
-    tie.close
-    (tie.spec
-    (λ c κs. search needs) (λ c. search needs) (λ c. search needs)
-    smallest-of-requires
-    returns
-    returns-2)
+smallest-spec = tie.close (tie.spec (λ c κs. search needs) (λ c. search needs) (λ c. search needs) smallest-of-requires returns returns-2)

@@ -7,9 +7,6 @@ use Rattle.latency.specs.Latency.{smallestOf}
 use Rattle.latency.proofs.Answers.{here, further, none-left}
 use Rattle.latency.proofs.smallest_of.Statement.{statement}
 use Rattle.latency.proofs.smallest_of.Tie as tie
-use Rattle.latency.proofs.smallest_of.Reads as reads
-use Rattle.latency.proofs.smallest_of.Lts as lts
-use Rattle.latency.proofs.runs_dry.Reads as runs-dry-reads
 
 abbrev Inv-loop : tie.InvT-loop
 Inv-loop counts n v₀ v = (v ≤ 8) × (smallestOf n counts v (8 - v) ≡ smallestOf n counts 0 8)
@@ -26,12 +23,6 @@ returns c =
     let a = c .before .before .before .before .before .args in
     here (a .n) (a .counts .now) (l .v) (omega arith) (sym (c .before .runs-dry .ensures) ∙ not-true _ (c .if1 .taken)) ∙ l .inv .1
 
-add-v : tie.Need-add-v Inv-loop μ-loop
-add-v c = omega arith
-
-loop-less : tie.Need-loop-less Inv-loop μ-loop
-loop-less c = omega arith
-
 loop-again : tie.Need-loop-again Inv-loop μ-loop
 loop-again c =
     let l = c .before .before .before .loop in
@@ -45,15 +36,4 @@ returns-2 c =
     none-left (a .n) (a .counts .now) (l .v) (omega arith) ∙ l .inv .1
 
 pub smallest-of-spec : {M : Type 1} → statement M
-smallest-of-spec =
-    tie.close
-    (tie.spec
-    Inv-loop
-    μ-loop
-    loop-holds
-    (λ c κs. search needs)
-    returns
-    add-v
-    loop-less
-    loop-again
-    returns-2)
+smallest-of-spec = tie.close (tie.spec Inv-loop μ-loop loop-holds (λ c κs. search needs) returns (λ c. omega arith) (λ c. omega arith) loop-again returns-2)

@@ -3,11 +3,6 @@ use Rattle.latency.proofs.Counts.{spacing-by, listed-refused, listed-ev
 use borrow.Author.Needs.{needs}
 use Rattle.latency.proofs.spacing_for.Statement.{statement}
 use Rattle.latency.proofs.spacing_for.Tie as tie
-use Rattle.latency.proofs.spacing_for.Reads as reads
-use Rattle.latency.proofs.spacing_for.Lts as lts
-use Rattle.latency.proofs.counts_refused.Reads as counts-refused-reads
-use Rattle.latency.proofs.ticks_apart.Reads as ticks-apart-reads
-use Rattle.modes.proofs.look_up.Reads as look-up-reads
 
 returns : tie.Need-returns
 returns c =
@@ -32,10 +27,5 @@ returns-3 c =
 
 pub spacing-for-spec : {M : Type 1} → statement M
 spacing-for-spec =
-    tie.close
-    (tie.spec
-    (λ c κs. search needs) (λ c. search needs) (λ c. search needs) (λ c κs. search needs)
-    returns
-    (λ c κs. search needs)
-    returns-2
+    tie.close (tie.spec (λ c κs. search needs) (λ c. search needs) (λ c. search needs) (λ c κs. search needs) returns (λ c κs. search needs) returns-2
     returns-3)

@@ -3,9 +3,6 @@ use Rattle.latency.proofs.Ticks.{early-taken, none-taken, one-taken}
 use borrow.Author.Needs.{needs}
 use Rattle.latency.proofs.taken.Statement.{statement}
 use Rattle.latency.proofs.taken.Tie as tie
-use Rattle.latency.proofs.taken.Reads as reads
-use Rattle.latency.proofs.taken.Lts as lts
-use Rattle.latency.proofs.start.Reads as start-reads
 
 returns : tie.Need-returns
 returns c =

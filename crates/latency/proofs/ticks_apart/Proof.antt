@@ -2,8 +2,6 @@ use native.Mathlib.Omega.{arith}
 use borrow.Author.Tests.{eq-eqb, ne-eqb}
 use Rattle.latency.proofs.ticks_apart.Statement.{statement}
 use Rattle.latency.proofs.ticks_apart.Tie as tie
-use Rattle.latency.proofs.ticks_apart.Reads as reads
-use Rattle.latency.proofs.ticks_apart.Lts as lts
 
 returns : tie.Need-returns
 returns c = simp (eq-eqb (c .before .before .args .m .sequences) 8 (omega arith))

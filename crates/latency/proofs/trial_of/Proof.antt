@@ -6,9 +6,6 @@ use Rattle.latency.proofs.Ticks.{ticks-most}
 use Rattle.latency.proofs.Turns.{told-small}
 use Rattle.latency.proofs.trial_of.Statement.{statement}
 use Rattle.latency.proofs.trial_of.Tie as tie
-use Rattle.latency.proofs.trial_of.Reads as reads
-use Rattle.latency.proofs.trial_of.Lts as lts
-use Rattle.latency.proofs.run.Reads as run-reads
 
 mul-t6 : tie.Need-mul-t6
 mul-t6 c =

@@ -4,10 +4,6 @@ use Rattle.latency.proofs.Reports.{trial-by}
 use borrow.Author.Needs.{needs}
 use Rattle.latency.proofs.try_latency.Statement.{statement}
 use Rattle.latency.proofs.try_latency.Tie as tie
-use Rattle.latency.proofs.try_latency.Reads as reads
-use Rattle.latency.proofs.try_latency.Lts as lts
-use Rattle.latency.proofs.spacing_for.Reads as spacing-for-reads
-use Rattle.latency.proofs.trial_of.Reads as trial-of-reads
 
 trial-of-requires : tie.Need-trial-of-requires
 trial-of-requires c κs =
@@ -28,6 +24,4 @@ returns-2 c =
     c .trial-of .ensures ∙ trial-by (a .mode) (a .stream) (a .counts .now) _ _ (u .before .before .spacing-for .ensures) (u .n .given .1) (a .v)
 
 pub try-latency-spec : {M : Type 1} → statement M
-try-latency-spec =
-    tie.close
-    (tie.spec (λ c κs. search needs) (λ c. search needs) (λ c. search needs) trial-of-requires returns returns-2)
+try-latency-spec = tie.close (tie.spec (λ c κs. search needs) (λ c. search needs) (λ c. search needs) trial-of-requires returns returns-2)

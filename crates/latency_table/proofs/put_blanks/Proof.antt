@@ -1,25 +1,12 @@
 use borrow.Author.Needs.{needs}
-use native.Mathlib.Omega.{arith}
 use mathlib.Core.Path.{_≡_}
-use Prim.Native.Nat.{_+_, _-_, _*_, _≤_, _<_}
+use Prim.Native.Nat.{_-_}
 use lib.ListN.{length}
 use Rattle.latency_table.proofs.put_blanks.Statement.{statement}
 use Rattle.latency_table.proofs.put_blanks.Tie as tie
-use Rattle.latency_table.proofs.put_blanks.Reads as reads
-use Rattle.latency_table.proofs.put_blanks.Lts as lts
-use Rattle.text.proofs.put.Reads as put-reads
-
-abbrev Inv-loop : tie.InvT-loop
-Inv-loop out₀ at count n₀ left₀ t6 out n left = length out ≡ length out₀
-
-abbrev μ-loop : tie.MeasureT-loop
-μ-loop out₀ at count n₀ left₀ t6 out n left = left
 
 pub put-blanks-spec : {M : Type 1} → statement M
 put-blanks-spec =
-    tie.close
-    (tie.spec
-    Inv-loop
-    μ-loop
+    tie.close (tie.spec (λ out₀ at count n₀ left₀ t6 out n left. length out ≡ length out₀) (λ out₀ at count n₀ left₀ t6 out n left. left)
     (λ c. search needs) (λ c. search needs) (λ c κs. search needs) (λ c. search needs) (λ c. search needs) (λ c. search needs) (λ c. search needs)
     (λ c. search needs))

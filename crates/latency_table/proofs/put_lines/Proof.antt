@@ -1,26 +1,12 @@
 use borrow.Author.Needs.{needs}
-use native.Mathlib.Omega.{arith}
 use mathlib.Core.Path.{_≡_}
-use Prim.Native.Nat.{_+_, _-_, _*_, _≤_, _<_}
+use Prim.Native.Nat.{_-_}
 use lib.ListN.{length}
 use Rattle.latency_table.proofs.put_lines.Statement.{statement}
 use Rattle.latency_table.proofs.put_lines.Tie as tie
-use Rattle.latency_table.proofs.put_lines.Reads as reads
-use Rattle.latency_table.proofs.put_lines.Lts as lts
-use Rattle.latency.proofs.try_latency.Reads as try-latency-reads
-use Rattle.latency_table.proofs.put_line.Reads as put-line-reads
-
-abbrev Inv-loop : tie.InvT-loop
-Inv-loop out₀ at mode stream counts n₀ v₀ out n v = length out ≡ length out₀
-
-abbrev μ-loop : tie.MeasureT-loop
-μ-loop out₀ at mode stream counts n₀ v₀ out n v = 8 - v
 
 pub put-lines-spec : {M : Type 1} → statement M
 put-lines-spec =
-    tie.close
-    (tie.spec
-    Inv-loop
-    μ-loop
+    tie.close (tie.spec (λ out₀ at mode stream counts n₀ v₀ out n v. length out ≡ length out₀) (λ out₀ at mode stream counts n₀ v₀ out n v. 8 - v)
     (λ c. search needs) (λ c κs. search needs) (λ c κs. search needs) (λ c. search needs) (λ c. search needs) (λ c. search needs) (λ c. search needs)
     (λ c. search needs))

@@ -1,14 +1,10 @@
-use native.Mathlib.Omega.{arith}
-use mathlib.Core.Path.{_≡_, refl, ap, sym, _∙_}
-use Prim.Native.Nat.{ℕ, _+_, _-_, _*_, _≤_, _<_}
-use lib.ListN.{length, take, drop, getD, set, length-set}
-use mathlib.Core.List.{List, [], _∷_, _++_}
+use mathlib.Core.Path.{sym}
+use Prim.Native.Nat.{ℕ, _-_}
+use mathlib.Core.List.{List}
 use borrow.Author.Needs.{needs}
 use lib.ListN.{List·getD-eq-default}
 use Rattle.layout.proofs.byte_at.Statement.{statement}
 use Rattle.layout.proofs.byte_at.Tie as tie
-use Rattle.layout.proofs.byte_at.Reads as reads
-use Rattle.layout.proofs.byte_at.Lts as lts
 
 returns : tie.Need-returns
 returns c = search needs

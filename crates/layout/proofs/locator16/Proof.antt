@@ -1,17 +1,10 @@
-use native.Mathlib.Omega.{arith}
-use mathlib.Core.Path.{_≡_, refl, ap, sym, _∙_}
-use Prim.Native.Nat.{ℕ, _+_, _-_, _*_, _≤_, _<_}
-use lib.ListN.{length, take, drop, getD, set, length-set}
-use mathlib.Core.List.{List, [], _∷_, _++_}
+use mathlib.Core.Path.{_∙_}
+use Prim.Native.Nat.{ℕ, _+_, _-_, _*_}
 use borrow.Author.Needs.{needs}
 use mathlib.Core.Path.{ap₂}
 use Rattle.layout.specs.Locators.{locator16}
 use Rattle.layout.proofs.locator16.Statement.{statement}
 use Rattle.layout.proofs.locator16.Tie as tie
-use Rattle.layout.proofs.locator16.Reads as reads
-use Rattle.layout.proofs.locator16.Lts as lts
-use Rattle.layout.proofs.byte_at.Reads as byte-at-reads
-use Rattle.layout.proofs.wide.Reads as wide-reads
 
 returns : tie.Need-returns
 unfolding locator16
@@ -19,8 +12,5 @@ returns c = ap₂ (λ (x y : ℕ). x + 256 * y) (c .before .before .wide .ensure
 
 pub locator16-spec : {M : Type 1} → statement M
 locator16-spec =
-    tie.close
-    (tie.spec
-    (λ c. search needs) (λ c. search needs) (λ c κs. search needs) (λ c κs. search needs) (λ c. search needs) (λ c. search needs) (λ c κs. search needs)
-    (λ c κs. search needs) (λ c. search needs) (λ c. search needs)
-    returns)
+    tie.close (tie.spec (λ c. search needs) (λ c. search needs) (λ c κs. search needs) (λ c κs. search needs) (λ c. search needs) (λ c. search needs)
+    (λ c κs. search needs) (λ c κs. search needs) (λ c. search needs) (λ c. search needs) returns)

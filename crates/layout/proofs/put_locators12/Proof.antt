@@ -1,20 +1,14 @@
 use Rattle.layout.proofs.LocatorWriting.{turn12, last12, done, none12}
 use Rattle.layout.specs.Locators.{bytes12}
 use Rattle.buffer.specs.Buffer.{putAt}
-use lib.ListN.{drop-of-length-le}
 use borrow.Author.Needs.{needs}
 use native.Mathlib.Omega.{arith}
-use mathlib.Core.Path.{_≡_, refl, ap, ap₂, sym, subst, _∙_}
+use mathlib.Core.Path.{_≡_, refl}
 use denote.Ref.{now}
-use Prim.Native.Nat.{ℕ, _+_, _-_, _*_, _/_, _%_, _≤_, _<_}
-use lib.ListN.{length, take, drop, getD, set, length-set}
-use mathlib.Core.List.{List, [], _∷_, _++_}
+use Prim.Native.Nat.{_+_, _-_, _*_, _/_, _%_, _≤_}
+use lib.ListN.{length, drop, getD, length-set}
 use Rattle.layout.proofs.put_locators12.Statement.{statement}
 use Rattle.layout.proofs.put_locators12.Tie as tie
-use Rattle.layout.proofs.put_locators12.Reads as reads
-use Rattle.layout.proofs.put_locators12.Lts as lts
-use Rattle.layout.proofs.byte_from.Reads as byte-from-reads
-use Rattle.layout.proofs.middle.Reads as middle-reads
 
 abbrev Inv-loop : tie.InvT-loop
 Inv-loop pdu₀ locators j₀ pdu j = (2 * j ≤ length locators + 1) × (length pdu ≡ length pdu₀) × (putAt pdu (14 + 3 * j) (bytes12 (drop (2 * j) locators)) ≡ putAt pdu₀ 14 (bytes12 locators))
@@ -25,9 +19,6 @@ abbrev μ-loop : tie.MeasureT-loop
 loop-holds : tie.Need-loop-holds Inv-loop μ-loop
 loop-holds c = (omega arith, refl, refl)
 
-slice-write-pdu-2 : tie.Need-slice-write-pdu-2 Inv-loop μ-loop
-slice-write-pdu-2 c = simp length-set (omega arith)
-
 returns : tie.Need-returns Inv-loop μ-loop
 returns c =
     let p = c .before .before .before .before .before in
@@ -37,9 +28,6 @@ returns c =
     let x : c .before .before .byte-from .result ≡ getD ls (2 * j) 0 / 1 % 256 = c .before .before .byte-from .ensures in
     let y : c .middle .result ≡ getD ls (2 * j) 0 / 256 % 16 + 16 * (0 % 16) = c .middle .ensures in
     rw (x, y) (last12 (p .loop .pdu) ls (putAt (now (a .pdu)) 14 (bytes12 ls)) j (omega arith) (omega arith) (p .loop .inv .2))
-
-slice-write-pdu-3 : tie.Need-slice-write-pdu-3 Inv-loop μ-loop
-slice-write-pdu-3 c = simp length-set (omega arith)
 
 slice-write-pdu-4 : tie.Need-slice-write-pdu-4 Inv-loop μ-loop
 slice-write-pdu-4 c = simp (length-set, length-set) (omega arith)
@@ -63,21 +51,9 @@ returns-2 c =
 
 pub put-locators12-spec : {M : Type 1} → statement M
 put-locators12-spec =
-    tie.close
-    (tie.spec
-    Inv-loop
-    μ-loop
-    loop-holds
-    (λ c. search needs) (λ c. search needs) (λ c. search needs) (λ c. search needs) (λ c κs. search needs) (λ c. search needs) (λ c. search needs)
+    tie.close (tie.spec Inv-loop μ-loop
+    loop-holds (λ c. search needs) (λ c. search needs) (λ c. search needs) (λ c. search needs) (λ c κs. search needs) (λ c. search needs) (λ c. search needs)
     (λ c. search needs) (λ c. search needs) (λ c. search needs) (λ c κs. search needs) (λ c. search needs) (λ c. search needs)
-    slice-write-pdu-2
-    (λ c. search needs)
-    returns
-    (λ c. search needs) (λ c. search needs) (λ c. search needs) (λ c. search needs) (λ c κs. search needs) (λ c. search needs) (λ c. search needs)
-    slice-write-pdu-3
-    (λ c κs. search needs) (λ c. search needs) (λ c. search needs)
-    slice-write-pdu-4
-    (λ c. search needs) (λ c. search needs)
-    loop-again
-    (λ c. search needs)
-    returns-2)
+    (λ c. simp length-set (omega arith)) (λ c. search needs) returns (λ c. search needs) (λ c. search needs) (λ c. search needs) (λ c. search needs)
+    (λ c κs. search needs) (λ c. search needs) (λ c. search needs) (λ c. simp length-set (omega arith)) (λ c κs. search needs) (λ c. search needs)
+    (λ c. search needs) slice-write-pdu-4 (λ c. search needs) (λ c. search needs) loop-again (λ c. search needs) returns-2)

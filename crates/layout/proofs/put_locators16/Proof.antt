@@ -1,19 +1,14 @@
 use Rattle.layout.proofs.LocatorWriting.{turn16, done, none16}
 use Rattle.layout.specs.Locators.{bytes16}
 use Rattle.buffer.specs.Buffer.{putAt}
-use lib.ListN.{drop-of-length-le}
 use borrow.Author.Needs.{needs}
 use native.Mathlib.Omega.{arith}
-use mathlib.Core.Path.{_≡_, refl, ap, ap₂, sym, subst, _∙_}
+use mathlib.Core.Path.{_≡_, refl}
 use denote.Ref.{now}
-use Prim.Native.Nat.{ℕ, _+_, _-_, _*_, _/_, _%_, _≤_, _<_}
-use lib.ListN.{length, take, drop, getD, set, length-set}
-use mathlib.Core.List.{List, [], _∷_, _++_}
+use Prim.Native.Nat.{_+_, _-_, _*_, _/_, _%_, _≤_}
+use lib.ListN.{length, drop, getD, length-set}
 use Rattle.layout.proofs.put_locators16.Statement.{statement}
 use Rattle.layout.proofs.put_locators16.Tie as tie
-use Rattle.layout.proofs.put_locators16.Reads as reads
-use Rattle.layout.proofs.put_locators16.Lts as lts
-use Rattle.layout.proofs.byte_from.Reads as byte-from-reads
 
 abbrev Inv-loop : tie.InvT-loop
 Inv-loop pdu₀ locators k₀ pdu k = (k ≤ length locators) × (length pdu ≡ length pdu₀) × (putAt pdu (14 + 2 * k) (bytes16 (drop k locators)) ≡ putAt pdu₀ 14 (bytes16 locators))
@@ -47,15 +42,6 @@ returns c =
 
 pub put-locators16-spec : {M : Type 1} → statement M
 put-locators16-spec =
-    tie.close
-    (tie.spec
-    Inv-loop
-    μ-loop
-    loop-holds
-    (λ c. search needs) (λ c. search needs) (λ c κs. search needs) (λ c. search needs) (λ c. search needs) (λ c. search needs) (λ c κs. search needs)
-    (λ c. search needs) (λ c. search needs)
-    slice-write-pdu-2
-    (λ c. search needs) (λ c. search needs)
-    loop-again
-    (λ c. search needs)
-    returns)
+    tie.close (tie.spec Inv-loop μ-loop
+    loop-holds (λ c. search needs) (λ c. search needs) (λ c κs. search needs) (λ c. search needs) (λ c. search needs) (λ c. search needs) (λ c κs. search needs)
+    (λ c. search needs) (λ c. search needs) slice-write-pdu-2 (λ c. search needs) (λ c. search needs) loop-again (λ c. search needs) returns)

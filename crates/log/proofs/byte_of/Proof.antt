@@ -6,9 +6,6 @@ use borrow.Author.Needs.{needs}
 use Rattle.log.proofs.Filling.{in-second}
 use Rattle.log.proofs.byte_of.Statement.{statement}
 use Rattle.log.proofs.byte_of.Tie as tie
-use Rattle.log.proofs.byte_of.Reads as reads
-use Rattle.log.proofs.byte_of.Lts as lts
-use Rattle.log.proofs.wide.Reads as wide-reads
 
 returns : tie.Need-returns
 returns c =
@@ -27,11 +24,4 @@ returns-3 c =
 
 pub byte-of-spec : {M : Type 1} → statement M
 byte-of-spec =
-    tie.close
-    (tie.spec
-    (λ c. search needs) (λ c κs. search needs)
-    returns
-    (λ c. search needs)
-    returns-2
-    (λ c. search needs) (λ c κs. search needs)
-    returns-3)
+    tie.close (tie.spec (λ c. search needs) (λ c κs. search needs) returns (λ c. search needs) returns-2 (λ c. search needs) (λ c κs. search needs) returns-3)

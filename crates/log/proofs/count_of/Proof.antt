@@ -2,14 +2,9 @@ use native.Mathlib.Omega.{arith}
 use borrow.Author.Needs.{needs}
 use Rattle.log.proofs.count_of.Statement.{statement}
 use Rattle.log.proofs.count_of.Tie as tie
-use Rattle.log.proofs.count_of.Reads as reads
-use Rattle.log.proofs.count_of.Lts as lts
-
-returns : tie.Need-returns
-returns c = (omega arith, omega arith)
 
 returns-2 : tie.Need-returns-2
 returns-2 c = (omega arith, omega arith)
 
 pub count-of-spec : {M : Type 1} → statement M
-count-of-spec = tie.close (tie.spec (λ c. search needs) returns returns-2)
+count-of-spec = tie.close (tie.spec (λ c. search needs) (λ c. (omega arith, omega arith)) returns-2)

@@ -7,17 +7,12 @@ use Rattle.log.specs.Blocks.{fourAt, eightAt}
 use Rattle.log.proofs.Filling.{none-more}
 use Rattle.log.proofs.Blocks.{block-turn}
 use native.Mathlib.Omega.{arith}
-use mathlib.Core.Path.{_≡_, refl, ap, sym, _∙_}
+use mathlib.Core.Path.{_≡_, refl, ap, _∙_}
 use Prim.Native.Nat.{ℕ, _+_, _-_, _*_, _≤_, _<_}
-use lib.ListN.{length, take, drop, getD, set, length-set}
-use mathlib.Core.List.{List, [], _∷_, _++_}
+use lib.ListN.{length, drop}
+use mathlib.Core.List.{List, _++_}
 use Rattle.log.proofs.put_blocks.Statement.{statement}
 use Rattle.log.proofs.put_blocks.Tie as tie
-use Rattle.log.proofs.put_blocks.Reads as reads
-use Rattle.log.proofs.put_blocks.Lts as lts
-use Rattle.log.proofs.eight.Reads as eight-reads
-use Rattle.log.proofs.four.Reads as four-reads
-use Rattle.log.proofs.put_block.Reads as put-block-reads
 
 abbrev Inv-loop : tie.InvT-loop
 Inv-loop log₀ at bytes from i₀ j₀ x₀ y₀ log i j x y =
@@ -82,19 +77,7 @@ returns-2 c =
 
 pub put-blocks-spec : {M : Type 1} → statement M
 put-blocks-spec =
-    tie.close
-    (tie.spec
-    Inv-loop
-    μ-loop
-    (λ c. search needs)
-    returns
-    (λ c κs. search needs) (λ c. search needs) (λ c κs. search needs)
-    loop-holds
-    (λ c. search needs) (λ c. search needs)
-    put-block-requires
-    (λ c. search needs) (λ c. search needs) (λ c κs. search needs) (λ c. search needs) (λ c κs. search needs) (λ c. search needs)
-    loop-again
-    (λ c. search needs)
-    put-block-requires-2
-    (λ c. search needs) (λ c. search needs)
-    returns-2)
+    tie.close (tie.spec Inv-loop μ-loop
+    (λ c. search needs) returns (λ c κs. search needs) (λ c. search needs) (λ c κs. search needs) loop-holds (λ c. search needs) (λ c. search needs)
+    put-block-requires (λ c. search needs) (λ c. search needs) (λ c κs. search needs) (λ c. search needs) (λ c κs. search needs) (λ c. search needs) loop-again
+    (λ c. search needs) put-block-requires-2 (λ c. search needs) (λ c. search needs) returns-2)

@@ -37,6 +37,4 @@ returns-2 : tie.Need-returns-2
 returns-2 c = search needs
 
 pub put-bytes-spec : {M : Type 1} → statement M
-put-bytes-spec =
-    tie.close
-    (tie.spec put-data-requires (λ c. search needs) returns (λ c κs. search needs) (λ c. search needs) returns-2)
+put-bytes-spec = tie.close (tie.spec put-data-requires (λ c. search needs) returns (λ c κs. search needs) (λ c. search needs) returns-2)

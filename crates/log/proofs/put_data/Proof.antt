@@ -1,21 +1,15 @@
 -- `log::put_data` meets its contract: each call leaves the words that are still to come.
 use native.Mathlib.Omega.{arith}
 use mathlib.Core.Path.{_≡_, refl, ap, sym, _∙_}
-use Prim.Native.Nat.{ℕ, _+_, _-_, _*_, _≤_, _<_}
-use lib.ListN.{length, take, drop, getD, set, length-set, length-append}
-use mathlib.Core.List.{List, [], _∷_, _++_}
+use Prim.Native.Nat.{ℕ, _+_, _-_, _*_, _≤_}
+use lib.ListN.{length, length-append}
+use mathlib.Core.List.{List, [], _++_}
 use borrow.Author.Needs.{needs}
 use denote.Ref.{now}
 use Prim.Native.Nat.{_/_}
-use Rattle.buffer.specs.Buffer.{putAt}
-use Rattle.log.specs.Log.{dataWords}
 use Rattle.log.proofs.Filling.{none-left, behind, begun, in-second-list, both-length, left-length, first-fits, first-count, past-first, left-in-second, second-fits, rest-fits, last-count}
 use Rattle.log.proofs.put_data.Statement.{statement}
 use Rattle.log.proofs.put_data.Tie as tie
-use Rattle.log.proofs.put_data.Reads as reads
-use Rattle.log.proofs.put_data.Lts as lts
-use Rattle.log.proofs.put_full.Reads as put-full-reads
-use Rattle.log.proofs.put_one.Reads as put-one-reads
 
 -- where the function begins
 abbrev one : tie.After-put-full-arg → tie.Start
@@ -148,18 +142,6 @@ returns-2 c =
 
 pub put-data-spec : {M : Type 1} → statement M
 put-data-spec =
-    tie.close
-    (tie.spec
-    put-full-requires
-    (λ c. search needs) (λ c. search needs)
-    put-one-requires
-    (λ c. search needs) (λ c. search needs) (λ c. search needs) (λ c. search needs)
-    returns
-    (λ c. search needs)
-    sub-put-full
-    put-full-requires-2
-    (λ c. search needs) (λ c. search needs) (λ c. search needs)
-    put-one-requires-2
-    add-result
-    (λ c. search needs)
-    returns-2)
+    tie.close (tie.spec put-full-requires (λ c. search needs) (λ c. search needs) put-one-requires (λ c. search needs) (λ c. search needs) (λ c. search needs)
+    (λ c. search needs) returns (λ c. search needs) sub-put-full put-full-requires-2 (λ c. search needs) (λ c. search needs) (λ c. search needs)
+    put-one-requires-2 add-result (λ c. search needs) returns-2)

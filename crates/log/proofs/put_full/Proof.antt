@@ -1,17 +1,10 @@
 -- `log::put_full` meets its contract: words one at a time behind those of blocks.
 use native.Mathlib.Omega.{arith}
-use mathlib.Core.Path.{_≡_, refl, ap, sym, _∙_}
-use Prim.Native.Nat.{ℕ, _+_, _-_, _*_, _≤_, _<_}
-use lib.ListN.{length, take, drop, getD, set, length-set}
-use mathlib.Core.List.{List, [], _∷_, _++_}
+use Prim.Native.Nat.{_-_}
 use borrow.Author.Needs.{needs}
 use Rattle.log.proofs.Blocks.{onward}
 use Rattle.log.proofs.put_full.Statement.{statement}
 use Rattle.log.proofs.put_full.Tie as tie
-use Rattle.log.proofs.put_full.Reads as reads
-use Rattle.log.proofs.put_full.Lts as lts
-use Rattle.log.proofs.put_blocks.Reads as put-blocks-reads
-use Rattle.log.proofs.put_words.Reads as put-words-reads
 
 returns : tie.Need-returns
 returns c =
@@ -24,7 +17,5 @@ returns c =
 
 pub put-full-spec : {M : Type 1} → statement M
 put-full-spec =
-    tie.close
-    (tie.spec
-    (λ c κs. search needs) (λ c. search needs) (λ c. search needs) (λ c. search needs) (λ c κs. search needs) (λ c. search needs) (λ c. search needs)
-    returns)
+    tie.close (tie.spec (λ c κs. search needs) (λ c. search needs) (λ c. search needs) (λ c. search needs) (λ c κs. search needs) (λ c. search needs)
+    (λ c. search needs) returns)

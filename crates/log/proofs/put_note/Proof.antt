@@ -11,10 +11,6 @@ use Rattle.log.specs.Log.{word, entryWords}
 use Rattle.log.proofs.Words.{note-length}
 use Rattle.log.proofs.put_note.Statement.{statement}
 use Rattle.log.proofs.put_note.Tie as tie
-use Rattle.log.proofs.put_note.Reads as reads
-use Rattle.log.proofs.put_note.Lts as lts
-use Rattle.log.proofs.wide.Reads as wide-reads
-use Rattle.log.proofs.word_of.Reads as word-of-reads
 
 -- there is room for a word
 room : (c : tie.After-word-of) → c .before .before .before .args .at < length (now (c .before .before .before .args .log))
@@ -34,9 +30,4 @@ returns c =
 
 pub put-note-spec : {M : Type 1} → statement M
 put-note-spec =
-    tie.close
-    (tie.spec
-    (λ c κs. search needs) (λ c. search needs) (λ c κs. search needs) (λ c. search needs)
-    slice-write-log
-    (λ c. search needs)
-    returns)
+    tie.close (tie.spec (λ c κs. search needs) (λ c. search needs) (λ c κs. search needs) (λ c. search needs) slice-write-log (λ c. search needs) returns)

@@ -1,16 +1,12 @@
 use native.Mathlib.Omega.{arith}
-use mathlib.Core.Path.{_≡_, refl, ap, sym, _∙_}
-use Prim.Native.Nat.{ℕ, _+_, _-_, _*_, _≤_, _<_}
-use lib.ListN.{length, take, drop, getD, set, length-set, length-append}
-use mathlib.Core.List.{List, [], _∷_, _++_}
+use Prim.Native.Nat.{ℕ, _+_, _-_, _<_}
+use lib.ListN.{length, length-append}
+use mathlib.Core.List.{List, _++_}
 use borrow.Author.Needs.{needs}
 use denote.Ref.{now}
 use Rattle.log.proofs.Filling.{none-more, one-more, counted}
 use Rattle.log.proofs.put_one.Statement.{statement}
 use Rattle.log.proofs.put_one.Tie as tie
-use Rattle.log.proofs.put_one.Reads as reads
-use Rattle.log.proofs.put_one.Lts as lts
-use Rattle.log.proofs.data_word.Reads as data-word-reads
 
 -- the bytes of both slices
 abbrev bytes : tie.After-data-word → List ℕ
@@ -39,6 +35,4 @@ returns-2 c =
     (omega arith, one-more (now (a .log)) s (a .at) (a .i) (c .data-word .result) (some-left c) (room c) (c .data-word .ensures))
 
 pub put-one-spec : {M : Type 1} → statement M
-put-one-spec =
-    tie.close
-    (tie.spec (λ c. search needs) returns (λ c κs. search needs) (λ c. search needs) slice-write-log (λ c. search needs) returns-2)
+put-one-spec = tie.close (tie.spec (λ c. search needs) returns (λ c κs. search needs) (λ c. search needs) slice-write-log (λ c. search needs) returns-2)

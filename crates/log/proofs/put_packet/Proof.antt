@@ -10,11 +10,6 @@ use Rattle.buffer.proofs.Laws.{put-cons}
 use Rattle.log.specs.Log.{word, dataWords, entryWords}
 use Rattle.log.proofs.put_packet.Statement.{statement}
 use Rattle.log.proofs.put_packet.Tie as tie
-use Rattle.log.proofs.put_packet.Reads as reads
-use Rattle.log.proofs.put_packet.Lts as lts
-use Rattle.log.proofs.put_bytes.Reads as put-bytes-reads
-use Rattle.log.proofs.wide.Reads as wide-reads
-use Rattle.log.proofs.word_of.Reads as word-of-reads
 
 slice-write-log : tie.Need-slice-write-log
 unfolding entryWords
@@ -50,12 +45,5 @@ returns c =
 
 pub put-packet-spec : {M : Type 1} → statement M
 put-packet-spec =
-    tie.close
-    (tie.spec
-    (λ c. search needs) (λ c κs. search needs) (λ c. search needs) (λ c κs. search needs) (λ c. search needs)
-    slice-write-log
-    (λ c. search needs)
-    put-bytes-requires
-    add-result
-    same-length
-    returns)
+    tie.close (tie.spec (λ c. search needs) (λ c κs. search needs) (λ c. search needs) (λ c κs. search needs) (λ c. search needs) slice-write-log
+    (λ c. search needs) put-bytes-requires add-result same-length returns)

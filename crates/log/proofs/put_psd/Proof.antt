@@ -10,10 +10,6 @@ use Rattle.buffer.proofs.Laws.{put-cons}
 use Rattle.log.specs.Log.{dataWords, entryWords}
 use Rattle.log.proofs.put_psd.Statement.{statement}
 use Rattle.log.proofs.put_psd.Tie as tie
-use Rattle.log.proofs.put_psd.Reads as reads
-use Rattle.log.proofs.put_psd.Lts as lts
-use Rattle.log.proofs.put_bytes.Reads as put-bytes-reads
-use Rattle.log.proofs.word_of.Reads as word-of-reads
 
 slice-write-log : tie.Need-slice-write-log
 unfolding entryWords
@@ -48,12 +44,5 @@ returns c =
 
 pub put-psd-spec : {M : Type 1} → statement M
 put-psd-spec =
-    tie.close
-    (tie.spec
-    (λ c. search needs) (λ c κs. search needs) (λ c. search needs)
-    slice-write-log
-    (λ c. search needs) (λ c. search needs)
-    put-bytes-requires
-    add-result
-    same-length
-    returns)
+    tie.close (tie.spec (λ c. search needs) (λ c κs. search needs) (λ c. search needs) slice-write-log (λ c. search needs) (λ c. search needs)
+    put-bytes-requires add-result same-length returns)

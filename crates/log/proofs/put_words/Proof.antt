@@ -3,17 +3,15 @@ use denote.Ref.{now}
 use native.Mathlib.Nat.{add-zero}
 use native.Mathlib.Omega.{arith}
 use mathlib.Core.Path.{_≡_, refl, ap, sym, _∙_}
-use mathlib.Core.List.{List, [], _++_}
-use Prim.Native.Nat.{ℕ, _+_, _-_, _*_, _/_, _≤_, _<_}
-use lib.ListN.{length, drop, getD, length-set, length-append}
+use mathlib.Core.List.{List, _++_}
+use Prim.Native.Nat.{ℕ, _+_, _-_, _*_, _≤_, _<_}
+use lib.ListN.{length, drop, length-set, length-append}
 use borrow.Author.Needs.{needs}
 use Rattle.buffer.specs.Buffer.{putAt}
 use Rattle.log.specs.Log.{dataWords}
 use Rattle.log.proofs.Filling.{turn, word-in-first}
 use Rattle.log.proofs.put_words.Statement.{statement}
 use Rattle.log.proofs.put_words.Tie as tie
-use Rattle.log.proofs.put_words.Reads as reads
-use Rattle.log.proofs.put_words.Lts as lts
 
 abbrev Inv-loop : tie.InvT-loop
 Inv-loop log₀ at bytes from i₀ j₀ log i j =
@@ -30,18 +28,6 @@ room c =
 
 loop-holds : tie.Need-loop-holds Inv-loop μ-loop
 loop-holds c = (omega arith, omega arith, (λ rest. rw add-zero refl), refl)
-
-add-log : tie.Need-add-log Inv-loop μ-loop
-add-log c = omega (arith, room c)
-
-mul-log : tie.Need-mul-log Inv-loop μ-loop
-mul-log c = omega (arith, room c)
-
-slice-write-log : tie.Need-slice-write-log Inv-loop μ-loop
-slice-write-log c = omega (arith, room c)
-
-add-j : tie.Need-add-j Inv-loop μ-loop
-add-j c = omega (arith, room c)
 
 loop-again : tie.Need-loop-again Inv-loop μ-loop
 loop-again c =
@@ -66,18 +52,6 @@ returns c =
 
 pub put-words-spec : {M : Type 1} → statement M
 put-words-spec =
-    tie.close
-    (tie.spec
-    Inv-loop
-    μ-loop
-    loop-holds
-    (λ c. search needs) (λ c κs. search needs)
-    add-log
-    mul-log
-    slice-write-log
-    (λ c. search needs)
-    add-j
-    (λ c. search needs)
-    loop-again
-    (λ c. search needs)
-    returns)
+    tie.close (tie.spec Inv-loop μ-loop
+    loop-holds (λ c. search needs) (λ c κs. search needs) (λ c. omega (arith, room c)) (λ c. omega (arith, room c)) (λ c. omega (arith, room c))
+    (λ c. search needs) (λ c. omega (arith, room c)) (λ c. search needs) loop-again (λ c. search needs) returns)

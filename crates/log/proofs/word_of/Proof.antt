@@ -2,8 +2,6 @@ use mathlib.Core.Path.{refl}
 use borrow.Author.Needs.{needs}
 use Rattle.log.proofs.word_of.Statement.{statement}
 use Rattle.log.proofs.word_of.Tie as tie
-use Rattle.log.proofs.word_of.Reads as reads
-use Rattle.log.proofs.word_of.Lts as lts
 
 returns : tie.Need-returns
 returns c = refl

@@ -8,9 +8,6 @@ use Rattle.loss.specs.Column.{tallyIn, afterWords}
 use Rattle.loss.proofs.Words.{words-next, words-end}
 use Rattle.loss.proofs.after.Statement.{statement}
 use Rattle.loss.proofs.after.Tie as tie
-use Rattle.loss.proofs.after.Reads as reads
-use Rattle.loss.proofs.after.Lts as lts
-use Rattle.loss.proofs.after_word.Reads as after-word-reads
 
 -- the words that are left, from the column so far, are all of them from the first
 abbrev Inv-loop : tie.InvT-loop
@@ -35,11 +32,5 @@ returns c =
 
 pub after-spec : {M : Type 1} → statement M
 after-spec =
-    tie.close
-    (tie.spec
-    Inv-loop
-    μ-loop
-    loop-holds
-    (λ c. search needs) (λ c. search needs) (λ c κs. search needs) (λ c. search needs) (λ c. search needs)
-    loop-again
-    returns)
+    tie.close (tie.spec Inv-loop μ-loop
+    loop-holds (λ c. search needs) (λ c. search needs) (λ c κs. search needs) (λ c. search needs) (λ c. search needs) loop-again returns)

@@ -7,11 +7,6 @@ use Rattle.loss.specs.Column.{tallyIn, wrapped}
 use Rattle.loss.proofs.Words.{not-counted, counts, sums}
 use Rattle.loss.proofs.after_word.Statement.{statement}
 use Rattle.loss.proofs.after_word.Tie as tie
-use Rattle.loss.proofs.after_word.Reads as reads
-use Rattle.loss.proofs.after_word.Lts as lts
-use Rattle.loss.proofs.missing_before.Reads as missing-before-reads
-use Rattle.std.proofs.num.wrapping_add_u32.Reads as wrapping-add-u32-reads
-use Rattle.words.proofs.split.Reads as split-reads
 
 returns : tie.Need-returns
 returns c =
@@ -34,9 +29,4 @@ returns-2 c =
 
 pub after-word-spec : {M : Type 1} → statement M
 after-word-spec =
-    tie.close
-    (tie.spec
-    (λ c κs. search needs)
-    returns
-    (λ c. search needs) (λ c κs. search needs) (λ c κs. search needs) (λ c κs. search needs)
-    returns-2)
+    tie.close (tie.spec (λ c κs. search needs) returns (λ c. search needs) (λ c κs. search needs) (λ c κs. search needs) (λ c κs. search needs) returns-2)

@@ -24,5 +24,4 @@ unfolding down
 returns c = let z : c .before .loop .left ≡ 0 = omega arith in sym (ap (λ (n : ℕ). down n (c .before .loop .mask)) z) ∙ c .before .loop .inv
 
 pub spread-spec : {M : Type 1} → statement M
-spread-spec =
-    tie.close (tie.spec Inv-loop μ-loop (λ c. search needs) loop-holds (λ c. search needs) (λ c. search needs) loop-again returns)
+spread-spec = tie.close (tie.spec Inv-loop μ-loop (λ c. search needs) loop-holds (λ c. search needs) (λ c. search needs) loop-again returns)

@@ -3,10 +3,6 @@ use denote.Ref.{now}
 use borrow.Author.Needs.{needs}
 use Rattle.outcome.proofs.marked_lost.Statement.{statement}
 use Rattle.outcome.proofs.marked_lost.Tie as tie
-use Rattle.outcome.proofs.marked_lost.Reads as reads
-use Rattle.outcome.proofs.marked_lost.Lts as lts
-use Rattle.outcome.proofs.outcome_of.Reads as outcome-of-reads
-use Rattle.receiver.proofs.Receiver.mark_lost.Reads as mark-lost-reads
 
 returns : tie.Need-returns
 returns c =
@@ -22,9 +18,4 @@ returns-2 c =
 
 pub marked-lost-spec : {M : Type 1} → statement M
 marked-lost-spec =
-    tie.close
-    (tie.spec
-    (λ c κs. search needs) (λ c κs. search needs) (λ c. search needs)
-    returns
-    (λ c κs. search needs) (λ c. search needs)
-    returns-2)
+    tie.close (tie.spec (λ c κs. search needs) (λ c κs. search needs) (λ c. search needs) returns (λ c κs. search needs) (λ c. search needs) returns-2)

@@ -4,14 +4,6 @@ use denote.Ref.{now}
 use borrow.Author.Needs.{needs}
 use Rattle.outcome.proofs.of_record.Statement.{statement}
 use Rattle.outcome.proofs.of_record.Tie as tie
-use Rattle.outcome.proofs.of_record.Reads as reads
-use Rattle.outcome.proofs.of_record.Lts as lts
-use Rattle.header.proofs.difference.Reads as difference-reads
-use Rattle.header.proofs.header_of.Reads as header-of-reads
-use Rattle.outcome.proofs.marked_lost.Reads as marked-lost-reads
-use Rattle.outcome.proofs.outcome_of.Reads as outcome-of-reads
-use Rattle.outcome.proofs.passed_over.Reads as passed-over-reads
-use Rattle.receiver.proofs.Receiver.receive_marked.Reads as receive-marked-reads
 
 returns : tie.Need-returns
 returns c =
@@ -45,11 +37,6 @@ returns-3 c =
 
 pub of-record-spec : {M : Type 1} → statement M
 of-record-spec =
-    tie.close
-    (tie.spec
-    (λ c κs. search needs) (λ c. search needs)
-    returns
-    (λ c κs. search needs) (λ c κs. search needs) (λ c κs. search needs) (λ c κs. search needs) (λ c. search needs) (λ c. search needs) (λ c. search needs)
-    returns-2
-    (λ c κs. search needs) (λ c κs. search needs) (λ c κs. search needs) (λ c. search needs) (λ c. search needs) (λ c. search needs)
-    returns-3)
+    tie.close (tie.spec (λ c κs. search needs) (λ c. search needs) returns (λ c κs. search needs) (λ c κs. search needs) (λ c κs. search needs)
+    (λ c κs. search needs) (λ c. search needs) (λ c. search needs) (λ c. search needs) returns-2 (λ c κs. search needs) (λ c κs. search needs)
+    (λ c κs. search needs) (λ c. search needs) (λ c. search needs) (λ c. search needs) returns-3)

@@ -6,17 +6,8 @@ use Rattle.io.specs.Counts.{Counts}
 use Rattle.packet_files.proofs.put_entry.Statement.{statement}
 use Rattle.packet_files.proofs.put_entry.Tie as tie
 
-abbrev Inv-loop : tie.InvT-loop
-Inv-loop out₀ log place n₀ i₀ out n i = (Counts n out) × (length out ≡ length out₀)
-
-abbrev μ-loop : tie.MeasureT-loop
-μ-loop out₀ log place n₀ i₀ out n i = length log - i
-
 pub put-entry-spec : {M : Type 1} → statement M
 put-entry-spec =
-    tie.close
-    (tie.spec
-    Inv-loop
-    μ-loop
+    tie.close (tie.spec (λ out₀ log place n₀ i₀ out n i. (Counts n out) × (length out ≡ length out₀)) (λ out₀ log place n₀ i₀ out n i. length log - i)
     (λ c. search needs) (λ c κs. search needs) (λ c. search needs) (λ c. search needs) (λ c. search needs) (λ c κs. search needs) (λ c. search needs)
     (λ c. search needs) (λ c κs. search needs) (λ c. search needs) (λ c. search needs) (λ c. search needs) (λ c. search needs) (λ c. search needs))

@@ -1,19 +1,12 @@
 use lib.Dec.{leb}
 use borrow.Author.Tests.{leb-true, not-true, not-false}
 use Rattle.packing.proofs.Fitting.{fit-past, fit-within}
-use Rattle.packing.specs.Packing.{overhead, mostPieces, fit}
-use native.Mathlib.Omega.{arith}
-use mathlib.Core.Path.{_≡_, refl, ap, sym, _∙_}
-use Prim.Native.Nat.{ℕ, _+_, _-_, _*_, _≤_, _<_}
-use lib.ListN.{length, take, drop, getD, set, length-set}
-use mathlib.Core.List.{List, [], _∷_, _++_}
+use Rattle.packing.specs.Packing.{overhead, mostPieces}
+use mathlib.Core.Path.{ap, sym, _∙_}
+use Prim.Native.Nat.{ℕ, _+_, _-_}
 use borrow.Author.Needs.{needs}
 use Rattle.packing.proofs.fits.Statement.{statement}
 use Rattle.packing.proofs.fits.Tie as tie
-use Rattle.packing.proofs.fits.Reads as reads
-use Rattle.packing.proofs.fits.Lts as lts
-use Rattle.packing.proofs.overhead.Reads as overhead-reads
-use Rattle.packing.proofs.within_limit.Reads as within-limit-reads
 
 returns : tie.Need-returns
 returns c =
@@ -27,5 +20,4 @@ returns-2 c =
     ∙ fit-within (a .width) (a .extra) (a .size) (a .k) (a .used) (leb-true (a .k) (mostPieces (a .width) (a .extra)) (sym (c .before .before .within-limit .ensures) ∙ not-false _ (c .before .if1 .left)))
 
 pub fits-spec : {M : Type 1} → statement M
-fits-spec =
-    tie.close (tie.spec (λ c κs. search needs) returns (λ c κs. search needs) (λ c. search needs) returns-2)
+fits-spec = tie.close (tie.spec (λ c κs. search needs) returns (λ c κs. search needs) (λ c. search needs) returns-2)

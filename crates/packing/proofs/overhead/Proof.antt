@@ -1,16 +1,11 @@
 use Rattle.packing.proofs.Limit.{size-small}
 use Rattle.layout.specs.Locators.{locatorSize}
 use native.Mathlib.Omega.{arith}
-use mathlib.Core.Path.{_≡_, refl, ap, sym, _∙_}
-use Prim.Native.Nat.{ℕ, _+_, _-_, _*_, _≤_, _<_}
-use lib.ListN.{length, take, drop, getD, set, length-set}
-use mathlib.Core.List.{List, [], _∷_, _++_}
+use mathlib.Core.Path.{_≡_, refl}
+use Prim.Native.Nat.{_-_}
 use borrow.Author.Needs.{needs}
 use Rattle.packing.proofs.overhead.Statement.{statement}
 use Rattle.packing.proofs.overhead.Tie as tie
-use Rattle.packing.proofs.overhead.Reads as reads
-use Rattle.packing.proofs.overhead.Lts as lts
-use Rattle.layout.proofs.locator_size.Reads as locator-size-reads
 
 add-result : tie.Need-add-result
 add-result c = omega (arith, c .locator-size .ensures, size-small (c .before .args .width) (c .before .args .k), c .before .fits .k)

@@ -1,27 +1,21 @@
 use borrow.Author.Tests.{not-true, not-false}
-use mathlib.Core.Bool.{Bool, true, false}
+use mathlib.Core.Bool.{true, false}
 use Rattle.packing.proofs.Packs.{wholesLeft, partLeft, one-whole, same-part, no-whole, last-part, none-whole, none-part, finished}
 use Rattle.packing.proofs.Fitting.{fit-most, fit-room}
 use Rattle.packing.proofs.Limit.{most-small}
-use Rattle.packing.specs.Packing.{fit, wholes, part, wholesFrom, partFrom}
+use Rattle.packing.specs.Packing.{fit, wholes, part}
 use Rattle.buffer.proofs.Laws.{put-cons}
 use Rattle.buffer.specs.Buffer.{putAt}
 use borrow.Author.Needs.{needs}
 use native.Mathlib.Omega.{arith}
-use mathlib.Core.Path.{_≡_, refl, ap, ap₂, sym, subst, _∙_}
+use mathlib.Core.Path.{_≡_, refl, sym, _∙_}
 use denote.Ref.{now}
 use native.Mathlib.Nat.{zero-add}
-use Prim.Native.Nat.{ℕ, suc, _+_, _-_, _*_, _≤_, _<_}
-use lib.ListN.{length, take, drop, getD, set, length-set}
-use mathlib.Core.List.{List, [], _∷_, _++_}
+use Prim.Native.Nat.{suc, _+_, _-_, _≤_, _<_}
+use lib.ListN.{length, getD, length-set}
+use mathlib.Core.List.{_∷_}
 use Rattle.packing.proofs.pack.Statement.{statement}
 use Rattle.packing.proofs.pack.Tie as tie
-use Rattle.packing.proofs.pack.Reads as reads
-use Rattle.packing.proofs.pack.Lts as lts
-use Rattle.packing.proofs.fits.Reads as fits-reads
-use Rattle.packing.proofs.part_after.Reads as part-after-reads
-use Rattle.packing.proofs.remainder.Reads as remainder-reads
-use Rattle.packing.proofs.with_part.Reads as with-part-reads
 
 abbrev Inv-loop : tie.InvT-loop
 Inv-loop width extra size sent lengths out₀ k₀ used₀ gone₀ out k used gone =
@@ -113,28 +107,7 @@ returns-2 c =
 
 pub pack-spec : {M : Type 1} → statement M
 pack-spec =
-    tie.close
-    (tie.spec
-    Inv-loop
-    μ-loop
-    loop-holds
-    cast-loop
-    (λ c. search needs) (λ c. search needs) (λ c. search needs) (λ c κs. search needs)
-    add-fits
-    (λ c. search needs)
-    add-fits-2
-    add-fits-3
-    fits-requires
-    part-after-requires
-    with-part-requires
-    returns
-    (λ c. search needs) (λ c. search needs)
-    array-write-out
-    (λ c. search needs)
-    add-used
-    add-used-2
-    add-k
-    loop-less
-    loop-again
-    (λ c κs. search needs)
-    returns-2)
+    tie.close (tie.spec Inv-loop μ-loop
+    loop-holds cast-loop (λ c. search needs) (λ c. search needs) (λ c. search needs) (λ c κs. search needs) add-fits (λ c. search needs) add-fits-2 add-fits-3
+    fits-requires part-after-requires with-part-requires returns (λ c. search needs) (λ c. search needs) array-write-out (λ c. search needs) add-used add-used-2
+    add-k loop-less loop-again (λ c κs. search needs) returns-2)

@@ -1,19 +1,12 @@
 use borrow.Author.Tests.{not-true, not-false}
-use mathlib.Core.Bool.{Bool, true, false}
 use Rattle.packing.proofs.Fitting.{part-none, part-some, fit-room}
-use Rattle.packing.specs.Packing.{overhead, fit}
+use Rattle.packing.specs.Packing.{overhead}
 use native.Mathlib.Omega.{arith}
-use mathlib.Core.Path.{_≡_, refl, ap, sym, _∙_}
-use Prim.Native.Nat.{ℕ, _+_, _-_, _*_, _≤_, _<_}
-use lib.ListN.{length, take, drop, getD, set, length-set}
-use mathlib.Core.List.{List, [], _∷_, _++_}
+use mathlib.Core.Path.{sym, _∙_}
+use Prim.Native.Nat.{_+_, _-_}
 use borrow.Author.Needs.{needs}
 use Rattle.packing.proofs.part_after.Statement.{statement}
 use Rattle.packing.proofs.part_after.Tie as tie
-use Rattle.packing.proofs.part_after.Reads as reads
-use Rattle.packing.proofs.part_after.Lts as lts
-use Rattle.packing.proofs.fits.Reads as fits-reads
-use Rattle.packing.proofs.overhead.Reads as overhead-reads
 
 returns : tie.Need-returns
 returns c =
@@ -34,11 +27,5 @@ returns-2 c =
 
 pub part-after-spec : {M : Type 1} → statement M
 part-after-spec =
-    tie.close
-    (tie.spec
-    (λ c. search needs) (λ c. search needs) (λ c κs. search needs)
-    returns
-    (λ c. search needs) (λ c κs. search needs) (λ c. search needs) (λ c. search needs)
-    sub-result
-    (λ c. search needs)
-    returns-2)
+    tie.close (tie.spec (λ c. search needs) (λ c. search needs) (λ c κs. search needs) returns (λ c. search needs) (λ c κs. search needs) (λ c. search needs)
+    (λ c. search needs) sub-result (λ c. search needs) returns-2)

@@ -2,15 +2,13 @@ use Rattle.packing.proofs.Packs.{take-stored, any-none, any-some}
 use Rattle.packing.specs.Packing.{ifAny}
 use mathlib.Core.List.{append-nil}
 use native.Mathlib.Omega.{arith}
-use mathlib.Core.Path.{_≡_, refl, ap, sym, _∙_}
-use Prim.Native.Nat.{ℕ, _+_, _-_, _*_, _≤_, _<_}
-use lib.ListN.{length, take, drop, getD, set, length-set}
-use mathlib.Core.List.{List, [], _∷_, _++_}
+use mathlib.Core.Path.{_≡_, refl, sym}
+use Prim.Native.Nat.{_-_}
+use lib.ListN.{take}
+use mathlib.Core.List.{[], _∷_}
 use borrow.Author.Needs.{needs}
 use Rattle.packing.proofs.with_part.Statement.{statement}
 use Rattle.packing.proofs.with_part.Tie as tie
-use Rattle.packing.proofs.with_part.Reads as reads
-use Rattle.packing.proofs.with_part.Lts as lts
 
 returns : tie.Need-returns
 returns c =

@@ -1,13 +1,9 @@
 use Rattle.packing.proofs.Limit.{past-63, past-la, within}
 use native.Mathlib.Omega.{arith}
-use mathlib.Core.Path.{_≡_, refl, ap, sym, _∙_}
-use Prim.Native.Nat.{ℕ, _+_, _-_, _*_, _≤_, _<_}
+use Prim.Native.Nat.{_-_}
 use borrow.Author.Needs.{needs}
 use Rattle.packing.proofs.within_limit.Statement.{statement}
 use Rattle.packing.proofs.within_limit.Tie as tie
-use Rattle.packing.proofs.within_limit.Reads as reads
-use Rattle.packing.proofs.within_limit.Lts as lts
-use Rattle.packing.proofs.overhead.Reads as overhead-reads
 
 returns : tie.Need-returns
 returns c = let a = c .before .args in past-63 (a .width) (a .extra) (a .k) (omega (arith, c .if1 .taken))

@@ -5,9 +5,6 @@ use Rattle.layout.specs.declared.ControlWord.{ControlWord}
 use borrow.Author.Needs.{needs}
 use Rattle.pair.proofs.after_la.Statement.{statement}
 use Rattle.pair.proofs.after_la.Tie as tie
-use Rattle.pair.proofs.after_la.Reads as reads
-use Rattle.pair.proofs.after_la.Lts as lts
-use Rattle.layout.proofs.control_word.Reads as control-word-reads
 
 returns : tie.Need-returns
 returns c =

@@ -8,10 +8,6 @@ use Rattle.pair.proofs.Judging.{both-kept, both-put-back}
 use borrow.Author.Needs.{needs}
 use Rattle.pair.proofs.both_or_restore.Statement.{statement}
 use Rattle.pair.proofs.both_or_restore.Tie as tie
-use Rattle.pair.proofs.both_or_restore.Reads as reads
-use Rattle.pair.proofs.both_or_restore.Lts as lts
-use Rattle.pair.proofs.receive_both.Reads as receive-both-reads
-use Rattle.header.proofs.put_front.Reads as put-front-reads
 
 returns : tie.Need-returns
 returns c =
@@ -46,9 +42,5 @@ returns-2 c =
 
 pub both-or-restore-spec : {M : Type 1} → statement M
 both-or-restore-spec =
-    tie.close
-    (tie.spec
-    (λ c κs. search needs) (λ c. search needs) (λ c. search needs) (λ c. search needs) (λ c. search needs)
-    returns
-    (λ c κs. search needs) (λ c κs. search needs) (λ c. search needs) (λ c. search needs) (λ c. search needs) (λ c. search needs)
-    returns-2)
+    tie.close (tie.spec (λ c κs. search needs) (λ c. search needs) (λ c. search needs) (λ c. search needs) (λ c. search needs) returns (λ c κs. search needs)
+    (λ c κs. search needs) (λ c. search needs) (λ c. search needs) (λ c. search needs) (λ c. search needs) returns-2)

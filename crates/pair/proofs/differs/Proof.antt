@@ -4,10 +4,6 @@ use Rattle.pair.proofs.Judging.{lengths-differ, bytes-differ}
 use borrow.Author.Needs.{needs}
 use Rattle.pair.proofs.differs.Statement.{statement}
 use Rattle.pair.proofs.differs.Tie as tie
-use Rattle.pair.proofs.differs.Reads as reads
-use Rattle.pair.proofs.differs.Lts as lts
-use Rattle.pair.proofs.after_la.Reads as after-la-reads
-use Rattle.diversity.proofs.same_bytes.Reads as same-bytes-reads
 
 returns : tie.Need-returns
 returns c =
@@ -24,9 +20,5 @@ returns-2 c =
 
 pub differs-spec : {M : Type 1} → statement M
 differs-spec =
-    tie.close
-    (tie.spec
-    returns
-    (λ c κs. search needs) (λ c κs. search needs) (λ c. search needs) (λ c. search needs) (λ c. search needs) (λ c. search needs) (λ c. search needs)
-    (λ c. search needs) (λ c κs. search needs)
-    returns-2)
+    tie.close (tie.spec returns (λ c κs. search needs) (λ c κs. search needs) (λ c. search needs) (λ c. search needs) (λ c. search needs) (λ c. search needs)
+    (λ c. search needs) (λ c. search needs) (λ c κs. search needs) returns-2)

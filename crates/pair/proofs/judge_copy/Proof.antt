@@ -3,11 +3,6 @@ use Rattle.pair.proofs.Judging.{stream-number, reader-number}
 use borrow.Author.Needs.{needs}
 use Rattle.pair.proofs.judge_copy.Statement.{statement}
 use Rattle.pair.proofs.judge_copy.Tie as tie
-use Rattle.pair.proofs.judge_copy.Reads as reads
-use Rattle.pair.proofs.judge_copy.Lts as lts
-use Rattle.layout.proofs.control_word.Reads as control-word-reads
-use Rattle.pdu.proofs.judge.Reads as judge-reads
-use Rattle.receiver.proofs.wrong_stream.Reads as wrong-stream-reads
 
 returns : tie.Need-returns
 returns c =
@@ -25,6 +20,4 @@ returns-2 c =
     reader-number (s .args .m) (s .args .r) (now (s .args .y)) (s .pre) (k .control-word .result) (k .control-word .ensures) (w .wrong-stream .result) (w .wrong-stream .ensures) (e .if1 .left) (c .judge .result .number) (c .judge .result .wrong) (c .judge .ensures .0) (c .judge .ensures .1)
 
 pub judge-copy-spec : {M : Type 1} → statement M
-judge-copy-spec =
-    tie.close
-    (tie.spec (λ c κs. search needs) (λ c κs. search needs) returns (λ c κs. search needs) returns-2)
+judge-copy-spec = tie.close (tie.spec (λ c κs. search needs) (λ c κs. search needs) returns (λ c κs. search needs) returns-2)

@@ -3,10 +3,6 @@ use Rattle.pair.proofs.Lowest.{pair-wrong}
 use borrow.Author.Needs.{needs}
 use Rattle.pair.proofs.judge_pair.Statement.{statement}
 use Rattle.pair.proofs.judge_pair.Tie as tie
-use Rattle.pair.proofs.judge_pair.Reads as reads
-use Rattle.pair.proofs.judge_pair.Lts as lts
-use Rattle.pair.proofs.judge_copy.Reads as judge-copy-reads
-use Rattle.pair.proofs.lower_of.Reads as lower-of-reads
 
 returns : tie.Need-returns
 returns c =
@@ -16,5 +12,4 @@ returns c =
     pair-wrong (s .args .r) (now (s .args .first)) (now (s .args .second)) (a .judge-copy .result) (b .judge-copy2 .result) (c .lower-of .result) (a .judge-copy .ensures .0) (a .judge-copy .ensures .1) (b .judge-copy2 .ensures .0) (b .judge-copy2 .ensures .1) (c .lower-of .ensures)
 
 pub judge-pair-spec : {M : Type 1} → statement M
-judge-pair-spec =
-    tie.close (tie.spec (λ c κs. search needs) (λ c κs. search needs) (λ c κs. search needs) returns)
+judge-pair-spec = tie.close (tie.spec (λ c κs. search needs) (λ c κs. search needs) (λ c κs. search needs) returns)

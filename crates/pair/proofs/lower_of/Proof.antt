@@ -3,11 +3,8 @@ use Prim.Native.Nat.{ℕ}
 use native.Mathlib.Omega.{arith}
 use Rattle.diversity.specs.Diversity.{lower}
 use Rattle.pair.proofs.Lowest.{lower-none, lower-first, lower-second, same-first, same-second, is-first, is-second}
-use borrow.Author.Needs.{needs}
 use Rattle.pair.proofs.lower_of.Statement.{statement}
 use Rattle.pair.proofs.lower_of.Tie as tie
-use Rattle.pair.proofs.lower_of.Reads as reads
-use Rattle.pair.proofs.lower_of.Lts as lts
 
 returns : tie.Need-returns
 returns c = same-first _ _ (c .before .before .before .if1 .taken) (omega (arith, c .if2 .taken))

@@ -4,11 +4,6 @@ use Rattle.pair.proofs.Calling.{unlisted-call}
 use borrow.Author.Needs.{needs}
 use Rattle.pair.proofs.receive.Statement.{statement}
 use Rattle.pair.proofs.receive.Tie as tie
-use Rattle.pair.proofs.receive.Reads as reads
-use Rattle.pair.proofs.receive.Lts as lts
-use Rattle.pair.proofs.receive_listed.Reads as receive-listed-reads
-use Rattle.modes.proofs.look_up.Reads as look-up-reads
-use Rattle.receiver.proofs.refused.Reads as refused-reads
 
 receive-listed-requires : tie.Need-receive-listed-requires
 receive-listed-requires c κs =
@@ -23,9 +18,5 @@ returns-2 c =
 
 pub receive-spec : {M : Type 1} → statement M
 receive-spec =
-    tie.close
-    (tie.spec
-    (λ c κs. search needs) (λ c. search needs)
-    receive-listed-requires
-    (λ c. search needs) (λ c κs. search needs) (λ c. search needs) (λ c. search needs) (λ c. search needs) (λ c. search needs) (λ c. search needs)
-    returns-2)
+    tie.close (tie.spec (λ c κs. search needs) (λ c. search needs) receive-listed-requires (λ c. search needs) (λ c κs. search needs) (λ c. search needs)
+    (λ c. search needs) (λ c. search needs) (λ c. search needs) (λ c. search needs) returns-2)

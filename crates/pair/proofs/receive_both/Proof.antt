@@ -6,12 +6,6 @@ use Rattle.pair.proofs.Judging.{right-copy, la-inside, judged-call, dif
 use borrow.Author.Needs.{needs}
 use Rattle.pair.proofs.receive_both.Statement.{statement}
 use Rattle.pair.proofs.receive_both.Tie as tie
-use Rattle.pair.proofs.receive_both.Reads as reads
-use Rattle.pair.proofs.receive_both.Lts as lts
-use Rattle.pair.proofs.differs.Reads as differs-reads
-use Rattle.pair.proofs.judge_pair.Reads as judge-pair-reads
-use Rattle.diversity.proofs.receive_alike.Reads as receive-alike-reads
-use Rattle.receiver.proofs.refused.Reads as refused-reads
 
 returns : tie.Need-returns
 returns c =
@@ -63,13 +57,6 @@ returns-3 c =
 
 pub receive-both-spec : {M : Type 1} → statement M
 receive-both-spec =
-    tie.close
-    (tie.spec
-    (λ c κs. search needs) (λ c. search needs) (λ c κs. search needs) (λ c. search needs) (λ c. search needs)
-    returns
-    differs-requires
-    (λ c κs. search needs) (λ c. search needs) (λ c. search needs)
-    returns-2
-    receive-alike-requires
-    (λ c. search needs) (λ c. search needs) (λ c. search needs) (λ c. search needs)
-    returns-3)
+    tie.close (tie.spec (λ c κs. search needs) (λ c. search needs) (λ c κs. search needs) (λ c. search needs) (λ c. search needs) returns differs-requires
+    (λ c κs. search needs) (λ c. search needs) (λ c. search needs) returns-2 receive-alike-requires (λ c. search needs) (λ c. search needs) (λ c. search needs)
+    (λ c. search needs) returns-3)

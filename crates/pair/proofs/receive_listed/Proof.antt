@@ -7,15 +7,6 @@ use Rattle.pair.proofs.Calling.{both-true, not-both, early-call, Known,
 use borrow.Author.Needs.{needs}
 use Rattle.pair.proofs.receive_listed.Statement.{statement}
 use Rattle.pair.proofs.receive_listed.Tie as tie
-use Rattle.pair.proofs.receive_listed.Reads as reads
-use Rattle.pair.proofs.receive_listed.Lts as lts
-use Rattle.correction.proofs.correct.Reads as correct-reads
-use Rattle.pair.proofs.both_or_restore.Reads as both-or-restore-reads
-use Rattle.pair.proofs.is_corrected.Reads as is-corrected-reads
-use Rattle.header.proofs.header_of.Reads as header-of-reads
-use Rattle.receiver.proofs.listed_refusal.Reads as listed-refusal-reads
-use Rattle.receiver.proofs.receive_or_restore.Reads as receive-or-restore-reads
-use Rattle.receiver.proofs.refused.Reads as refused-reads
 
 returns : tie.Need-returns
 returns c =
@@ -114,19 +105,8 @@ returns-5 c =
 
 pub receive-listed-spec : {M : Type 1} → statement M
 receive-listed-spec =
-    tie.close
-    (tie.spec
-    (λ c κs. search needs) (λ c κs. search needs)
-    returns
-    (λ c κs. search needs) (λ c κs. search needs) (λ c κs. search needs) (λ c κs. search needs) (λ c κs. search needs) (λ c κs. search needs)
-    both-or-restore-requires
-    (λ c. search needs) (λ c. search needs) (λ c. search needs) (λ c. search needs)
-    returns-2
-    receive-or-restore-requires
-    (λ c. search needs) (λ c. search needs) (λ c. search needs) (λ c. search needs)
-    returns-3
-    receive-or-restore-requires-2
-    (λ c. search needs) (λ c. search needs) (λ c. search needs) (λ c. search needs)
-    returns-4
-    (λ c κs. search needs) (λ c. search needs) (λ c. search needs)
-    returns-5)
+    tie.close (tie.spec (λ c κs. search needs) (λ c κs. search needs) returns (λ c κs. search needs) (λ c κs. search needs) (λ c κs. search needs)
+    (λ c κs. search needs) (λ c κs. search needs) (λ c κs. search needs) both-or-restore-requires (λ c. search needs) (λ c. search needs) (λ c. search needs)
+    (λ c. search needs) returns-2 receive-or-restore-requires (λ c. search needs) (λ c. search needs) (λ c. search needs) (λ c. search needs) returns-3
+    receive-or-restore-requires-2 (λ c. search needs) (λ c. search needs) (λ c. search needs) (λ c. search needs) returns-4 (λ c κs. search needs)
+    (λ c. search needs) (λ c. search needs) returns-5)

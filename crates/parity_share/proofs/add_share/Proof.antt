@@ -8,14 +8,6 @@ use Rattle.parity_share.proofs.Places.{in-message, share-added, share-r
 use Rattle.parity_share.proofs.Linear.{packed-sum}
 use Rattle.parity_share.proofs.add_share.Statement.{statement}
 use Rattle.parity_share.proofs.add_share.Tie as tie
-use Rattle.parity_share.proofs.add_share.Reads as reads
-use Rattle.parity_share.proofs.add_share.Lts as lts
-use Rattle.header.proofs.by_byte.Reads as by-byte-reads
-use Rattle.header.proofs.unpack.Reads as unpack-reads
-use Rattle.header.proofs.wide.Reads as wide-reads
-use Rattle.header.proofs.word.Reads as word-reads
-use Rattle.parity_share.proofs.place_refusal.Reads as place-refusal-reads
-use Rattle.parity_share.proofs.share_of_one.Reads as share-of-one-reads
 
 returns : tie.Need-returns
 returns c =
@@ -44,10 +36,5 @@ returns-2 c =
 
 pub add-share-spec : {M : Type 1} → statement M
 add-share-spec =
-    tie.close
-    (tie.spec
-    (λ c κs. search needs)
-    returns
-    share-of-one-requires
-    (λ c κs. search needs) (λ c κs. search needs) (λ c. search needs) (λ c κs. search needs) (λ c κs. search needs)
-    returns-2)
+    tie.close (tie.spec (λ c κs. search needs) returns share-of-one-requires (λ c κs. search needs) (λ c κs. search needs) (λ c. search needs)
+    (λ c κs. search needs) (λ c κs. search needs) returns-2)

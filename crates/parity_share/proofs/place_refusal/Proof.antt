@@ -3,8 +3,6 @@ use native.Mathlib.Omega.{arith}
 use Rattle.parity_share.proofs.Places.{taken, below-8, above-95}
 use Rattle.parity_share.proofs.place_refusal.Statement.{statement}
 use Rattle.parity_share.proofs.place_refusal.Tie as tie
-use Rattle.parity_share.proofs.place_refusal.Reads as reads
-use Rattle.parity_share.proofs.place_refusal.Lts as lts
 
 returns : tie.Need-returns
 returns c = below-8 (c .before .args .place) (omega arith)

@@ -4,8 +4,6 @@ use borrow.Author.Needs.{needs}
 use Rattle.parity_share.proofs.Table.{shareTable, table-share}
 use Rattle.parity_share.proofs.share_of_one.Statement.{statement}
 use Rattle.parity_share.proofs.share_of_one.Tie as tie
-use Rattle.parity_share.proofs.share_of_one.Reads as reads
-use Rattle.parity_share.proofs.share_of_one.Lts as lts
 
 returns : tie.Need-returns
 unfolding shareTable

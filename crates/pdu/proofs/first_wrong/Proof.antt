@@ -1,9 +1,7 @@
 use borrow.Author.Needs.{needs}
 use native.Mathlib.Omega.{arith}
-use mathlib.Core.Path.{_≡_, refl, ap, sym, _∙_}
-use Prim.Native.Nat.{ℕ, _+_, _-_, _*_, _≤_, _<_}
-use lib.ListN.{length, take, drop, getD, set, length-set}
-use mathlib.Core.List.{List, [], _∷_, _++_}
+use mathlib.Core.Path.{_≡_, sym, _∙_}
+use Prim.Native.Nat.{_-_, _≤_}
 use denote.Ref.{now}
 use mathlib.Core.Bool.{true, false}
 use Rattle.pdu.specs.Reading.{anyBelow, wrongLocator}
@@ -11,9 +9,6 @@ use Rattle.pdu.proofs.Any.{any-start, any-next}
 use Rattle.pdu.proofs.Lowest.{lowest-found, lowest-none}
 use Rattle.pdu.proofs.first_wrong.Statement.{statement}
 use Rattle.pdu.proofs.first_wrong.Tie as tie
-use Rattle.pdu.proofs.first_wrong.Reads as reads
-use Rattle.pdu.proofs.first_wrong.Lts as lts
-use Rattle.pdu.proofs.wrong_locator.Reads as wrong-locator-reads
 
 abbrev Inv-loop : tie.InvT-loop
 Inv-loop y width c nop k₀ k = (k ≤ c .nop) × (anyBelow k (wrongLocator width c y) ≡ false)
@@ -44,14 +39,4 @@ returns-2 c =
     lowest-none (wrongLocator (a .width) (a .c) (now (a .y))) (a .c .nop) (p .loop .k) (omega arith) (p .loop .inv .1)
 
 pub first-wrong-spec : {M : Type 1} → statement M
-first-wrong-spec =
-    tie.close
-    (tie.spec
-    Inv-loop
-    μ-loop
-    loop-holds
-    (λ c κs. search needs)
-    returns
-    (λ c. search needs) (λ c. search needs)
-    loop-again
-    returns-2)
+first-wrong-spec = tie.close (tie.spec Inv-loop μ-loop loop-holds (λ c κs. search needs) returns (λ c. search needs) (λ c. search needs) loop-again returns-2)

@@ -1,11 +1,9 @@
 use native.Mathlib.Omega.{arith}
-use mathlib.Core.Path.{_≡_, refl, ap, sym, _∙_}
-use Prim.Native.Nat.{ℕ, _+_, _-_, _*_, _≤_, _<_}
-use lib.ListN.{length, take, drop, getD, set, length-set}
-use mathlib.Core.List.{List, [], _∷_, _++_}
+use mathlib.Core.Path.{_≡_, ap, sym, _∙_}
+use Prim.Native.Nat.{ℕ, _-_}
 use borrow.Author.Needs.{needs}
 use denote.Ref.{now}
-use mathlib.Core.Bool.{Bool, true, false}
+use mathlib.Core.Bool.{true, false}
 use lib.Dec.{leb, ltb}
 use borrow.Author.Tests.{lt-ltb, le-ltb, le-leb, lt-leb, not-true, not-false}
 use Rattle.expansion.specs.declared.Interpreted.{Interpreted}
@@ -14,14 +12,6 @@ use Rattle.pdu.proofs.Lowest.{any-lowest}
 use Rattle.pdu.proofs.Numbers.{number-7, number-8, number-9, number-10, number-11, number-12, number-0}
 use Rattle.pdu.proofs.judge.Statement.{statement}
 use Rattle.pdu.proofs.judge.Tie as tie
-use Rattle.pdu.proofs.judge.Reads as reads
-use Rattle.pdu.proofs.judge.Lts as lts
-use Rattle.pdu.proofs.expansion_of.Reads as expansion-of-reads
-use Rattle.pdu.proofs.first_wrong.Reads as first-wrong-reads
-use Rattle.pdu.proofs.plain.Reads as plain-reads
-use Rattle.pdu.proofs.wrong_displacement.Reads as wrong-displacement-reads
-use Rattle.pdu.proofs.wrong_la.Reads as wrong-la-reads
-use Rattle.pdu.proofs.wrong_flags.Reads as wrong-flags-reads
 
 sequence-right : (e : tie.Else1) → leb (e .before .before .before .before .args .m .sequences) (e .before .before .before .before .args .c .sequence) ≡ false
 sequence-right e = lt-leb (e .before .before .before .before .args .m .sequences) (e .before .before .before .before .args .c .sequence) (omega (arith, e .if1 .left))
@@ -94,19 +84,6 @@ returns-7 c = let a = c .before .before .before .before .before .before .before 
 
 pub judge-spec : {M : Type 1} → statement M
 judge-spec =
-    tie.close
-    (tie.spec
-    (λ c κs. search needs)
-    returns
-    (λ c κs. search needs) (λ c κs. search needs)
-    returns-2
-    (λ c κs. search needs) (λ c κs. search needs)
-    returns-3
-    (λ c κs. search needs) (λ c κs. search needs)
-    returns-4
-    (λ c κs. search needs)
-    returns-5
-    (λ c κs. search needs) (λ c κs. search needs)
-    returns-6
-    (λ c κs. search needs)
-    returns-7)
+    tie.close (tie.spec (λ c κs. search needs) returns (λ c κs. search needs) (λ c κs. search needs) returns-2 (λ c κs. search needs) (λ c κs. search needs)
+    returns-3 (λ c κs. search needs) (λ c κs. search needs) returns-4 (λ c κs. search needs) returns-5 (λ c κs. search needs) (λ c κs. search needs) returns-6
+    (λ c κs. search needs) returns-7)

@@ -1,16 +1,9 @@
-use native.Mathlib.Omega.{arith}
-use mathlib.Core.Path.{_≡_, refl, ap, sym, _∙_}
-use Prim.Native.Nat.{ℕ, _+_, _-_, _*_, _≤_, _<_}
-use lib.ListN.{length, take, drop, getD, set, length-set}
-use mathlib.Core.List.{List, [], _∷_, _++_}
+use Prim.Native.Nat.{_-_}
 use borrow.Author.Needs.{needs}
 use denote.Ref.{now}
 use Rattle.pdu.proofs.Judging.{mark-first, mark-later}
 use Rattle.pdu.proofs.mark.Statement.{statement}
 use Rattle.pdu.proofs.mark.Tie as tie
-use Rattle.pdu.proofs.mark.Reads as reads
-use Rattle.pdu.proofs.mark.Lts as lts
-use Rattle.layout.proofs.locator.Reads as locator-reads
 
 returns : tie.Need-returns
 returns c = let a = c .before .before .before .args in mark-first (a .width) (a .c) (now (a .y)) (a .k) (c .before .if1 .taken)

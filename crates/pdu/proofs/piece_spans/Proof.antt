@@ -1,9 +1,7 @@
 use borrow.Author.Needs.{needs}
 use native.Mathlib.Omega.{arith}
-use mathlib.Core.Path.{_≡_, refl, ap, sym, _∙_}
-use Prim.Native.Nat.{ℕ, _+_, _-_, _*_, _≤_, _<_}
-use lib.ListN.{length, take, drop, getD, set, length-set}
-use mathlib.Core.List.{List, [], _∷_, _++_}
+use mathlib.Core.Path.{ap}
+use Prim.Native.Nat.{ℕ, _+_, _-_, _≤_, _<_}
 use denote.Ref.{now}
 use mathlib.Core.Path.{ap₂}
 use Rattle.layout.specs.Locators.{locatorAt}
@@ -11,10 +9,6 @@ use Rattle.pdu.specs.Reading.{startAt, lengthAt}
 use Rattle.pdu.proofs.Filling.{Filled, filled-start, filled-next, filled-end, past-start}
 use Rattle.pdu.proofs.piece_spans.Statement.{statement}
 use Rattle.pdu.proofs.piece_spans.Tie as tie
-use Rattle.pdu.proofs.piece_spans.Reads as reads
-use Rattle.pdu.proofs.piece_spans.Lts as lts
-use Rattle.layout.proofs.locator.Reads as locator-reads
-use Rattle.pdu.proofs.mark.Reads as mark-reads
 
 abbrev Inv-loop : tie.InvT-loop
 Inv-loop y width c nop starts₀ lengths₀ k₀ starts lengths k = (k ≤ c .nop) × Filled (startAt width c y) k starts × Filled (lengthAt width c y) k lengths
@@ -36,29 +30,8 @@ inside c = omega (arith, c .before .before .loop-test .taken, c .before .before 
 loop-holds : tie.Need-loop-holds Inv-loop μ-loop
 loop-holds c = (omega arith, filled-start _, filled-start _)
 
-cast-i : tie.Need-cast-i Inv-loop μ-loop
-cast-i c = omega (arith, inside c)
-
-add-starts : tie.Need-add-starts Inv-loop μ-loop
-add-starts c = omega (arith, past c, c .before .locator .ok)
-
-mul-starts : tie.Need-mul-starts Inv-loop μ-loop
-mul-starts c = omega (arith, inside c)
-
-array-write-starts : tie.Need-array-write-starts Inv-loop μ-loop
-array-write-starts c = omega (arith, inside c)
-
-add-lengths : tie.Need-add-lengths Inv-loop μ-loop
-add-lengths c = omega (arith, past c, c .before .locator .ok)
-
 sub-lengths : tie.Need-sub-lengths Inv-loop μ-loop
 sub-lengths c = omega (arith, past c)
-
-mul-lengths : tie.Need-mul-lengths Inv-loop μ-loop
-mul-lengths c = omega (arith, inside c)
-
-array-write-lengths : tie.Need-array-write-lengths Inv-loop μ-loop
-array-write-lengths c = omega (arith, inside c)
 
 loop-again : tie.Need-loop-again Inv-loop μ-loop
 loop-again c =
@@ -78,20 +51,7 @@ returns c =
 
 pub piece-spans-spec : {M : Type 1} → statement M
 piece-spans-spec =
-    tie.close
-    (tie.spec
-    Inv-loop
-    μ-loop
-    loop-holds
-    (λ c κs. search needs) (λ c κs. search needs)
-    cast-i
-    add-starts
-    mul-starts
-    array-write-starts
-    add-lengths
-    sub-lengths
-    mul-lengths
-    array-write-lengths
-    (λ c. search needs) (λ c. search needs)
-    loop-again
-    returns)
+    tie.close (tie.spec Inv-loop μ-loop
+    loop-holds (λ c κs. search needs) (λ c κs. search needs) (λ c. omega (arith, inside c)) (λ c. omega (arith, past c, c .before .locator .ok))
+    (λ c. omega (arith, inside c)) (λ c. omega (arith, inside c)) (λ c. omega (arith, past c, c .before .locator .ok)) sub-lengths
+    (λ c. omega (arith, inside c)) (λ c. omega (arith, inside c)) (λ c. search needs) (λ c. search needs) loop-again returns)

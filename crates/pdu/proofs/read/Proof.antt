@@ -1,19 +1,10 @@
-use native.Mathlib.Omega.{arith}
-use mathlib.Core.Path.{_≡_, refl, ap, sym, _∙_}
-use Prim.Native.Nat.{ℕ, _+_, _-_, _*_, _≤_, _<_}
-use lib.ListN.{length, take, drop, getD, set, length-set}
-use mathlib.Core.List.{List, [], _∷_, _++_}
+use mathlib.Core.Path.{sym, _∙_}
+use Prim.Native.Nat.{_-_}
 use borrow.Author.Needs.{needs}
 use mathlib.Core.Path.{sym, _∙_}
 use Rattle.pdu.proofs.Restoring.{taken, turned-down}
 use Rattle.pdu.proofs.read.Statement.{statement}
 use Rattle.pdu.proofs.read.Tie as tie
-use Rattle.pdu.proofs.read.Reads as reads
-use Rattle.pdu.proofs.read.Lts as lts
-use Rattle.correction.proofs.correct.Reads as correct-reads
-use Rattle.header.proofs.header_of.Reads as header-of-reads
-use Rattle.pdu.proofs.read_or_restore.Reads as read-or-restore-reads
-use Rattle.pdu.proofs.refused_reading.Reads as refused-reading-reads
 
 returns : tie.Need-returns
 returns c =
@@ -32,9 +23,5 @@ returns-2 c =
 
 pub read-spec : {M : Type 1} → statement M
 read-spec =
-    tie.close
-    (tie.spec
-    (λ c κs. search needs) (λ c κs. search needs) (λ c. search needs) (λ c κs. search needs) (λ c. search needs) (λ c κs. search needs) (λ c. search needs)
-    returns
-    (λ c. search needs)
-    returns-2)
+    tie.close (tie.spec (λ c κs. search needs) (λ c κs. search needs) (λ c. search needs) (λ c κs. search needs) (λ c. search needs) (λ c κs. search needs)
+    (λ c. search needs) returns (λ c. search needs) returns-2)

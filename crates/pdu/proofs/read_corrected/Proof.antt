@@ -1,8 +1,6 @@
-use native.Mathlib.Omega.{arith}
-use mathlib.Core.Path.{_≡_, refl, ap, sym, _∙_}
-use Prim.Native.Nat.{ℕ, _+_, _-_, _*_, _≤_, _<_}
-use lib.ListN.{length, take, drop, getD, set, length-set}
-use mathlib.Core.List.{List, [], _∷_, _++_}
+use mathlib.Core.Path.{_≡_, ap, sym, _∙_}
+use Prim.Native.Nat.{ℕ, _-_, _<_}
+use mathlib.Core.List.{List}
 use borrow.Author.Needs.{needs}
 use denote.Ref.{now}
 use mathlib.Core.Path.{subst}
@@ -16,12 +14,6 @@ use Rattle.pdu.specs.declared.Reading.{Reading}
 use Rattle.pdu.proofs.Assembling.{nop-small, judged-listed, judged-refused}
 use Rattle.pdu.proofs.read_corrected.Statement.{statement}
 use Rattle.pdu.proofs.read_corrected.Tie as tie
-use Rattle.pdu.proofs.read_corrected.Reads as reads
-use Rattle.pdu.proofs.read_corrected.Lts as lts
-use Rattle.layout.proofs.control_word.Reads as control-word-reads
-use Rattle.modes.proofs.look_up.Reads as look-up-reads
-use Rattle.pdu.proofs.read_listed.Reads as read-listed-reads
-use Rattle.pdu.proofs.refused_reading.Reads as refused-reading-reads
 
 listed-here : (y : List ℕ) (c : ControlWord) (l x : Listing) → c ≡ controlAt y → l ≡ listing (c .mode) (c .stream) → l ≡ x → listing (controlAt y .mode) (controlAt y .stream) ≡ x
 listed-here y c l x ec el ex = ap (λ (w : ControlWord). listing (w .mode) (w .stream)) (sym ec) ∙ sym el ∙ ex
@@ -53,10 +45,5 @@ returns-2 c =
 
 pub read-corrected-spec : {M : Type 1} → statement M
 read-corrected-spec =
-    tie.close
-    (tie.spec
-    (λ c κs. search needs) (λ c κs. search needs) (λ c. search needs)
-    read-listed-requires
-    (λ c. search needs) (λ c κs. search needs)
-    returns
-    returns-2)
+    tie.close (tie.spec (λ c κs. search needs) (λ c κs. search needs) (λ c. search needs) read-listed-requires (λ c. search needs) (λ c κs. search needs)
+    returns returns-2)

@@ -4,10 +4,6 @@ use Rattle.expansion.specs.declared.Interpreted.{Interpreted}
 use borrow.Author.Needs.{needs}
 use Rattle.pdu.proofs.read_front.Statement.{statement}
 use Rattle.pdu.proofs.read_front.Tie as tie
-use Rattle.pdu.proofs.read_front.Reads as reads
-use Rattle.pdu.proofs.read_front.Lts as lts
-use Rattle.pdu.proofs.after_locators.Reads as after-locators-reads
-use Rattle.pdu.proofs.expansion_of.Reads as expansion-of-reads
 
 returns : tie.Need-returns
 returns c =
@@ -17,5 +13,4 @@ returns c =
     )
 
 pub read-front-spec : {M : Type 1} → statement M
-read-front-spec =
-    tie.close (tie.spec (λ c κs. search needs) (λ c κs. search needs) (λ c. search needs) (λ c. search needs) returns)
+read-front-spec = tie.close (tie.spec (λ c κs. search needs) (λ c κs. search needs) (λ c. search needs) (λ c. search needs) returns)

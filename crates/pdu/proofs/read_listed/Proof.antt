@@ -1,18 +1,10 @@
-use native.Mathlib.Omega.{arith}
-use mathlib.Core.Path.{_≡_, refl, ap, sym, _∙_}
-use Prim.Native.Nat.{ℕ, _+_, _-_, _*_, _≤_, _<_}
-use lib.ListN.{length, take, drop, getD, set, length-set}
-use mathlib.Core.List.{List, [], _∷_, _++_}
+use mathlib.Core.Path.{sym, _∙_}
+use Prim.Native.Nat.{_-_}
 use borrow.Author.Needs.{needs}
 use denote.Ref.{now}
 use Rattle.pdu.proofs.Assembling.{none-wrong, listed-accepted, listed-refused}
 use Rattle.pdu.proofs.read_listed.Statement.{statement}
 use Rattle.pdu.proofs.read_listed.Tie as tie
-use Rattle.pdu.proofs.read_listed.Reads as reads
-use Rattle.pdu.proofs.read_listed.Lts as lts
-use Rattle.pdu.proofs.accepted_reading.Reads as accepted-reading-reads
-use Rattle.pdu.proofs.judge.Reads as judge-reads
-use Rattle.pdu.proofs.refused_reading.Reads as refused-reading-reads
 
 accepted-reading-requires : tie.Need-accepted-reading-requires
 accepted-reading-requires c κs =
@@ -33,11 +25,4 @@ returns-2 c =
     listed-refused (a .m) (a .c) (now (a .y)) _ _ _ (j .judge .ensures .0) (c .before .before .if1 .left) (j .judge .ensures .1) (c .refused-reading .ensures)
 
 pub read-listed-spec : {M : Type 1} → statement M
-read-listed-spec =
-    tie.close
-    (tie.spec
-    (λ c κs. search needs)
-    accepted-reading-requires
-    returns
-    (λ c. search needs) (λ c κs. search needs)
-    returns-2)
+read-listed-spec = tie.close (tie.spec (λ c κs. search needs) accepted-reading-requires returns (λ c. search needs) (λ c κs. search needs) returns-2)

@@ -1,17 +1,11 @@
 use native.Mathlib.Omega.{arith}
-use mathlib.Core.Path.{_≡_, refl, ap, sym, _∙_}
-use Prim.Native.Nat.{ℕ, _+_, _-_, _*_, _≤_, _<_}
-use lib.ListN.{length, take, drop, getD, set, length-set}
-use mathlib.Core.List.{List, [], _∷_, _++_}
+use mathlib.Core.Path.{_∙_}
+use Prim.Native.Nat.{_-_}
 use borrow.Author.Needs.{needs}
 use mathlib.Core.Path.{_∙_}
 use Rattle.pdu.proofs.Restoring.{kept, put-back}
 use Rattle.pdu.proofs.read_or_restore.Statement.{statement}
 use Rattle.pdu.proofs.read_or_restore.Tie as tie
-use Rattle.pdu.proofs.read_or_restore.Reads as reads
-use Rattle.pdu.proofs.read_or_restore.Lts as lts
-use Rattle.header.proofs.put_front.Reads as put-front-reads
-use Rattle.pdu.proofs.read_corrected.Reads as read-corrected-reads
 
 returns : tie.Need-returns
 returns c =
@@ -25,10 +19,4 @@ returns-2 c =
     (j .read-corrected .ensures, f .put-front .ensures ∙ put-back _ _ _ (j .read-corrected .ensures) (omega (arith, f .before .before .before .if1 .left)))
 
 pub read-or-restore-spec : {M : Type 1} → statement M
-read-or-restore-spec =
-    tie.close
-    (tie.spec
-    (λ c κs. search needs) (λ c. search needs)
-    returns
-    (λ c κs. search needs) (λ c. search needs)
-    returns-2)
+read-or-restore-spec = tie.close (tie.spec (λ c κs. search needs) (λ c. search needs) returns (λ c κs. search needs) (λ c. search needs) returns-2)

@@ -1,17 +1,10 @@
 use native.Mathlib.Omega.{arith}
-use mathlib.Core.Path.{_≡_, refl, ap, sym, _∙_}
-use Prim.Native.Nat.{ℕ, _+_, _-_, _*_, _≤_, _<_}
-use lib.ListN.{length, take, drop, getD, set, length-set}
-use mathlib.Core.List.{List, [], _∷_, _++_}
+use Prim.Native.Nat.{_-_}
 use borrow.Author.Needs.{needs}
 use denote.Ref.{now}
 use Rattle.pdu.proofs.Judging.{locator-low, locator-high}
 use Rattle.pdu.proofs.wrong_locator.Statement.{statement}
 use Rattle.pdu.proofs.wrong_locator.Tie as tie
-use Rattle.pdu.proofs.wrong_locator.Reads as reads
-use Rattle.pdu.proofs.wrong_locator.Lts as lts
-use Rattle.layout.proofs.locator.Reads as locator-reads
-use Rattle.pdu.proofs.mark.Reads as mark-reads
 
 returns : tie.Need-returns
 returns c = let a = c .before .before .before .before .args in locator-low (a .width) (a .c) (now (a .y)) (a .k) _ _ (c .before .before .locator .ensures) (c .before .mark .ensures) (omega (arith, c .if1 .taken))
@@ -21,8 +14,5 @@ returns-2 c = let a = c .before .before .before .before .args in locator-high (a
 
 pub wrong-locator-spec : {M : Type 1} → statement M
 wrong-locator-spec =
-    tie.close
-    (tie.spec
-    (λ c κs. search needs) (λ c. search needs) (λ c κs. search needs) (λ c. search needs) (λ c. search needs) (λ c. search needs)
-    returns
+    tie.close (tie.spec (λ c κs. search needs) (λ c. search needs) (λ c κs. search needs) (λ c. search needs) (λ c. search needs) (λ c. search needs) returns
     returns-2)

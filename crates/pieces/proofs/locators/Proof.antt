@@ -1,18 +1,14 @@
 use Rattle.pieces.proofs.Cutting.{total-drop, turn-locators, no-locator-left, filled}
 use Rattle.pieces.specs.Pieces.{locatorsFrom, total}
 use Rattle.buffer.specs.Buffer.{putAt}
-use native.Mathlib.Nat.{zero-add}
 use borrow.Author.Needs.{needs}
 use native.Mathlib.Omega.{arith}
-use mathlib.Core.Path.{_≡_, refl, ap, ap₂, sym, subst, _∙_}
+use mathlib.Core.Path.{_≡_, refl, _∙_}
 use denote.Ref.{now}
-use Prim.Native.Nat.{ℕ, _+_, _-_, _*_, _≤_, _<_}
-use lib.ListN.{length, take, drop, getD, set, length-set}
-use mathlib.Core.List.{List, [], _∷_, _++_}
+use Prim.Native.Nat.{_+_, _-_, _≤_}
+use lib.ListN.{length, drop, getD, length-set}
 use Rattle.pieces.proofs.locators.Statement.{statement}
 use Rattle.pieces.proofs.locators.Tie as tie
-use Rattle.pieces.proofs.locators.Reads as reads
-use Rattle.pieces.proofs.locators.Lts as lts
 
 abbrev Inv-loop : tie.InvT-loop
 Inv-loop at lengths out₀ place₀ k₀ out place k = (k ≤ length lengths) × (length out ≡ 64) × (place + total (drop k lengths) + (length lengths - k) ≤ 65535) × (putAt out k (locatorsFrom place (drop k lengths)) ≡ putAt out₀ 0 (locatorsFrom at lengths))
@@ -52,15 +48,6 @@ returns c =
 
 pub locators-spec : {M : Type 1} → statement M
 locators-spec =
-    tie.close
-    (tie.spec
-    Inv-loop
-    μ-loop
-    loop-holds
-    (λ c. search needs) (λ c. search needs)
-    add-place
-    (λ c. search needs) (λ c. search needs)
-    add-place-2
-    (λ c. search needs) (λ c. search needs)
-    loop-again
-    returns)
+    tie.close (tie.spec Inv-loop μ-loop
+    loop-holds (λ c. search needs) (λ c. search needs) add-place (λ c. search needs) (λ c. search needs) add-place-2 (λ c. search needs) (λ c. search needs)
+    loop-again returns)

@@ -4,17 +4,13 @@ use lib.Seq.{length-take-le}
 use lib.ListN.{length-drop}
 use denote.Ref.{now}
 use native.Mathlib.Omega.{arith}
-use mathlib.Core.Path.{_≡_, refl, ap, sym, _∙_}
-use Prim.Native.Nat.{ℕ, _+_, _-_, _*_, _≤_, _<_}
-use lib.ListN.{length, take, drop, getD, set, length-set}
-use mathlib.Core.List.{List, [], _∷_, _++_}
+use mathlib.Core.Path.{_≡_, ap, _∙_}
+use Prim.Native.Nat.{ℕ, _+_, _-_, _<_}
+use lib.ListN.{length, take, drop, set}
+use mathlib.Core.List.{[], _∷_, _++_}
 use borrow.Author.Needs.{needs}
 use Rattle.pieces.proofs.put_piece.Statement.{statement}
 use Rattle.pieces.proofs.put_piece.Tie as tie
-use Rattle.pieces.proofs.put_piece.Reads as reads
-use Rattle.pieces.proofs.put_piece.Lts as lts
-use Rattle.buffer.proofs.put_bytes.Reads as put-bytes-reads
-use Rattle.pieces.proofs.crc_of.Reads as crc-of-reads
 
 returns : tie.Need-returns
 returns c =
@@ -32,8 +28,5 @@ returns c =
 
 pub put-piece-spec : {M : Type 1} → statement M
 put-piece-spec =
-    tie.close
-    (tie.spec
-    (λ c. search needs) (λ c. search needs) (λ c. search needs) (λ c κs. search needs) (λ c κs. search needs) (λ c. search needs) (λ c. search needs)
-    (λ c. search needs) (λ c. search needs)
-    returns)
+    tie.close (tie.spec (λ c. search needs) (λ c. search needs) (λ c. search needs) (λ c κs. search needs) (λ c κs. search needs) (λ c. search needs)
+    (λ c. search needs) (λ c. search needs) (λ c. search needs) returns)

@@ -7,15 +7,11 @@ use lib.ListN.{length-drop, length-append}
 use denote.Ref.{now}
 use borrow.Author.Needs.{needs}
 use native.Mathlib.Omega.{arith}
-use mathlib.Core.Path.{_≡_, refl, ap, sym, _∙_}
-use Prim.Native.Nat.{ℕ, _+_, _-_, _*_, _≤_, _<_}
-use lib.ListN.{length, take, drop, getD, set, length-set}
-use mathlib.Core.List.{List, [], _∷_, _++_}
+use mathlib.Core.Path.{_≡_, refl, ap, _∙_}
+use Prim.Native.Nat.{_+_, _-_, _≤_}
+use lib.ListN.{length, take, drop, getD}
 use Rattle.pieces.proofs.put_pieces.Statement.{statement}
 use Rattle.pieces.proofs.put_pieces.Tie as tie
-use Rattle.pieces.proofs.put_pieces.Reads as reads
-use Rattle.pieces.proofs.put_pieces.Lts as lts
-use Rattle.pieces.proofs.put_piece.Reads as put-piece-reads
 
 abbrev Inv-loop : tie.InvT-loop
 Inv-loop pdu₀ at register lengths bytes sent place₀ from₀ k₀ pdu place from k = (k ≤ length lengths) × (length pdu ≡ length pdu₀) × (place + total (drop k lengths) + (length lengths - k) ≤ length pdu₀) × (from + total (drop k lengths) ≤ length bytes) × (putAt pdu place (pieceBytes register (cutBy (drop k lengths) (drop from bytes))) ≡ putAt pdu₀ at (pieceBytes register (cutBy lengths (drop sent bytes))))
@@ -80,19 +76,6 @@ returns c =
 
 pub put-pieces-spec : {M : Type 1} → statement M
 put-pieces-spec =
-    tie.close
-    (tie.spec
-    Inv-loop
-    μ-loop
-    loop-holds
-    (λ c. search needs) (λ c. search needs)
-    cast-n
-    add-put-piece
-    put-piece-requires
-    add-place
-    add-place-2
-    add-from
-    (λ c. search needs) (λ c. search needs)
-    loop-again
-    (λ c. search needs)
-    returns)
+    tie.close (tie.spec Inv-loop μ-loop
+    loop-holds (λ c. search needs) (λ c. search needs) cast-n add-put-piece put-piece-requires add-place add-place-2 add-from (λ c. search needs)
+    (λ c. search needs) loop-again (λ c. search needs) returns)

@@ -1,17 +1,13 @@
 -- `power_sums::same` meets its contract: no two sums differ.
 use borrow.Author.Needs.{needs}
 use native.Mathlib.Omega.{arith}
-use mathlib.Core.Path.{_≡_, refl, ap, sym, _∙_}
-use Prim.Native.Nat.{ℕ, _+_, _-_, _*_, _≤_, _<_}
-use lib.ListN.{length, take, drop, getD, set, length-set}
-use mathlib.Core.List.{List, [], _∷_, _++_}
+use mathlib.Core.Path.{_≡_, ap}
+use Prim.Native.Nat.{ℕ, _-_, _≤_}
+use lib.ListN.{getD}
+use mathlib.Core.List.{List}
 use Rattle.power_sums.proofs.Theorem.{same-sums}
 use Rattle.power_sums.proofs.same.Statement.{statement}
 use Rattle.power_sums.proofs.same.Tie as tie
-use Rattle.power_sums.proofs.same.Reads as reads
-use Rattle.power_sums.proofs.same.Lts as lts
-use Rattle.header.proofs.syndromes.Reads as syndromes-reads
-use Rattle.power_sums.proofs.sums.Reads as sums-reads
 
 abbrev Inv-loop : tie.InvT-loop
 Inv-loop header one other k₀ k = (k ≤ 8) × (one ≡ other)
@@ -29,12 +25,6 @@ returns c =
 
 pub same-spec : {M : Type 1} → statement M
 same-spec =
-    tie.close
-    (tie.spec
-    Inv-loop
-    μ-loop
-    (λ c κs. search needs) (λ c κs. search needs)
-    loop-holds
-    (λ c. search needs) (λ c. search needs)
-    returns
-    (λ c. search needs) (λ c. search needs) (λ c. search needs) (λ c. search needs))
+    tie.close (tie.spec Inv-loop μ-loop
+    (λ c κs. search needs) (λ c κs. search needs) loop-holds (λ c. search needs) (λ c. search needs) returns (λ c. search needs) (λ c. search needs)
+    (λ c. search needs) (λ c. search needs))

@@ -3,16 +3,14 @@ use native.Mathlib.Nat.{mul-le-mul}
 use native.Mathlib.Numerals.{add-one}
 use native.Mathlib.Omega.{arith}
 use mathlib.Core.Path.{_≡_, refl, sym, _∙_, ap, ap₂}
-use Prim.Native.Nat.{ℕ, suc, _+_, _*_, _≤_, _-_, _<_}
+use Prim.Native.Nat.{ℕ, _≤_, _-_}
 use lib.Bits.{bitXor}
 use lib.ListN.{getD}
 use borrow.Author.Needs.{needs}
-use Rattle.field.specs.Field.{mul, pow}
+use Rattle.field.specs.Field.{mul}
 use Rattle.header.specs.Header.{sumUp, term, syndrome}
 use Rattle.power_sums.proofs.sum.Statement.{statement}
 use Rattle.power_sums.proofs.sum.Tie as tie
-use Rattle.power_sums.proofs.sum.Reads as reads
-use Rattle.power_sums.proofs.sum.Lts as lts
 
 abbrev Inv-loop : tie.InvT-loop
 Inv-loop powers logarithms header j s₀ i₀ s i = (i ≤ 96) × (s ≡ sumUp (term j header) i)
@@ -47,13 +45,5 @@ returns c =
 
 pub sum-spec : {M : Type 1} → statement M
 sum-spec =
-    tie.close
-    (tie.spec
-    Inv-loop
-    μ-loop
-    loop-holds
-    (λ c. search needs)
-    mul-power-by
-    (λ c κs. search needs) (λ c κs. search needs) (λ c. search needs) (λ c. search needs)
-    loop-again
-    returns)
+    tie.close (tie.spec Inv-loop μ-loop
+    loop-holds (λ c. search needs) mul-power-by (λ c κs. search needs) (λ c κs. search needs) (λ c. search needs) (λ c. search needs) loop-again returns)

@@ -5,14 +5,8 @@ use native.Mathlib.Omega.{arith}
 use mathlib.Core.Path.{_≡_}
 use Prim.Native.Nat.{ℕ}
 use mathlib.Core.List.{List}
-use borrow.Author.Needs.{needs}
 use Rattle.reassembly.proofs.accept.Statement.{statement}
 use Rattle.reassembly.proofs.accept.Tie as tie
-use Rattle.reassembly.proofs.accept.Reads as reads
-use Rattle.reassembly.proofs.accept.Lts as lts
-use Rattle.reassembly.proofs.begin.Reads as begin-reads
-use Rattle.reassembly.proofs.contents.Reads as contents-reads
-use Rattle.reassembly.proofs.withhold.Reads as withhold-reads
 
 begin-requires : tie.Need-begin-requires
 begin-requires c κs =
@@ -75,15 +69,4 @@ returns-2 c =
     accept-did (a .state) (a .range) (a .head) (now (a .carry)) (a .withheld) (a .marks) (a .causes) (now (a .pdu)) (p .pre .1 .0 .0) (p .pre .1 .0 .1) (p .pre .1 .1 .0) (now (a .log)) (p .pre .1 .1 .1 .1) l (first .result) (first .kept .1 .1 .1 .0) did false e (q .last .1 .1 .1 .1 .1 .0) (q .last .1 .1 .1 .1 .1 .1 .0) (q .result) (q .ensures)
 
 pub accept-spec : {M : Type 1} → statement M
-accept-spec =
-    tie.close
-    (tie.spec
-    begin-requires
-    withhold-requires
-    same-length
-    same-length-2
-    returns
-    contents-requires
-    same-length-3
-    same-length-4
-    returns-2)
+accept-spec = tie.close (tie.spec begin-requires withhold-requires same-length same-length-2 returns contents-requires same-length-3 same-length-4 returns-2)

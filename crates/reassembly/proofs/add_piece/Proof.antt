@@ -5,9 +5,6 @@ use Prim.Native.Nat.{_+_}
 use Rattle.reassembly.specs.Count.{withPiece}
 use Rattle.reassembly.proofs.add_piece.Statement.{statement}
 use Rattle.reassembly.proofs.add_piece.Tie as tie
-use Rattle.reassembly.proofs.add_piece.Reads as reads
-use Rattle.reassembly.proofs.add_piece.Lts as lts
-use Rattle.reassembly.proofs.count_delivery.Reads as count-delivery-reads
 
 add-words : tie.Need-add-words
 add-words c = let p = c .before .before .pre in omega (arith, p .0 .words, p .1)

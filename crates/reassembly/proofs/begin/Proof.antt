@@ -8,10 +8,6 @@ use mathlib.Core.Path.{_≡_, sym, _∙_}
 use borrow.Author.Needs.{needs}
 use Rattle.reassembly.proofs.begin.Statement.{statement}
 use Rattle.reassembly.proofs.begin.Tie as tie
-use Rattle.reassembly.proofs.begin.Reads as reads
-use Rattle.reassembly.proofs.begin.Lts as lts
-use Rattle.reassembly.proofs.drop_noted.Reads as drop-noted-reads
-use Rattle.reassembly.proofs.first_cause.Reads as first-cause-reads
 
 first-cause-requires : tie.Need-first-cause-requires
 first-cause-requires c κs = c .before .pre .0
@@ -39,5 +35,4 @@ returns-2 c =
     λ cs h z. same-outcome (begun-some (firstCause (a .state) (a .range) (a .head)) (q .result) (partialOf (a .state .held) (a .state .number) cs) (q .ensures) (c .before .before .before .before .if1 .left)) (c .before .before .drop-noted .ensures cs)
 
 pub begin-spec : {M : Type 1} → statement M
-begin-spec =
-    tie.close (tie.spec first-cause-requires returns drop-noted-requires (λ c. search needs) returns-2)
+begin-spec = tie.close (tie.spec first-cause-requires returns drop-noted-requires (λ c. search needs) returns-2)

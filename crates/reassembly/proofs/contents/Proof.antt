@@ -7,42 +7,22 @@ use Rattle.reassembly.proofs.Whole.{psd-is, psd-length, psd-room, piece
 use native.Mathlib.Omega.{arith}
 use mathlib.Core.Path.{_≡_}
 use Prim.Native.Nat.{ℕ, _+_, _-_, _≤_}
-use lib.ListN.{length, take, drop}
+use lib.ListN.{length, take, drop, getD}
 use borrow.Author.Needs.{needs}
 use Rattle.reassembly.proofs.contents.Statement.{statement}
 use Rattle.reassembly.proofs.contents.Tie as tie
-use Rattle.reassembly.proofs.contents.Reads as reads
-use Rattle.reassembly.proofs.contents.Lts as lts
-use Rattle.reassembly.proofs.pieces.Reads as pieces-reads
-use Rattle.reassembly.proofs.place.Reads as place-reads
-use Rattle.reassembly.proofs.put_extra.Reads as put-extra-reads
-
-array-read-place : tie.Need-array-read-place
-array-read-place c = omega arith
 
 add-end : tie.Need-add-end
 add-end c = omega (arith, c .place .ensures .1)
 
-sub-put-extra : tie.Need-sub-put-extra
-sub-put-extra c =
-    let p = c .before .before .before .before .before in
-    let a = p .args in
-    let w : Parsed (a .head) (now (a .pdu)) (a .t3) = p .pre .1 .1 .0 in
-    omega (arith, w .psd, w .marked .first, c .before .place .ensures .0)
+parsed : (p : tie.Start) → Parsed (p .args .head) (now (p .args .pdu)) (p .args .t3)
+parsed p = p .pre .1 .1 .0
 
-part-put-extra-start : tie.Need-part-put-extra-start
-part-put-extra-start c =
-    let p = c .before .before .before .before .before in
-    let a = p .args in
-    let w : Parsed (a .head) (now (a .pdu)) (a .t3) = p .pre .1 .1 .0 in
-    omega (arith, w .psd, w .marked .first, c .before .place .ensures .0)
-
-part-put-extra-end : tie.Need-part-put-extra-end
-part-put-extra-end c =
-    let p = c .before .before .before .before .before in
-    let a = p .args in
-    let w : Parsed (a .head) (now (a .pdu)) (a .t3) = p .pre .1 .1 .0 in
-    omega (arith, w .psd, w .marked .first, c .before .place .ensures .0)
+-- the PSD ends within the PDU, and not before it begins
+psd-within : (p : tie.Start) (l : ℕ) → l ≡ getD (p .args .t3) 0 0 → (p .args .head .psd ≤ l + 1) × (l + 1 ≤ length (now (p .args .pdu)))
+psd-within p l e =
+    let w = parsed p in
+    (omega (arith, w .psd, w .marked .first), omega (arith, w .psd, w .marked .first))
 
 put-extra-requires : tie.Need-put-extra-requires
 put-extra-requires c κs =
@@ -96,17 +76,8 @@ returns c =
 
 pub contents-spec : {M : Type 1} → statement M
 contents-spec =
-    tie.close
-    (tie.spec
-    array-read-place
-    (λ c κs. search needs)
-    add-end
-    sub-put-extra
-    part-put-extra-start
-    part-put-extra-end
-    put-extra-requires
-    add-t14
-    pieces-requires
-    same-length
-    same-length-2
-    returns)
+    tie.close (tie.spec (λ c. omega arith) (λ c κs. search needs) add-end
+    (λ c. omega (arith, psd-within (c .before .before .before .before .before) _ (c .before .place .ensures .0)))
+    (λ c. omega (arith, psd-within (c .before .before .before .before .before) _ (c .before .place .ensures .0)))
+    (λ c. omega (arith, psd-within (c .before .before .before .before .before) _ (c .before .place .ensures .0))) put-extra-requires add-t14 pieces-requires
+    same-length same-length-2 returns)

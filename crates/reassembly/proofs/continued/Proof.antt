@@ -2,9 +2,6 @@ use mathlib.Core.Path.{refl}
 use borrow.Author.Needs.{needs}
 use Rattle.reassembly.proofs.continued.Statement.{statement}
 use Rattle.reassembly.proofs.continued.Tie as tie
-use Rattle.reassembly.proofs.continued.Reads as reads
-use Rattle.reassembly.proofs.continued.Lts as lts
-use Rattle.reassembly.proofs.wide.Reads as wide-reads
 
 returns : tie.Need-returns
 returns c = rw (c .before .wide .ensures .0, c .wide2 .ensures .0) refl

@@ -5,13 +5,6 @@ use mathlib.Core.Path.{subst, sym}
 use Rattle.reassembly.specs.Count.{Bounded}
 use Rattle.reassembly.proofs.count_contents.Statement.{statement}
 use Rattle.reassembly.proofs.count_contents.Tie as tie
-use Rattle.reassembly.proofs.count_contents.Reads as reads
-use Rattle.reassembly.proofs.count_contents.Lts as lts
-use Rattle.reassembly.proofs.add_words.Reads as add-words-reads
-use Rattle.reassembly.proofs.count_continuing.Reads as count-continuing-reads
-use Rattle.reassembly.proofs.count_pieces.Reads as count-pieces-reads
-use Rattle.reassembly.proofs.count_psd.Reads as count-psd-reads
-use Rattle.reassembly.proofs.place.Reads as place-reads
 
 add-words-requires : tie.Need-add-words-requires
 add-words-requires c κs = (c .before .pre .1 .0 .0, omega arith)
@@ -28,9 +21,6 @@ returns c =
     let a = w .before .before .args in
     let q = c .count-continuing in
     all-withheld (a .withheld) (a .head) (a .t4) (a .causes) (a .held) (a .x) (w .add-words .result) (q .result) (w .before .if1 .taken) (w .add-words .ensures) (q .ensures)
-
-array-read-place : tie.Need-array-read-place
-array-read-place c = omega arith
 
 add-count-psd : tie.Need-add-count-psd
 add-count-psd c = omega (arith, c .place .ensures .1)
@@ -61,16 +51,5 @@ returns-2 c =
 
 pub count-contents-spec : {M : Type 1} → statement M
 count-contents-spec =
-    tie.close
-    (tie.spec
-    add-words-requires
-    count-continuing-requires
-    returns
-    array-read-place
-    (λ c κs. search needs)
-    add-count-psd
-    sub-count-psd
-    count-psd-requires
-    add-words-requires-2
-    count-pieces-requires
-    returns-2)
+    tie.close (tie.spec add-words-requires count-continuing-requires returns (λ c. omega arith) (λ c κs. search needs) add-count-psd sub-count-psd
+    count-psd-requires add-words-requires-2 count-pieces-requires returns-2)

@@ -1,20 +1,10 @@
-use borrow.Author.Tests.{eq-eqb, ne-eqb}
-use lib.Dec.{eqb}
-use mathlib.Core.Bool.{true, false}
-use mathlib.Core.Path.{_≡_, refl, _∙_}
-use Prim.Native.Nat.{ℕ, _+_, _-_}
+use mathlib.Core.Path.{_∙_}
+use Prim.Native.Nat.{_-_}
 use native.Mathlib.Omega.{arith}
 use Rattle.reassembly.proofs.Counts.{none-counted, no-piece-counted, piece-counted, count-small, bounded-more}
 use borrow.Author.Needs.{needs}
 use Rattle.reassembly.proofs.count_continuing.Statement.{statement}
 use Rattle.reassembly.proofs.count_continuing.Tie as tie
-use Rattle.reassembly.proofs.count_continuing.Reads as reads
-use Rattle.reassembly.proofs.count_continuing.Lts as lts
-use Rattle.reassembly.proofs.add_piece.Reads as add-piece-reads
-use Rattle.reassembly.proofs.count_piece.Reads as count-piece-reads
-use Rattle.reassembly.proofs.ends_here.Reads as ends-here-reads
-use Rattle.reassembly.proofs.piece_number.Reads as piece-number-reads
-use Rattle.reassembly.proofs.place.Reads as place-reads
 
 returns : tie.Need-returns
 returns c =
@@ -26,17 +16,8 @@ returns-2 c =
     let a = c .before .before .before .args in
     no-piece-counted (a .head) (a .t3) (a .t4) (a .held) (a .x) (c .before .before .if1 .left) (c .if2 .taken)
 
-array-read-place : tie.Need-array-read-place
-array-read-place c = omega arith
-
 add-a : tie.Need-add-a
 add-a c = omega (arith, c .place .ensures .1)
-
-array-read-place-2 : tie.Need-array-read-place-2
-array-read-place-2 c = omega arith
-
-array-read-count-piece : tie.Need-array-read-count-piece
-array-read-count-piece c = omega arith
 
 sub-count-piece : tie.Need-sub-count-piece
 sub-count-piece c =
@@ -48,9 +29,6 @@ count-piece-requires : tie.Need-count-piece-requires
 count-piece-requires c κs =
     let p = c .before .before .before .before .before .before .before in
     (omega (arith, c .before .before .place2 .ensures .1), p .pre .0 .0)
-
-piece-number-requires : tie.Need-piece-number-requires
-piece-number-requires c κs = omega arith
 
 add-piece-requires : tie.Need-add-piece-requires
 add-piece-requires c κs =
@@ -73,18 +51,5 @@ returns-3 c =
 
 pub count-continuing-spec : {M : Type 1} → statement M
 count-continuing-spec =
-    tie.close
-    (tie.spec
-    returns
-    returns-2
-    array-read-place
-    (λ c κs. search needs)
-    add-a
-    array-read-place-2
-    (λ c κs. search needs) (λ c. search needs) (λ c κs. search needs)
-    array-read-count-piece
-    sub-count-piece
-    count-piece-requires
-    piece-number-requires
-    add-piece-requires
-    returns-3)
+    tie.close (tie.spec returns returns-2 (λ c. omega arith) (λ c κs. search needs) add-a (λ c. omega arith) (λ c κs. search needs) (λ c. search needs)
+    (λ c κs. search needs) (λ c. omega arith) sub-count-piece count-piece-requires (λ c κs. omega arith) add-piece-requires returns-3)

@@ -1,13 +1,10 @@
 use native.Mathlib.Omega.{arith}
 use native.Mathlib.Numerals.{add-one}
-use mathlib.Core.Path.{_≡_, refl, _∙_}
-use Prim.Native.Nat.{ℕ, suc, _+_}
+use mathlib.Core.Path.{_≡_}
+use Prim.Native.Nat.{suc, _+_}
 use Rattle.reassembly.specs.Tally.{counted}
 use Rattle.reassembly.proofs.count_delivery.Statement.{statement}
 use Rattle.reassembly.proofs.count_delivery.Tie as tie
-use Rattle.reassembly.proofs.count_delivery.Reads as reads
-use Rattle.reassembly.proofs.count_delivery.Lts as lts
-use Rattle.reassembly.proofs.missed_before.Reads as missed-before-reads
 
 missed-before-requires : tie.Need-missed-before-requires
 missed-before-requires c κs = c .pre .2

@@ -3,18 +3,10 @@ use Rattle.reassembly.specs.Count.{countFinish}
 use native.Mathlib.Omega.{arith}
 use Rattle.reassembly.proofs.count_finish.Statement.{statement}
 use Rattle.reassembly.proofs.count_finish.Tie as tie
-use Rattle.reassembly.proofs.count_finish.Reads as reads
-use Rattle.reassembly.proofs.count_finish.Lts as lts
 
 returns : tie.Need-returns
 unfolding countFinish
 returns c = simp (lt-ltb _ _ (c .if1 .taken))
-
-add-t4 : tie.Need-add-t4
-add-t4 c = omega arith
-
-add-t6 : tie.Need-add-t6
-add-t6 c = omega arith
 
 returns-2 : tie.Need-returns-2
 unfolding countFinish
@@ -25,4 +17,4 @@ unfolding countFinish
 returns-3 c = simp (le-ltb _ _ (c .before .if1 .left), c .if2 .left)
 
 pub count-finish-spec : {M : Type 1} → statement M
-count-finish-spec = tie.close (tie.spec returns add-t4 add-t6 returns-2 returns-3)
+count-finish-spec = tie.close (tie.spec returns (λ c. omega arith) (λ c. omega arith) returns-2 returns-3)

@@ -6,16 +6,10 @@ use native.Mathlib.Omega.{arith}
 use mathlib.Core.Path.{_≡_, refl}
 use Rattle.reassembly.proofs.count_piece.Statement.{statement}
 use Rattle.reassembly.proofs.count_piece.Tie as tie
-use Rattle.reassembly.proofs.count_piece.Reads as reads
-use Rattle.reassembly.proofs.count_piece.Lts as lts
-use Rattle.reassembly.proofs.count_finish.Reads as count-finish-reads
 
 returns : tie.Need-returns
 unfolding countPiece
 returns c = simp (ne-eqb _ _ (c .if1 .taken))
-
-count-finish-requires : tie.Need-count-finish-requires
-count-finish-requires c κs = omega arith
 
 returns-2 : tie.Need-returns-2
 unfolding countPiece
@@ -32,12 +26,6 @@ returns-3 c =
     let y : eqb (a .held) 0 ≡ true = eq-eqb (a .held) 0 (c .if3 .taken) in
     rw (z, not-false (a .continues) (c .before .if2 .left), y) refl
 
-add-count-finish : tie.Need-add-count-finish
-add-count-finish c = omega arith
-
-count-finish-requires-2 : tie.Need-count-finish-requires-2
-count-finish-requires-2 c κs = omega arith
-
 returns-4 : tie.Need-returns-4
 unfolding countPiece
 returns-4 c =
@@ -47,13 +35,4 @@ returns-4 c =
     rw (z, not-false (a .continues) (c .before .before .if2 .left), y) (c .count-finish2 .ensures)
 
 pub count-piece-spec : {M : Type 1} → statement M
-count-piece-spec =
-    tie.close
-    (tie.spec
-    returns
-    count-finish-requires
-    returns-2
-    returns-3
-    add-count-finish
-    count-finish-requires-2
-    returns-4)
+count-piece-spec = tie.close (tie.spec returns (λ c κs. omega arith) returns-2 returns-3 (λ c. omega arith) (λ c κs. omega arith) returns-4)

@@ -5,17 +5,9 @@ use native.Mathlib.Nat.{sub-zero}
 use borrow.Author.Needs.{needs}
 use native.Mathlib.Omega.{arith}
 use mathlib.Core.Path.{_≡_, refl, sym, _∙_}
-use Prim.Native.Nat.{ℕ, _+_, _-_, _*_, _≤_, _<_}
-use lib.ListN.{getD}
+use Prim.Native.Nat.{ℕ, _-_, _≤_, _<_}
 use Rattle.reassembly.proofs.count_pieces.Statement.{statement}
 use Rattle.reassembly.proofs.count_pieces.Tie as tie
-use Rattle.reassembly.proofs.count_pieces.Reads as reads
-use Rattle.reassembly.proofs.count_pieces.Lts as lts
-use Rattle.reassembly.proofs.add_piece.Reads as add-piece-reads
-use Rattle.reassembly.proofs.count_piece.Reads as count-piece-reads
-use Rattle.reassembly.proofs.ends_here.Reads as ends-here-reads
-use Rattle.reassembly.proofs.piece_number.Reads as piece-number-reads
-use Rattle.reassembly.proofs.place.Reads as place-reads
 
 abbrev Inv-loop : tie.InvT-loop
 Inv-loop held head marks causes continues₀ kept₀ sum₀ k₀ continues kept sum k =
@@ -30,81 +22,6 @@ loop-holds c =
     let z : c .args .head .nop - 0 ≡ c .args .head .nop = sub-zero (c .args .head .nop) in
     (omega arith, c .pre .0 .0, c .pre .0 .2, rw z refl)
 
-mul-place : tie.Need-mul-place Inv-loop μ-loop
-mul-place c =
-    let i = c .before .before in
-    let s = i .before in
-    let a = s .args in
-    let k : ℕ = i .loop .k in
-    let more : k < a .head .nop = c .if1 .taken in
-    omega (arith, more, s .pre .0 .1)
-
-array-read-place : tie.Need-array-read-place Inv-loop μ-loop
-array-read-place c =
-    let i = c .before .before in
-    let s = i .before in
-    let a = s .args in
-    let k : ℕ = i .loop .k in
-    let more : k < a .head .nop = c .if1 .taken in
-    omega (arith, more, s .pre .0 .1)
-
-add-a : tie.Need-add-a Inv-loop μ-loop
-add-a c = omega (arith, c .place .ensures .1)
-
-add-place : tie.Need-add-place Inv-loop μ-loop
-add-place c =
-    let i = c .before .before .before in
-    let s = i .before in
-    let a = s .args in
-    let k : ℕ = i .loop .k in
-    let more : k < a .head .nop = c .before .if1 .taken in
-    omega (arith, more, s .pre .0 .1)
-
-mul-place-2 : tie.Need-mul-place-2 Inv-loop μ-loop
-mul-place-2 c =
-    let i = c .before .before .before in
-    let s = i .before in
-    let a = s .args in
-    let k : ℕ = i .loop .k in
-    let more : k < a .head .nop = c .before .if1 .taken in
-    omega (arith, more, s .pre .0 .1)
-
-array-read-place-2 : tie.Need-array-read-place-2 Inv-loop μ-loop
-array-read-place-2 c =
-    let i = c .before .before .before in
-    let s = i .before in
-    let a = s .args in
-    let k : ℕ = i .loop .k in
-    let more : k < a .head .nop = c .before .if1 .taken in
-    omega (arith, more, s .pre .0 .1)
-
-add-ends-here : tie.Need-add-ends-here Inv-loop μ-loop
-add-ends-here c =
-    let i = c .before .before .before .before in
-    let s = i .before in
-    let a = s .args in
-    let k : ℕ = i .loop .k in
-    let more : k < a .head .nop = c .before .before .if1 .taken in
-    omega (arith, more, s .pre .0 .1)
-
-sub-ends-here : tie.Need-sub-ends-here Inv-loop μ-loop
-sub-ends-here c =
-    let i = c .before .before .before .before .before in
-    let s = i .before in
-    let a = s .args in
-    let k : ℕ = i .loop .k in
-    let more : k < a .head .nop = c .before .before .before .if1 .taken in
-    omega (arith, more)
-
-array-read-count-piece : tie.Need-array-read-count-piece Inv-loop μ-loop
-array-read-count-piece c =
-    let i = c .before .before .before .before .before .before in
-    let s = i .before in
-    let a = s .args in
-    let k : ℕ = i .loop .k in
-    let more : k < a .head .nop = c .before .before .before .before .if1 .taken in
-    omega (arith, more, s .pre .0 .1)
-
 sub-count-piece : tie.Need-sub-count-piece Inv-loop μ-loop
 sub-count-piece c =
     let i = c .before .before .before .before .before .before in
@@ -118,14 +35,6 @@ count-piece-requires : tie.Need-count-piece-requires Inv-loop μ-loop
 count-piece-requires c κs =
     let i = c .before .before .before .before .before .before in
     (omega (arith, c .before .before .place2 .ensures .1), i .loop .inv .1)
-
-piece-number-requires : tie.Need-piece-number-requires Inv-loop μ-loop
-piece-number-requires c κs =
-    let i = c .before .before .before .before .before .before .before in
-    let s = i .before in
-    let k : ℕ = i .loop .k in
-    let more : k < s .args .head .nop = c .before .before .before .before .before .if1 .taken in
-    omega (arith, more, s .pre .0 .1)
 
 add-piece-requires : tie.Need-add-piece-requires Inv-loop μ-loop
 add-piece-requires c κs =
@@ -171,28 +80,15 @@ returns c =
 
 pub count-pieces-spec : {M : Type 1} → statement M
 count-pieces-spec =
-    tie.close
-    (tie.spec
-    Inv-loop
-    μ-loop
-    loop-holds
-    mul-place
-    array-read-place
-    (λ c κs. search needs)
-    add-a
-    add-place
-    mul-place-2
-    array-read-place-2
-    (λ c κs. search needs)
-    add-ends-here
-    sub-ends-here
-    (λ c κs. search needs)
-    array-read-count-piece
-    sub-count-piece
+    tie.close (tie.spec Inv-loop μ-loop
+    loop-holds (λ c. omega (arith, c .if1 .taken, c .before .before .before .pre .0 .1))
+    (λ c. omega (arith, c .if1 .taken, c .before .before .before .pre .0 .1)) (λ c κs. search needs) (λ c. omega (arith, c .place .ensures .1))
+    (λ c. omega (arith, c .before .if1 .taken, c .before .before .before .before .pre .0 .1))
+    (λ c. omega (arith, c .before .if1 .taken, c .before .before .before .before .pre .0 .1))
+    (λ c. omega (arith, c .before .if1 .taken, c .before .before .before .before .pre .0 .1)) (λ c κs. search needs)
+    (λ c. omega (arith, c .before .before .if1 .taken, c .before .before .before .before .before .pre .0 .1))
+    (λ c. omega (arith, c .before .before .before .if1 .taken)) (λ c κs. search needs)
+    (λ c. omega (arith, c .before .before .before .before .if1 .taken, c .before .before .before .before .before .before .before .pre .0 .1)) sub-count-piece
     count-piece-requires
-    piece-number-requires
-    add-piece-requires
-    add-k
-    loop-less
-    loop-again
-    returns)
+    (λ c κs. omega (arith, c .before .before .before .before .before .if1 .taken, c .before .before .before .before .before .before .before .before .pre .0 .1))
+    add-piece-requires add-k loop-less loop-again returns)

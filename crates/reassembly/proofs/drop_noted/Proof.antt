@@ -7,9 +7,6 @@ use mathlib.Core.Path.{refl}
 use borrow.Author.Needs.{needs}
 use Rattle.reassembly.proofs.drop_noted.Statement.{statement}
 use Rattle.reassembly.proofs.drop_noted.Tie as tie
-use Rattle.reassembly.proofs.drop_noted.Reads as reads
-use Rattle.reassembly.proofs.drop_noted.Lts as lts
-use Rattle.log.proofs.put_note.Reads as put-note-reads
 
 put-note-requires : tie.Need-put-note-requires
 put-note-requires c κs =

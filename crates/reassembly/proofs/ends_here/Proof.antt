@@ -3,8 +3,6 @@ use Rattle.reassembly.proofs.Laws.{some-after}
 use mathlib.Core.Path.{refl}
 use Rattle.reassembly.proofs.ends_here.Statement.{statement}
 use Rattle.reassembly.proofs.ends_here.Tie as tie
-use Rattle.reassembly.proofs.ends_here.Reads as reads
-use Rattle.reassembly.proofs.ends_here.Lts as lts
 
 returns : tie.Need-returns
 unfolding endsAt

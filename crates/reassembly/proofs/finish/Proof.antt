@@ -7,11 +7,6 @@ use lib.ListN.{length, take}
 use borrow.Author.Needs.{needs}
 use Rattle.reassembly.proofs.finish.Statement.{statement}
 use Rattle.reassembly.proofs.finish.Tie as tie
-use Rattle.reassembly.proofs.finish.Reads as reads
-use Rattle.reassembly.proofs.finish.Lts as lts
-use Rattle.buffer.proofs.put_bytes.Reads as put-bytes-reads
-use Rattle.log.proofs.put_packet.Reads as put-packet-reads
-use Rattle.reassembly.proofs.drop_noted.Reads as drop-noted-reads
 
 drop-noted-requires : tie.Need-drop-noted-requires
 drop-noted-requires c κs =
@@ -60,17 +55,5 @@ returns-3 c =
 
 pub finish-spec : {M : Type 1} → statement M
 finish-spec =
-    tie.close
-    (tie.spec
-    (λ c. search needs)
-    drop-noted-requires
-    (λ c. search needs)
-    returns
-    (λ c. search needs)
-    slice-aggregate-put-packet
-    put-packet-requires
-    add-t19
-    (λ c. search needs) (λ c. search needs)
-    returns-2
-    (λ c κs. search needs) (λ c. search needs)
-    returns-3)
+    tie.close (tie.spec (λ c. search needs) drop-noted-requires (λ c. search needs) returns (λ c. search needs) slice-aggregate-put-packet put-packet-requires
+    add-t19 (λ c. search needs) (λ c. search needs) returns-2 (λ c κs. search needs) (λ c. search needs) returns-3)

@@ -3,10 +3,6 @@ use mathlib.Core.Path.{refl, sym, _∙_}
 use borrow.Author.Needs.{needs}
 use Rattle.reassembly.proofs.first_cause.Statement.{statement}
 use Rattle.reassembly.proofs.first_cause.Tie as tie
-use Rattle.reassembly.proofs.first_cause.Reads as reads
-use Rattle.reassembly.proofs.first_cause.Lts as lts
-use Rattle.reassembly.proofs.continued.Reads as continued-reads
-use Rattle.reassembly.proofs.in_sequence.Reads as in-sequence-reads
 
 returns : tie.Need-returns
 unfolding firstCause
@@ -31,5 +27,4 @@ returns-3 c =
     rw e refl
 
 pub first-cause-spec : {M : Type 1} → statement M
-first-cause-spec =
-    tie.close (tie.spec (λ c κs. search needs) (λ c κs. search needs) returns returns-2 returns-3)
+first-cause-spec = tie.close (tie.spec (λ c κs. search needs) (λ c κs. search needs) returns returns-2 returns-3)

@@ -2,10 +2,6 @@ use Rattle.reassembly.proofs.Counts.{all-kept, all-noted, start-bounded
 use native.Mathlib.Omega.{arith}
 use Rattle.reassembly.proofs.forecast_for.Statement.{statement}
 use Rattle.reassembly.proofs.forecast_for.Tie as tie
-use Rattle.reassembly.proofs.forecast_for.Reads as reads
-use Rattle.reassembly.proofs.forecast_for.Lts as lts
-use Rattle.reassembly.proofs.count_contents.Reads as count-contents-reads
-use Rattle.reassembly.proofs.first_cause.Reads as first-cause-reads
 
 first-cause-requires : tie.Need-first-cause-requires
 first-cause-requires c κs = c .pre .0 .0
@@ -33,11 +29,4 @@ returns-2 c =
     all-noted (a .withheld) (a .state) (a .range) (a .head) (a .marks) (a .causes) (a .tally) (q .result) (c .count-contents2 .result) (q .ensures) (c .before .if1 .left) (c .count-contents2 .ensures)
 
 pub forecast-for-spec : {M : Type 1} → statement M
-forecast-for-spec =
-    tie.close
-    (tie.spec
-    first-cause-requires
-    count-contents-requires
-    returns
-    count-contents-requires-2
-    returns-2)
+forecast-for-spec = tie.close (tie.spec first-cause-requires count-contents-requires returns count-contents-requires-2 returns-2)

@@ -2,9 +2,6 @@ use mathlib.Core.Path.{refl}
 use borrow.Author.Needs.{needs}
 use Rattle.reassembly.proofs.in_sequence.Statement.{statement}
 use Rattle.reassembly.proofs.in_sequence.Tie as tie
-use Rattle.reassembly.proofs.in_sequence.Reads as reads
-use Rattle.reassembly.proofs.in_sequence.Lts as lts
-use Rattle.reassembly.proofs.next_sequence.Reads as next-sequence-reads
 
 returns : tie.Need-returns
 returns c = rw (c .before .if1 .taken, c .next-sequence .ensures) refl

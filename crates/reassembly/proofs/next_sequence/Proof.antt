@@ -6,8 +6,6 @@ use mathlib.Core.Path.{_≡_}
 use borrow.Author.Needs.{needs}
 use Rattle.reassembly.proofs.next_sequence.Statement.{statement}
 use Rattle.reassembly.proofs.next_sequence.Tie as tie
-use Rattle.reassembly.proofs.next_sequence.Reads as reads
-use Rattle.reassembly.proofs.next_sequence.Lts as lts
 
 returns : tie.Need-returns
 returns c =

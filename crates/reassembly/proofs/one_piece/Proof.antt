@@ -6,10 +6,6 @@ use native.Mathlib.Omega.{arith}
 use borrow.Author.Needs.{needs}
 use Rattle.reassembly.proofs.one_piece.Statement.{statement}
 use Rattle.reassembly.proofs.one_piece.Tie as tie
-use Rattle.reassembly.proofs.one_piece.Reads as reads
-use Rattle.reassembly.proofs.one_piece.Lts as lts
-use Rattle.reassembly.proofs.drop_noted.Reads as drop-noted-reads
-use Rattle.reassembly.proofs.finish.Reads as finish-reads
 
 drop-noted-requires : tie.Need-drop-noted-requires
 drop-noted-requires c κs =
@@ -61,17 +57,5 @@ returns-4 c =
 
 pub one-piece-spec : {M : Type 1} → statement M
 one-piece-spec =
-    tie.close
-    (tie.spec
-    drop-noted-requires
-    (λ c. search needs)
-    returns
-    finish-requires
-    (λ c. search needs) (λ c. search needs)
-    returns-2
-    drop-noted-requires-2
-    (λ c. search needs)
-    returns-3
-    finish-requires-2
-    (λ c. search needs) (λ c. search needs)
-    returns-4)
+    tie.close (tie.spec drop-noted-requires (λ c. search needs) returns finish-requires (λ c. search needs) (λ c. search needs) returns-2 drop-noted-requires-2
+    (λ c. search needs) returns-3 finish-requires-2 (λ c. search needs) (λ c. search needs) returns-4)

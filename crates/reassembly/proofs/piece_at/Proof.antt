@@ -4,113 +4,30 @@ use Rattle.reassembly.specs.Run.{partialOf, endsAt, Marked}
 use Rattle.reassembly.proofs.Laws.{same-outcome, same-room}
 use Rattle.reassembly.proofs.Runs.{piece-is, part-small}
 use native.Mathlib.Omega.{arith}
-use mathlib.Core.Path.{sym}
-use Prim.Native.Nat.{ℕ, _+_, _-_, _<_}
+use mathlib.Core.Path.{_≡_, sym}
+use Prim.Native.Nat.{ℕ, _+_, _-_, _≤_, _<_}
+use lib.ListN.{length, getD}
 use mathlib.Core.List.{List}
 use borrow.Author.Needs.{needs}
 use Rattle.reassembly.proofs.piece_at.Statement.{statement}
 use Rattle.reassembly.proofs.piece_at.Tie as tie
-use Rattle.reassembly.proofs.piece_at.Reads as reads
-use Rattle.reassembly.proofs.piece_at.Lts as lts
-use Rattle.reassembly.proofs.ends_here.Reads as ends-here-reads
-use Rattle.reassembly.proofs.one_piece.Reads as one-piece-reads
-use Rattle.reassembly.proofs.piece_number.Reads as piece-number-reads
-use Rattle.reassembly.proofs.place.Reads as place-reads
 
-mul-place : tie.Need-mul-place
-mul-place c =
-    let p = c .before .before .before in
-    let a = p .args in
-    let m : List ℕ = a .t3 in
-    let w : Marked (now (a .pdu)) m (a .head .nop) = p .pre .1 .1 .1 .0 .1 in
-    omega (arith, w .few)
+marked : (p : tie.Start) → Marked (now (p .args .pdu)) (p .args .t3) (p .args .head .nop)
+marked p = p .pre .1 .1 .1 .0 .1
 
-array-read-place : tie.Need-array-read-place
-array-read-place c =
-    let p = c .before .before .before in
-    let a = p .args in
-    let m : List ℕ = a .t3 in
-    let w : Marked (now (a .pdu)) m (a .head .nop) = p .pre .1 .1 .1 .0 .1 in
-    omega (arith, w .few)
+-- the piece's bytes lie within the PDU
+within : (p : tie.Start) (l r : ℕ) → l ≡ getD (p .args .t3) (p .args .k) 0 → r ≡ getD (p .args .t3) (p .args .k + 1) 0 → (l + 1 ≤ r) × (r ≤ length (now (p .args .pdu)))
+within p l r e f =
+    let more : p .args .k < p .args .head .nop = p .pre .1 .1 .1 .0 .0 in
+    let up = marked p .rising (p .args .k) more in
+    let inside = marked p .within (p .args .k) more in
+    (omega (arith, up, e, f), omega (arith, inside, f))
 
 add-a : tie.Need-add-a
 add-a c =
     let p = c .before .before .before .before in
-    let a = p .args in
-    let m : List ℕ = a .t3 in
-    let more : a .k < a .head .nop = p .pre .1 .1 .1 .0 .0 in
-    let w : Marked (now (a .pdu)) m (a .head .nop) = p .pre .1 .1 .1 .0 .1 in
-    omega (arith, w .rising (a .k) more, w .within (a .k) more, c .place .ensures .0)
-
-add-place : tie.Need-add-place
-add-place c =
-    let p = c .before .before .before .before in
-    let a = p .args in
-    let m : List ℕ = a .t3 in
-    let w : Marked (now (a .pdu)) m (a .head .nop) = p .pre .1 .1 .1 .0 .1 in
-    omega (arith, w .few)
-
-mul-place-2 : tie.Need-mul-place-2
-mul-place-2 c =
-    let p = c .before .before .before .before in
-    let a = p .args in
-    let m : List ℕ = a .t3 in
-    let w : Marked (now (a .pdu)) m (a .head .nop) = p .pre .1 .1 .1 .0 .1 in
-    omega (arith, w .few)
-
-array-read-place-2 : tie.Need-array-read-place-2
-array-read-place-2 c =
-    let p = c .before .before .before .before in
-    let a = p .args in
-    let m : List ℕ = a .t3 in
-    let w : Marked (now (a .pdu)) m (a .head .nop) = p .pre .1 .1 .1 .0 .1 in
-    omega (arith, w .few)
-
-piece-number-requires : tie.Need-piece-number-requires
-piece-number-requires c κs =
-    let p = c .before .before .before .before .before in
-    let a = p .args in
-    let m : List ℕ = a .t3 in
-    let w : Marked (now (a .pdu)) m (a .head .nop) = p .pre .1 .1 .1 .0 .1 in
-    omega (arith, w .few)
-
-add-ends-here : tie.Need-add-ends-here
-add-ends-here c =
-    let p = c .before .before .before .before .before .before in
-    let a = p .args in
-    let m : List ℕ = a .t3 in
-    let w : Marked (now (a .pdu)) m (a .head .nop) = p .pre .1 .1 .1 .0 .1 in
-    omega (arith, w .few)
-
-sub-ends-here : tie.Need-sub-ends-here
-sub-ends-here c = omega (arith, c .before .before .before .before .before .before .before .pre .1 .1 .1 .0 .0)
-
-sub-one-piece : tie.Need-sub-one-piece
-sub-one-piece c =
-    let p = c .before .before .before .before .before .before .before .before in
-    let a = p .args in
-    let m : List ℕ = a .t3 in
-    let more : a .k < a .head .nop = p .pre .1 .1 .1 .0 .0 in
-    let w : Marked (now (a .pdu)) m (a .head .nop) = p .pre .1 .1 .1 .0 .1 in
-    omega (arith, w .rising (a .k) more, w .within (a .k) more, c .before .before .before .before .place .ensures .0, c .before .before .before .place2 .ensures .0)
-
-part-one-piece-start : tie.Need-part-one-piece-start
-part-one-piece-start c =
-    let p = c .before .before .before .before .before .before .before .before in
-    let a = p .args in
-    let m : List ℕ = a .t3 in
-    let more : a .k < a .head .nop = p .pre .1 .1 .1 .0 .0 in
-    let w : Marked (now (a .pdu)) m (a .head .nop) = p .pre .1 .1 .1 .0 .1 in
-    omega (arith, w .rising (a .k) more, w .within (a .k) more, c .before .before .before .before .place .ensures .0, c .before .before .before .place2 .ensures .0)
-
-part-one-piece-end : tie.Need-part-one-piece-end
-part-one-piece-end c =
-    let p = c .before .before .before .before .before .before .before .before in
-    let a = p .args in
-    let m : List ℕ = a .t3 in
-    let more : a .k < a .head .nop = p .pre .1 .1 .1 .0 .0 in
-    let w : Marked (now (a .pdu)) m (a .head .nop) = p .pre .1 .1 .1 .0 .1 in
-    omega (arith, w .rising (a .k) more, w .within (a .k) more, c .before .before .before .before .place .ensures .0, c .before .before .before .place2 .ensures .0)
+    let more : p .args .k < p .args .head .nop = p .pre .1 .1 .1 .0 .0 in
+    omega (arith, marked p .rising (p .args .k) more, marked p .within (p .args .k) more, c .place .ensures .0)
 
 one-piece-requires : tie.Need-one-piece-requires
 one-piece-requires c κs =
@@ -141,23 +58,13 @@ returns c =
 
 pub piece-at-spec : {M : Type 1} → statement M
 piece-at-spec =
-    tie.close
-    (tie.spec
-    mul-place
-    array-read-place
-    (λ c κs. search needs)
-    add-a
-    add-place
-    mul-place-2
-    array-read-place-2
-    (λ c κs. search needs)
-    piece-number-requires
-    add-ends-here
-    sub-ends-here
-    (λ c κs. search needs)
-    sub-one-piece
-    part-one-piece-start
-    part-one-piece-end
-    one-piece-requires
-    (λ c. search needs) (λ c. search needs)
-    returns)
+    tie.close (tie.spec (λ c. omega (arith, marked (c .before .before .before) .few)) (λ c. omega (arith, marked (c .before .before .before) .few))
+    (λ c κs. search needs) add-a (λ c. omega (arith, marked (c .before .before .before .before) .few))
+    (λ c. omega (arith, marked (c .before .before .before .before) .few)) (λ c. omega (arith, marked (c .before .before .before .before) .few))
+    (λ c κs. search needs) (λ c κs. omega (arith, marked (c .before .before .before .before .before) .few))
+    (λ c. omega (arith, marked (c .before .before .before .before .before .before) .few))
+    (λ c. omega (arith, c .before .before .before .before .before .before .before .pre .1 .1 .1 .0 .0)) (λ c κs. search needs)
+    (λ c. omega (arith, within (c .before .before .before .before .before .before .before .before) _ _ (c .before .before .before .before .place .ensures .0) (c .before .before .before .place2 .ensures .0)))
+    (λ c. omega (arith, within (c .before .before .before .before .before .before .before .before) _ _ (c .before .before .before .before .place .ensures .0) (c .before .before .before .place2 .ensures .0)))
+    (λ c. omega (arith, within (c .before .before .before .before .before .before .before .before) _ _ (c .before .before .before .before .place .ensures .0) (c .before .before .before .place2 .ensures .0)))
+    one-piece-requires (λ c. search needs) (λ c. search needs) returns)

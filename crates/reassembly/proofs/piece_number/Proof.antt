@@ -4,9 +4,6 @@ use Prim.Native.Nat.{_+_}
 use borrow.Author.Needs.{needs}
 use Rattle.reassembly.proofs.piece_number.Statement.{statement}
 use Rattle.reassembly.proofs.piece_number.Tie as tie
-use Rattle.reassembly.proofs.piece_number.Reads as reads
-use Rattle.reassembly.proofs.piece_number.Lts as lts
-use Rattle.reassembly.proofs.wide.Reads as wide-reads
 
 returns : tie.Need-returns
 returns c = rw (c .before .if1 .taken, c .wide .ensures .0) refl
@@ -18,9 +15,5 @@ returns-2 c =
 
 pub piece-number-spec : {M : Type 1} → statement M
 piece-number-spec =
-    tie.close
-    (tie.spec
-    (λ c κs. search needs) (λ c. search needs) (λ c. search needs) (λ c. search needs)
-    returns
-    (λ c κs. search needs) (λ c. search needs) (λ c. search needs)
-    returns-2)
+    tie.close (tie.spec (λ c κs. search needs) (λ c. search needs) (λ c. search needs) (λ c. search needs) returns (λ c κs. search needs) (λ c. search needs)
+    (λ c. search needs) returns-2)

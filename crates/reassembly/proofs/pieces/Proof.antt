@@ -11,9 +11,6 @@ use lib.ListN.{length}
 use mathlib.Core.List.{List, []}
 use Rattle.reassembly.proofs.pieces.Statement.{statement}
 use Rattle.reassembly.proofs.pieces.Tie as tie
-use Rattle.reassembly.proofs.pieces.Reads as reads
-use Rattle.reassembly.proofs.pieces.Lts as lts
-use Rattle.reassembly.proofs.piece_at.Reads as piece-at-reads
 
 abbrev Inv-loop : tie.InvT-loop
 Inv-loop head marks pdu carry₀ log₀ causes cur₀ continues₀ k₀ carry log cur continues k =
@@ -106,17 +103,4 @@ returns c =
     going-end (pieceNumber (a .head .pfirst) (a .head .start)) (a .head .plast) (i .loop .continues) (now (a .pdu)) (a .marks) (a .t4) (a .head .nop) (i .loop .k) (a .run .at) _ (now (a .carry)) (now (a .log)) (i .loop .carry) (i .loop .log) (i .loop .cur) (c .if1 .left) (s .pre .1 .0) (i .loop .inv .1)
 
 pub pieces-spec : {M : Type 1} → statement M
-pieces-spec =
-    tie.close
-    (tie.spec
-    Inv-loop
-    μ-loop
-    loop-holds
-    array-read-piece-at
-    piece-at-requires
-    add-k
-    loop-less
-    loop-again
-    same-length
-    same-length-2
-    returns)
+pieces-spec = tie.close (tie.spec Inv-loop μ-loop loop-holds array-read-piece-at piece-at-requires add-k loop-less loop-again same-length same-length-2 returns)

@@ -6,9 +6,6 @@ use mathlib.Core.Path.{refl, sym}
 use borrow.Author.Needs.{needs}
 use Rattle.reassembly.proofs.put_extra.Statement.{statement}
 use Rattle.reassembly.proofs.put_extra.Tie as tie
-use Rattle.reassembly.proofs.put_extra.Reads as reads
-use Rattle.reassembly.proofs.put_extra.Lts as lts
-use Rattle.log.proofs.put_psd.Reads as put-psd-reads
 
 returns : tie.Need-returns
 returns c =

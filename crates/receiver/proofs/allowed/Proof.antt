@@ -9,9 +9,6 @@ use Rattle.receiver.proofs.Programs.{over-seven, repeated, allowed-past
 use borrow.Author.Needs.{needs}
 use Rattle.receiver.proofs.allowed.Statement.{statement}
 use Rattle.receiver.proofs.allowed.Tie as tie
-use Rattle.receiver.proofs.allowed.Reads as reads
-use Rattle.receiver.proofs.allowed.Lts as lts
-use Rattle.receiver.proofs.is_listed.Reads as is-listed-reads
 
 abbrev Inv-loop : tie.InvT-loop
 Inv-loop programs i₀ i = (i ≤ length programs) × (allowedPrograms programs ≡ allowedPrograms (drop i programs))
@@ -42,15 +39,6 @@ returns-3 c = all-allowed _ (c .before .loop .i) (c .before .loop .inv .1) (omeg
 
 pub allowed-spec : {M : Type 1} → statement M
 allowed-spec =
-    tie.close
-    (tie.spec
-    Inv-loop
-    μ-loop
-    loop-holds
-    (λ c. search needs)
-    returns
-    (λ c. search needs) (λ c. search needs) (λ c. search needs) (λ c. search needs) (λ c κs. search needs)
-    returns-2
-    (λ c. search needs)
-    loop-again
-    returns-3)
+    tie.close (tie.spec Inv-loop μ-loop
+    loop-holds (λ c. search needs) returns (λ c. search needs) (λ c. search needs) (λ c. search needs) (λ c. search needs) (λ c κs. search needs) returns-2
+    (λ c. search needs) loop-again returns-3)

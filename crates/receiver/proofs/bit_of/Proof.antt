@@ -4,9 +4,6 @@ use native.Mathlib.Omega.{arith}
 use borrow.Author.Needs.{needs}
 use Rattle.receiver.proofs.bit_of.Statement.{statement}
 use Rattle.receiver.proofs.bit_of.Tie as tie
-use Rattle.receiver.proofs.bit_of.Reads as reads
-use Rattle.receiver.proofs.bit_of.Lts as lts
-use Rattle.receiver.proofs.is_listed.Reads as is-listed-reads
 
 returns : tie.Need-returns
 returns c = (ap (λ (b : Bool). cond b (c .before .before .before .args .bit) 0) (sym (c .if1 .taken) ∙ c .before .is-listed .ensures), omega arith)
@@ -15,9 +12,4 @@ returns-2 : tie.Need-returns-2
 returns-2 c = (ap (λ (b : Bool). cond b (c .before .before .before .args .bit) 0) (sym (c .if1 .left) ∙ c .before .is-listed .ensures), omega arith)
 
 pub bit-of-spec : {M : Type 1} → statement M
-bit-of-spec =
-    tie.close
-    (tie.spec
-    (λ c κs. search needs)
-    returns
-    returns-2)
+bit-of-spec = tie.close (tie.spec (λ c κs. search needs) returns returns-2)

@@ -3,10 +3,6 @@ use denote.Ref.{now}
 use borrow.Author.Needs.{needs}
 use Rattle.receiver.proofs.cause_at.Statement.{statement}
 use Rattle.receiver.proofs.cause_at.Tie as tie
-use Rattle.receiver.proofs.cause_at.Reads as reads
-use Rattle.receiver.proofs.cause_at.Lts as lts
-use Rattle.crc.proofs.crc8_from.Reads as crc8-from-reads
-use Rattle.receiver.proofs.place.Reads as place-reads
 
 returns : tie.Need-returns
 returns c =
@@ -20,9 +16,6 @@ returns-2 c =
 
 pub cause-at-spec : {M : Type 1} → statement M
 cause-at-spec =
-    tie.close
-    (tie.spec
-    (λ c. search needs) (λ c. search needs) (λ c κs. search needs) (λ c. search needs) (λ c. search needs) (λ c. search needs) (λ c. search needs)
-    (λ c κs. search needs) (λ c. search needs) (λ c. search needs) (λ c. search needs) (λ c κs. search needs) (λ c. search needs)
-    returns
+    tie.close (tie.spec (λ c. search needs) (λ c. search needs) (λ c κs. search needs) (λ c. search needs) (λ c. search needs) (λ c. search needs)
+    (λ c. search needs) (λ c κs. search needs) (λ c. search needs) (λ c. search needs) (λ c. search needs) (λ c κs. search needs) (λ c. search needs) returns
     returns-2)

@@ -7,9 +7,6 @@ use native.Mathlib.Omega.{arith}
 use Prim.Native.Nat.{_-_, _≤_}
 use Rattle.receiver.proofs.causes_of.Statement.{statement}
 use Rattle.receiver.proofs.causes_of.Tie as tie
-use Rattle.receiver.proofs.causes_of.Reads as reads
-use Rattle.receiver.proofs.causes_of.Lts as lts
-use Rattle.receiver.proofs.cause_at.Reads as cause-at-reads
 
 abbrev Inv-loop : tie.InvT-loop
 Inv-loop register y marks nop causes₀ k₀ causes k = (k ≤ nop) × Filled (causeAt register y marks) k causes
@@ -40,12 +37,5 @@ returns c =
 
 pub causes-of-spec : {M : Type 1} → statement M
 causes-of-spec =
-    tie.close
-    (tie.spec
-    Inv-loop
-    μ-loop
-    loop-holds
-    cause-at-requires
-    (λ c. search needs) (λ c. search needs) (λ c. search needs)
-    loop-again
-    returns)
+    tie.close (tie.spec Inv-loop μ-loop
+    loop-holds cause-at-requires (λ c. search needs) (λ c. search needs) (λ c. search needs) loop-again returns)

@@ -2,8 +2,6 @@ use mathlib.Core.Path.{refl}
 use borrow.Author.Needs.{needs}
 use Rattle.receiver.proofs.forgotten.Statement.{statement}
 use Rattle.receiver.proofs.forgotten.Tie as tie
-use Rattle.receiver.proofs.forgotten.Reads as reads
-use Rattle.receiver.proofs.forgotten.Lts as lts
 
 returns : tie.Need-returns
 returns c = refl

@@ -1,9 +1,6 @@
 use borrow.Author.Needs.{needs}
 use Rattle.receiver.proofs.head_of.Statement.{statement}
 use Rattle.receiver.proofs.head_of.Tie as tie
-use Rattle.receiver.proofs.head_of.Reads as reads
-use Rattle.receiver.proofs.head_of.Lts as lts
-use Rattle.pdu.proofs.read_front.Reads as read-front-reads
 
 returns : tie.Need-returns
 returns c =
@@ -21,8 +18,4 @@ returns c =
     }
 
 pub head-of-spec : {M : Type 1} → statement M
-head-of-spec =
-    tie.close
-    (tie.spec
-    (λ c κs. search needs) (λ c. search needs)
-    returns)
+head-of-spec = tie.close (tie.spec (λ c κs. search needs) (λ c. search needs) returns)

@@ -4,17 +4,9 @@ use Rattle.receiver.specs.Entitling.{isListed}
 use borrow.Author.Needs.{needs}
 use Rattle.receiver.proofs.is_listed.Statement.{statement}
 use Rattle.receiver.proofs.is_listed.Tie as tie
-use Rattle.receiver.proofs.is_listed.Reads as reads
-use Rattle.receiver.proofs.is_listed.Lts as lts
-use Rattle.correction.proofs.is_marked.Reads as is-marked-reads
-use Rattle.receiver.proofs.wide.Reads as wide-reads
 
 returns : tie.Need-returns
 returns c = c .is-marked .ensures ∙ ap (isListed (now (c .before .before .before .args .programs))) (c .before .wide .ensures)
 
 pub is-listed-spec : {M : Type 1} → statement M
-is-listed-spec =
-    tie.close
-    (tie.spec
-    (λ c κs. search needs) (λ c κs. search needs)
-    returns)
+is-listed-spec = tie.close (tie.spec (λ c κs. search needs) (λ c κs. search needs) returns)

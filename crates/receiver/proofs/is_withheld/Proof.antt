@@ -2,9 +2,6 @@ use Rattle.receiver.proofs.Withholding.{entitled-shown, withheld-known,
 use borrow.Author.Needs.{needs}
 use Rattle.receiver.proofs.is_withheld.Statement.{statement}
 use Rattle.receiver.proofs.is_withheld.Tie as tie
-use Rattle.receiver.proofs.is_withheld.Reads as reads
-use Rattle.receiver.proofs.is_withheld.Lts as lts
-use Rattle.receiver.proofs.is_entitled.Reads as is-entitled-reads
 
 returns : tie.Need-returns
 returns c =
@@ -25,10 +22,4 @@ returns-3 c =
     withheld-unknown (a .r .entitled) (a .program) (a .services .known) (a .services .value) (k .result) (k .ensures) (c .before .if1 .left) (c .if2 .left)
 
 pub is-withheld-spec : {M : Type 1} → statement M
-is-withheld-spec =
-    tie.close
-    (tie.spec
-    (λ c κs. search needs)
-    returns
-    returns-2
-    returns-3)
+is-withheld-spec = tie.close (tie.spec (λ c κs. search needs) returns returns-2 returns-3)

@@ -1,17 +1,10 @@
 use Rattle.receiver.proofs.Rows.{state-listed}
-use mathlib.Core.Path.{_≡_, sym, _∙_}
-use mathlib.Core.Bool.{true, false}
+use mathlib.Core.Path.{sym, _∙_}
 use native.Mathlib.Omega.{arith}
-use lib.Dec.{ltb}
 use borrow.Author.Tests.{lt-ltb, le-ltb}
 use borrow.Author.Needs.{needs}
-use Rattle.refusal.specs.Refusal.{anyOf}
-use Rattle.receiver.specs.Receiving.{wrongState}
 use Rattle.receiver.proofs.listed_refusal.Statement.{statement}
 use Rattle.receiver.proofs.listed_refusal.Tie as tie
-use Rattle.receiver.proofs.listed_refusal.Reads as reads
-use Rattle.receiver.proofs.listed_refusal.Lts as lts
-use Rattle.receiver.proofs.wrong_state.Reads as wrong-state-reads
 
 returns : tie.Need-returns
 returns c =

@@ -4,12 +4,6 @@ use native.Mathlib.Omega.{arith}
 use borrow.Author.Needs.{needs}
 use Rattle.receiver.proofs.lose_listed.Statement.{statement}
 use Rattle.receiver.proofs.lose_listed.Tie as tie
-use Rattle.receiver.proofs.lose_listed.Reads as reads
-use Rattle.receiver.proofs.lose_listed.Lts as lts
-use Rattle.log.proofs.put_note.Reads as put-note-reads
-use Rattle.receiver.proofs.forgotten.Reads as forgotten-reads
-use Rattle.receiver.proofs.refused.Reads as refused-reads
-use Rattle.receiver.proofs.wrong_state.Reads as wrong-state-reads
 
 returns : tie.Need-returns
 returns c =
@@ -44,13 +38,5 @@ returns-3 c =
 
 pub lose-listed-spec : {M : Type 1} → statement M
 lose-listed-spec =
-    tie.close
-    (tie.spec
-    (λ c κs. search needs) (λ c κs. search needs)
-    returns
-    (λ c κs. search needs)
-    returns-2
-    put-note-requires
-    forgotten-requires
-    (λ c. search needs)
-    returns-3)
+    tie.close (tie.spec (λ c κs. search needs) (λ c κs. search needs) returns (λ c κs. search needs) returns-2 put-note-requires forgotten-requires
+    (λ c. search needs) returns-3)

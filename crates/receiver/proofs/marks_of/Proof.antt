@@ -7,9 +7,6 @@ use native.Mathlib.Omega.{arith}
 use Prim.Native.Nat.{_+_, _-_, _≤_, _<_}
 use Rattle.receiver.proofs.marks_of.Statement.{statement}
 use Rattle.receiver.proofs.marks_of.Tie as tie
-use Rattle.receiver.proofs.marks_of.Reads as reads
-use Rattle.receiver.proofs.marks_of.Lts as lts
-use Rattle.pdu.proofs.mark.Reads as mark-reads
 
 abbrev Inv-loop : tie.InvT-loop
 Inv-loop y width c nop marks₀ k₀ marks k = (k ≤ c .nop + 1) × Filled (markAt width c y) k marks
@@ -37,11 +34,5 @@ returns c =
 
 pub marks-of-spec : {M : Type 1} → statement M
 marks-of-spec =
-    tie.close
-    (tie.spec
-    Inv-loop
-    μ-loop
-    loop-holds
-    (λ c κs. search needs) (λ c. search needs) (λ c. search needs) (λ c. search needs) (λ c. search needs) (λ c. search needs)
-    loop-again
-    returns)
+    tie.close (tie.spec Inv-loop μ-loop
+    loop-holds (λ c κs. search needs) (λ c. search needs) (λ c. search needs) (λ c. search needs) (λ c. search needs) (λ c. search needs) loop-again returns)

@@ -3,9 +3,6 @@ use Rattle.receiver.specs.Entitling.{maskOf}
 use borrow.Author.Needs.{needs}
 use Rattle.receiver.proofs.mask_of.Statement.{statement}
 use Rattle.receiver.proofs.mask_of.Tie as tie
-use Rattle.receiver.proofs.mask_of.Reads as reads
-use Rattle.receiver.proofs.mask_of.Lts as lts
-use Rattle.receiver.proofs.bit_of.Reads as bit-of-reads
 
 add-low : tie.Need-add-low
 add-low c = omega (arith, c .before .bit-of .ensures .1, c .bit-of2 .ensures .1)
@@ -34,19 +31,5 @@ returns c = omega (arith, c .before .before .before .before .before .before .bef
 
 pub mask-of-spec : {M : Type 1} → statement M
 mask-of-spec =
-    tie.close
-    (tie.spec
-    (λ c κs. search needs) (λ c κs. search needs)
-    add-low
-    (λ c κs. search needs)
-    add-low-2
-    (λ c κs. search needs)
-    add-low-3
-    (λ c κs. search needs) (λ c κs. search needs)
-    add-high
-    (λ c κs. search needs)
-    add-high-2
-    (λ c κs. search needs)
-    add-high-3
-    add-result
-    returns)
+    tie.close (tie.spec (λ c κs. search needs) (λ c κs. search needs) add-low (λ c κs. search needs) add-low-2 (λ c κs. search needs) add-low-3
+    (λ c κs. search needs) (λ c κs. search needs) add-high (λ c κs. search needs) add-high-2 (λ c κs. search needs) add-high-3 add-result returns)

@@ -5,13 +5,6 @@ use Rattle.receiver.proofs.Opening.{opens, programs-refused, mode-refus
 use borrow.Author.Needs.{needs}
 use Rattle.receiver.proofs.open_entitled.Statement.{statement}
 use Rattle.receiver.proofs.open_entitled.Tie as tie
-use Rattle.receiver.proofs.open_entitled.Reads as reads
-use Rattle.receiver.proofs.open_entitled.Lts as lts
-use Rattle.modes.proofs.look_up.Reads as look-up-reads
-use Rattle.receiver.proofs.allowed.Reads as allowed-reads
-use Rattle.receiver.proofs.fresh.Reads as fresh-reads
-use Rattle.receiver.proofs.mask_of.Reads as mask-of-reads
-use Rattle.receiver.proofs.not_opened.Reads as not-opened-reads
 
 returns : tie.Need-returns
 returns c =
@@ -33,10 +26,5 @@ returns-3 c =
 
 pub open-entitled-spec : {M : Type 1} → statement M
 open-entitled-spec =
-    tie.close
-    (tie.spec
-    (λ c κs. search needs) (λ c. search needs) (λ c κs. search needs) (λ c κs. search needs) (λ c κs. search needs)
-    returns
-    (λ c κs. search needs) (λ c. search needs) (λ c κs. search needs)
-    returns-2
-    returns-3)
+    tie.close (tie.spec (λ c κs. search needs) (λ c. search needs) (λ c κs. search needs) (λ c κs. search needs) (λ c κs. search needs) returns
+    (λ c κs. search needs) (λ c. search needs) (λ c κs. search needs) returns-2 returns-3)

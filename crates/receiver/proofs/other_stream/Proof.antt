@@ -1,8 +1,6 @@
 use mathlib.Core.Path.{refl}
 use Rattle.receiver.proofs.other_stream.Statement.{statement}
 use Rattle.receiver.proofs.other_stream.Tie as tie
-use Rattle.receiver.proofs.other_stream.Reads as reads
-use Rattle.receiver.proofs.other_stream.Lts as lts
 
 returns : tie.Need-returns
 returns c = refl

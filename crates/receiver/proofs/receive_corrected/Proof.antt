@@ -7,13 +7,6 @@ use Rattle.pdu.proofs.Assembling.{nop-small}
 use borrow.Author.Needs.{needs}
 use Rattle.receiver.proofs.receive_corrected.Statement.{statement}
 use Rattle.receiver.proofs.receive_corrected.Tie as tie
-use Rattle.receiver.proofs.receive_corrected.Reads as reads
-use Rattle.receiver.proofs.receive_corrected.Lts as lts
-use Rattle.layout.proofs.control_word.Reads as control-word-reads
-use Rattle.pdu.proofs.judge.Reads as judge-reads
-use Rattle.receiver.proofs.receive_read.Reads as receive-read-reads
-use Rattle.receiver.proofs.refused.Reads as refused-reads
-use Rattle.receiver.proofs.wrong_stream.Reads as wrong-stream-reads
 
 returns : tie.Need-returns
 returns c =
@@ -50,12 +43,5 @@ returns-3 c =
 
 pub receive-corrected-spec : {M : Type 1} → statement M
 receive-corrected-spec =
-    tie.close
-    (tie.spec
-    (λ c κs. search needs) (λ c κs. search needs) (λ c κs. search needs)
-    returns
-    (λ c κs. search needs) (λ c. search needs) (λ c κs. search needs)
-    returns-2
-    receive-read-requires
-    (λ c. search needs) (λ c. search needs)
-    returns-3)
+    tie.close (tie.spec (λ c κs. search needs) (λ c κs. search needs) (λ c κs. search needs) returns (λ c κs. search needs) (λ c. search needs)
+    (λ c κs. search needs) returns-2 receive-read-requires (λ c. search needs) (λ c. search needs) returns-3)

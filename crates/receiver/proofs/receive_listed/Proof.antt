@@ -9,13 +9,6 @@ use lib.ListN.{length}
 use borrow.Author.Needs.{needs}
 use Rattle.receiver.proofs.receive_listed.Statement.{statement}
 use Rattle.receiver.proofs.receive_listed.Tie as tie
-use Rattle.receiver.proofs.receive_listed.Reads as reads
-use Rattle.receiver.proofs.receive_listed.Lts as lts
-use Rattle.correction.proofs.correct_marked.Reads as correct-marked-reads
-use Rattle.header.proofs.header_of.Reads as header-of-reads
-use Rattle.receiver.proofs.receive_or_restore.Reads as receive-or-restore-reads
-use Rattle.receiver.proofs.refused.Reads as refused-reads
-use Rattle.receiver.proofs.wrong_state.Reads as wrong-state-reads
 
 returns : tie.Need-returns
 returns c =
@@ -67,15 +60,6 @@ returns-4 c =
 
 pub receive-listed-spec : {M : Type 1} → statement M
 receive-listed-spec =
-    tie.close
-    (tie.spec
-    (λ c κs. search needs) (λ c κs. search needs)
-    returns
-    (λ c κs. search needs)
-    returns-2
-    (λ c κs. search needs) (λ c κs. search needs) (λ c. search needs)
-    receive-or-restore-requires
-    (λ c. search needs) (λ c κs. search needs) (λ c. search needs) (λ c. search needs) (λ c. search needs)
-    returns-3
-    (λ c. search needs)
-    returns-4)
+    tie.close (tie.spec (λ c κs. search needs) (λ c κs. search needs) returns (λ c κs. search needs) returns-2 (λ c κs. search needs) (λ c κs. search needs)
+    (λ c. search needs) receive-or-restore-requires (λ c. search needs) (λ c κs. search needs) (λ c. search needs) (λ c. search needs) (λ c. search needs)
+    returns-3 (λ c. search needs) returns-4)

@@ -6,10 +6,6 @@ use mathlib.Core.Path.{_∙_}
 use borrow.Author.Needs.{needs}
 use Rattle.receiver.proofs.receive_or_restore.Statement.{statement}
 use Rattle.receiver.proofs.receive_or_restore.Tie as tie
-use Rattle.receiver.proofs.receive_or_restore.Reads as reads
-use Rattle.receiver.proofs.receive_or_restore.Lts as lts
-use Rattle.header.proofs.put_front.Reads as put-front-reads
-use Rattle.receiver.proofs.receive_corrected.Reads as receive-corrected-reads
 
 returns : tie.Need-returns
 returns c =
@@ -31,9 +27,5 @@ returns-2 c =
 
 pub receive-or-restore-spec : {M : Type 1} → statement M
 receive-or-restore-spec =
-    tie.close
-    (tie.spec
-    (λ c κs. search needs) (λ c. search needs) (λ c. search needs) (λ c. search needs)
-    returns
-    (λ c κs. search needs) (λ c. search needs) (λ c. search needs) (λ c. search needs)
-    returns-2)
+    tie.close (tie.spec (λ c κs. search needs) (λ c. search needs) (λ c. search needs) (λ c. search needs) returns (λ c κs. search needs) (λ c. search needs)
+    (λ c. search needs) (λ c. search needs) returns-2)

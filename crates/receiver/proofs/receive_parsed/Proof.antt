@@ -6,18 +6,6 @@ use Rattle.receiver.proofs.Taking.{Ready, needed, Weighed, too-short, t
 use borrow.Author.Needs.{needs}
 use Rattle.receiver.proofs.receive_parsed.Statement.{statement}
 use Rattle.receiver.proofs.receive_parsed.Tie as tie
-use Rattle.receiver.proofs.receive_parsed.Reads as reads
-use Rattle.receiver.proofs.receive_parsed.Lts as lts
-use Rattle.reassembly.proofs.accept.Reads as accept-reads
-use Rattle.reassembly.proofs.forecast_for.Reads as forecast-for-reads
-use Rattle.receiver.proofs.accepted.Reads as accepted-reads
-use Rattle.receiver.proofs.is_withheld.Reads as is-withheld-reads
-use Rattle.receiver.proofs.passes_limit.Reads as passes-limit-reads
-use Rattle.receiver.proofs.refused.Reads as refused-reads
-use Rattle.receiver.proofs.services_after.Reads as services-after-reads
-use Rattle.receiver.proofs.services_at.Reads as services-at-reads
-use Rattle.receiver.proofs.state_of.Reads as state-of-reads
-use Rattle.receiver.proofs.tally_of.Reads as tally-of-reads
 
 -- what is known before the words are counted
 ready : (w : tie.After-state-of) → let a = w .before .before .before .before .args in Ready (a .r) (a .head) (now (a .y)) (a .marks) (now (a .carry)) (w .state-of .result)
@@ -95,18 +83,6 @@ returns-3 c =
 
 pub receive-parsed-spec : {M : Type 1} → statement M
 receive-parsed-spec =
-    tie.close
-    (tie.spec
-    (λ c κs. search needs)
-    services-at-requires
-    (λ c κs. search needs) (λ c κs. search needs)
-    forecast-for-requires
-    (λ c κs. search needs)
-    returns
-    (λ c κs. search needs) (λ c κs. search needs)
-    returns-2
-    accept-requires
-    (λ c κs. search needs)
-    accepted-requires
-    (λ c. search needs) (λ c. search needs)
-    returns-3)
+    tie.close (tie.spec (λ c κs. search needs) services-at-requires (λ c κs. search needs) (λ c κs. search needs) forecast-for-requires (λ c κs. search needs)
+    returns (λ c κs. search needs) (λ c κs. search needs) returns-2 accept-requires (λ c κs. search needs) accepted-requires (λ c. search needs)
+    (λ c. search needs) returns-3)

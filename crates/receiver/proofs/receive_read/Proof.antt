@@ -9,12 +9,6 @@ use Rattle.receiver.proofs.Saying.{same-come}
 use borrow.Author.Needs.{needs}
 use Rattle.receiver.proofs.receive_read.Statement.{statement}
 use Rattle.receiver.proofs.receive_read.Tie as tie
-use Rattle.receiver.proofs.receive_read.Reads as reads
-use Rattle.receiver.proofs.receive_read.Lts as lts
-use Rattle.receiver.proofs.causes_of.Reads as causes-of-reads
-use Rattle.receiver.proofs.head_of.Reads as head-of-reads
-use Rattle.receiver.proofs.marks_of.Reads as marks-of-reads
-use Rattle.receiver.proofs.receive_parsed.Reads as receive-parsed-reads
 
 marks-of-requires : tie.Need-marks-of-requires
 marks-of-requires c κs = c .before .before .before .pre .1 .0 .1
@@ -45,12 +39,5 @@ returns c =
 
 pub receive-read-spec : {M : Type 1} → statement M
 receive-read-spec =
-    tie.close
-    (tie.spec
-    marks-of-requires
-    (λ c. search needs)
-    causes-of-requires
-    (λ c κs. search needs)
-    receive-parsed-requires
-    (λ c. search needs) (λ c. search needs)
-    returns)
+    tie.close (tie.spec marks-of-requires (λ c. search needs) causes-of-requires (λ c κs. search needs) receive-parsed-requires (λ c. search needs)
+    (λ c. search needs) returns)

@@ -4,10 +4,6 @@ use Rattle.receiver.proofs.Withholding.{services-kept, services-dropped
 use borrow.Author.Needs.{needs}
 use Rattle.receiver.proofs.services_after.Statement.{statement}
 use Rattle.receiver.proofs.services_after.Tie as tie
-use Rattle.receiver.proofs.services_after.Reads as reads
-use Rattle.receiver.proofs.services_after.Lts as lts
-use Rattle.receiver.proofs.keeps_services.Reads as keeps-services-reads
-use Rattle.receiver.proofs.unknown_services.Reads as unknown-services-reads
 
 returns : tie.Need-returns
 returns c =
@@ -22,10 +18,4 @@ returns-2 c =
     c .unknown-services .ensures ∙ services-dropped (k .result) (keepsServices (a .range) (a .r)) (a .services) (k .ensures) (c .before .if1 .left)
 
 pub services-after-spec : {M : Type 1} → statement M
-services-after-spec =
-    tie.close
-    (tie.spec
-    (λ c κs. search needs)
-    returns
-    (λ c κs. search needs)
-    returns-2)
+services-after-spec = tie.close (tie.spec (λ c κs. search needs) returns (λ c κs. search needs) returns-2)

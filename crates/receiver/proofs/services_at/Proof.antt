@@ -4,12 +4,6 @@ use native.Mathlib.Omega.{arith}
 use borrow.Author.Needs.{needs}
 use Rattle.receiver.proofs.services_at.Statement.{statement}
 use Rattle.receiver.proofs.services_at.Tie as tie
-use Rattle.receiver.proofs.services_at.Reads as reads
-use Rattle.receiver.proofs.services_at.Lts as lts
-use Rattle.reassembly.proofs.in_sequence.Reads as in-sequence-reads
-use Rattle.receiver.proofs.keeps_services.Reads as keeps-services-reads
-use Rattle.receiver.proofs.known_services.Reads as known-services-reads
-use Rattle.receiver.proofs.unknown_services.Reads as unknown-services-reads
 
 returns : tie.Need-returns
 returns c =
@@ -43,13 +37,5 @@ returns-4 c =
 
 pub services-at-spec : {M : Type 1} → statement M
 services-at-spec =
-    tie.close
-    (tie.spec
-    (λ c κs. search needs) (λ c κs. search needs)
-    returns
-    (λ c κs. search needs)
-    returns-2
-    in-sequence-requires
-    returns-3
-    (λ c κs. search needs)
-    returns-4)
+    tie.close (tie.spec (λ c κs. search needs) (λ c κs. search needs) returns (λ c κs. search needs) returns-2 in-sequence-requires returns-3
+    (λ c κs. search needs) returns-4)

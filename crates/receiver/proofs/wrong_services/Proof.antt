@@ -4,9 +4,6 @@ use lib.Dec.{eqb, ltb}
 use borrow.Author.Needs.{needs}
 use Rattle.receiver.proofs.wrong_services.Statement.{statement}
 use Rattle.receiver.proofs.wrong_services.Tie as tie
-use Rattle.receiver.proofs.wrong_services.Reads as reads
-use Rattle.receiver.proofs.wrong_services.Lts as lts
-use Rattle.receiver.proofs.keeps_services.Reads as keeps-services-reads
 
 returns : tie.Need-returns
 returns c =
@@ -14,8 +11,4 @@ returns c =
     ap (λ (k : Bool). ltb 7 (r .services) || ((not (r .serviced) && not (eqb (r .services) 0)) || (r .serviced && not k))) (c .before .before .before .before .keeps-services .ensures)
 
 pub wrong-services-spec : {M : Type 1} → statement M
-wrong-services-spec =
-    tie.close
-    (tie.spec
-    (λ c κs. search needs)
-    returns)
+wrong-services-spec = tie.close (tie.spec (λ c κs. search needs) returns)

@@ -1,5 +1,5 @@
-use mathlib.Core.Bool.{Bool, true, false, not, _&&_, _||_}
-use mathlib.Core.Path.{_≡_, ap, ap₂, _∙_}
+use mathlib.Core.Bool.{Bool, not, _&&_, _||_}
+use mathlib.Core.Path.{ap, ap₂, _∙_}
 use lib.Dec.{eqb, ltb, leb}
 use borrow.Author.Needs.{needs}
 use Rattle.refusal.specs.Refusal.{anyOf}
@@ -7,10 +7,6 @@ use Rattle.receiver.specs.Receiving.{keepsServices, wrongCounts}
 use Rattle.receiver.proofs.Rows.{three-or}
 use Rattle.receiver.proofs.wrong_state.Statement.{statement}
 use Rattle.receiver.proofs.wrong_state.Tie as tie
-use Rattle.receiver.proofs.wrong_state.Reads as reads
-use Rattle.receiver.proofs.wrong_state.Lts as lts
-use Rattle.receiver.proofs.wrong_counts.Reads as wrong-counts-reads
-use Rattle.receiver.proofs.wrong_services.Reads as wrong-services-reads
 
 returns : tie.Need-returns
 returns c =
@@ -23,8 +19,4 @@ returns c =
     ap (λ (x : Bool). leb (a .m .sequences) (r .sequence) || ((not (r .known) && not (eqb (r .sequence) 0)) || (ltb 4096 (r .held) || (ltb 63 (r .number) || ((eqb (r .held) 0 && not (eqb (r .number) 0)) || x))))) rest
 
 pub wrong-state-spec : {M : Type 1} → statement M
-wrong-state-spec =
-    tie.close
-    (tie.spec
-    (λ c κs. search needs) (λ c κs. search needs)
-    returns)
+wrong-state-spec = tie.close (tie.spec (λ c κs. search needs) (λ c κs. search needs) returns)

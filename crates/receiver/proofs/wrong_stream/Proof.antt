@@ -3,10 +3,6 @@ use mathlib.Core.Path.{sym, _∙_}
 use borrow.Author.Needs.{needs}
 use Rattle.receiver.proofs.wrong_stream.Statement.{statement}
 use Rattle.receiver.proofs.wrong_stream.Tie as tie
-use Rattle.receiver.proofs.wrong_stream.Reads as reads
-use Rattle.receiver.proofs.wrong_stream.Lts as lts
-use Rattle.modes.proofs.look_up.Reads as look-up-reads
-use Rattle.receiver.proofs.other_stream.Reads as other-stream-reads
 
 returns : tie.Need-returns
 returns c =
@@ -24,11 +20,4 @@ returns-3 c =
     stream-refused (s .args .r) (s .args .c) _ _ (c .before .before .before .look-up .ensures) (c .before .listing .given .1)
 
 pub wrong-stream-spec : {M : Type 1} → statement M
-wrong-stream-spec =
-    tie.close
-    (tie.spec
-    (λ c κs. search needs) (λ c. search needs) (λ c κs. search needs)
-    returns
-    (λ c. search needs)
-    returns-2
-    returns-3)
+wrong-stream-spec = tie.close (tie.spec (λ c κs. search needs) (λ c. search needs) (λ c κs. search needs) returns (λ c. search needs) returns-2 returns-3)

@@ -27,14 +27,6 @@ returns-2 c = counts _ _ (omega arith)
 
 pub fill-spec : {M : Type 1} → statement M
 fill-spec =
-    tie.close
-    (tie.spec
-    Inv-loop
-    μ-loop
+    tie.close (tie.spec Inv-loop μ-loop
     (λ c. search needs) (λ c. search needs) (λ c. search needs) (λ c. search needs) (λ c κs. search needs) (λ c κs. search needs) (λ c κs. search needs)
-    same-length
-    returns
-    (λ c. search needs) (λ c. search needs)
-    loop-again
-    (λ c. search needs)
-    returns-2)
+    same-length returns (λ c. search needs) (λ c. search needs) loop-again (λ c. search needs) returns-2)

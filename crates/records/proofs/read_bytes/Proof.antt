@@ -18,10 +18,5 @@ returns-3 c = counts _ _ (simp length-append (omega arith))
 
 pub read-bytes-spec : {M : Type 1} → statement M
 read-bytes-spec =
-    tie.close
-    (tie.spec
-    (λ c. search needs)
-    slice-relend-prefix-fill
-    slice-aggregate-fill
-    (λ c κs. search needs) (λ c. search needs) (λ c. search needs) (λ c. search needs)
-    returns-3)
+    tie.close (tie.spec (λ c. search needs) slice-relend-prefix-fill slice-aggregate-fill (λ c κs. search needs) (λ c. search needs) (λ c. search needs)
+    (λ c. search needs) returns-3)

@@ -1,22 +1,12 @@
 use borrow.Author.Needs.{needs}
-use native.Mathlib.Omega.{arith}
 use mathlib.Core.Path.{_≡_}
-use Prim.Native.Nat.{_-_, _≤_}
+use Prim.Native.Nat.{_-_}
 use lib.ListN.{length}
 use Rattle.resync.proofs.begun_inside.Statement.{statement}
 use Rattle.resync.proofs.begun_inside.Tie as tie
 
-abbrev Inv-loop : tie.InvT-loop
-Inv-loop buf₀ end wanted now₀ at₀ buf now at = length buf ≡ length buf₀
-
-abbrev μ-loop : tie.MeasureT-loop
-μ-loop buf₀ end wanted now₀ at₀ buf now at = end - at
-
 pub begun-inside-spec : {M : Type 1} → statement M
 begun-inside-spec =
-    tie.close
-    (tie.spec
-    Inv-loop
-    μ-loop
+    tie.close (tie.spec (λ buf₀ end wanted now₀ at₀ buf now at. length buf ≡ length buf₀) (λ buf₀ end wanted now₀ at₀ buf now at. end - at)
     (λ c. search needs) (λ c κs. search needs) (λ c. search needs) (λ c. search needs) (λ c. search needs) (λ c. search needs) (λ c. search needs)
     (λ c. search needs) (λ c. search needs))

@@ -4,17 +4,8 @@ use lib.ListN.{length}
 use Rattle.schedule.proofs.with_words.Statement.{statement}
 use Rattle.schedule.proofs.with_words.Tie as tie
 
-abbrev Inv-loop : tie.InvT-loop
-Inv-loop line start read₀ at₀ read at = at ≤ length line
-
-abbrev μ-loop : tie.MeasureT-loop
-μ-loop line start read₀ at₀ read at = length line - at
-
 pub with-words-spec : {M : Type 1} → statement M
 with-words-spec =
-    tie.close
-    (tie.spec
-    Inv-loop
-    μ-loop
+    tie.close (tie.spec (λ line start read₀ at₀ read at. at ≤ length line) (λ line start read₀ at₀ read at. length line - at)
     (λ c. search needs) (λ c κs. search needs) (λ c κs. search needs) (λ c. search needs) (λ c. search needs) (λ c κs. search needs) (λ c. search needs)
     (λ c. search needs) (λ c. search needs) (λ c. search needs))

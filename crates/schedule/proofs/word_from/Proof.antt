@@ -4,17 +4,8 @@ use lib.ListN.{length}
 use Rattle.schedule.proofs.word_from.Statement.{statement}
 use Rattle.schedule.proofs.word_from.Tie as tie
 
-abbrev Inv-loop : tie.InvT-loop
-Inv-loop line at i₀ i = (at ≤ i) × (i ≤ length line)
-
-abbrev μ-loop : tie.MeasureT-loop
-μ-loop line at i₀ i = length line - i
-
 pub word-from-spec : {M : Type 1} → statement M
 word-from-spec =
-    tie.close
-    (tie.spec
-    Inv-loop
-    μ-loop
+    tie.close (tie.spec (λ line at i₀ i. (at ≤ i) × (i ≤ length line)) (λ line at i₀ i. length line - i)
     (λ c. search needs) (λ c. search needs) (λ c κs. search needs) (λ c. search needs) (λ c. search needs) (λ c. search needs) (λ c. search needs)
     (λ c. search needs))

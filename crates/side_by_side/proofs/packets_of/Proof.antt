@@ -4,17 +4,8 @@ use lib.ListN.{length}
 use Rattle.side_by_side.proofs.packets_of.Statement.{statement}
 use Rattle.side_by_side.proofs.packets_of.Tie as tie
 
-abbrev Inv-loop : tie.InvT-loop
-Inv-loop row packets₀ i₀ packets i = i ≤ length row
-
-abbrev μ-loop : tie.MeasureT-loop
-μ-loop row packets₀ i₀ packets i = length row - i
-
 pub packets-of-spec : {M : Type 1} → statement M
 packets-of-spec =
-    tie.close
-    (tie.spec
-    Inv-loop
-    μ-loop
+    tie.close (tie.spec (λ row packets₀ i₀ packets i. i ≤ length row) (λ row packets₀ i₀ packets i. length row - i)
     (λ c. search needs) (λ c. search needs) (λ c. search needs) (λ c κs. search needs) (λ c κs. search needs) (λ c. search needs) (λ c. search needs)
     (λ c. search needs) (λ c. search needs))

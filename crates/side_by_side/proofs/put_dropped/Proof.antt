@@ -6,17 +6,9 @@ use Rattle.io.specs.Counts.{Counts}
 use Rattle.side_by_side.proofs.put_dropped.Statement.{statement}
 use Rattle.side_by_side.proofs.put_dropped.Tie as tie
 
-abbrev Inv-loop : tie.InvT-loop
-Inv-loop out₀ start frame core enhanced at₀ i₀ out at i = (Counts at out) × (length out ≡ length out₀) × (i ≤ length enhanced)
-
-abbrev μ-loop : tie.MeasureT-loop
-μ-loop out₀ start frame core enhanced at₀ i₀ out at i = length enhanced - i
-
 pub put-dropped-spec : {M : Type 1} → statement M
 put-dropped-spec =
-    tie.close
-    (tie.spec
-    Inv-loop
-    μ-loop
+    tie.close (tie.spec (λ out₀ start frame core enhanced at₀ i₀ out at i. (Counts at out) × (length out ≡ length out₀) × (i ≤ length enhanced))
+    (λ out₀ start frame core enhanced at₀ i₀ out at i. length enhanced - i)
     (λ c. search needs) (λ c. search needs) (λ c. search needs) (λ c κs. search needs) (λ c κs. search needs) (λ c. search needs) (λ c. search needs)
     (λ c. search needs) (λ c. search needs) (λ c. search needs))

@@ -8,8 +8,6 @@ use Rattle.snapshot.specs.Steps.{beginsWith}
 use Rattle.snapshot.proofs.Reading.{begins-short, begins-stop, begins-next, begins-end}
 use Rattle.snapshot.proofs.begins.Statement.{statement}
 use Rattle.snapshot.proofs.begins.Tie as tie
-use Rattle.snapshot.proofs.begins.Reads as reads
-use Rattle.snapshot.proofs.begins.Lts as lts
 
 abbrev Inv-loop : tie.InvT-loop
 Inv-loop words front i₀ i = (i ≤ length front) × (beginsWith (drop i front) (drop i words) ≡ beginsWith front words)
@@ -43,14 +41,6 @@ returns-3 c =
 
 pub begins-spec : {M : Type 1} → statement M
 begins-spec =
-    tie.close
-    (tie.spec
-    Inv-loop
-    μ-loop
-    returns
-    loop-holds
-    (λ c. search needs) (λ c. search needs) (λ c. search needs) (λ c. search needs)
-    returns-2
-    (λ c. search needs) (λ c. search needs)
-    loop-again
-    returns-3)
+    tie.close (tie.spec Inv-loop μ-loop
+    returns loop-holds (λ c. search needs) (λ c. search needs) (λ c. search needs) (λ c. search needs) returns-2 (λ c. search needs) (λ c. search needs)
+    loop-again returns-3)

@@ -2,12 +2,9 @@ use denote.Ref.{now}
 use lib.ListN.{List·getD-eq-default}
 use native.Mathlib.Omega.{arith}
 use mathlib.Core.Path.{refl, sym}
-use mathlib.Core.List.{List}
 use borrow.Author.Needs.{needs}
 use Rattle.snapshot.proofs.byte_at.Statement.{statement}
 use Rattle.snapshot.proofs.byte_at.Tie as tie
-use Rattle.snapshot.proofs.byte_at.Reads as reads
-use Rattle.snapshot.proofs.byte_at.Lts as lts
 
 returns : tie.Need-returns
 returns c = (sym (List·getD-eq-default (now (c .before .args .bytes)) 0 (c .if1 .taken)), omega arith)

@@ -4,9 +4,6 @@ use Rattle.snapshot.proofs.Tests.{other-word, right-word}
 use borrow.Author.Needs.{needs}
 use Rattle.snapshot.proofs.byte_fits.Statement.{statement}
 use Rattle.snapshot.proofs.byte_fits.Tie as tie
-use Rattle.snapshot.proofs.byte_fits.Reads as reads
-use Rattle.snapshot.proofs.byte_fits.Lts as lts
-use Rattle.snapshot.proofs.unused_zero.Reads as unused-zero-reads
 
 returns : tie.Need-returns
 returns c = other-word (c .before .args .w) (c .before .args .n) (λ e. omega arith)

@@ -2,8 +2,6 @@ use Rattle.snapshot.proofs.Tests.{byte-first, byte-second, byte-third}
 use borrow.Author.Needs.{needs}
 use Rattle.snapshot.proofs.byte_in.Statement.{statement}
 use Rattle.snapshot.proofs.byte_in.Tie as tie
-use Rattle.snapshot.proofs.byte_in.Reads as reads
-use Rattle.snapshot.proofs.byte_in.Lts as lts
 
 returns : tie.Need-returns
 returns c = byte-first (c .before .args .w) (c .before .args .k) (c .if1 .taken)
@@ -15,5 +13,4 @@ returns-3 : tie.Need-returns-3
 returns-3 c = byte-third (c .before .before .args .w) (c .before .before .args .k) (c .before .if1 .left) (c .if2 .left)
 
 pub byte-in-spec : {M : Type 1} → statement M
-byte-in-spec =
-    tie.close (tie.spec (λ c. search needs) returns (λ c. search needs) returns-2 (λ c. search needs) returns-3)
+byte-in-spec = tie.close (tie.spec (λ c. search needs) returns (λ c. search needs) returns-2 (λ c. search needs) returns-3)

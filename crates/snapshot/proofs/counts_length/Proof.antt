@@ -4,8 +4,6 @@ use lib.ListN.{length}
 use Rattle.snapshot.proofs.Counts.{counts-none, counts-some}
 use Rattle.snapshot.proofs.counts_length.Statement.{statement}
 use Rattle.snapshot.proofs.counts_length.Tie as tie
-use Rattle.snapshot.proofs.counts_length.Reads as reads
-use Rattle.snapshot.proofs.counts_length.Lts as lts
 
 returns : tie.Need-returns
 returns c = (sym (ap length (counts-some (c .before .before .args .r) (c .if1 .taken))), omega arith)

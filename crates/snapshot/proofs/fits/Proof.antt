@@ -5,10 +5,6 @@ use Rattle.snapshot.proofs.Tests.{none-to-come, some-to-come}
 use borrow.Author.Needs.{needs}
 use Rattle.snapshot.proofs.fits.Statement.{statement}
 use Rattle.snapshot.proofs.fits.Tie as tie
-use Rattle.snapshot.proofs.fits.Reads as reads
-use Rattle.snapshot.proofs.fits.Lts as lts
-use Rattle.snapshot.proofs.byte_fits.Reads as byte-fits-reads
-use Rattle.snapshot.proofs.count_of.Reads as count-of-reads
 
 returns : tie.Need-returns
 returns c = none-to-come (c .before .args .w) (c .before .args .left) (c .if1 .taken)

@@ -6,8 +6,6 @@ use Prim.Native.Nat.{ℕ, _%_}
 use borrow.Author.Needs.{needs}
 use Rattle.snapshot.proofs.half_at.Statement.{statement}
 use Rattle.snapshot.proofs.half_at.Tie as tie
-use Rattle.snapshot.proofs.half_at.Reads as reads
-use Rattle.snapshot.proofs.half_at.Lts as lts
 
 returns : tie.Need-returns
 returns c = (ap (λ (n : ℕ). n % 0x10000) (sym (List·getD-eq-default (now (c .before .args .words)) 0 (c .if1 .taken))), omega arith)

@@ -4,9 +4,6 @@ use borrow.Author.Needs.{needs}
 use Rattle.snapshot.proofs.Reading.{has-one, has-none}
 use Rattle.snapshot.proofs.has.Statement.{statement}
 use Rattle.snapshot.proofs.has.Tie as tie
-use Rattle.snapshot.proofs.has.Reads as reads
-use Rattle.snapshot.proofs.has.Lts as lts
-use Rattle.snapshot.proofs.place_of.Reads as place-of-reads
 
 returns : tie.Need-returns
 returns c =

@@ -4,9 +4,6 @@ use native.Mathlib.Omega.{arith}
 use borrow.Author.Needs.{needs}
 use Rattle.snapshot.proofs.head_length.Statement.{statement}
 use Rattle.snapshot.proofs.head_length.Tie as tie
-use Rattle.snapshot.proofs.head_length.Reads as reads
-use Rattle.snapshot.proofs.head_length.Lts as lts
-use Rattle.snapshot.proofs.one.Reads as one-reads
 
 returns : tie.Need-returns
 returns c =
@@ -15,8 +12,5 @@ returns c =
 
 pub head-length-spec : {M : Type 1} → statement M
 head-length-spec =
-    tie.close
-    (tie.spec
-    (λ c κs. search needs) (λ c. search needs) (λ c κs. search needs) (λ c. search needs) (λ c κs. search needs) (λ c. search needs) (λ c κs. search needs)
-    (λ c. search needs)
-    returns)
+    tie.close (tie.spec (λ c κs. search needs) (λ c. search needs) (λ c κs. search needs) (λ c. search needs) (λ c κs. search needs) (λ c. search needs)
+    (λ c κs. search needs) (λ c. search needs) returns)

@@ -10,11 +10,6 @@ use Rattle.snapshot.proofs.Counts.{counts-few}
 use Rattle.snapshot.proofs.Reading.{same-begins, same-not}
 use Rattle.snapshot.proofs.is_counts.Statement.{statement}
 use Rattle.snapshot.proofs.is_counts.Tie as tie
-use Rattle.snapshot.proofs.is_counts.Reads as reads
-use Rattle.snapshot.proofs.is_counts.Lts as lts
-use Rattle.snapshot.proofs.begins.Reads as begins-reads
-use Rattle.snapshot.proofs.counts_length.Reads as counts-length-reads
-use Rattle.snapshot.proofs.put_counts.Reads as put-counts-reads
 
 abbrev begun : tie.After-counts-length → tie.Start
 begun c = c .before .before .before .before .before
@@ -47,13 +42,5 @@ returns-2 c =
 
 pub is-counts-spec : {M : Type 1} → statement M
 is-counts-spec =
-    tie.close
-    (tie.spec
-    (λ c. search needs)
-    put-counts-requires
-    (λ c κs. search needs)
-    returns
-    (λ c. search needs)
-    slice-aggregate-begins
-    (λ c κs. search needs)
+    tie.close (tie.spec (λ c. search needs) put-counts-requires (λ c κs. search needs) returns (λ c. search needs) slice-aggregate-begins (λ c κs. search needs)
     returns-2)

@@ -12,12 +12,6 @@ use Rattle.snapshot.specs.Snapshot.{countWords}
 use Rattle.snapshot.proofs.Calls.{form-not, form-yes}
 use Rattle.snapshot.proofs.is_form.Statement.{statement}
 use Rattle.snapshot.proofs.is_form.Tie as tie
-use Rattle.snapshot.proofs.is_form.Reads as reads
-use Rattle.snapshot.proofs.is_form.Lts as lts
-use Rattle.snapshot.proofs.has.Reads as has-reads
-use Rattle.snapshot.proofs.is_counts.Reads as is-counts-reads
-use Rattle.snapshot.proofs.is_front.Reads as is-front-reads
-use Rattle.snapshot.proofs.place_of.Reads as place-of-reads
 
 -- the words from the place on
 counts-test : (c : tie.After-is-counts)
@@ -51,10 +45,5 @@ returns-2 c =
 
 pub is-form-spec : {M : Type 1} → statement M
 is-form-spec =
-    tie.close
-    (tie.spec
-    (λ c κs. search needs) (λ c. search needs) (λ c. search needs) (λ c. search needs) (λ c. search needs) (λ c κs. search needs)
-    returns
-    slice-aggregate-is-front
-    (λ c κs. search needs) (λ c κs. search needs) (λ c κs. search needs)
-    returns-2)
+    tie.close (tie.spec (λ c κs. search needs) (λ c. search needs) (λ c. search needs) (λ c. search needs) (λ c. search needs) (λ c κs. search needs) returns
+    slice-aggregate-is-front (λ c κs. search needs) (λ c κs. search needs) (λ c κs. search needs) returns-2)

@@ -11,8 +11,6 @@ use Rattle.snapshot.specs.Steps.{kinds}
 use Rattle.snapshot.proofs.Calls.{head-few, taken-back, front-not, front-yes}
 use Rattle.snapshot.proofs.is_front.Statement.{statement}
 use Rattle.snapshot.proofs.is_front.Tie as tie
-use Rattle.snapshot.proofs.is_front.Reads as reads
-use Rattle.snapshot.proofs.is_front.Lts as lts
 
 -- the receiver's first words, and what was written
 abbrev head : tie.Start → List ℕ
@@ -53,13 +51,5 @@ returns-2 c =
 
 pub is-front-spec : {M : Type 1} → statement M
 is-front-spec =
-    tie.close
-    (tie.spec
-    (λ c. search needs)
-    put-head-requires
-    array-share-prefix-head
-    slice-aggregate-begins
-    (λ c κs. search needs)
-    returns
-    (λ c. search needs) (λ c κs. search needs)
-    returns-2)
+    tie.close (tie.spec (λ c. search needs) put-head-requires array-share-prefix-head slice-aggregate-begins (λ c κs. search needs) returns (λ c. search needs)
+    (λ c κs. search needs) returns-2)

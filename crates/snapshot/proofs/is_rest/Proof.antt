@@ -10,10 +10,6 @@ use Rattle.snapshot.specs.Steps.{areBytes}
 use Rattle.snapshot.proofs.Reading.{rest-stop, rest-next, rest-end}
 use Rattle.snapshot.proofs.is_rest.Statement.{statement}
 use Rattle.snapshot.proofs.is_rest.Tie as tie
-use Rattle.snapshot.proofs.is_rest.Reads as reads
-use Rattle.snapshot.proofs.is_rest.Lts as lts
-use Rattle.snapshot.proofs.fits.Reads as fits-reads
-use Rattle.snapshot.proofs.left_after.Reads as left-after-reads
 
 abbrev Inv-loop : tie.InvT-loop
 Inv-loop words from held left₀ i₀ left i = areBytes left (drop i words) ≡ areBytes held (drop from words)
@@ -45,13 +41,6 @@ returns-2 c =
 
 pub is-rest-spec : {M : Type 1} → statement M
 is-rest-spec =
-    tie.close
-    (tie.spec
-    Inv-loop
-    μ-loop
-    loop-holds
-    (λ c. search needs) (λ c. search needs) (λ c κs. search needs)
-    returns
-    (λ c κs. search needs) (λ c. search needs) (λ c. search needs)
-    loop-again
+    tie.close (tie.spec Inv-loop μ-loop
+    loop-holds (λ c. search needs) (λ c. search needs) (λ c κs. search needs) returns (λ c κs. search needs) (λ c. search needs) (λ c. search needs) loop-again
     returns-2)

@@ -6,8 +6,6 @@ use Rattle.snapshot.specs.Snapshot.{has}
 use Rattle.snapshot.proofs.Calls.{wrong-form, wrong-state}
 use Rattle.snapshot.proofs.is_wrong.Statement.{statement}
 use Rattle.snapshot.proofs.is_wrong.Tie as tie
-use Rattle.snapshot.proofs.is_wrong.Reads as reads
-use Rattle.snapshot.proofs.is_wrong.Lts as lts
 
 returns : tie.Need-returns
 returns c =

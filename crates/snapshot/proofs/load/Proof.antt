@@ -7,8 +7,6 @@ use borrow.Author.Needs.{needs}
 use Rattle.snapshot.proofs.Calls.{load-refused, carry-short, words-wrong, load-held, load-rest, load-done}
 use Rattle.snapshot.proofs.load.Statement.{statement}
 use Rattle.snapshot.proofs.load.Tie as tie
-use Rattle.snapshot.proofs.load.Reads as reads
-use Rattle.snapshot.proofs.load.Lts as lts
 
 -- where the function begins
 abbrev begun : tie.After-place-of → tie.Start
@@ -54,15 +52,6 @@ returns-3 c =
 
 pub load-spec : {M : Type 1} → statement M
 load-spec =
-    tie.close
-    (tie.spec
-    (λ c κs. search needs)
-    returns
-    (λ c κs. search needs) (λ c κs. search needs) (λ c κs. search needs)
-    returns-2
-    (λ c κs. search needs) (λ c κs. search needs) (λ c κs. search needs) (λ c κs. search needs)
-    slice-aggregate-take-bytes
-    (λ c. search needs)
-    take-bytes-requires
-    (λ c. search needs)
+    tie.close (tie.spec (λ c κs. search needs) returns (λ c κs. search needs) (λ c κs. search needs) (λ c κs. search needs) returns-2 (λ c κs. search needs)
+    (λ c κs. search needs) (λ c κs. search needs) (λ c κs. search needs) slice-aggregate-take-bytes (λ c. search needs) take-bytes-requires (λ c. search needs)
     returns-3)

@@ -8,8 +8,6 @@ use Rattle.snapshot.specs.Snapshot.{fromKind}
 use Rattle.snapshot.proofs.Reading.{from-here, from-next, from-end}
 use Rattle.snapshot.proofs.place_of.Statement.{statement}
 use Rattle.snapshot.proofs.place_of.Tie as tie
-use Rattle.snapshot.proofs.place_of.Reads as reads
-use Rattle.snapshot.proofs.place_of.Lts as lts
 
 abbrev Inv-loop : tie.InvT-loop
 Inv-loop words kind i₀ i = (i ≤ length words) × (fromKind kind (drop i words) ≡ fromKind kind words)
@@ -40,13 +38,5 @@ returns-2 c =
 
 pub place-of-spec : {M : Type 1} → statement M
 place-of-spec =
-    tie.close
-    (tie.spec
-    Inv-loop
-    μ-loop
-    loop-holds
-    (λ c. search needs) (λ c. search needs)
-    returns
-    (λ c. search needs) (λ c. search needs)
-    loop-again
-    returns-2)
+    tie.close (tie.spec Inv-loop μ-loop
+    loop-holds (λ c. search needs) (λ c. search needs) returns (λ c. search needs) (λ c. search needs) loop-again returns-2)

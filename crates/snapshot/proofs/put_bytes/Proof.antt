@@ -11,9 +11,6 @@ use lib.ListN.{length, drop, length-set}
 use mathlib.Core.List.{List}
 use Rattle.snapshot.proofs.put_bytes.Statement.{statement}
 use Rattle.snapshot.proofs.put_bytes.Tie as tie
-use Rattle.snapshot.proofs.put_bytes.Reads as reads
-use Rattle.snapshot.proofs.put_bytes.Lts as lts
-use Rattle.snapshot.proofs.byte_word.Reads as byte-word-reads
 
 abbrev Inv-loop : tie.InvT-loop
 Inv-loop words₀ at bytes i₀ j₀ words i j =
@@ -30,18 +27,6 @@ room c =
 
 loop-holds : tie.Need-loop-holds Inv-loop μ-loop
 loop-holds c = (omega arith, omega arith, rw add-zero refl, refl)
-
-add-words : tie.Need-add-words Inv-loop μ-loop
-add-words c = omega (arith, room c)
-
-mul-words : tie.Need-mul-words Inv-loop μ-loop
-mul-words c = omega (arith, room c)
-
-slice-write-words : tie.Need-slice-write-words Inv-loop μ-loop
-slice-write-words c = omega (arith, room c)
-
-add-j : tie.Need-add-j Inv-loop μ-loop
-add-j c = omega (arith, room c)
 
 loop-again : tie.Need-loop-again Inv-loop μ-loop
 loop-again c =
@@ -62,18 +47,6 @@ returns c =
 
 pub put-bytes-spec : {M : Type 1} → statement M
 put-bytes-spec =
-    tie.close
-    (tie.spec
-    Inv-loop
-    μ-loop
-    loop-holds
-    (λ c κs. search needs)
-    add-words
-    mul-words
-    slice-write-words
-    (λ c. search needs)
-    add-j
-    (λ c. search needs)
-    loop-again
-    (λ c. search needs)
-    returns)
+    tie.close (tie.spec Inv-loop μ-loop
+    loop-holds (λ c κs. search needs) (λ c. omega (arith, room c)) (λ c. omega (arith, room c)) (λ c. omega (arith, room c)) (λ c. search needs)
+    (λ c. omega (arith, room c)) (λ c. search needs) loop-again (λ c. search needs) returns)

@@ -12,11 +12,6 @@ use Rattle.snapshot.proofs.Counts.{counts-none, counts-some}
 use Rattle.snapshot.proofs.Filling.{five-put}
 use Rattle.snapshot.proofs.put_counts.Statement.{statement}
 use Rattle.snapshot.proofs.put_counts.Tie as tie
-use Rattle.snapshot.proofs.put_counts.Reads as reads
-use Rattle.snapshot.proofs.put_counts.Lts as lts
-use Rattle.snapshot.proofs.high_word.Reads as high-word-reads
-use Rattle.snapshot.proofs.last_word.Reads as last-word-reads
-use Rattle.snapshot.proofs.low_word.Reads as low-word-reads
 
 abbrev begun : tie.Else1 → tie.Start
 begun e = e .before .before .before
@@ -36,35 +31,11 @@ returns c =
     let a = c .before .before .before .args in
     sym (ap (putAt (now (a .words)) (a .at)) (counts-none (a .r) (omega (arith, c .if1 .taken))) ∙ put-nil (now (a .words)) (a .at))
 
-mul-words : tie.Need-mul-words
-mul-words c = omega (arith, room (c .before))
-
-slice-write-words : tie.Need-slice-write-words
-slice-write-words c = omega (arith, room (c .before))
-
-add-words : tie.Need-add-words
-add-words c = omega (arith, room (c .before .before))
-
-mul-words-2 : tie.Need-mul-words-2
-mul-words-2 c = omega (arith, room (c .before .before))
-
 slice-write-words-2 : tie.Need-slice-write-words-2
 slice-write-words-2 c = simp length-set (fit (c .before .before) 1 (omega arith))
 
-add-words-2 : tie.Need-add-words-2
-add-words-2 c = omega (arith, room (c .before .before .before))
-
-mul-words-3 : tie.Need-mul-words-3
-mul-words-3 c = omega (arith, room (c .before .before .before))
-
 slice-write-words-3 : tie.Need-slice-write-words-3
 slice-write-words-3 c = simp length-set (fit (c .before .before .before) 2 (omega arith))
-
-add-words-3 : tie.Need-add-words-3
-add-words-3 c = omega (arith, room (c .before .before .before .before))
-
-mul-words-4 : tie.Need-mul-words-4
-mul-words-4 c = omega (arith, room (c .before .before .before .before))
 
 slice-write-words-4 : tie.Need-slice-write-words-4
 slice-write-words-4 c = simp length-set (fit (c .before .before .before .before) 3 (omega arith))
@@ -93,27 +64,8 @@ returns-2 c =
 
 pub put-counts-spec : {M : Type 1} → statement M
 put-counts-spec =
-    tie.close
-    (tie.spec
-    returns
-    (λ c κs. search needs)
-    mul-words
-    slice-write-words
-    (λ c κs. search needs)
-    add-words
-    mul-words-2
-    slice-write-words-2
-    (λ c κs. search needs)
-    add-words-2
-    mul-words-3
-    slice-write-words-3
-    (λ c κs. search needs)
-    add-words-3
-    mul-words-4
-    slice-write-words-4
-    (λ c κs. search needs)
-    add-words-4
-    mul-words-5
-    slice-write-words-5
-    (λ c. search needs)
-    returns-2)
+    tie.close (tie.spec returns (λ c κs. search needs) (λ c. omega (arith, room (c .before))) (λ c. omega (arith, room (c .before))) (λ c κs. search needs)
+    (λ c. omega (arith, room (c .before .before))) (λ c. omega (arith, room (c .before .before))) slice-write-words-2 (λ c κs. search needs)
+    (λ c. omega (arith, room (c .before .before .before))) (λ c. omega (arith, room (c .before .before .before))) slice-write-words-3 (λ c κs. search needs)
+    (λ c. omega (arith, room (c .before .before .before .before))) (λ c. omega (arith, room (c .before .before .before .before))) slice-write-words-4
+    (λ c κs. search needs) add-words-4 mul-words-5 slice-write-words-5 (λ c. search needs) returns-2)

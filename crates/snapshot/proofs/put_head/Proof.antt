@@ -10,14 +10,6 @@ use Rattle.snapshot.specs.Steps.{kinds}
 use Rattle.snapshot.proofs.Filling.{Left, all-left, has-room, one-less, last-room, none-less}
 use Rattle.snapshot.proofs.put_head.Statement.{statement}
 use Rattle.snapshot.proofs.put_head.Tie as tie
-use Rattle.snapshot.proofs.put_head.Reads as reads
-use Rattle.snapshot.proofs.put_head.Lts as lts
-use Rattle.snapshot.proofs.held_word.Reads as held-word-reads
-use Rattle.snapshot.proofs.mode_word.Reads as mode-word-reads
-use Rattle.snapshot.proofs.programs_word.Reads as programs-word-reads
-use Rattle.snapshot.proofs.put_word.Reads as put-word-reads
-use Rattle.snapshot.proofs.register_word.Reads as register-word-reads
-use Rattle.snapshot.proofs.sequence_word.Reads as sequence-word-reads
 
 -- the buffer at the beginning, and all words
 abbrev first : tie.Start → List ℕ
@@ -120,17 +112,5 @@ returns c =
 
 pub put-head-spec : {M : Type 1} → statement M
 put-head-spec =
-    tie.close
-    (tie.spec
-    (λ c κs. search needs)
-    put-word-requires
-    (λ c κs. search needs)
-    put-word-requires-2
-    (λ c κs. search needs)
-    put-word-requires-3
-    (λ c κs. search needs)
-    put-word-requires-4
-    (λ c κs. search needs)
-    put-word-requires-5
-    (λ c. search needs)
-    returns)
+    tie.close (tie.spec (λ c κs. search needs) put-word-requires (λ c κs. search needs) put-word-requires-2 (λ c κs. search needs) put-word-requires-3
+    (λ c κs. search needs) put-word-requires-4 (λ c κs. search needs) put-word-requires-5 (λ c. search needs) returns)

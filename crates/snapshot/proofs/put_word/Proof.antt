@@ -11,8 +11,6 @@ use lib.ListN.{length}
 use borrow.Author.Needs.{needs}
 use Rattle.snapshot.proofs.put_word.Statement.{statement}
 use Rattle.snapshot.proofs.put_word.Tie as tie
-use Rattle.snapshot.proofs.put_word.Reads as reads
-use Rattle.snapshot.proofs.put_word.Lts as lts
 
 returns : tie.Need-returns
 returns c =
@@ -38,5 +36,4 @@ returns-2 c =
     rw e (refl, put-one (now (a .words)) (a .at) (a .word) (room c))
 
 pub put-word-spec : {M : Type 1} → statement M
-put-word-spec =
-    tie.close (tie.spec returns (λ c. search needs) slice-write-words (λ c. search needs) (λ c. search needs) returns-2)
+put-word-spec = tie.close (tie.spec returns (λ c. search needs) slice-write-words (λ c. search needs) (λ c. search needs) returns-2)

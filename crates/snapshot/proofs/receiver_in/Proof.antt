@@ -10,8 +10,6 @@ use lib.Seq.{take-all}
 use Rattle.snapshot.specs.Snapshot.{fromKind, receiverIn}
 use Rattle.snapshot.proofs.receiver_in.Statement.{statement}
 use Rattle.snapshot.proofs.receiver_in.Tie as tie
-use Rattle.snapshot.proofs.receiver_in.Reads as reads
-use Rattle.snapshot.proofs.receiver_in.Lts as lts
 
 -- the words from the first of kind 6 on
 counts-from : (c : tie.After-place-of)
@@ -49,10 +47,7 @@ returns c =
 
 pub receiver-in-spec : {M : Type 1} → statement M
 receiver-in-spec =
-    tie.close
-    (tie.spec
-    (λ c κs. search needs) (λ c κs. search needs) (λ c κs. search needs) (λ c κs. search needs) (λ c κs. search needs) (λ c κs. search needs)
-    (λ c. search needs) (λ c. search needs) (λ c. search needs) (λ c. search needs) (λ c. search needs) (λ c. search needs) (λ c. search needs)
-    (λ c. search needs) (λ c κs. search needs) (λ c. search needs) (λ c. search needs) (λ c. search needs) (λ c. search needs) (λ c κs. search needs)
-    (λ c κs. search needs) (λ c κs. search needs) (λ c. search needs)
-    returns)
+    tie.close (tie.spec (λ c κs. search needs) (λ c κs. search needs) (λ c κs. search needs) (λ c κs. search needs) (λ c κs. search needs)
+    (λ c κs. search needs) (λ c. search needs) (λ c. search needs) (λ c. search needs) (λ c. search needs) (λ c. search needs) (λ c. search needs)
+    (λ c. search needs) (λ c. search needs) (λ c κs. search needs) (λ c. search needs) (λ c. search needs) (λ c. search needs) (λ c. search needs)
+    (λ c κs. search needs) (λ c κs. search needs) (λ c κs. search needs) (λ c. search needs) returns)

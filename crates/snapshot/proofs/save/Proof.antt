@@ -8,15 +8,6 @@ use Rattle.snapshot.proofs.Calls.{save-early, save-short, save-late, he
 use borrow.Author.Needs.{needs}
 use Rattle.snapshot.proofs.save.Statement.{statement}
 use Rattle.snapshot.proofs.save.Tie as tie
-use Rattle.snapshot.proofs.save.Reads as reads
-use Rattle.snapshot.proofs.save.Lts as lts
-use Rattle.receiver.proofs.Receiver.state_refusal.Reads as state-refusal-reads
-use Rattle.snapshot.proofs.counts_length.Reads as counts-length-reads
-use Rattle.snapshot.proofs.head_length.Reads as head-length-reads
-use Rattle.snapshot.proofs.not_saved.Reads as not-saved-reads
-use Rattle.snapshot.proofs.put_bytes.Reads as put-bytes-reads
-use Rattle.snapshot.proofs.put_counts.Reads as put-counts-reads
-use Rattle.snapshot.proofs.put_head.Reads as put-head-reads
 
 -- what was known where the words are counted, and where the state was judged
 abbrev counted : tie.After-put-head → tie.After-counts-length
@@ -89,16 +80,6 @@ returns-3 c =
 
 pub save-spec : {M : Type 1} → statement M
 save-spec =
-    tie.close
-    (tie.spec
-    (λ c κs. search needs) (λ c κs. search needs)
-    returns
-    (λ c. search needs) (λ c κs. search needs) (λ c. search needs) (λ c. search needs) (λ c κs. search needs) (λ c. search needs) (λ c κs. search needs)
-    returns-2
-    (λ c κs. search needs)
-    slice-aggregate-put-bytes
-    put-bytes-requires
-    (λ c. search needs)
-    put-counts-requires
-    (λ c. search needs) (λ c. search needs)
-    returns-3)
+    tie.close (tie.spec (λ c κs. search needs) (λ c κs. search needs) returns (λ c. search needs) (λ c κs. search needs) (λ c. search needs) (λ c. search needs)
+    (λ c κs. search needs) (λ c. search needs) (λ c κs. search needs) returns-2 (λ c κs. search needs) slice-aggregate-put-bytes put-bytes-requires
+    (λ c. search needs) put-counts-requires (λ c. search needs) (λ c. search needs) returns-3)

@@ -3,8 +3,6 @@ use mathlib.Core.Path.{refl}
 use borrow.Author.Needs.{needs}
 use Rattle.snapshot.proofs.services_in_force.Statement.{statement}
 use Rattle.snapshot.proofs.services_in_force.Tie as tie
-use Rattle.snapshot.proofs.services_in_force.Reads as reads
-use Rattle.snapshot.proofs.services_in_force.Lts as lts
 
 returns : tie.Need-returns
 returns c = (rw (c .before .if1 .taken) refl, omega arith)

@@ -1,8 +1,6 @@
 use Rattle.snapshot.proofs.Tests.{unused-two, unused-one, unused-none}
 use Rattle.snapshot.proofs.unused_zero.Statement.{statement}
 use Rattle.snapshot.proofs.unused_zero.Tie as tie
-use Rattle.snapshot.proofs.unused_zero.Reads as reads
-use Rattle.snapshot.proofs.unused_zero.Lts as lts
 
 returns : tie.Need-returns
 returns c = unused-two (c .before .args .w) (c .before .args .n) (c .if1 .taken)

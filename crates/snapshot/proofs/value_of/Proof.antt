@@ -4,9 +4,6 @@ use borrow.Author.Needs.{needs}
 use Rattle.snapshot.proofs.Reading.{value-one, value-none}
 use Rattle.snapshot.proofs.value_of.Statement.{statement}
 use Rattle.snapshot.proofs.value_of.Tie as tie
-use Rattle.snapshot.proofs.value_of.Reads as reads
-use Rattle.snapshot.proofs.value_of.Lts as lts
-use Rattle.snapshot.proofs.place_of.Reads as place-of-reads
 
 returns : tie.Need-returns
 returns c =

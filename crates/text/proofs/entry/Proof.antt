@@ -1,14 +1,8 @@
 use borrow.Author.Needs.{needs}
-use native.Mathlib.Omega.{arith}
-use mathlib.Core.Path.{_≡_, refl, ap, sym, _∙_}
-use Prim.Native.Nat.{ℕ, _+_, _-_, _*_, _≤_, _<_}
-use lib.ListN.{length, take, drop, getD, set, length-set}
-use mathlib.Core.List.{List, [], _∷_, _++_}
+use Prim.Native.Nat.{_-_, _≤_}
+use lib.ListN.{length}
 use Rattle.text.proofs.entry.Statement.{statement}
 use Rattle.text.proofs.entry.Tie as tie
-use Rattle.text.proofs.entry.Reads as reads
-use Rattle.text.proofs.entry.Lts as lts
-use Rattle.text.proofs.entry_end.Reads as entry-end-reads
 
 abbrev Inv-loop : tie.InvT-loop
 Inv-loop table number from₀ left₀ from left = from ≤ length table
@@ -24,13 +18,6 @@ part-result-end-2 c = search needs
 
 pub entry-spec : {M : Type 1} → statement M
 entry-spec =
-    tie.close
-    (tie.spec
-    Inv-loop
-    μ-loop
+    tie.close (tie.spec Inv-loop μ-loop
     (λ c. search needs) (λ c κs. search needs) (λ c. search needs) (λ c. search needs) (λ c. search needs) (λ c. search needs) (λ c. search needs)
-    (λ c. search needs) (λ c. search needs)
-    loop-again
-    (λ c κs. search needs) (λ c. search needs) (λ c. search needs)
-    part-result-end-2
-    (λ c. search needs))
+    (λ c. search needs) (λ c. search needs) loop-again (λ c κs. search needs) (λ c. search needs) (λ c. search needs) part-result-end-2 (λ c. search needs))

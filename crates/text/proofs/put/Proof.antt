@@ -26,10 +26,5 @@ returns c =
 
 pub put-spec : {M : Type 1} → statement M
 put-spec =
-    tie.close
-    (tie.spec
-    (λ c κs. search needs) (λ c. search needs) (λ c κs. search needs)
-    slice-aggregate-put-bytes
-    put-bytes-requires
-    (λ c. search needs) (λ c. search needs)
-    returns)
+    tie.close (tie.spec (λ c κs. search needs) (λ c. search needs) (λ c κs. search needs) slice-aggregate-put-bytes put-bytes-requires (λ c. search needs)
+    (λ c. search needs) returns)

@@ -1,16 +1,10 @@
 use borrow.Author.Needs.{needs}
 use native.Mathlib.Omega.{arith}
-use mathlib.Core.Path.{_≡_, refl, sym, _∙_}
-use Prim.Native.Nat.{ℕ, _*_, _/_, _≤_, _<_}
-use lib.ListN.{length}
 use denote.Ref.{now}
 use Rattle.io.proofs.Counting.{counts}
 use Rattle.word_bytes.proofs.Words.{no-words, left-over, no-room, all-words}
 use Rattle.word_bytes.proofs.get.Statement.{statement}
 use Rattle.word_bytes.proofs.get.Tie as tie
-use Rattle.word_bytes.proofs.get.Reads as reads
-use Rattle.word_bytes.proofs.get.Lts as lts
-use Rattle.word_bytes.proofs.get_words.Reads as get-words-reads
 
 returns : tie.Need-returns
 returns c =

@@ -1,19 +1,14 @@
 use borrow.Author.Needs.{needs}
 use native.Mathlib.Omega.{arith}
-use mathlib.Core.Path.{_≡_, refl, ap, sym, _∙_}
-use Prim.Native.Nat.{ℕ, _+_, _-_, _*_, _/_, _≤_, _<_}
-use lib.ListN.{length, take, drop, getD, set, length-set, length-drop, drop-of-length-le}
-use mathlib.Core.List.{List, [], _∷_, _++_}
+use mathlib.Core.Path.{_≡_, refl}
+use Prim.Native.Nat.{_-_, _*_, _/_, _≤_}
+use lib.ListN.{length, drop, length-set, length-drop}
 use denote.Ref.{now}
 use Rattle.buffer.specs.Buffer.{putAt}
-use Rattle.buffer.proofs.Laws.{put-nil, put-length}
 use Rattle.word_bytes.specs.WordBytes.{wordsOf}
 use Rattle.word_bytes.proofs.Words.{word-turn, all-read}
 use Rattle.word_bytes.proofs.get_words.Statement.{statement}
 use Rattle.word_bytes.proofs.get_words.Tie as tie
-use Rattle.word_bytes.proofs.get_words.Reads as reads
-use Rattle.word_bytes.proofs.get_words.Lts as lts
-use Rattle.word_bytes.proofs.word_at.Reads as word-at-reads
 
 abbrev Inv-loop : tie.InvT-loop
 Inv-loop bytes words₀ i₀ words i = (i ≤ length bytes / 4) × (putAt words i (wordsOf (drop (4 * i) bytes)) ≡ putAt words₀ 0 (wordsOf bytes)) × (length words ≡ length words₀)
@@ -44,12 +39,6 @@ returns c =
 
 pub get-words-spec : {M : Type 1} → statement M
 get-words-spec =
-    tie.close
-    (tie.spec
-    Inv-loop
-    μ-loop
-    loop-holds
-    (λ c. search needs) (λ c κs. search needs) (λ c. search needs) (λ c. search needs) (λ c. search needs) (λ c. search needs)
-    loop-again
-    (λ c. search needs)
-    returns)
+    tie.close (tie.spec Inv-loop μ-loop
+    loop-holds (λ c. search needs) (λ c κs. search needs) (λ c. search needs) (λ c. search needs) (λ c. search needs) (λ c. search needs) loop-again
+    (λ c. search needs) returns)

@@ -1,16 +1,10 @@
 use borrow.Author.Needs.{needs}
 use native.Mathlib.Omega.{arith}
-use mathlib.Core.Path.{_≡_, refl, sym, _∙_}
-use Prim.Native.Nat.{ℕ, _*_, _/_, _≤_, _<_}
-use lib.ListN.{length}
 use denote.Ref.{now}
 use Rattle.io.proofs.Counting.{counts}
 use Rattle.word_bytes.proofs.Words.{no-bytes, all-bytes}
 use Rattle.word_bytes.proofs.put.Statement.{statement}
 use Rattle.word_bytes.proofs.put.Tie as tie
-use Rattle.word_bytes.proofs.put.Reads as reads
-use Rattle.word_bytes.proofs.put.Lts as lts
-use Rattle.word_bytes.proofs.put_words.Reads as put-words-reads
 
 returns : tie.Need-returns
 returns c =

@@ -1,17 +1,11 @@
 use borrow.Author.Needs.{needs}
 use native.Mathlib.Omega.{arith}
-use mathlib.Core.Path.{_≡_, refl, ap, sym, _∙_}
-use Prim.Native.Nat.{ℕ, _+_, _-_, _*_, _/_, _≤_, _<_}
-use lib.ListN.{length, take, drop, getD, set, length-set, length-drop, drop-of-length-le}
-use mathlib.Core.List.{List, [], _∷_, _++_}
+use Prim.Native.Nat.{_-_}
+use lib.ListN.{length-set}
 use denote.Ref.{now}
-use Rattle.buffer.specs.Buffer.{putAt}
-use Rattle.buffer.proofs.Laws.{put-nil, put-length}
 use Rattle.log.proofs.Blocks.{four-put}
 use Rattle.word_bytes.proofs.put_word.Statement.{statement}
 use Rattle.word_bytes.proofs.put_word.Tie as tie
-use Rattle.word_bytes.proofs.put_word.Reads as reads
-use Rattle.word_bytes.proofs.put_word.Lts as lts
 
 -- src/lib.rt:14:15
 -- src/lib.rt:14:5
@@ -40,13 +34,5 @@ returns c = four-put (now (c .args .out)) (c .args .at) _ _ _ _ (c .pre)
 
 pub put-word-spec : {M : Type 1} → statement M
 put-word-spec =
-    tie.close
-    (tie.spec
-    (λ c. search needs) (λ c. search needs) (λ c. search needs) (λ c. search needs)
-    slice-write-out-2
-    (λ c. search needs) (λ c. search needs)
-    slice-write-out-3
-    (λ c. search needs) (λ c. search needs)
-    slice-write-out-4
-    (λ c. search needs)
-    returns)
+    tie.close (tie.spec (λ c. search needs) (λ c. search needs) (λ c. search needs) (λ c. search needs) slice-write-out-2 (λ c. search needs)
+    (λ c. search needs) slice-write-out-3 (λ c. search needs) (λ c. search needs) slice-write-out-4 (λ c. search needs) returns)

@@ -1,19 +1,15 @@
 use borrow.Author.Needs.{needs}
 use native.Mathlib.Omega.{arith}
-use mathlib.Core.Path.{_≡_, refl, ap, sym, _∙_}
-use Prim.Native.Nat.{ℕ, _+_, _-_, _*_, _/_, _≤_, _<_}
-use lib.ListN.{length, take, drop, getD, set, length-set, length-drop, drop-of-length-le}
-use mathlib.Core.List.{List, [], _∷_, _++_}
+use mathlib.Core.Path.{_≡_, refl}
+use Prim.Native.Nat.{_-_, _*_, _≤_}
+use lib.ListN.{length, drop, drop-of-length-le}
+use mathlib.Core.List.{[]}
 use denote.Ref.{now}
 use Rattle.buffer.specs.Buffer.{putAt}
-use Rattle.buffer.proofs.Laws.{put-nil, put-length}
 use Rattle.word_bytes.specs.WordBytes.{bytesOf}
 use Rattle.word_bytes.proofs.Words.{turn, none-put}
 use Rattle.word_bytes.proofs.put_words.Statement.{statement}
 use Rattle.word_bytes.proofs.put_words.Tie as tie
-use Rattle.word_bytes.proofs.put_words.Reads as reads
-use Rattle.word_bytes.proofs.put_words.Lts as lts
-use Rattle.word_bytes.proofs.put_word.Reads as put-word-reads
 
 abbrev Inv-loop : tie.InvT-loop
 Inv-loop words out₀ i₀ out i = (i ≤ length words) × (putAt out (4 * i) (bytesOf (drop i words)) ≡ putAt out₀ 0 (bytesOf words)) × (length out ≡ length out₀)
@@ -46,12 +42,6 @@ returns c =
 
 pub put-words-spec : {M : Type 1} → statement M
 put-words-spec =
-    tie.close
-    (tie.spec
-    Inv-loop
-    μ-loop
-    loop-holds
-    (λ c. search needs) (λ c. search needs) (λ c. search needs) (λ c κs. search needs) (λ c. search needs) (λ c. search needs)
-    loop-again
-    (λ c. search needs)
-    returns)
+    tie.close (tie.spec Inv-loop μ-loop
+    loop-holds (λ c. search needs) (λ c. search needs) (λ c. search needs) (λ c κs. search needs) (λ c. search needs) (λ c. search needs) loop-again
+    (λ c. search needs) returns)

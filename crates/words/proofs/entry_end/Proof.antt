@@ -1,19 +1,8 @@
 use borrow.Author.Needs.{needs}
-use native.Mathlib.Omega.{arith}
-use mathlib.Core.Path.{_≡_, refl, ap, sym, _∙_}
-use Prim.Native.Nat.{ℕ, _+_, _-_, _*_, _≤_, _<_}
-use lib.ListN.{length, take, drop, getD, set, length-set}
-use mathlib.Core.List.{List, [], _∷_, _++_}
+use Prim.Native.Nat.{_-_, _≤_, _<_}
+use lib.ListN.{length}
 use Rattle.words.proofs.entry_end.Statement.{statement}
 use Rattle.words.proofs.entry_end.Tie as tie
-use Rattle.words.proofs.entry_end.Reads as reads
-use Rattle.words.proofs.entry_end.Lts as lts
-
-abbrev Inv-loop : tie.InvT-loop
-Inv-loop log from i₀ i = (from < i) × (i ≤ length log)
-
-abbrev μ-loop : tie.MeasureT-loop
-μ-loop log from i₀ i = length log - i
 
 -- src/lib.rt:59:17
 -- src/lib.rt:60:5
@@ -26,9 +15,6 @@ abbrev μ-loop : tie.MeasureT-loop
 -- src/lib.rt:55:1
 pub entry-end-spec : {M : Type 1} → statement M
 entry-end-spec =
-    tie.close
-    (tie.spec
-    Inv-loop
-    μ-loop
+    tie.close (tie.spec (λ log from i₀ i. (from < i) × (i ≤ length log)) (λ log from i₀ i. length log - i)
     (λ c. search needs) (λ c. search needs) (λ c. search needs) (λ c. search needs) (λ c. search needs) (λ c. search needs) (λ c. search needs)
     (λ c. search needs) (λ c. search needs))

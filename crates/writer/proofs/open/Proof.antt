@@ -1,15 +1,8 @@
 use Rattle.writer.proofs.Opening.{opened-by}
-use native.Mathlib.Omega.{arith}
-use mathlib.Core.Path.{_≡_, refl, ap, sym, _∙_}
-use Prim.Native.Nat.{ℕ, _+_, _-_, _*_, _≤_, _<_}
-use lib.ListN.{length, take, drop, getD, set, length-set}
-use mathlib.Core.List.{List, [], _∷_, _++_}
+use Prim.Native.Nat.{_-_}
 use borrow.Author.Needs.{needs}
 use Rattle.writer.proofs.open.Statement.{statement}
 use Rattle.writer.proofs.open.Tie as tie
-use Rattle.writer.proofs.open.Reads as reads
-use Rattle.writer.proofs.open.Lts as lts
-use Rattle.modes.proofs.look_up.Reads as look-up-reads
 
 returns : tie.Need-returns
 returns c = opened-by _ _ (c .before .before .before .args .mode) (c .before .before .before .args .stream) (c .before .before .before .args .register) (c .before .before .look-up .ensures) (c .enum-told .given .1)

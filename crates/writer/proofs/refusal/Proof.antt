@@ -1,30 +1,18 @@
 use Rattle.writer.proofs.Judging.{size-right}
 use Rattle.writer.specs.Writing.{wrongWriter, wrongSize, wrongPackets, wrongExtra, noRoom, expansionOf, extraOf}
-use Rattle.settings.specs.Settings.{brokenRules, wrongValues, fieldsFor}
+use Rattle.settings.specs.Settings.{brokenRules, wrongValues}
 use Rattle.expansion.specs.declared.Fields.{Fields}
 use Rattle.expansion.specs.Writing.{expansionBytes}
-use Rattle.refusal.specs.Refusal.{anyOf, firstOf}
-use mathlib.Core.Bool.{Bool, true, false}
+use Rattle.refusal.specs.Refusal.{anyOf}
+use mathlib.Core.Bool.{true, false}
 use denote.Ref.{now}
 use native.Mathlib.Omega.{arith}
-use mathlib.Core.Path.{_≡_, refl, ap, sym, _∙_}
-use Prim.Native.Nat.{ℕ, _+_, _-_, _*_, _≤_, _<_}
-use lib.ListN.{length, take, drop, getD, set, length-set}
-use mathlib.Core.List.{List, [], _∷_, _++_}
+use mathlib.Core.Path.{_≡_, ap, sym, _∙_}
+use Prim.Native.Nat.{ℕ, _+_, _-_}
+use lib.ListN.{length}
 use borrow.Author.Needs.{needs}
 use Rattle.writer.proofs.refusal.Statement.{statement}
 use Rattle.writer.proofs.refusal.Tie as tie
-use Rattle.writer.proofs.refusal.Reads as reads
-use Rattle.writer.proofs.refusal.Lts as lts
-use Rattle.expansion.proofs.expansion_bytes.Reads as expansion-bytes-reads
-use Rattle.settings.proofs.breaks_rules.Reads as breaks-rules-reads
-use Rattle.settings.proofs.fields_for.Reads as fields-for-reads
-use Rattle.settings.proofs.wrong_values.Reads as wrong-values-reads
-use Rattle.writer.proofs.no_room.Reads as no-room-reads
-use Rattle.writer.proofs.wrong_extra.Reads as wrong-extra-reads
-use Rattle.writer.proofs.wrong_packets.Reads as wrong-packets-reads
-use Rattle.writer.proofs.wrong_size.Reads as wrong-size-reads
-use Rattle.writer.proofs.wrong_state.Reads as wrong-state-reads
 
 -- the rows that do not apply
 not1 : (e : tie.Else1) → let a = e .before .before .before .before .before .args in anyOf (wrongWriter (a .m) (a .w)) ≡ false
@@ -110,23 +98,6 @@ returns-8 c =
 
 pub refusal-spec : {M : Type 1} → statement M
 refusal-spec =
-    tie.close
-    (tie.spec
-    (λ c κs. search needs)
-    returns
-    (λ c κs. search needs)
-    returns-2
-    (λ c κs. search needs)
-    returns-3
-    (λ c κs. search needs)
-    returns-4
-    (λ c κs. search needs)
-    returns-5
-    cast-fields-for
-    fields-for-requires
-    (λ c κs. search needs) (λ c κs. search needs)
-    returns-6
-    add-no-room
-    no-room-requires
-    returns-7
-    returns-8)
+    tie.close (tie.spec (λ c κs. search needs) returns (λ c κs. search needs) returns-2 (λ c κs. search needs) returns-3 (λ c κs. search needs) returns-4
+    (λ c κs. search needs) returns-5 cast-fields-for fields-for-requires (λ c κs. search needs) (λ c κs. search needs) returns-6 add-no-room no-room-requires
+    returns-7 returns-8)

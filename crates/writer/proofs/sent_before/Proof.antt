@@ -1,16 +1,11 @@
 use borrow.Author.Tests.{eq-eqb, ne-eqb}
 use lib.Dec.{eqb}
 use mathlib.Core.Bool.{true, false}
-use borrow.Author.Needs.{needs}
 use native.Mathlib.Omega.{arith}
-use mathlib.Core.Path.{_≡_, refl, ap, sym, _∙_}
-use Prim.Native.Nat.{ℕ, _+_, _-_, _*_, _≤_, _<_}
-use lib.ListN.{length, take, drop, getD, set, length-set}
-use mathlib.Core.List.{List, [], _∷_, _++_}
+use mathlib.Core.Path.{_≡_}
+use Prim.Native.Nat.{_-_}
 use Rattle.writer.proofs.sent_before.Statement.{statement}
 use Rattle.writer.proofs.sent_before.Tie as tie
-use Rattle.writer.proofs.sent_before.Reads as reads
-use Rattle.writer.proofs.sent_before.Lts as lts
 
 returns : tie.Need-returns
 returns c = let t : eqb (c .before .args .ended) 0 ≡ true = eq-eqb (c .before .args .ended) 0 (c .if1 .taken) in (rw t, omega arith)

@@ -13,23 +13,11 @@ use lib.Dec.{ltb}
 use denote.Ref.{now}
 use native.Mathlib.Omega.{arith}
 use mathlib.Core.Path.{_≡_, refl, ap, ap₂, sym, _∙_}
-use Prim.Native.Nat.{ℕ, _+_, _-_, _*_, _≤_, _<_}
-use lib.ListN.{length, take, drop, getD, set, length-set}
-use mathlib.Core.List.{List, [], _∷_, _++_}
+use Prim.Native.Nat.{ℕ, _+_, _-_, _≤_}
+use lib.ListN.{length, take, drop}
 use borrow.Author.Needs.{needs}
 use Rattle.writer.proofs.write_listed.Statement.{statement}
 use Rattle.writer.proofs.write_listed.Tie as tie
-use Rattle.writer.proofs.write_listed.Reads as reads
-use Rattle.writer.proofs.write_listed.Lts as lts
-use Rattle.contents.proofs.put_contents.Reads as put-contents-reads
-use Rattle.expansion.proofs.expansion_bytes.Reads as expansion-bytes-reads
-use Rattle.header.proofs.write_parity.Reads as write-parity-reads
-use Rattle.layout.proofs.control_bytes.Reads as control-bytes-reads
-use Rattle.packing.proofs.overhead.Reads as overhead-reads
-use Rattle.packing.proofs.pack.Reads as pack-reads
-use Rattle.settings.proofs.fields_for.Reads as fields-for-reads
-use Rattle.writer.proofs.advance.Reads as advance-reads
-use Rattle.writer.proofs.control_with.Reads as control-with-reads
 
 -- the call is one that no row turns down
 fine-at : (s : tie.Start) → Fine (s .args .s) (now (s .args .psd)) (now (s .args .lengths)) (now (s .args .bytes)) (length (now (s .args .pdu))) (s .args .m) (s .args .w)
@@ -138,26 +126,7 @@ returns c =
 
 pub write-listed-spec : {M : Type 1} → statement M
 write-listed-spec =
-    tie.close
-    (tie.spec
-    cast-fields-for
-    fields-for-requires
-    (λ c κs. search needs) (λ c. search needs)
-    pack-requires
-    add-overhead
-    overhead-requires
-    (λ c. search needs)
-    cast-control-with
-    control-with-requires
-    (λ c κs. search needs)
-    array-share-prefix-expansion
-    slice-aggregate-put-contents
-    (λ c. search needs)
-    array-share-prefix-placed
-    slice-aggregate-put-contents-2
-    (λ c. search needs)
-    put-contents-requires
-    (λ c κs. search needs)
-    advance-requires
-    (λ c. search needs) (λ c. search needs)
-    returns)
+    tie.close (tie.spec cast-fields-for fields-for-requires (λ c κs. search needs) (λ c. search needs) pack-requires add-overhead overhead-requires
+    (λ c. search needs) cast-control-with control-with-requires (λ c κs. search needs) array-share-prefix-expansion slice-aggregate-put-contents
+    (λ c. search needs) array-share-prefix-placed slice-aggregate-put-contents-2 (λ c. search needs) put-contents-requires (λ c κs. search needs)
+    advance-requires (λ c. search needs) (λ c. search needs) returns)

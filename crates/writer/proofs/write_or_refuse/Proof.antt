@@ -1,18 +1,11 @@
 use Rattle.writer.proofs.Calling.{accepted-call, refused-call}
 use denote.Ref.{now}
-use native.Mathlib.Omega.{arith}
-use mathlib.Core.Path.{_≡_, refl, ap, sym, _∙_}
-use Prim.Native.Nat.{ℕ, _+_, _-_, _*_, _≤_, _<_}
-use lib.ListN.{length, take, drop, getD, set, length-set}
-use mathlib.Core.List.{List, [], _∷_, _++_}
+use mathlib.Core.Path.{sym, _∙_}
+use Prim.Native.Nat.{_-_}
+use lib.ListN.{length}
 use borrow.Author.Needs.{needs}
 use Rattle.writer.proofs.write_or_refuse.Statement.{statement}
 use Rattle.writer.proofs.write_or_refuse.Tie as tie
-use Rattle.writer.proofs.write_or_refuse.Reads as reads
-use Rattle.writer.proofs.write_or_refuse.Lts as lts
-use Rattle.writer.proofs.refusal.Reads as refusal-reads
-use Rattle.writer.proofs.refused.Reads as refused-reads
-use Rattle.writer.proofs.write_listed.Reads as write-listed-reads
 
 returns : tie.Need-returns
 returns c =
@@ -25,10 +18,4 @@ returns-2 c =
     refused-call (a .s) (now (a .psd)) (now (a .lengths)) (now (a .bytes)) (length (now (a .pdu))) (a .w) (now (a .pdu)) (a .m) (c .before .before .refusal .result) (c .refused .result) (c .before .before .refusal .ensures) (c .before .if1 .left) (c .refused .ensures)
 
 pub write-or-refuse-spec : {M : Type 1} → statement M
-write-or-refuse-spec =
-    tie.close
-    (tie.spec
-    (λ c κs. search needs) (λ c κs. search needs) (λ c. search needs)
-    returns
-    (λ c κs. search needs)
-    returns-2)
+write-or-refuse-spec = tie.close (tie.spec (λ c κs. search needs) (λ c κs. search needs) (λ c. search needs) returns (λ c κs. search needs) returns-2)

@@ -1,19 +1,13 @@
 use Rattle.writer.proofs.Judging.{never, first-fails}
 use lib.Dec.{ltb}
 use borrow.Author.Tests.{ltb-false}
-use mathlib.Core.Bool.{Bool, true, false, _||_, _&&_, not}
+use mathlib.Core.Bool.{_&&_, not}
 use Rattle.writer.proofs.Judging.{psd-past}
 use native.Mathlib.Omega.{arith}
-use mathlib.Core.Path.{_≡_, refl, ap, sym, _∙_}
-use Prim.Native.Nat.{ℕ, _+_, _-_, _*_, _≤_, _<_}
-use lib.ListN.{length, take, drop, getD, set, length-set}
-use mathlib.Core.List.{List, [], _∷_, _++_}
+use Prim.Native.Nat.{_+_, _-_}
 use borrow.Author.Needs.{needs}
 use Rattle.writer.proofs.wrong_extra.Statement.{statement}
 use Rattle.writer.proofs.wrong_extra.Tie as tie
-use Rattle.writer.proofs.wrong_extra.Reads as reads
-use Rattle.writer.proofs.wrong_extra.Lts as lts
-use Rattle.writer.proofs.limit_of.Reads as limit-of-reads
 
 returns : tie.Need-returns
 returns c = let a = c .before .before .args in (psd-past (a .m) (c .before .limit-of .result) (a .expansion) (a .psd) (c .before .limit-of .ensures .0) (c .if1 .taken), λ e. never e)

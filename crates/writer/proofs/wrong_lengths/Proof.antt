@@ -1,17 +1,12 @@
 use Rattle.writer.proofs.Counting.{wrongly, stops-here, goes-on-here, not-more, none-left}
-use mathlib.Core.Bool.{Bool, true, false, not, _||_}
 use denote.Ref.{now}
 use borrow.Author.Needs.{needs}
 use native.Mathlib.Omega.{arith}
-use mathlib.Core.Path.{_≡_, refl, ap, sym, _∙_}
-use Prim.Native.Nat.{ℕ, _+_, _-_, _*_, _≤_, _<_}
-use lib.ListN.{length, take, drop, getD, set, length-set}
-use mathlib.Core.List.{List, [], _∷_, _++_}
+use mathlib.Core.Path.{_≡_, refl, sym, _∙_}
+use Prim.Native.Nat.{_-_, _<_}
+use lib.ListN.{length, drop, getD}
 use Rattle.writer.proofs.wrong_lengths.Statement.{statement}
 use Rattle.writer.proofs.wrong_lengths.Tie as tie
-use Rattle.writer.proofs.wrong_lengths.Reads as reads
-use Rattle.writer.proofs.wrong_lengths.Lts as lts
-use Rattle.writer.proofs.wide.Reads as wide-reads
 
 abbrev Inv-loop : tie.InvT-loop
 Inv-loop lengths count left₀ k₀ left k = wrongly (drop k lengths) left ≡ wrongly lengths count
@@ -50,15 +45,5 @@ returns-2 c =
 
 pub wrong-lengths-spec : {M : Type 1} → statement M
 wrong-lengths-spec =
-    tie.close
-    (tie.spec
-    Inv-loop
-    μ-loop
-    loop-holds
-    (λ c. search needs) (λ c. search needs) (λ c κs. search needs)
-    returns
-    sub-left
-    (λ c. search needs)
-    loop-less
-    loop-again
-    returns-2)
+    tie.close (tie.spec Inv-loop μ-loop
+    loop-holds (λ c. search needs) (λ c. search needs) (λ c κs. search needs) returns sub-left (λ c. search needs) loop-less loop-again returns-2)

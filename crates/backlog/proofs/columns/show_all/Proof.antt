@@ -1,28 +1,16 @@
 use borrow.Author.Needs.{needs}
-use native.Mathlib.Omega.{arith}
 use mathlib.Core.Path.{_≡_}
-use Prim.Native.Nat.{_+_, _-_, _*_, _≤_, _<_}
+use Prim.Native.Nat.{_-_}
 use lib.ListN.{length}
 use Rattle.backlog.proofs.columns.show_all.Statement.{statement}
 use Rattle.backlog.proofs.columns.show_all.Tie as tie
-use Rattle.backlog.proofs.columns.show_all.Reads as reads
-use Rattle.backlog.proofs.columns.show_all.Lts as lts
-use Rattle.backlog.proofs.columns.part.Reads as part-reads
-use Rattle.backlog.proofs.columns.show_block.Reads as show-block-reads
-use Rattle.latency.proofs.show_waiting.Reads as show-waiting-reads
 
 abbrev Inv-loop : tie.InvT-loop
 Inv-loop b counts most₀ least₀ dry₀ block₀ first₀ most least dry block first = (length most ≡ length most₀) × (length least ≡ length least₀) × (length dry ≡ length dry₀) × (4096 ≡ length block)
 
-abbrev μ-loop : tie.MeasureT-loop
-μ-loop b counts most₀ least₀ dry₀ block₀ first₀ most least dry block first = b .ticks - first
-
 pub show-all-spec : {M : Type 1} → statement M
 show-all-spec =
-    tie.close
-    (tie.spec
-    Inv-loop
-    μ-loop
+    tie.close (tie.spec Inv-loop (λ b counts most₀ least₀ dry₀ block₀ first₀ most least dry block first. b .ticks - first)
     (λ c. search needs) (λ c. search needs) (λ c κs. search needs) (λ c. search needs) (λ c. search needs) (λ c κs. search needs) (λ c κs. search needs)
     (λ c. search needs) (λ c. search needs) (λ c. search needs) (λ c. search needs) (λ c. search needs) (λ c. search needs) (λ c. search needs)
     (λ c. search needs) (λ c. search needs) (λ c. search needs) (λ c. search needs) (λ c. search needs))

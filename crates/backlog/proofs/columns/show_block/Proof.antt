@@ -1,26 +1,15 @@
 use borrow.Author.Needs.{needs}
-use native.Mathlib.Omega.{arith}
 use mathlib.Core.Path.{_≡_}
-use Prim.Native.Nat.{_+_, _-_, _*_, _≤_, _<_}
+use Prim.Native.Nat.{_-_, _≤_}
 use lib.ListN.{length}
 use Rattle.backlog.proofs.columns.show_block.Statement.{statement}
 use Rattle.backlog.proofs.columns.show_block.Tie as tie
-use Rattle.backlog.proofs.columns.show_block.Reads as reads
-use Rattle.backlog.proofs.columns.show_block.Lts as lts
-use Rattle.backlog.proofs.columns.show.Reads as show-reads
-use Rattle.std.proofs.num.wrapping_add_usize.Reads as wrapping-add-usize-reads
 
 abbrev Inv-loop : tie.InvT-loop
 Inv-loop b first block most₀ least₀ dry₀ k₀ most least dry k = (k ≤ length block) × (length most ≡ length most₀) × (length least ≡ length least₀) × (length dry ≡ length dry₀)
 
-abbrev μ-loop : tie.MeasureT-loop
-μ-loop b first block most₀ least₀ dry₀ k₀ most least dry k = length block - k
-
 pub show-block-spec : {M : Type 1} → statement M
 show-block-spec =
-    tie.close
-    (tie.spec
-    Inv-loop
-    μ-loop
+    tie.close (tie.spec Inv-loop (λ b first block most₀ least₀ dry₀ k₀ most least dry k. length block - k)
     (λ c. search needs) (λ c κs. search needs) (λ c. search needs) (λ c. search needs) (λ c κs. search needs) (λ c. search needs) (λ c. search needs)
     (λ c. search needs) (λ c. search needs) (λ c. search needs) (λ c. search needs) (λ c. search needs))

@@ -1,25 +1,12 @@
 use borrow.Author.Needs.{needs}
-use native.Mathlib.Omega.{arith}
 use mathlib.Core.Path.{_≡_}
-use Prim.Native.Nat.{_+_, _-_, _*_, _≤_, _<_}
+use Prim.Native.Nat.{_-_}
 use lib.ListN.{length}
 use Rattle.backlog.proofs.drawing.put_marks.Statement.{statement}
 use Rattle.backlog.proofs.drawing.put_marks.Tie as tie
-use Rattle.backlog.proofs.drawing.put_marks.Reads as reads
-use Rattle.backlog.proofs.drawing.put_marks.Lts as lts
-use Rattle.backlog.proofs.drawing.put_mark.Reads as put-mark-reads
-
-abbrev Inv-loop : tie.InvT-loop
-Inv-loop out₀ at dry n₀ k₀ out n k = length out ≡ length out₀
-
-abbrev μ-loop : tie.MeasureT-loop
-μ-loop out₀ at dry n₀ k₀ out n k = length dry - k
 
 pub put-marks-spec : {M : Type 1} → statement M
 put-marks-spec =
-    tie.close
-    (tie.spec
-    Inv-loop
-    μ-loop
+    tie.close (tie.spec (λ out₀ at dry n₀ k₀ out n k. length out ≡ length out₀) (λ out₀ at dry n₀ k₀ out n k. length dry - k)
     (λ c. search needs) (λ c. search needs) (λ c. search needs) (λ c κs. search needs) (λ c. search needs) (λ c. search needs) (λ c. search needs)
     (λ c. search needs) (λ c. search needs))

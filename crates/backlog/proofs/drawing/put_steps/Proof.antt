@@ -1,26 +1,12 @@
 use borrow.Author.Needs.{needs}
-use native.Mathlib.Omega.{arith}
 use mathlib.Core.Path.{_≡_}
-use Prim.Native.Nat.{_+_, _-_, _*_, _≤_, _<_}
+use Prim.Native.Nat.{_-_}
 use lib.ListN.{length}
 use Rattle.backlog.proofs.drawing.put_steps.Statement.{statement}
 use Rattle.backlog.proofs.drawing.put_steps.Tie as tie
-use Rattle.backlog.proofs.drawing.put_steps.Reads as reads
-use Rattle.backlog.proofs.drawing.put_steps.Lts as lts
-use Rattle.backlog.proofs.drawing.below.Reads as below-reads
-use Rattle.text.proofs.fill.Reads as fill-reads
-
-abbrev Inv-loop : tie.InvT-loop
-Inv-loop out₀ at height row n₀ k₀ t7 out n k = length out ≡ length out₀
-
-abbrev μ-loop : tie.MeasureT-loop
-μ-loop out₀ at height row n₀ k₀ t7 out n k = length row - k
 
 pub put-steps-spec : {M : Type 1} → statement M
 put-steps-spec =
-    tie.close
-    (tie.spec
-    Inv-loop
-    μ-loop
+    tie.close (tie.spec (λ out₀ at height row n₀ k₀ t7 out n k. length out ≡ length out₀) (λ out₀ at height row n₀ k₀ t7 out n k. length row - k)
     (λ c. search needs) (λ c. search needs) (λ c. search needs) (λ c. search needs) (λ c κs. search needs) (λ c. search needs) (λ c κs. search needs)
     (λ c. search needs) (λ c. search needs) (λ c. search needs) (λ c. search needs) (λ c. search needs))

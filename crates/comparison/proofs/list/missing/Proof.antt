@@ -3,17 +3,8 @@ use Prim.Native.Nat.{_-_}
 use Rattle.comparison.proofs.list.missing.Statement.{statement}
 use Rattle.comparison.proofs.list.missing.Tie as tie
 
-abbrev Inv-loop : tie.InvT-loop
-Inv-loop sent row all index₀ byte₀ index byte = Unit {0}
-
-abbrev μ-loop : tie.MeasureT-loop
-μ-loop sent row all index₀ byte₀ index byte = all - index
-
 pub missing-spec : {M : Type 1} → statement M
 missing-spec =
-    tie.close
-    (tie.spec
-    Inv-loop
-    μ-loop
+    tie.close (tie.spec (λ sent row all index₀ byte₀ index byte. Unit {0}) (λ sent row all index₀ byte₀ index byte. all - index)
     (λ c. search needs) (λ c κs. search needs) (λ c. search needs) (λ c κs. search needs) (λ c. search needs) (λ c κs. search needs) (λ c κs. search needs)
     (λ c. search needs) (λ c κs. search needs) (λ c. search needs) (λ c. search needs) (λ c. search needs) (λ c. search needs))

@@ -3,17 +3,8 @@ use Prim.Native.Nat.{_-_}
 use Rattle.comparison.proofs.search.byte_of.Statement.{statement}
 use Rattle.comparison.proofs.search.byte_of.Tie as tie
 
-abbrev Inv-loop : tie.InvT-loop
-Inv-loop sent row index k₀ byte₀ k byte = Unit {0}
-
-abbrev μ-loop : tie.MeasureT-loop
-μ-loop sent row index k₀ byte₀ k byte = index - k
-
 pub byte-of-spec : {M : Type 1} → statement M
 byte-of-spec =
-    tie.close
-    (tie.spec
-    Inv-loop
-    μ-loop
+    tie.close (tie.spec (λ sent row index k₀ byte₀ k byte. Unit {0}) (λ sent row index k₀ byte₀ k byte. index - k)
     (λ c κs. search needs) (λ c. search needs) (λ c κs. search needs) (λ c κs. search needs) (λ c. search needs) (λ c. search needs) (λ c. search needs)
     (λ c. search needs))

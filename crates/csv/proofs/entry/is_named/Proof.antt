@@ -1,23 +1,7 @@
 use borrow.Author.Needs.{needs}
-use native.Mathlib.Omega.{arith}
-use mathlib.Core.Path.{_≡_, refl, ap, sym, _∙_}
-use Prim.Native.Nat.{ℕ, _+_, _-_, _*_, _≤_, _<_}
-use lib.ListN.{length, take, drop, getD, set, length-set}
-use mathlib.Core.List.{List, [], _∷_, _++_}
+use Prim.Native.Nat.{_-_}
 use Rattle.csv.proofs.entry.is_named.Statement.{statement}
 use Rattle.csv.proofs.entry.is_named.Tie as tie
-use Rattle.csv.proofs.entry.is_named.Reads as reads
-use Rattle.csv.proofs.entry.is_named.Lts as lts
-use Rattle.check.proofs.same.Reads as same-reads
-use Rattle.csv.proofs.entry.wide.Reads as wide-reads
-use Rattle.csv.proofs.fields.field.Reads as field-reads
-use Rattle.text.proofs.entry.Reads as entry-reads
-
-abbrev Inv-loop : tie.InvT-loop
-Inv-loop line f table count k₀ k = Unit {0}
-
-abbrev μ-loop : tie.MeasureT-loop
-μ-loop line f table count k₀ k = k
 
 -- src/entry.rt:363:19
 -- src/entry.rt:364:9
@@ -33,9 +17,6 @@ abbrev μ-loop : tie.MeasureT-loop
 -- src/entry.rt:362:1
 pub is-named-spec : {M : Type 1} → statement M
 is-named-spec =
-    tie.close
-    (tie.spec
-    Inv-loop
-    μ-loop
+    tie.close (tie.spec (λ line f table count k₀ k. Unit {0}) (λ line f table count k₀ k. k)
     (λ c κs. search needs) (λ c. search needs) (λ c. search needs) (λ c. search needs) (λ c κs. search needs) (λ c κs. search needs) (λ c κs. search needs)
     (λ c κs. search needs) (λ c. search needs) (λ c. search needs) (λ c. search needs) (λ c. search needs))

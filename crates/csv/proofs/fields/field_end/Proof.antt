@@ -1,20 +1,8 @@
 use borrow.Author.Needs.{needs}
-use native.Mathlib.Omega.{arith}
-use mathlib.Core.Path.{_≡_, refl, ap, sym, _∙_}
-use Prim.Native.Nat.{ℕ, _+_, _-_, _*_, _≤_, _<_}
-use lib.ListN.{length, take, drop, getD, set, length-set}
-use mathlib.Core.List.{List, [], _∷_, _++_}
+use Prim.Native.Nat.{_-_, _≤_}
+use lib.ListN.{length}
 use Rattle.csv.proofs.fields.field_end.Statement.{statement}
 use Rattle.csv.proofs.fields.field_end.Tie as tie
-use Rattle.csv.proofs.fields.field_end.Reads as reads
-use Rattle.csv.proofs.fields.field_end.Lts as lts
-use Rattle.csv.proofs.fields.quoted_after.Reads as quoted-after-reads
-
-abbrev Inv-loop : tie.InvT-loop
-Inv-loop line from separator quoted₀ i₀ quoted i = (from ≤ i) × (i ≤ length line)
-
-abbrev μ-loop : tie.MeasureT-loop
-μ-loop line from separator quoted₀ i₀ quoted i = length line - i
 
 -- src/fields.rt:42:5
 -- src/fields.rt:43:20
@@ -26,9 +14,6 @@ abbrev μ-loop : tie.MeasureT-loop
 -- src/fields.rt:36:1
 pub field-end-spec : {M : Type 1} → statement M
 field-end-spec =
-    tie.close
-    (tie.spec
-    Inv-loop
-    μ-loop
+    tie.close (tie.spec (λ line from separator quoted₀ i₀ quoted i. (from ≤ i) × (i ≤ length line)) (λ line from separator quoted₀ i₀ quoted i. length line - i)
     (λ c. search needs) (λ c. search needs) (λ c. search needs) (λ c κs. search needs) (λ c. search needs) (λ c. search needs) (λ c. search needs)
     (λ c. search needs))

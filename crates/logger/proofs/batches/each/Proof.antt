@@ -47,16 +47,7 @@ loop-again c =
 
 pub each-spec : {M : Type 1} → statement M
 each-spec =
-    tie.close
-    (tie.spec
-    Inv-loop
-    μ-loop
-    (λ c. search needs) (λ c. search needs) (λ c. search needs) (λ c. search needs) (λ c κs. search needs)
-    add-end
-    (λ c κs. search needs) (λ c. search needs) (λ c. search needs)
-    part-one-end
-    (λ c κs. search needs)
-    add-i
-    loop-less
-    loop-again
-    (λ c. search needs) (λ c. search needs) (λ c. search needs) (λ c. search needs) (λ c. search needs) (λ c. search needs))
+    tie.close (tie.spec Inv-loop μ-loop
+    (λ c. search needs) (λ c. search needs) (λ c. search needs) (λ c. search needs) (λ c κs. search needs) add-end (λ c κs. search needs) (λ c. search needs)
+    (λ c. search needs) part-one-end (λ c κs. search needs) add-i loop-less loop-again (λ c. search needs) (λ c. search needs) (λ c. search needs)
+    (λ c. search needs) (λ c. search needs) (λ c. search needs))

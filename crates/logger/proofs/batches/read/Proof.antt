@@ -54,20 +54,7 @@ returns-3 c = (counts _ _ (omega (arith, same-length-5 c)), counts _ _ (omega (a
 
 pub read-spec : {M : Type 1} → statement M
 read-spec =
-    tie.close
-    (tie.spec
-    Inv-loop
-    μ-loop
+    tie.close (tie.spec Inv-loop μ-loop
     (λ c. search needs) (λ c. search needs) (λ c. search needs) (λ c. search needs) (λ c. search needs) (λ c κs. search needs) (λ c κs. search needs)
-    (λ c. search needs) (λ c. search needs)
-    loop-less
-    loop-again
-    same-length
-    same-length-2
-    returns
-    same-length-3
-    same-length-4
-    returns-2
-    same-length-5
-    same-length-6
-    returns-3)
+    (λ c. search needs) (λ c. search needs) loop-less loop-again same-length same-length-2 returns same-length-3 same-length-4 returns-2 same-length-5
+    same-length-6 returns-3)

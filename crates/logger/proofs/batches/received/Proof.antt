@@ -26,14 +26,5 @@ same-length-7 c = omega (arith, c .before .before .before .before .before .befor
 
 pub received-spec : {M : Type 1} → statement M
 received-spec =
-    tie.close
-    (tie.spec
-    (λ c κs. search needs) (λ c κs. search needs) (λ c κs. search needs)
-    same-length
-    same-length-2
-    same-length-3
-    same-length-4
-    same-length-5
-    same-length-6
-    same-length-7
-    (λ c. search needs))
+    tie.close (tie.spec (λ c κs. search needs) (λ c κs. search needs) (λ c κs. search needs) same-length same-length-2 same-length-3 same-length-4 same-length-5
+    same-length-6 same-length-7 (λ c. search needs))

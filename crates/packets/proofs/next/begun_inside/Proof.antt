@@ -5,18 +5,8 @@ use lib.ListN.{length}
 use Rattle.packets.proofs.next.begun_inside.Statement.{statement}
 use Rattle.packets.proofs.next.begun_inside.Tie as tie
 
-abbrev Inv-loop : tie.InvT-loop
-Inv-loop buf₀ end now₀ at₀ buf now at = length buf ≡ length buf₀
-
-abbrev μ-loop : tie.MeasureT-loop
-μ-loop buf₀ end now₀ at₀ buf now at = end - at
-
 pub begun-inside-spec : {M : Type 1} → statement M
 begun-inside-spec =
-    tie.close
-    (tie.spec
-    Inv-loop
-    μ-loop
-    (λ c κs. search needs) (λ c κs. search needs) (λ c. search needs) (λ c κs. search needs) (λ c κs. search needs)
-    (λ c. search needs) (λ c. search needs) (λ c. search needs) (λ c. search needs) (λ c. search needs)
-    (λ c κs. search needs) (λ c. search needs) (λ c. search needs))
+    tie.close (tie.spec (λ buf₀ end now₀ at₀ buf now at. length buf ≡ length buf₀) (λ buf₀ end now₀ at₀ buf now at. end - at)
+    (λ c κs. search needs) (λ c κs. search needs) (λ c. search needs) (λ c κs. search needs) (λ c κs. search needs) (λ c. search needs) (λ c. search needs)
+    (λ c. search needs) (λ c. search needs) (λ c. search needs) (λ c κs. search needs) (λ c. search needs) (λ c. search needs))

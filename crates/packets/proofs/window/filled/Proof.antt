@@ -4,18 +4,10 @@ use lib.ListN.{length}
 use Rattle.packets.proofs.window.filled.Statement.{statement}
 use Rattle.packets.proofs.window.filled.Tie as tie
 
-abbrev Inv-loop : tie.InvT-loop
-Inv-loop label lengths₀ bytes₀ now₀ turns₀ lengths bytes now turns = (length lengths ≡ length lengths₀) × (length bytes ≡ length bytes₀)
-
-abbrev μ-loop : tie.MeasureT-loop
-μ-loop label lengths₀ bytes₀ now₀ turns₀ lengths bytes now turns = turns
-
 pub filled-spec : {M : Type 1} → statement M
 filled-spec =
-    tie.close
-    (tie.spec
-    Inv-loop
-    μ-loop
-    (λ c κs. search needs) (λ c. search needs) (λ c κs. search needs) (λ c. search needs) (λ c κs. search needs) (λ c κs. search needs)
+    tie.close (tie.spec (λ label lengths₀ bytes₀ now₀ turns₀ lengths bytes now turns. (length lengths ≡ length lengths₀) × (length bytes ≡ length bytes₀))
+    (λ label lengths₀ bytes₀ now₀ turns₀ lengths bytes now turns. turns)
+    (λ c κs. search needs) (λ c. search needs) (λ c κs. search needs) (λ c. search needs) (λ c κs. search needs) (λ c κs. search needs) (λ c. search needs)
     (λ c. search needs) (λ c. search needs) (λ c. search needs) (λ c. search needs) (λ c. search needs) (λ c. search needs) (λ c. search needs)
-    (λ c. search needs) (λ c. search needs))
+    (λ c. search needs))

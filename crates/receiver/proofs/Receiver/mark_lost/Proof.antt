@@ -4,11 +4,6 @@ use mathlib.Core.Path.{sym, _∙_}
 use borrow.Author.Needs.{needs}
 use Rattle.receiver.proofs.Receiver.mark_lost.Statement.{statement}
 use Rattle.receiver.proofs.Receiver.mark_lost.Tie as tie
-use Rattle.receiver.proofs.Receiver.mark_lost.Reads as reads
-use Rattle.receiver.proofs.Receiver.mark_lost.Lts as lts
-use Rattle.modes.proofs.look_up.Reads as look-up-reads
-use Rattle.receiver.proofs.lose_listed.Reads as lose-listed-reads
-use Rattle.receiver.proofs.refused.Reads as refused-reads
 
 lose-listed-requires : tie.Need-lose-listed-requires
 lose-listed-requires c κs =
@@ -26,10 +21,5 @@ returns-2 c =
 
 pub mark-lost-spec : {M : Type 1} → statement M
 mark-lost-spec =
-    tie.close
-    (tie.spec
-    (λ c κs. search needs) (λ c. search needs)
-    lose-listed-requires
-    (λ c. search needs) (λ c κs. search needs) (λ c. search needs)
-    returns
+    tie.close (tie.spec (λ c κs. search needs) (λ c. search needs) lose-listed-requires (λ c. search needs) (λ c κs. search needs) (λ c. search needs) returns
     returns-2)

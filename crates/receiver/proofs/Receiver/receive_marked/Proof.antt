@@ -4,11 +4,6 @@ use mathlib.Core.Path.{sym, _∙_}
 use borrow.Author.Needs.{needs}
 use Rattle.receiver.proofs.Receiver.receive_marked.Statement.{statement}
 use Rattle.receiver.proofs.Receiver.receive_marked.Tie as tie
-use Rattle.receiver.proofs.Receiver.receive_marked.Reads as reads
-use Rattle.receiver.proofs.Receiver.receive_marked.Lts as lts
-use Rattle.modes.proofs.look_up.Reads as look-up-reads
-use Rattle.receiver.proofs.receive_listed.Reads as receive-listed-reads
-use Rattle.receiver.proofs.refused.Reads as refused-reads
 
 receive-listed-requires : tie.Need-receive-listed-requires
 receive-listed-requires c κs =
@@ -26,10 +21,5 @@ returns-2 c =
 
 pub receive-marked-spec : {M : Type 1} → statement M
 receive-marked-spec =
-    tie.close
-    (tie.spec
-    (λ c κs. search needs) (λ c. search needs)
-    receive-listed-requires
-    (λ c. search needs) (λ c κs. search needs) (λ c. search needs) (λ c. search needs) (λ c. search needs)
-    returns
-    returns-2)
+    tie.close (tie.spec (λ c κs. search needs) (λ c. search needs) receive-listed-requires (λ c. search needs) (λ c κs. search needs) (λ c. search needs)
+    (λ c. search needs) (λ c. search needs) returns returns-2)

@@ -1,8 +1,6 @@
 use borrow.Author.Needs.{needs}
 use native.Mathlib.Omega.{arith}
-use mathlib.Core.Path.{_≡_, refl, sym}
-use Prim.Native.Nat.{ℕ, _≤_, _/_}
-use lib.ListN.{length}
+use mathlib.Core.Path.{sym}
 use Rattle.sent_packets.proofs.Bit.{bit-past}
 use Rattle.sent_packets.proofs.bitmap.at.Statement.{statement}
 use Rattle.sent_packets.proofs.bitmap.at.Tie as tie

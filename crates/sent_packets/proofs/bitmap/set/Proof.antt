@@ -1,8 +1,6 @@
 use borrow.Author.Needs.{needs}
 use native.Mathlib.Omega.{arith}
-use mathlib.Core.Path.{_≡_, refl, sym}
-use Prim.Native.Nat.{ℕ, _<_, _/_}
-use lib.ListN.{length}
+use mathlib.Core.Path.{refl}
 use Rattle.sent_packets.proofs.Bit.{set-this, set-others}
 use Rattle.sent_packets.proofs.bitmap.set.Statement.{statement}
 use Rattle.sent_packets.proofs.bitmap.set.Tie as tie
@@ -15,8 +13,5 @@ returns-2 c = let a = c .before .before .args in (set-this (a .words .now) (a .i
 
 pub set-spec : {M : Type 1} → statement M
 set-spec =
-    tie.close
-    (tie.spec
-    returns
-    (λ c. search needs) (λ c. search needs) (λ c. search needs) (λ c. search needs) (λ c. search needs) (λ c. search needs)
+    tie.close (tie.spec returns (λ c. search needs) (λ c. search needs) (λ c. search needs) (λ c. search needs) (λ c. search needs) (λ c. search needs)
     returns-2)

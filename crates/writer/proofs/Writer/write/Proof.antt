@@ -1,18 +1,11 @@
 use denote.Ref.{now}
 use Rattle.writer.proofs.Calling.{called}
-use native.Mathlib.Omega.{arith}
-use mathlib.Core.Path.{_≡_, refl, ap, sym, _∙_}
-use Prim.Native.Nat.{ℕ, _+_, _-_, _*_, _≤_, _<_}
-use lib.ListN.{length, take, drop, getD, set, length-set}
-use mathlib.Core.List.{List, [], _∷_, _++_}
+use mathlib.Core.Path.{refl, sym, _∙_}
+use Prim.Native.Nat.{_-_}
+use lib.ListN.{length}
 use borrow.Author.Needs.{needs}
 use Rattle.writer.proofs.Writer.write.Statement.{statement}
 use Rattle.writer.proofs.Writer.write.Tie as tie
-use Rattle.writer.proofs.Writer.write.Reads as reads
-use Rattle.writer.proofs.Writer.write.Lts as lts
-use Rattle.modes.proofs.look_up.Reads as look-up-reads
-use Rattle.writer.proofs.refused.Reads as refused-reads
-use Rattle.writer.proofs.write_or_refuse.Reads as write-or-refuse-reads
 
 write-or-refuse-requires : tie.Need-write-or-refuse-requires
 write-or-refuse-requires c κs = sym (c .before .before .before .before .look-up .ensures) ∙ c .before .before .m .given .1
@@ -29,10 +22,5 @@ returns-2 c =
 
 pub write-spec : {M : Type 1} → statement M
 write-spec =
-    tie.close
-    (tie.spec
-    (λ c κs. search needs) (λ c. search needs)
-    write-or-refuse-requires
-    (λ c. search needs) (λ c κs. search needs) (λ c. search needs)
-    returns
-    returns-2)
+    tie.close (tie.spec (λ c κs. search needs) (λ c. search needs) write-or-refuse-requires (λ c. search needs) (λ c κs. search needs) (λ c. search needs)
+    returns returns-2)
