@@ -2,6 +2,7 @@
 //
 // The file is read more than once. The first time counts: the picture's height stands in its first tag. The last time draws.
 mod report;
+mod tally;
 
 use commission::Asked;
 use drawing::Task;
@@ -156,7 +157,7 @@ fn said(run: Run, counted: u32, from: &[u8]) -> bool {
     if run.state == readings::READ {
         said_of_log(d.whole, d.counted, same, from);
     }
-    picture::tally::say(d, g);
+    tally::say(d, g);
     same
 }
 

@@ -1,5 +1,5 @@
-// What a PDU adds to the overview strip and to the rows, as a reading of the CSV goes over it; on `cells`, `overview` and
-// `sheet`.
+// What a PDU adds to the overview strip and to the rows, as a reading of the CSV goes over it; on `cells`, `gaps`, `overview`
+// and `sheet`.
 use clock::Clock;
 use csv::lines;
 use drive::Pdu;
@@ -65,7 +65,7 @@ fn opened(task: Task, block: &mut [u8], at: usize, number: u32) -> usize {
         return at;
     }
     let n = sheet::put_page_start(block, at);
-    picture::frame::put_page_head(
+    picture::put_page_head(
         block,
         n,
         leaf::shape(book, number),

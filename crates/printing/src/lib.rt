@@ -37,7 +37,7 @@ pub fn svg(task: Task, buf: &mut [u8]) -> Run {
     let mut title = io::buffer();
     let k = sheet::title_of(&mut title);
     let mut block = io::large_buffer();
-    let n = picture::frame::put_head(
+    let n = picture::put_head(
         &mut block,
         shape_of(task),
         c,

@@ -70,7 +70,7 @@ svg{display:block;width:100%}.legend{max-width:215mm}.rows{max-height:172mm}
 section{break-before:page;break-inside:avoid}
 ",
     );
-    picture::frame::put_colours(out, n)
+    picture::put_colours(out, n)
 }
 
 // A line of the head, where its option is given.

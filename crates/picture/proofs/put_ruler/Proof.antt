@@ -4,11 +4,11 @@ use mathlib.Core.Path.{_≡_, refl, ap, sym, _∙_}
 use Prim.Native.Nat.{ℕ, _+_, _-_, _*_, _≤_, _<_}
 use lib.ListN.{length, take, drop, getD, set, length-set}
 use mathlib.Core.List.{List, [], _∷_, _++_}
-use Rattle.picture.proofs.frame.put_ruler.Statement.{statement}
-use Rattle.picture.proofs.frame.put_ruler.Tie as tie
-use Rattle.picture.proofs.frame.put_ruler.Reads as reads
-use Rattle.picture.proofs.frame.put_ruler.Lts as lts
-use Rattle.picture.proofs.frame.put_column.Reads as put-column-reads
+use Rattle.picture.proofs.put_ruler.Statement.{statement}
+use Rattle.picture.proofs.put_ruler.Tie as tie
+use Rattle.picture.proofs.put_ruler.Reads as reads
+use Rattle.picture.proofs.put_ruler.Lts as lts
+use Rattle.picture.proofs.put_column.Reads as put-column-reads
 use Rattle.text.proofs.put.Reads as put-reads
 
 abbrev Inv-loop : tie.InvT-loop
