@@ -1,5 +1,7 @@
-// What a PDU adds to the overview strip and to the rows, as a reading of the CSV goes over it; on `cells`, `gaps`, `overview`
-// and `sheet`.
+// What a PDU adds to the overview strip and to the rows, as a reading of the CSV goes over it; on `gaps`, `overview` and
+// `sheet`.
+mod cells;
+
 use clock::Clock;
 use csv::lines;
 use drive::Pdu;

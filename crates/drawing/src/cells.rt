@@ -1,5 +1,5 @@
 // A PDU in the picture: its cell, hollow where it was withheld, with a mark where it came twice or out of turn, the copies that it is taken from, its bar, and
-// the tick where packets are missing; on `page`, `drive` and `clock`.
+// the tick where packets are missing.
 use clock::Clock;
 use csv::entry;
 use drive::Pdu;
