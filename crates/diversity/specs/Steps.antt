@@ -34,7 +34,7 @@ mixed t (a ∷ y) (b ∷ z) = cond (t 0) b a ∷ mixed (λ i. t (suc i)) y z
 unfoldable pub inPlaces : ℕ → ℕ → ℕ → Bool
 inPlaces from to i = leb from i && ltb i to
 
--- one or the other
+-- one of the two, and not both
 abbrev pub exactlyOne : Bool → Bool → Bool
 exactlyOne true b = not b
 exactlyOne false b = b
