@@ -1,4 +1,6 @@
 // What of a file is read ahead, in a lent buffer, so that it can be looked at before it is taken; on `records` alone.
+#![tactic(auto)]
+
 ghost use Rattle.std.specs.Prelude.{◌≤◌};
 
 // What is read ahead stands in the buffer between two places; the first of its bytes is so many from the file's start. `open` where there may be more, `failed`

@@ -1,5 +1,7 @@
 // A run that reads ahead: each turn takes the next record from a lent buffer, and its marks, gives its PDU to the receiver, and writes its log; on `resync` and
 // `logging`. Where bytes are passed over at which no record begins, a PDU is logged as lost, so that nothing is joined across them.
+#![tactic(auto)]
+
 ghost use Rattle.io.specs.Counts.{IsPrefixLen};
 
 use ahead::Ahead;

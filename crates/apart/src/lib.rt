@@ -1,5 +1,7 @@
 // What each of two recordings of a drive gives alone: each file has a receiver of its own, beside that of the pair (document 02, Ask 5); on `receiver` and
 // `counts`.
+#![tactic(auto)]
+
 ghost use Rattle.std.specs.Prelude.{◌≤◌};
 
 use receiver::Receiver;

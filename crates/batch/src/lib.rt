@@ -1,4 +1,6 @@
 // Receiving PDUs that come joined in one buffer, with a list of their lengths (document 02, Ask 1); on `receiver`.
+#![tactic(auto)]
+
 ghost use Rattle.std.specs.Prelude.{◌≡◌, [], ◌+◌, ◌<◌, eqb, length, set};
 ghost use Rattle.std.proofs.lemmas.List.Edits.{sets};
 ghost use Rattle.pieces.specs.Pieces.{total};

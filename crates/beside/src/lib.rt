@@ -1,5 +1,7 @@
 // What `barzhilup log` makes of a PDU's log beside the log itself: the files of packets and of PSD, and the comparison with the packets that were sent; on
 // `packet_files` and `comparison`.
+#![tactic(auto)]
+
 use comparison::Sent;
 
 // The files that are written, -1 for those that are not asked for; what the packets are compared with, and how many were sent.

@@ -1,4 +1,6 @@
 // The files that `barzhilup log` is asked for beside its log: which there are, how they are made and opened, and how they end; on `beside` and `packets`.
+#![tactic(auto)]
+
 pub mod asked;
 
 ghost use Rattle.std.specs.Prelude.{◌≡◌, length};

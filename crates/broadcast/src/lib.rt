@@ -1,4 +1,6 @@
 // A run of the writer in which settings and PSD may change from PDU to PDU; on `sending`, `schedule` and `psd_stream`.
+#![tactic(auto)]
+
 use packets::window;
 use packets::window::Window;
 use psd_stream::Supply;

@@ -1,4 +1,6 @@
 // Copies into lent buffers; they stand on nothing.
+#![tactic(auto)]
+
 ghost use Rattle.std.specs.Prelude.{◌≡◌, ◌+◌, ◌≤◌, length, replicate};
 ghost use Rattle.buffer.specs.Buffer.{put_at};
 

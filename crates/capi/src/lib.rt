@@ -1,5 +1,7 @@
 // The C library: each public operation with C's types, and the core's contract, on `writer`, `batch`, `selection`, `pair`, `snapshot`, `join`, `latency` and
 // `parity_share`. include/barzhilup.h declares them.
+#![tactic(auto)]
+
 ghost use Rattle.std.specs.Prelude.{◌≡◌, [], length};
 ghost use Rattle.field.specs.Field.{mul};
 ghost use Rattle.crc.specs.Crc.{crc_from};

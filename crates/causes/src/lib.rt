@@ -1,5 +1,7 @@
 // The causes of refusals and of notes (document 01, "What is turned down" and "Receiver"; document 02), in words that have no comma, so that they stand in a
 // column; on `text`.
+#![tactic(auto)]
+
 ghost use Rattle.io.specs.Counts.{IsPrefixLen};
 
 // The causes of the receiver's refusals by their numbers, from 0 on, which none has, to 13; and then those of 19, 20, 22, 25 and 27 (document 02, Asks 3, 5,

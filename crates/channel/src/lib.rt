@@ -1,5 +1,7 @@
 // A channel for a file of PDUs: some PDUs are lost, in bursts, and some of those that come through have bytes of the header changed, or bits of pieces flipped,
 // come twice or out of turn, or are cut; on `passage` and `options`.
+#![tactic(auto)]
+
 mod arguments;
 mod report;
 

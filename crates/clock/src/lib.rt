@@ -2,6 +2,8 @@
 //
 // An L1 frame takes 65,536 / 44,100 s (Station Information Service Transport, 5.4.1), and has 8 PDUs of a stream whose sequence is 0 to 7, and one of a stream whose
 // sequence is 0 to 1 (Audio Transport, table 5-2).
+#![tactic(auto)]
+
 use modes::Listing;
 
 // A PDU takes `parts` / `whole` ms; where `parts` is 0 its time is not known.

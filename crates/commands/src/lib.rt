@@ -1,5 +1,7 @@
 // The program `barzhilup`, on `generator`, `channel`, `logger`, `coverage`, `trials` and `joiner`: its first argument says what it does. A C main calls it and
 // hands on its answer as the exit status.
+#![tactic(auto)]
+
 use libc::STDERR_FILENO;
 
 // 0 where all is done, 1 where the work stopped early, 2 where the usage is wrong.

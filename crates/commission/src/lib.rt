@@ -1,5 +1,7 @@
 // What the command line of `barzhilup coverage` asks for: the kind of picture, its measures, its texts, and how long a PDU is; on `page`, `clock` and
 // `options`.
+#![tactic(auto)]
+
 use clock::Clock;
 use options::COVERAGE;
 use page::title;

@@ -1,4 +1,6 @@
 // A PDU's contents, written (document 01, "Control word, bytes 8 to 13", "Expansion, PSD, pieces"); on `layout` and `pieces`.
+#![tactic(auto)]
+
 ghost use Rattle.std.specs.Prelude.{◌≡◌, List, ◌++◌, ◌+◌, ◌≤◌, length, drop, replicate};
 ghost use Rattle.buffer.specs.Buffer.{put_at};
 ghost use Rattle.layout.specs.Locators.{locator_size, locator_bytes};

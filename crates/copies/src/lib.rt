@@ -1,5 +1,7 @@
 // What comes of two copies of a PDU, a record of each of two files: two receivers heard one signal (document 02, Ask 5); on `selection`, `pair`, `outcome` and
 // `words`. An empty record is a copy that did not come.
+#![tactic(auto)]
+
 ghost use Rattle.std.specs.Prelude.{◌≤◌};
 
 use correction::Correction;

@@ -1,4 +1,6 @@
 // Error correction of the header code (document 01, "Header code"; document 02, Ask 3), on `header` and `elimination`.
+#![tactic(auto)]
+
 ghost use Rattle.std.specs.Prelude.{◌≡◌, ◌<◌, ◌≤◌, length, true};
 ghost use Rattle.field.specs.Field.{Powers, Logarithms};
 ghost use Rattle.header.specs.Header.{syndromes};

@@ -1,5 +1,7 @@
 // Lists of counts in text: decimal numbers, in a file with blanks or line ends between them, in an option with commas; on `records` and the toolchain's
 // `bytes`.
+#![tactic(auto)]
+
 ghost use Rattle.std.specs.Prelude.{◌≡◌, ◌<◌};
 
 // How a list stands: it goes on, it is read, a byte is neither a digit nor a blank, or a read failed and errno names why.

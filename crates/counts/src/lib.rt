@@ -1,4 +1,6 @@
 // What a run counts, as one row of numbers with a place for each count, and the lines that sum it up; on `loss`, `outcome` and `causes`.
+#![tactic(auto)]
+
 ghost use Rattle.std.specs.Prelude.{◌≡◌, ◌<◌, length};
 ghost use Rattle.io.specs.Counts.{IsPrefixLen};
 

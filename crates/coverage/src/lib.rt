@@ -1,6 +1,8 @@
 // Draws a drive: from the CSV of its log to a strip of its PDUs, as an SVG picture or an HTML page; on `commission`, `printing` and `limits`.
 //
 // The file is read more than once. The first time counts: the picture's height stands in its first tag. The last time draws.
+#![tactic(auto)]
+
 mod report;
 mod tally;
 

@@ -1,4 +1,6 @@
 // CRC-8 with the divisor x^8 + x^5 + x^4 + 1, top bit of each byte first (document 01, "Expansion, PSD, pieces"); it stands on `bits` alone.
+#![tactic(auto)]
+
 ghost use Rattle.std.specs.Prelude.{◌≡◌, cond, ◌+◌, ◌-◌, ◌%◌, ◌<◌, ◌≤◌, eqb, length, drop};
 ghost use Rattle.crc.specs.Crc.{crc_from};
 ghost use Rattle.crc.specs.Ring.{word_at, push_high, push_low, next_high, next_low, far_high, far_low, shifts, red, val, horner, folded};

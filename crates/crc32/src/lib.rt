@@ -1,4 +1,6 @@
 // CRC-32 as zlib and PNG have it: lowest bit of each byte first, the divisor 0xEDB88320, register and result inverted; it stands on `bits` alone.
+#![tactic(auto)]
+
 ghost use Rattle.std.specs.Prelude.{◌≡◌, ◌%◌, ◌<◌};
 ghost use Rattle.crc32.specs.Crc32.{crc32_byte, crc32_from, crc32, entry_bytes, entries_bytes, Tables};
 

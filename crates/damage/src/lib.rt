@@ -1,4 +1,6 @@
 // Damage to a PDU's header, drawn by dice; it stands on `header` alone.
+#![tactic(auto)]
+
 pub mod dice;
 
 ghost use Rattle.std.specs.Prelude.{◌≡◌, ◌<◌, ◌≤◌, min, length, take, drop, ◌≢◌};

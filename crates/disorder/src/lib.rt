@@ -1,5 +1,7 @@
 // What a road does to the order and the length of records, drawn by dice: some PDUs come twice, some after the next record, and some are cut; on `damage` and
 // `records`.
+#![tactic(auto)]
+
 use damage::dice;
 use damage::dice::Dice;
 

@@ -1,4 +1,6 @@
 // Two receivers on one signal: two copies of a PDU that are alike, received as one (document 02, Ask 5); on `receiver`.
+#![tactic(auto)]
+
 ghost use Rattle.std.specs.Prelude.{◌≡◌, false, ◌+◌, ◌≤◌, ◌<◌, length, get_or};
 ghost use Rattle.refusal.specs.Refusal.{first_of};
 ghost use Rattle.layout.specs.Control.{control_at};

@@ -1,5 +1,7 @@
 // What a PDU adds to the overview strip and to the rows, as a reading of the CSV goes over it; on `gaps`, `overview` and
 // `sheet`.
+#![tactic(auto)]
+
 mod cells;
 
 use clock::Clock;

@@ -1,4 +1,6 @@
 // A drive, as the lines of its log tell it; it stands on `csv` alone.
+#![tactic(auto)]
+
 use csv::entry;
 use csv::entry::Entry;
 

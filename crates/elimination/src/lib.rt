@@ -1,5 +1,7 @@
 // Linear equations over the field, four unknowns and four rows, solved by Gauss-Jordan elimination: the coefficients of the polynomial that locates wrong bytes
 // (document 01, "Header code"); on `field` and `algebra`.
+#![tactic(auto)]
+
 ghost use Rattle.std.specs.Prelude.{◌≡◌, ◌<◌, get_or, take};
 ghost use Rattle.field.specs.Field.{Powers, Logarithms};
 ghost use Rattle.elimination.specs.Elimination.{Row, scaled_by, cleared_by, Pivot, ReduceRows, ReduceRight, Column, Solved, system_row, system_of, unknowns, right_side, beside};

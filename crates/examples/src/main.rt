@@ -1,4 +1,6 @@
 // Runs the examples of document 01 on the proved code, `writer`, `log` and what these stand on, and writes through the toolchain's `io` what it answers.
+#![tactic(auto)]
+
 ghost use Rattle.std.specs.Prelude.{◌≡◌, ◌≤◌, length};
 
 use correction::Correction;

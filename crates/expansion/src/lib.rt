@@ -1,4 +1,6 @@
 // Expansion bytes of a PDU, read and written (document 01, "Expansion, PSD, pieces"), on `layout`.
+#![tactic(auto)]
+
 ghost use Rattle.std.specs.Prelude.{◌≡◌, ◌+◌, ◌*◌, ◌/◌, ◌%◌, ◌<◌, ◌≤◌, List, [], ◌∷◌, ◌++◌, length, get_or, take};
 ghost use Rattle.expansion.specs.Expansion.{expansion_length, septets_at, known as known_of, more_bytes, field_of, absorb, nothing as nothing_of, interpretation, expansion_at, septets_of_all};
 ghost use Rattle.expansion.specs.Writing.{class_field, program_field, type_field, services_field, expansion_bytes, marked};

@@ -1,4 +1,6 @@
 // GF(256) by tables of powers and logarithms of a = 2 (document 01, "Header code"); it stands on `bits` alone.
+#![tactic(auto)]
+
 ghost use Rattle.std.specs.Prelude.{◌≡◌, ◌+◌, ◌<◌};
 ghost use Rattle.field.specs.Field.{mul, pow, inverse as inverse_of, Powers, Logarithms};
 

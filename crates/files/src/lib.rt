@@ -1,6 +1,8 @@
 // The files that a program's options name, and what it says of its work on standard error; they stand on `options`.
 //
 // A label is the words of a subcommand and the name of a file, for a line that says what is wrong.
+#![tactic(auto)]
+
 ghost use Rattle.std.specs.Prelude.{◌≡◌, length};
 ghost use Rattle.io.specs.Counts.{IsPrefixLen};
 ghost use Rattle.libc.specs.Io.{Ended};

@@ -1,5 +1,7 @@
 // The formats of the packet log: its words, text for people, comma-separated values, JSON lines, or records of each PDU's words; on `outcome`, `causes`,
 // `psd_text` and `crc32`.
+#![tactic(auto)]
+
 mod people;
 mod rows;
 

@@ -1,5 +1,7 @@
 // Files of logs, on `records`: a record for each PDU, in it the words of the PDU's log, each in four bytes, low byte first. A frame has so many PDUs of its
 // file; its log is theirs, one after another.
+#![tactic(auto)]
+
 ghost use Rattle.std.specs.Prelude.{◌≡◌, ◌+◌, ◌*◌, ◌<◌, length};
 ghost use Rattle.io.specs.Counts.{IsPrefixLen};
 

@@ -1,4 +1,6 @@
 // The header of an ADTS frame, by its bytes; it stands on nothing.
+#![tactic(auto)]
+
 ghost use Rattle.std.specs.Prelude.{◌≡◌, ◌<◌};
 ghost use Rattle.frames.specs.Adts.{is_sync, frame_length, header_length};
 

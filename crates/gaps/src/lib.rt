@@ -4,6 +4,8 @@
 // Packet numbers repeat after 64. So where packets are missing between two that were delivered, the numbers tell how many, but for a multiple of 64: the
 // record's missing (document 02, Ask 14) has the least of the counts that fit. How many PDUs lie between the two, and how many packets end in a PDU, tells
 // which of them is near.
+#![tactic(auto)]
+
 use csv::entry;
 use drive::{Edges, Pdu, Totals};
 

@@ -1,4 +1,6 @@
 // Makes a file of PDUs from a file of packets (document 01, "Writer"), on `inputs`, `broadcast` and `mode_table`.
+#![tactic(auto)]
+
 mod report;
 
 use broadcast::Broadcast;

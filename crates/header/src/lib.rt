@@ -1,4 +1,6 @@
 // The header code: syndromes, and parity by division with the generator (document 01, "Header code"); on `field` and `algebra`.
+#![tactic(auto)]
+
 ghost use Rattle.std.specs.Prelude.{◌≡◌, map, ◌+◌, ◌/◌, ◌%◌, ◌<◌, ◌≤◌, length, get_or, take, drop};
 ghost use Rattle.field.specs.Field.{pow, times_a, Powers, Logarithms};
 ghost use Rattle.header.specs.Horner.{points, horner_at, horner_step, values};

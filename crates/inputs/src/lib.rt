@@ -1,4 +1,6 @@
 // What `barzhilup generate` reads before the packets: the PSD, and the changes of settings; on `psd_stream` and `transmission`.
+#![tactic(auto)]
+
 ghost use Rattle.io.specs.Counts.{IsPrefixLen};
 
 use options::GENERATE;

@@ -1,5 +1,7 @@
 // A drive that is interrupted (document 02, Ask 13): what `--save`, `--resume` and `--skip` of `barzhilup log` ask for; on `saved_state`, `opening`, `causes`,
 // `limits` and `named_settings`.
+#![tactic(auto)]
+
 ghost use Rattle.io.specs.Counts.{IsPrefixLen};
 
 use options::LOG;

@@ -1,4 +1,6 @@
 // What the command line of `barzhilup log` asks for; on `interruption`, `beside_files` and `formats`.
+#![tactic(auto)]
+
 ghost use Rattle.std.specs.Prelude.{◌≤◌};
 
 use options::LOG;

@@ -1,4 +1,6 @@
 // Core and enhanced side by side (document 02, Ask 11): two logs of one frame joined by packet number; on `log` and `refusal`.
+#![tactic(auto)]
+
 ghost use Rattle.std.specs.Prelude.{◌≡◌, true, ◌+◌, ◌-◌, ◌/◌, ◌%◌, ◌<◌, ◌≤◌, leb, length, get_or, drop};
 ghost use Rattle.std.proofs.Math.Seq.{slice};
 ghost use Rattle.buffer.specs.Buffer.{put_at};

@@ -1,5 +1,7 @@
 // Joins the logs of core and enhanced (document 02, Ask 11), frame by frame: from two files of logs to the joined words, or to lines of comma-separated values;
 // on `joining` and `options`.
+#![tactic(auto)]
+
 mod arguments;
 mod report;
 

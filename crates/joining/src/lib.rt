@@ -1,5 +1,7 @@
 // Joins two files of logs frame by frame (document 02, Ask 11), on `join`, `frame_logs`, `side_by_side` and `files`: each turn reads a frame of either log,
 // joins them, and writes what comes of it.
+#![tactic(auto)]
+
 ghost use Rattle.io.specs.Counts.{IsPrefixLen};
 
 use join::Joined;

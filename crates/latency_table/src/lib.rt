@@ -1,4 +1,6 @@
 // The table of latencies that were tried (document 02, Ask 7), on `latency` and `text`: a line for each, and the smallest without a dry tick.
+#![tactic(auto)]
+
 ghost use Rattle.io.specs.Counts.{IsPrefixLen};
 
 use latency::{Answer, Trial};

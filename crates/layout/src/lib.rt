@@ -1,4 +1,6 @@
 // The control word and the locators of a PDU (document 01, "Control word, bytes 8 to 13"), on `bits` and `buffer`.
+#![tactic(auto)]
+
 ghost use Rattle.std.specs.Prelude.{◌≡◌, ◌+◌, ◌*◌, ◌/◌, ◌%◌, ◌<◌, ◌≤◌, length, get_or};
 ghost use Rattle.buffer.specs.Buffer.{put_at};
 ghost use Rattle.layout.specs.Control.{bit, control_bytes, control_of, control_at};

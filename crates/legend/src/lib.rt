@@ -1,4 +1,6 @@
 // What stands below the rows of a drive's picture: what its parts mean, and the totals; on `page`, `clock` and `gaps`.
+#![tactic(auto)]
+
 use clock::Clock;
 use drive::{Copies, Drive, Totals};
 use gaps::{Gaps, Row};

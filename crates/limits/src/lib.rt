@@ -1,4 +1,6 @@
 // How much PSD a mode and settings leave room for, and which limit is passed by settings that the writer refuses, in words; on `modes`, `settings` and `text`.
+#![tactic(auto)]
+
 ghost use Rattle.io.specs.Counts.{IsPrefixLen};
 
 use modes::{Listing, Mode};

@@ -1,4 +1,6 @@
 // Words of the packet log (document 01, "Receiver"), on `bits` and `buffer`.
+#![tactic(auto)]
+
 ghost use Rattle.std.specs.Prelude.{◌≡◌, ◌++◌, ◌+◌, ◌-◌, ◌*◌, ◌/◌, ◌<◌, ◌≤◌, min, length, get_or, drop};
 ghost use Rattle.buffer.specs.Buffer.{put_at};
 ghost use Rattle.log.specs.Blocks.{four_at, eight_at, block_words};

@@ -1,4 +1,6 @@
 // Turns a file of PDUs into the packet log (document 01, "Receiver"), on `job`, `recordings`, `batch`, `ahead_logging`, `summary` and `remarks`.
+#![tactic(auto)]
+
 mod batches;
 mod live;
 mod two;

@@ -1,5 +1,7 @@
 // The turns of a run, whatever PDUs are read from: each is given to the receiver, and its log is written, and the files beside it; on `reception`, `formats`,
 // `counts`, `saved_state` and `beside`.
+#![tactic(auto)]
+
 pub mod marks;
 pub mod output;
 

@@ -1,4 +1,6 @@
 // The loss column (document 02, Ask 14): delivered and missing, as the receiver's record has them, and the last delivered number; on `receiver` and `words`.
+#![tactic(auto)]
+
 ghost use Rattle.std.specs.Prelude.{◌≡◌, ◌%◌, ◌≤◌, if◌then◌else◌, nat_eq};
 ghost use Rattle.reassembly.specs.Tally.{gap};
 ghost use Rattle.receiver.specs.Receiving.{tally_of};

@@ -1,4 +1,5 @@
 // The mode table (document 01, "Modes") as text, for the help of subcommands; on `files` alone.
+#![tactic(auto)]
 
 // Prints the table on standard output. Answers whether all is printed; if not, says why.
 pub fn print(command: u8) -> bool {

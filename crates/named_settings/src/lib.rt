@@ -1,5 +1,7 @@
 // A writer's settings by the names of their options: a row of numbers, with the value of each name and after these whether it is given; on `settings`, `text`
 // and the toolchain's `check`.
+#![tactic(auto)]
+
 use settings::Settings;
 
 // How many names there are.

@@ -1,4 +1,6 @@
 // Bursts of flipped bits in the pieces of a PDU, drawn by dice (document 02, Ask 12), on `pdu` and `damage`.
+#![tactic(auto)]
+
 ghost use Rattle.std.specs.Prelude.{◌≡◌, ◌+◌, ◌*◌, ◌<◌, ◌≤◌, length, get_or, take};
 ghost use Rattle.pdu.specs.Reading.{reading_of};
 ghost use Rattle.noise.specs.Noise.{down, flipped_at, flipped, Struck, Passed, Hits};

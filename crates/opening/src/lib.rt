@@ -1,6 +1,8 @@
 // The receiver of a program, opened for the programs that its option `--entitled` names (document 02, Ask 10): numbers with commas between them, or `none`; on
 // `receiver`, `count_list` and `options`.
 // Without the option it is entitled to all.
+#![tactic(auto)]
+
 ghost use Rattle.io.specs.Counts.{IsPrefixLen};
 
 use options::LOG;

@@ -2,6 +2,8 @@
 // `--name=value`, and flags, `--name`; `-h` is `--help`. An option may be given once.
 //
 // A value has at most 4,096 bytes. What is wrong is said in a line on standard error that begins with the words of the subcommand.
+#![tactic(auto)]
+
 ghost use Rattle.std.specs.Prelude.{◌≡◌, ◌≤◌, ◌<◌, length};
 ghost use Rattle.io.specs.Counts.{IsPrefixLen};
 

@@ -1,4 +1,6 @@
 // What comes of a record of the file of PDUs, on `receiver`.
+#![tactic(auto)]
+
 ghost use Rattle.std.specs.Prelude.{◌≡◌, cond, eqb};
 ghost use Rattle.correction.specs.Marks.{corrected_pdu_with};
 ghost use Rattle.layout.specs.Control.{control_at};

@@ -1,4 +1,6 @@
 // The overview strip: for each stretch of a drive, the share of its PDUs that were lost or refused; on `clock`.
+#![tactic(auto)]
+
 ghost use Rattle.std.specs.Prelude.{◌≤◌};
 
 use clock::Clock;

@@ -1,5 +1,7 @@
 // The packets and the PSD of a PDU's log as the bytes of a file, on `words` and `text`: packets as records, as `barzhilup generate` reads them, or in ADTS
 // frames; the PSD joined.
+#![tactic(auto)]
+
 ghost use Rattle.io.specs.Counts.{IsPrefixLen};
 
 use words::Word;

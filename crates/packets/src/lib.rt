@@ -1,5 +1,7 @@
 // Packets from a file: a file of records, or an ADTS dump, as open HD Radio receivers write; on `ahead`, `sent_packets` and `files`. In a dump each frame is a
 // header of 7 bytes, or of 9 with its check, and then a packet.
+#![tactic(auto)]
+
 pub mod next;
 pub mod window;
 

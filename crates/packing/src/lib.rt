@@ -1,4 +1,6 @@
 // Packing of packets into a PDU (document 01, "Writer": the placing rule), on `layout` and `pieces`.
+#![tactic(auto)]
+
 ghost use Rattle.std.specs.Prelude.{◌≡◌, List, ◌++◌, ◌+◌, ◌-◌, ◌≤◌, ◌<◌, leb, length, take};
 ghost use Rattle.layout.specs.Locators.{locator_size};
 ghost use Rattle.packing.specs.Packing.{overhead as overhead_of, most_pieces, fit, part_after, wholes, part as part_of, if_any, piece_lengths};

@@ -1,4 +1,6 @@
 // The picture's measures, in its own units, on `text`. PDUs stand in rows of cells from left to right; under each row of cells stands a strip of bars.
+#![tactic(auto)]
+
 pub mod leaf;
 pub mod share;
 pub mod title;

@@ -1,4 +1,6 @@
 // Receiving a pair of PDUs, two copies of one (document 02, Ask 5), on `receiver` and `diversity`.
+#![tactic(auto)]
+
 ghost use Rattle.std.specs.Prelude.{◌≡◌, cond, ◌+◌, ◌≤◌, ◌<◌, eqb, length};
 ghost use Rattle.modes.specs.Modes.{listing};
 ghost use Rattle.modes.specs.declared.Listing.TheVariants.{Listed};

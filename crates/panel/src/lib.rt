@@ -1,4 +1,6 @@
 // For the panel (document 01, "After that, for the panel"): the list of a PDU's pieces, and the receiver stepped in place; on `writer` and `receiver`.
+#![tactic(auto)]
+
 ghost use Rattle.std.specs.Prelude.{◌≡◌, List, [], ◌++◌, ℕ, ◌+◌, ◌<◌, ◌≤◌, length, get_or, take, drop};
 ghost use Rattle.layout.specs.Control.{control_at};
 ghost use Rattle.pdu.specs.Reading.{accepted, judged, width_of};

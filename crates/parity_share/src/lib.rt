@@ -1,4 +1,6 @@
 // Parity as bytes arrive (document 02, Ask 8): a byte's share is added to the parity when the byte is known; on `header`.
+#![tactic(auto)]
+
 ghost use Rattle.std.specs.Prelude.{◌≡◌, ◌<◌, ◌≤◌};
 ghost use Rattle.header.specs.Packed.{unpacked};
 ghost use Rattle.parity_share.specs.Shares.{share, share_refusal, with_share};

@@ -1,5 +1,7 @@
 // What a log tells of its PDUs besides what became of them, for an HTML page: their lengths, and the texts of PSD where they change; on `csv`, `page`, `clock`
 // and `files`.
+#![tactic(auto)]
+
 mod list;
 
 use clock::Clock;

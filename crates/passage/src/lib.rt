@@ -1,5 +1,7 @@
 // PDUs sent over a channel, one after the other: each is lost or comes through, with bytes of its header altered or bits of its pieces flipped; on `noise`,
 // `disorder` and `files`.
+#![tactic(auto)]
+
 use damage::dice;
 use damage::dice::Dice;
 use disorder::{Outlet, Rates, Road};

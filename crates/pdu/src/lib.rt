@@ -1,4 +1,6 @@
 // Reading a PDU without a receiver (document 01, "Reading without a receiver"), on `correction`, `contents`, `expansion`, `modes` and `refusal`.
+#![tactic(auto)]
+
 ghost use Rattle.std.specs.Prelude.{◌≡◌, ◌+◌, ◌-◌, ◌<◌, ◌≤◌, true, false, cond, eqb, length};
 ghost use Rattle.header.specs.Header.{front_replaced};
 ghost use Rattle.refusal.specs.Refusal.{first_of};

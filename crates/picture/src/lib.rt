@@ -1,5 +1,7 @@
 // What stands above the rows of a drive's picture, as SVG: its first tag, its colours, its title and the numbers and times of its columns; on `page` and
 // `clock`.
+#![tactic(auto)]
+
 ghost use Rattle.std.specs.Prelude.{◌≤◌, ◌<◌};
 
 use clock::Clock;

@@ -1,4 +1,6 @@
 // Pieces of packets in a PDU (document 01, "Expansion, PSD, pieces"), on `crc` and `buffer`.
+#![tactic(auto)]
+
 ghost use Rattle.std.specs.Prelude.{◌≡◌, ◌+◌, ◌-◌, ◌≤◌, length, take, drop};
 ghost use Rattle.crc.specs.Crc.{crc_from};
 ghost use Rattle.buffer.specs.Buffer.{put_at};

@@ -1,5 +1,7 @@
 // The header's eight sums with a power of a worked out for each byte, as document 01, "Header code", writes them; on `field` and `header`.
 // In none of the product's libraries: the benchmark times these beside those of `header::syndromes`, which are the same.
+#![tactic(auto)]
+
 ghost use Rattle.std.specs.Prelude.{◌≡◌, true, ◌≤◌};
 ghost use Rattle.field.specs.Field.{Powers, Logarithms};
 ghost use Rattle.header.specs.Header.{syndrome, syndromes};

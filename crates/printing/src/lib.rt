@@ -1,4 +1,6 @@
 // A drive as it is handed on: a page of its rows as an SVG picture, or all of it as an HTML page; on `readings`, `legend` and `particulars`.
+#![tactic(auto)]
+
 use csv::lines;
 use drawing::Task;
 use legend::Ground;

@@ -1,6 +1,7 @@
 // The PSD of each PDU: the same bytes in every one, or the next bytes of a file; on `records` and `files`.
 //
 // The bytes stand in a lent buffer.
+#![tactic(auto)]
 
 // In place of a file where every PDU has the same PSD.
 const NO_FILE: i32 = -1;

@@ -1,4 +1,6 @@
 // What of PSD is text: its runs of printable characters, in ASCII, UTF-8 or ISO 8859-1, as UTF-8; on `words` and `page`.
+#![tactic(auto)]
+
 ghost use Rattle.std.specs.Prelude.{◌≤◌, length};
 ghost use Rattle.io.specs.Counts.{IsPrefixLen};
 

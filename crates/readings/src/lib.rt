@@ -1,4 +1,6 @@
 // The readings of a packet log's CSV, from its first line to its last: each goes over the PDUs, and draws what its task says; on `drawing` and `files`.
+#![tactic(auto)]
+
 use csv::entry::Entry;
 use csv::lines::Lines;
 use csv::{entry, lines};

@@ -1,5 +1,7 @@
 // Opening a receiver, receiving PDUs, and marking them lost (document 01, "Receiver"), on `pdu` and `reassembly`; with entitled programs (document 02, Ask 10),
 // and with delivered and missing counted (Ask 14).
+#![tactic(auto)]
+
 ghost use Rattle.std.specs.Prelude.{◌≡◌, false, not, ◌&&◌, cond, [], ◌+◌, ◌≤◌, ◌<◌, eqb, length, get_or};
 ghost use Rattle.std.proofs.Math.Option.{none, some};
 ghost use Rattle.refusal.specs.Refusal.{first_of, any_of};

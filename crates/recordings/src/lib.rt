@@ -1,5 +1,7 @@
 // A drive that two receivers recorded, record for record: each turn reads a copy of a PDU from each file, receives the two, and writes the log (document 02,
 // Ask 5); on `copies`, `logging` and `apart`. Each file is also received alone (`apart`).
+#![tactic(auto)]
+
 ghost use Rattle.std.specs.Prelude.{◌≡◌, length};
 ghost use Rattle.io.specs.Counts.{IsPrefixLen};
 

@@ -1,4 +1,6 @@
 // What `barzhilup log` says on standard error, a line or more in one write, and how it is used; on `logging`, `apart` and `mode_table`.
+#![tactic(auto)]
+
 use libc::STDERR_FILENO;
 use logging::marks;
 

@@ -1,5 +1,7 @@
 // The records of a file of PDUs that is read ahead: a place at which they go on is found after bytes that are no records, and the mode and the stream of the
 // first PDU that can be read are known before it is received; on `ahead` and `pdu`.
+#![tactic(auto)]
+
 use ahead::Ahead;
 
 // What stands at a place: a record that is all there, the file's end, a record that the file ends inside of, a length that no PDU has, or more than the buffer

@@ -1,6 +1,8 @@
 // The file in which `barzhilup log` keeps how a drive stands (document 02, Ask 13), so that a later run goes on there, on `snapshot`, `words`, `word_bytes`,
 // `records` and `files`: one record or two of words, each word in four bytes, low byte first. The first record has the receiver's words. The second has the
 // count of PDUs that are logged and the count of bytes of their log, two words each, low word first.
+#![tactic(auto)]
+
 ghost use Rattle.std.specs.Prelude.{◌≡◌, length};
 ghost use Rattle.io.specs.Counts.{IsPrefixLen};
 

@@ -1,6 +1,8 @@
 // Settings that change from PDU to PDU, in a text, on `named_settings` and the toolchain's `bytes`: each line has the number of a PDU, from 0, and what changes
 // from it on, as in "120 gain=3 program=-".
 // A number sign begins a comment.
+#![tactic(auto)]
+
 ghost use Rattle.std.specs.Prelude.{◌≤◌, length};
 ghost use Rattle.io.specs.Counts.{IsPrefixLen};
 

@@ -1,4 +1,6 @@
 // The better of two copies of a PDU (document 02, Ask 5), on `correction`.
+#![tactic(auto)]
+
 ghost use Rattle.std.specs.Prelude.{◌≡◌};
 ghost use Rattle.correction.specs.Correction.{correction_of};
 ghost use Rattle.selection.specs.Selection.{better, choice_of, choice_number, Chosen};

@@ -1,4 +1,6 @@
 // A run of the writer: packets are read ahead, and each turn sends a PDU; on `writer`, `packets` and `limits`.
+#![tactic(auto)]
+
 pub mod trial;
 
 use packets::window;

@@ -1,5 +1,7 @@
 // The packets of a file that was sent, by their indices: where each stands, its number, whether it is one that was delivered, and a bitmap of those that were;
 // on `frames`, `bits` and the toolchain's `check`.
+#![tactic(auto)]
+
 pub mod bitmap;
 
 ghost use Rattle.std.specs.Prelude.{◌≡◌, true, ◌<◌};

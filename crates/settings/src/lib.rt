@@ -1,4 +1,6 @@
 // A writer's settings for a PDU (document 01, "Expansion, PSD, pieces"), on `expansion` and `refusal`.
+#![tactic(auto)]
+
 ghost use Rattle.std.specs.Prelude.{◌≡◌, ◌≤◌};
 ghost use Rattle.refusal.specs.Refusal.{any_of};
 ghost use Rattle.settings.specs.Settings.{program_of, class_one, access_one, broken_rules, wrong_values, fields_for};

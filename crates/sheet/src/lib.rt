@@ -1,4 +1,6 @@
 // The HTML page of a drive: its style, and the head that tells what the drive is, in the words of the options; on `picture` and `options`.
+#![tactic(auto)]
+
 ghost use Rattle.io.specs.Counts.{IsPrefixLen};
 
 use clock::Clock;

@@ -1,5 +1,7 @@
 // A joined frame in the output (document 02, Ask 11), on `words` and `text`: its words, or lines of comma-separated values, a line for each packet; and the
 // counts of its packets.
+#![tactic(auto)]
+
 ghost use Rattle.std.specs.Prelude.{◌≡◌, ◌<◌, length};
 ghost use Rattle.io.specs.Counts.{IsPrefixLen};
 

@@ -1,4 +1,6 @@
 // A running receiver written out as words, and read again (document 02, Ask 13), with its counts (Ask 14); on `receiver`.
+#![tactic(auto)]
+
 ghost use Rattle.std.specs.Prelude.{◌≡◌, true, cond, ◌+◌, ◌-◌, ◌*◌, ◌/◌, ◌%◌, ◌<◌, ◌≤◌, min, length, get_or, drop};
 ghost use Rattle.buffer.specs.Buffer.{put_at};
 ghost use Rattle.log.specs.Log.{data_word_at, same_list};

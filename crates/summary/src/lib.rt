@@ -1,4 +1,6 @@
 // The summary of a drive again, from the CSV of its log, on `drive`, `counts` and `files`: each line is counted as what it tells of was counted in the run.
+#![tactic(auto)]
+
 use csv::entry::Entry;
 use csv::lines::Lines;
 use csv::{entry, lines};

@@ -1,4 +1,6 @@
 // Lines of text made in a lent buffer, so that a block of them is written at once, and numbers read from text; on `buffer` and the toolchain's `io`.
+#![tactic(auto)]
+
 ghost use Rattle.std.specs.Prelude.{◌≡◌, ◌+◌, ◌<◌, ◌≤◌, min, length};
 ghost use Rattle.io.specs.Counts.{IsPrefixLen};
 ghost use Rattle.text.specs.Text.{placed, with_digit, no_number, number_of};

@@ -1,5 +1,7 @@
 // What the command line asks to be sent: mode and stream, the register that CRCs start with, the length of each PDU, its settings and its PSD; on
 // `named_settings`, `records` and `files`.
+#![tactic(auto)]
+
 pub mod psd;
 
 use settings::Settings;

@@ -1,5 +1,7 @@
 // Tries latencies before going on air (document 02, Ask 7): from the counts of packets that end in each PDU, or from packets, to a table of the latencies and a
 // picture of one; on `count_source`, `latency_table`, `backlog` and `mode_table`.
+#![tactic(auto)]
+
 mod report;
 
 use backlog::{columns, drawing};

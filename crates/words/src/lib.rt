@@ -1,4 +1,6 @@
 // Words of the packet log, taken apart (document 01, "Receiver"); they stand on `log` alone.
+#![tactic(auto)]
+
 ghost use Rattle.std.specs.Prelude.{◌≡◌, ◌+◌, ◌*◌, ◌<◌, ◌≤◌, length, get_or};
 ghost use Rattle.log.specs.Log.{word as word_of};
 

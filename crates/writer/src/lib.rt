@@ -1,4 +1,6 @@
 // Opening a writer, and writing PDUs (document 01, "Writer"); on `settings`, `packing` and `pdu`.
+#![tactic(auto)]
+
 ghost use Rattle.std.specs.Prelude.{◌≡◌, false, ◌&&◌, ◌||◌, not, cond, List, eqb, ltb, leb, ◌+◌, ◌≤◌, ◌<◌, length};
 ghost use Rattle.modes.specs.Modes.{listing};
 ghost use Rattle.modes.specs.declared.Listing.TheVariants.{Listed};
