@@ -11,5 +11,5 @@ returns : tie.Need-returns
 unfolding far_low
 returns c = (refl, xor_lt 64 _ c.args.b (xor_lt 64 _ _ (low_fits 2 62 c.args.l) (top-fits 2 62 c.args.h (omega arith) c.ranges.h.fits)) c.ranges.b.fits)
 
-pub far-low-spec : {M : Type 1} → statement M
-far-low-spec = tie.close (tie.spec (λ c. search rules) (λ c. search rules) returns)
+pub far_low_spec : {M : Type 1} → statement M
+far_low_spec = tie.close (tie.spec (λ c. search rules) (λ c. search rules) returns)

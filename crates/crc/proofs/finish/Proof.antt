@@ -14,7 +14,7 @@ returns : tie.Need-returns
 returns c =
     let a = c.before.before.before in
     c.reduced.ensures
-    ∙ ap₂ val c.before.before.push-high.ensures.0 c.before.push-low.ensures.0
+    ∙ ap₂ val c.before.before.push_high.ensures.0 c.before.push_low.ensures.0
     ∙ push a.args.h a.args.l 0 a.ranges.h.fits a.ranges.l.fits (lit< tt)
     ∙ xor_zero_r (shifts 8 (val a.args.h a.args.l))
 

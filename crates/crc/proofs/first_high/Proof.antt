@@ -7,15 +7,15 @@ use Rattle.crc.specs.Ring.{next_high}
 use Rattle.crc.proofs.first_high.Statement.{statement}
 use Rattle.crc.proofs.first_high.Tie as tie
 
-returns : tie.Need-returns
+returns : tie.Need-returns-then-from-eq0
 returns c =
     let a = c.before.args in
-    sym (ap (λ (t : Bool). cond t a.h (next_high 0 a.h 0)) (eq-eqb a.from 0 c.if1.true))
+    sym (ap (λ (t : Bool). cond t a.h (next_high 0 a.h 0)) (eq-eqb a.from 0 c.if-from-eq0.true))
 
-returns-2 : tie.Need-returns-2
+returns-2 : tie.Need-returns
 returns-2 c =
     let a = c.before.before.args in
-    c.next-high.ensures.0 ∙ sym (ap (λ (t : Bool). cond t a.h (next_high 0 a.h 0)) (ne_eqb a.from 0 c.before.if1.false))
+    c.next_high.ensures.0 ∙ sym (ap (λ (t : Bool). cond t a.h (next_high 0 a.h 0)) (ne_eqb a.from 0 c.before.if-from-eq0.false))
 
-pub first-high-spec : {M : Type 1} → statement M
-first-high-spec = tie.close (tie.spec returns (λ c κs. search rules) returns-2)
+pub first_high_spec : {M : Type 1} → statement M
+first_high_spec = tie.close (tie.spec returns (λ c κs. search rules) returns-2)

@@ -12,5 +12,5 @@ returns : tie.Need-returns
 unfolding folded within over
 returns c = (refl, folded-lt 16 8 8 6 10 (λ v. (omega arith, omega arith)) c.args.h c.args.l c.requires.0 c.requires.1)
 
-pub fold16-spec : {M : Type 1} → statement M
-fold16-spec = tie.close (tie.spec (λ c. search rules) (λ c. search rules) returns)
+pub fold16_spec : {M : Type 1} → statement M
+fold16_spec = tie.close (tie.spec (λ c. search rules) (λ c. search rules) returns)

@@ -12,5 +12,5 @@ returns : tie.Need-returns
 unfolding folded within over
 returns c = (refl, folded-lt 32 16 16 12 20 (λ v. (omega arith, omega arith)) c.args.h c.args.l c.requires.0 c.requires.1)
 
-pub fold32-spec : {M : Type 1} → statement M
-fold32-spec = tie.close (tie.spec (λ c. search rules) (λ c. search rules) returns)
+pub fold32_spec : {M : Type 1} → statement M
+fold32_spec = tie.close (tie.spec (λ c. search rules) (λ c. search rules) returns)

@@ -12,5 +12,5 @@ returns : tie.Need-returns
 unfolding folded within over
 returns c = (refl, folded-lt 64 32 32 24 40 (λ v. (omega arith, omega arith)) c.args.h c.args.l c.ranges.h.fits c.ranges.l.fits)
 
-pub fold64-spec : {M : Type 1} → statement M
-fold64-spec = tie.close (tie.spec (λ c. search rules) (λ c. search rules) returns)
+pub fold64_spec : {M : Type 1} → statement M
+fold64_spec = tie.close (tie.spec (λ c. search rules) (λ c. search rules) returns)

@@ -12,5 +12,5 @@ returns : tie.Need-returns
 unfolding folded within over
 returns c = (refl, folded-lt 8 4 4 3 5 (λ v. (omega arith, omega arith)) c.args.h c.args.l c.requires.0 c.requires.1)
 
-pub fold8-spec : {M : Type 1} → statement M
-fold8-spec = tie.close (tie.spec (λ c. search rules) (λ c. search rules) returns)
+pub fold8_spec : {M : Type 1} → statement M
+fold8_spec = tie.close (tie.spec (λ c. search rules) (λ c. search rules) returns)

@@ -6,12 +6,12 @@ use borrow.Author.Rules.{rules}
 use Rattle.crc.proofs.next_high.Statement.{statement}
 use Rattle.crc.proofs.next_high.Tie as tie
 
-add-result : tie.Need-overflow-add-result
+add-result : tie.Need-overflow_add-result
 add-result c = record { fits = high_fits 1 63 c.args.h c.args.l c.ranges.l.fits }
 
 returns : tie.Need-returns
 unfolding next_high
 returns c = (refl, xor_lt 64 _ c.args.a (high_fits 1 63 c.args.h c.args.l c.ranges.l.fits) c.ranges.a.fits)
 
-pub next-high-spec : {M : Type 1} → statement M
-next-high-spec = tie.close (tie.spec (λ c. search rules) add-result returns)
+pub next_high_spec : {M : Type 1} → statement M
+next_high_spec = tie.close (tie.spec (λ c. search rules) add-result returns)

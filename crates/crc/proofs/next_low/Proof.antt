@@ -11,5 +11,5 @@ returns : tie.Need-returns
 unfolding next_low
 returns c = (refl, xor_lt 64 _ c.args.b (xor_lt 64 _ _ (low_fits 1 63 c.args.l) (top-fits 1 63 c.args.h (omega arith) c.ranges.h.fits)) c.ranges.b.fits)
 
-pub next-low-spec : {M : Type 1} → statement M
-next-low-spec = tie.close (tie.spec (λ c. search rules) (λ c. search rules) returns)
+pub next_low_spec : {M : Type 1} → statement M
+next_low_spec = tie.close (tie.spec (λ c. search rules) (λ c. search rules) returns)

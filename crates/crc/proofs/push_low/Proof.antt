@@ -11,5 +11,5 @@ returns : tie.Need-returns
 unfolding push_low
 returns c = (refl, xor_lt 64 _ _ (sum_fits 8 56 c.args.l c.args.b c.ranges.b.fits) (top-fits 8 56 c.args.h (omega arith) c.ranges.h.fits))
 
-pub push-low-spec : {M : Type 1} → statement M
-push-low-spec = tie.close (tie.spec (λ c. search rules) (λ c. search rules) (λ c. search rules) returns)
+pub push_low_spec : {M : Type 1} → statement M
+push_low_spec = tie.close (tie.spec (λ c. search rules) (λ c. search rules) (λ c. search rules) returns)

@@ -11,5 +11,5 @@ returns c =
     let a = c.before.before in
     c.reduced64.ensures ∙ ap (red 64) c.before.fold64.ensures.0 ∙ sym (fold-64 a.args.h a.args.l a.ranges.h.fits)
 
-pub reduced-spec : {M : Type 1} → statement M
-reduced-spec = tie.close (tie.spec (λ c κs. search rules) (λ c κs. search rules) returns)
+pub reduced_spec : {M : Type 1} → statement M
+reduced_spec = tie.close (tie.spec (λ c κs. search rules) (λ c κs. search rules) returns)
