@@ -12,7 +12,7 @@ use lib.ListN.{length, get_or, take, drop, length-take, length-drop}
 use lib.Seq.{length-take-le}
 use Rattle.algebra.specs.Places.{All}
 use Rattle.algebra.proofs.Places.{all_join}
-use Rattle.log.proofs.Packets.{Bytes as log_bytes}
+use Rattle.packet_log.proofs.Packets.{Bytes as log_bytes}
 use Rattle.refusal.specs.Refusal.{first_of}
 use Rattle.refusal.proofs.Rows.{row-off}
 use Rattle.modes.specs.declared.Mode.{Mode}
@@ -37,7 +37,7 @@ use Rattle.receiver.proofs.Enough.{taken-few}
 use Rattle.writer.specs.RoundTrip.{Bytes}
 use Rattle.diversity.specs.Diversity.{pair_piece, pair_pieces, pair_said, differ}
 use Rattle.diversity.proofs.Alike.{alike-length, locators-same}
-use Rattle.log.specs.Log.{same_list}
+use Rattle.packet_log.specs.Log.{same_list}
 use Rattle.delivery.proofs.Made.{bytes_of, bytes_drop, bytes_take}
 use Rattle.delivery.proofs.Copies.{count-pieces}
 

@@ -9,7 +9,7 @@ use lib.ListN.{length, take, drop, replicate, length-replicate, length-map}
 use lib.Seq.{take-add}
 use Rattle.algebra.specs.Places.{All}
 use Rattle.pieces.specs.Pieces.{total}
-use Rattle.log.specs.Log.{packet, data_words, entry_words, log_words, packet_words}
+use Rattle.packet_log.specs.Log.{packet, data_words, entry_words, log_words, packet_words}
 use Rattle.receiver.specs.Entitling.{all_programs}
 use Rattle.receiver.specs.Receiving.{receive_answer}
 use Rattle.batch.specs.Batches.{Result, one_by_one, batch_received}

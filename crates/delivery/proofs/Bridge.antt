@@ -18,8 +18,8 @@ use Rattle.correction.specs.Correction.{corrected_pdu}
 use Rattle.correction.specs.Marks.{corrected_pdu_with}
 use Rattle.correction.proofs.Answers.{no-marks-pdu}
 use Rattle.pdu.specs.Reading.{mode_in, width_of}
-use Rattle.log.specs.Log.{log_words}
-use Rattle.log.proofs.Packets.{FitAll}
+use Rattle.packet_log.specs.Log.{log_words}
+use Rattle.packet_log.proofs.Packets.{FitAll}
 use Rattle.reassembly.specs.Reassembly.{Said, Outcome, received}
 use Rattle.reassembly.specs.Rights.{Rights, Label, under}
 use Rattle.reassembly.specs.Tally.{Countable}

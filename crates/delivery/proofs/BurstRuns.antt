@@ -17,7 +17,7 @@ use Rattle.expansion.specs.Expansion.{chained}
 use Rattle.expansion.specs.Writing.{expansion_bytes}
 use Rattle.packing.specs.Packing.{largest_up_to, most_pieces, fit, wholes_from, part_after, part_from}
 use Rattle.pieces.specs.Pieces.{total}
-use Rattle.log.specs.Log.{Entry, packet, log_words, packet_words, same_list}
+use Rattle.packet_log.specs.Log.{Entry, packet, log_words, packet_words, same_list}
 use Rattle.reassembly.specs.Rights.{Label}
 use Rattle.writer.specs.Writing.{write_answer}
 use Rattle.receiver.specs.Entitling.{all_programs}

@@ -17,7 +17,7 @@ use Rattle.modes.specs.declared.Listing.{Listing}
 use Rattle.modes.specs.declared.Listing.TheVariants.{Listed, Refused}
 use Rattle.modes.proofs.Lines.{refusal-five}
 use Rattle.modes.proofs.Listable.{listable}
-use Rattle.log.specs.Log.{log_words, packet_words}
+use Rattle.packet_log.specs.Log.{log_words, packet_words}
 use Rattle.pdu.specs.Reading.{mode_in}
 use Rattle.reassembly.specs.Reassembly.{Piece, following}
 use Rattle.reassembly.specs.Tally.{no_tally, tallied}

@@ -5,7 +5,7 @@ use mathlib.Core.Bool.{Bool, true}
 use mathlib.Core.List.{List, map}
 use Prim.Native.Nat.{ℕ, ◌≤◌}
 use lib.ListN.{length}
-use Rattle.log.specs.Log.{Entry, log_words, packet_words}
+use Rattle.packet_log.specs.Log.{Entry, log_words, packet_words}
 use Rattle.reassembly.specs.Tally.{no_tally, tallied}
 use Rattle.receiver.specs.Entitling.{all_programs, allowed_programs}
 use Rattle.receiver.specs.Receiving.{tally_of}

@@ -11,7 +11,7 @@ use borrow.Author.Tests.{eq-eqb, ne_eqb, le-leb, ltb-false}
 use lib.ListN.{length, get_or, take, drop, length-take, length-drop, length-append}
 use lib.Seq.{take-take, get_or-take, length-take-le}
 use Rattle.algebra.proofs.Places.{all_join}
-use Rattle.log.proofs.Packets.{Bytes as log_bytes}
+use Rattle.packet_log.proofs.Packets.{Bytes as log_bytes}
 use Rattle.refusal.proofs.Rows.{row-off, none-at}
 use Rattle.crc.specs.Crc.{crc_from}
 use Rattle.burst.proofs.Found.{burst-found}

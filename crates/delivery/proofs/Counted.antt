@@ -6,7 +6,7 @@ use Prim.Native.Nat.{ℕ, zero, suc, ◌+◌, ◌-◌, ◌%◌, ◌<◌, ◌≤�
 use native.Mathlib.Omega.{arith}
 use borrow.Author.Tests.{ne_eqb}
 use lib.ListN.{length}
-use Rattle.log.specs.Log.{Entry, packet}
+use Rattle.packet_log.specs.Log.{Entry, packet}
 use Rattle.reassembly.specs.Tally.{Tally, no_tally, gap, counted, tallied, Countable}
 use Rattle.runs.specs.Spans.{whole_indices, entries_at}
 use Rattle.runs.specs.Transmissions.{Close, AddsUp}

@@ -14,7 +14,7 @@ use Rattle.burst.proofs.Strings.{hit-burst}
 use Rattle.header.proofs.Unique.{all-bytes, all_take, all_drop}
 use Rattle.layout.specs.Control.{control_at}
 use Rattle.layout.specs.Locators.{locator_at}
-use Rattle.log.specs.Log.{log_words, packet_words, same_list}
+use Rattle.packet_log.specs.Log.{log_words, packet_words, same_list}
 use Rattle.pdu.specs.Reading.{start_at, length_at}
 use Rattle.writer.specs.RoundTrip.{Bytes}
 use Rattle.reassembly.specs.Tally.{no_tally, tallied}
@@ -23,7 +23,7 @@ use Rattle.receiver.specs.Receiving.{tally_of}
 use Rattle.runs.specs.Spans.{lies, due_at}
 use Rattle.runs.specs.Transmissions.{Way, gone, here}
 use Rattle.runs.proofs.Spans.{entries-are}
-use Rattle.log.proofs.Same.{same_true, same-itself}
+use Rattle.packet_log.proofs.Same.{same_true, same-itself}
 use Rattle.delivery.specs.Delivery.{concatenated, Station, Call, receive, batch, mark_lost, Behaviour, defined, station_after, RefusedAfter, HeaderAltered, Coming, Copies, alone, paired, Comes, AllCome, Step, receives, batches, stops, loses, refuses, call_of, NotRefused, Through, finally, Run, run_of, made, fresh_station, spans, Asked}
 use Rattle.delivery.specs.Copies.{front_length, restored, bytes_at, crc_at, sealed_piece, as_sent, sound_in, came_as, Damage, Damaged, ways_in, ways_from, width_in}
 use Rattle.delivery.specs.Entitlement.{EntitledDelivery, for_programs, fates}

@@ -17,7 +17,7 @@ use Rattle.buffer.proofs.Laws.{take_put}
 use Rattle.header.specs.Header.{length_refusal}
 use Rattle.layout.specs.Control.{control_at}
 use Rattle.layout.specs.declared.ControlWord.{ControlWord}
-use Rattle.log.specs.Log.{log_words, same_list}
+use Rattle.packet_log.specs.Log.{log_words, same_list}
 use Rattle.correction.specs.Correction.{corrected, answer_for, correction_of, corrected_pdu}
 use Rattle.correction.specs.Marks.{corrected_with, corrected_pdu_with}
 use Rattle.correction.proofs.Decoding.{no-marks}
@@ -33,7 +33,7 @@ use Rattle.receiver.specs.declared.Receiver.{Receiver}
 use Rattle.batch.proofs.Single.{kept}
 use Rattle.diversity.specs.Diversity.{correctable, pair_said, pair_come, front_of, copy_number, differ, PairResult, pair_as, pair_number, together, received_by, pair_received}
 use Rattle.pair.proofs.Enough.{Passes, taken, passes-taken, passes-most}
-use Rattle.log.proofs.Same.{same-itself}
+use Rattle.packet_log.proofs.Same.{same-itself}
 use Rattle.runs.proofs.Events.{came, holder_for}
 use Rattle.diversity.proofs.AfterPair.{pair_words, pair_tally}
 use Rattle.delivery.proofs.Parts.{answer_of}

@@ -13,7 +13,7 @@ use Rattle.expansion.specs.Expansion.{chained}
 use Rattle.expansion.specs.Writing.{expansion_bytes}
 use Rattle.packing.specs.Packing.{largest_up_to, most_pieces, fit, wholes_from, part_after, part_from}
 use Rattle.pieces.specs.Pieces.{total}
-use Rattle.log.specs.Log.{packet, log_words, packet_words}
+use Rattle.packet_log.specs.Log.{packet, log_words, packet_words}
 use Rattle.reassembly.specs.Rights.{Label}
 use Rattle.writer.specs.Writing.{writer_opened, write_answer}
 use Rattle.receiver.specs.Entitling.{allowed_programs}

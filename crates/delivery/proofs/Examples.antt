@@ -3,7 +3,7 @@ use mathlib.Core.Path.{◌≡◌, refl}
 use mathlib.Core.Bool.{true, false}
 use mathlib.Core.List.{List, [], ◌∷◌, map}
 use Prim.Native.Nat.{ℕ}
-use Rattle.log.specs.Log.{packet, data_words, entry_words, log_words, same_list}
+use Rattle.packet_log.specs.Log.{packet, data_words, entry_words, log_words, same_list}
 use Rattle.runs.specs.Spans.{Span, lies, packet_at, every, due_at}
 use Rattle.runs.proofs.Model.{whole_packets}
 use Rattle.runs.proofs.Calls.{plain_fate}

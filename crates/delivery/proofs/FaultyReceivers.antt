@@ -9,7 +9,7 @@ use Prim.Native.Nat.{ℕ}
 use lib.Dec.{eqb}
 use lib.ListN.{length}
 use Rattle.buffer.specs.Buffer.{put_at}
-use Rattle.log.specs.Log.{Entry, packet, log_words}
+use Rattle.packet_log.specs.Log.{Entry, packet, log_words}
 use Rattle.reassembly.specs.Reassembly.{Piece, received, forgotten}
 use Rattle.reassembly.specs.Holder.{Come}
 use Rattle.receiver.specs.Receiving.{memory_of, kept_of, tally_of, remembering, keeps_services, shown, mode_of, come}

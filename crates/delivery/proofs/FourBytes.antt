@@ -21,7 +21,7 @@ use Rattle.receiver.specs.Entitling.{all_programs}
 use Rattle.runs.specs.Spans.{lies, due_at, whole_indices, entries_at}
 use Rattle.runs.specs.Transmissions.{Way, gone}
 use Rattle.runs.specs.Withheld.{fate_in}
-use Rattle.log.specs.Log.{same_list}
+use Rattle.packet_log.specs.Log.{same_list}
 use Rattle.delivery.specs.Delivery.{Correctable, Coming, Copies, alone, paired, Comes, AllCome, Station, Behaviour, defined, station_after, mark_lost, Step, receives, batches, stops, loses, refuses, call_of, Through, seen_from, finally, Run, run_of, made, spans, fresh_station, Asked, Delivered, Claim, Holds}
 use Rattle.delivery.specs.Copies.{front_length, restored, bytes_at, crc_at, sealed_piece, as_sent, Damaged, came_as, sound_in, ways_in, ways_from, width_in}
 use Rattle.delivery.specs.Diversity.{WrongCrc, arrived_pieces}

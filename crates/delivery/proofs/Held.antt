@@ -11,7 +11,7 @@ use borrow.Author.Tests.{le-ltb}
 use lib.ListN.{length, take, drop, length-append, length-drop}
 use Rattle.buffer.specs.Buffer.{put_at}
 use Rattle.buffer.proofs.Laws.{take_put}
-use Rattle.log.specs.Log.{log_words}
+use Rattle.packet_log.specs.Log.{log_words}
 use Rattle.correction.specs.Correction.{correction_of, corrected_pdu}
 use Rattle.correction.specs.Marks.{corrected_pdu_with}
 use Rattle.pdu.specs.Reading.{wrong_of}

@@ -20,8 +20,8 @@ use Rattle.layout.specs.Control.{control_of, control_at}
 use Rattle.layout.specs.Locators.{locator16}
 use Rattle.buffer.specs.Buffer.{put_at}
 use Rattle.buffer.proofs.Laws.{take_put, put-nil}
-use Rattle.log.proofs.Packets.{Bytes as log_bytes}
-use Rattle.log.specs.Log.{packet, note, data_words, entry_words, log_words}
+use Rattle.packet_log.proofs.Packets.{Bytes as log_bytes}
+use Rattle.packet_log.specs.Log.{packet, note, data_words, entry_words, log_words}
 use Rattle.correction.specs.Marks.{marks_refusal, corrected_pdu_with}
 use Rattle.correction.proofs.Marking.{with-self}
 use Rattle.pdu.specs.Reading.{judged, uncorrectable, any_below, wrong_locator}

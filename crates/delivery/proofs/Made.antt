@@ -9,7 +9,7 @@ use borrow.Author.Tests.{le-leb, ltb-false}
 use lib.ListN.{length, take, drop, length-drop}
 use lib.Seq.{length-take-le}
 use Rattle.algebra.proofs.Places.{all_join}
-use Rattle.log.proofs.Packets.{Bytes as log_bytes}
+use Rattle.packet_log.proofs.Packets.{Bytes as log_bytes}
 use Rattle.refusal.specs.Refusal.{first_of}
 use Rattle.refusal.proofs.Rows.{none-at}
 use Rattle.modes.specs.Modes.{listing}

@@ -12,7 +12,7 @@ use Rattle.expansion.specs.Expansion.{chained}
 use Rattle.expansion.specs.Writing.{expansion_bytes}
 use Rattle.packing.specs.Packing.{largest_up_to, most_pieces, fit, wholes_from, part_after, part_from}
 use Rattle.pieces.specs.Pieces.{total}
-use Rattle.log.specs.Log.{Entry, packet, log_words, packet_words}
+use Rattle.packet_log.specs.Log.{Entry, packet, log_words, packet_words}
 use Rattle.writer.specs.Writing.{write_answer}
 use Rattle.receiver.specs.Entitling.{all_programs}
 use Rattle.runs.specs.Spans.{Span, every}

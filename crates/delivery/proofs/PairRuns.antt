@@ -22,7 +22,7 @@ use Rattle.expansion.specs.Writing.{expansion_bytes}
 use Rattle.packing.specs.Packing.{largest_up_to, most_pieces, fit, wholes_from, part_after, part_from}
 use Rattle.pieces.specs.Pieces.{cut_by, piece_bytes, locators_from, total}
 use Rattle.correction.specs.Correction.{correction_of}
-use Rattle.log.specs.Log.{packet, data_words, entry_words, log_words, packet_words, same_list}
+use Rattle.packet_log.specs.Log.{packet, data_words, entry_words, log_words, packet_words, same_list}
 use Rattle.writer.specs.Writing.{writer_opened, pdu_of, write_answer, written_pdu}
 use Rattle.writer.specs.RoundTrip.{Bytes}
 use Rattle.receiver.specs.Entitling.{all_programs}

@@ -10,15 +10,15 @@ use borrow.Author.Tests.{eq-eqb}
 use lib.ListN.{length, take}
 use Rattle.layout.specs.Control.{control_at}
 use Rattle.layout.specs.declared.ControlWord.{ControlWord}
-use Rattle.log.proofs.Packets.{Bytes as log_bytes}
+use Rattle.packet_log.proofs.Packets.{Bytes as log_bytes}
 use Rattle.correction.specs.Marks.{corrected_pdu_with}
 use Rattle.reassembly.specs.Reassembly.{Piece}
 use Rattle.reassembly.proofs.Fitting.{SanePiece, SanePieces, SaneSaid}
 use Rattle.reassembly.proofs.Blind.{blank, blanks, blank_said}
 use Rattle.receiver.specs.Receiving.{piece_in, pieces_in, said_by}
 use Rattle.runs.proofs.Model.{later}
-use Rattle.log.specs.Log.{same_list}
-use Rattle.log.proofs.Same.{same-itself}
+use Rattle.packet_log.specs.Log.{same_list}
+use Rattle.packet_log.proofs.Same.{same-itself}
 use Rattle.delivery.specs.Copies.{restored}
 use Rattle.delivery.proofs.SoundSteps.{Copy}
 use Rattle.diversity.specs.Diversity.{pair_piece, pair_pieces, pair_said}

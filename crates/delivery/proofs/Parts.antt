@@ -7,7 +7,7 @@ use Prim.Native.Nat.{ℕ}
 use lib.Dec.{eqb}
 use Rattle.modes.specs.Modes.{listing}
 use Rattle.pdu.specs.Reading.{mode_in}
-use Rattle.log.specs.Log.{Entry}
+use Rattle.packet_log.specs.Log.{Entry}
 use Rattle.reassembly.specs.Tally.{no_tally, tallied, Countable}
 use Rattle.writer.specs.Writing.{writer_opened}
 use Rattle.runs.specs.Spans.{Span, every, whole_indices, entries_at}

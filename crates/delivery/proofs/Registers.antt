@@ -21,7 +21,7 @@ use Rattle.packing.specs.Packing.{largest_up_to, most_pieces, fit, wholes_from, 
 use Rattle.pieces.specs.Pieces.{cut_by, piece_bytes, locators_from, total}
 use Rattle.correction.specs.Marks.{marks_refusal}
 use Rattle.correction.proofs.Marking.{unmarked-self}
-use Rattle.log.specs.Log.{packet, data_words, entry_words, log_words, packet_words}
+use Rattle.packet_log.specs.Log.{packet, data_words, entry_words, log_words, packet_words}
 use Rattle.writer.specs.Writing.{writer_opened, pdu_of, write_answer, written_pdu}
 use Rattle.receiver.specs.Entitling.{all_programs}
 use Rattle.runs.proofs.Calls.{plain_fate}

@@ -9,8 +9,8 @@ use lib.Dec.{eqb, ltb, leb}
 use borrow.Author.Tests.{eqb-true, eqb-false, leb-true, ltb-false, not-false}
 use lib.ListN.{length, get_or, take, drop}
 use lib.Seq.{length-take-le}
-use Rattle.log.specs.Log.{log_words}
-use Rattle.log.proofs.Packets.{Bytes as log_bytes}
+use Rattle.packet_log.specs.Log.{log_words}
+use Rattle.packet_log.proofs.Packets.{Bytes as log_bytes}
 use Rattle.refusal.specs.Refusal.{first_of}
 use Rattle.refusal.proofs.Rows.{passed, row-off, rest-off, none-at}
 use Rattle.modes.specs.Modes.{listing, listing_number}

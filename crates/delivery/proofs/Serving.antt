@@ -15,7 +15,7 @@ use Rattle.modes.specs.declared.Listing.TheVariants.{Listed}
 use Rattle.buffer.specs.Buffer.{put_at}
 use Rattle.buffer.proofs.Laws.{put-length, put-nil, take_put}
 use Rattle.layout.specs.Control.{control_at}
-use Rattle.log.specs.Log.{log_words, entry_words}
+use Rattle.packet_log.specs.Log.{log_words, entry_words}
 use Rattle.correction.specs.Marks.{corrected_pdu_with}
 use Rattle.pdu.specs.Reading.{mode_in, listing_of, corrected_tests, judged}
 use Rattle.reassembly.specs.Reassembly.{Partial, nothing, beginning, Memory, Outcome, in_sequence, received, remembered, lost_entries, forgotten}

@@ -10,7 +10,7 @@ use Rattle.burst.specs.Burst.{Burst}
 use Rattle.layout.specs.Control.{control_at}
 use Rattle.modes.specs.Modes.{listing}
 use Rattle.pdu.specs.Reading.{mode_in}
-use Rattle.log.specs.Log.{log_words, packet_words}
+use Rattle.packet_log.specs.Log.{log_words, packet_words}
 use Rattle.reassembly.specs.Tally.{no_tally, tallied}
 use Rattle.writer.specs.Writing.{writer_opened}
 use Rattle.receiver.specs.Entitling.{allowed_programs}

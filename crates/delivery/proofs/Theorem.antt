@@ -5,7 +5,7 @@ use mathlib.Core.List.{List, [], ◌∷◌, ◌++◌, map}
 use Prim.Native.Nat.{ℕ, zero, suc, ◌+◌, ◌-◌, ◌≤◌}
 use native.Mathlib.Omega.{arith}
 use lib.ListN.{length, drop, replicate, length-take, length-append, length-replicate}
-use Rattle.log.specs.Log.{log_words}
+use Rattle.packet_log.specs.Log.{log_words}
 use Rattle.reassembly.specs.Tally.{no_tally, tallied}
 use Rattle.receiver.specs.Entitling.{all_programs, allowed_programs}
 use Rattle.runs.specs.Spans.{Fate, lose, read, Mark, lies, due_at, whole_indices, entries_at}

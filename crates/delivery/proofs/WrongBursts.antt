@@ -15,8 +15,8 @@ use Rattle.buffer.proofs.Laws.{take_put}
 use Rattle.layout.specs.Control.{control_of, control_at}
 use Rattle.layout.specs.Locators.{locator16}
 use Rattle.correction.specs.Marks.{corrected_pdu_with}
-use Rattle.log.specs.Log.{packet, data_words, entry_words, log_words, packet_words, packets_of}
-use Rattle.log.proofs.Packets.{FitAll, packet-words}
+use Rattle.packet_log.specs.Log.{packet, data_words, entry_words, log_words, packet_words, packets_of}
+use Rattle.packet_log.proofs.Packets.{FitAll, packet-words}
 use Rattle.reassembly.specs.Reassembly.{received, sequence_step, beginning_step, contents_step, psd_entries, pieces_step, piece_step, joined, finished}
 use Rattle.receiver.specs.Entitling.{all_programs, allowed_programs, mask_of, entitles}
 use Rattle.receiver.specs.Receiving.{opening_number, opened_for, pieces_in, said_by, come_by, memory_of, shown}

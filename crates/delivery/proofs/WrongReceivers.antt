@@ -16,8 +16,8 @@ use Rattle.expansion.specs.Expansion.{chained}
 use Rattle.expansion.specs.Writing.{expansion_bytes}
 use Rattle.packing.specs.Packing.{largest_up_to, most_pieces, fit, wholes_from, part_after, part_from}
 use Rattle.pieces.specs.Pieces.{cut_by, piece_bytes, locators_from, total}
-use Rattle.log.specs.Log.{packet, data_words, entry_words, log_words, kind_of, of_packet, packet_words_after, packet_words, packets_of}
-use Rattle.log.proofs.Packets.{Fit, packet-words}
+use Rattle.packet_log.specs.Log.{packet, data_words, entry_words, log_words, kind_of, of_packet, packet_words_after, packet_words, packets_of}
+use Rattle.packet_log.proofs.Packets.{Fit, packet-words}
 use Rattle.reassembly.specs.Reassembly.{lost_entries, remembered}
 use Rattle.writer.specs.Writing.{writer_opened, pdu_of, write_answer, written_pdu}
 use Rattle.receiver.specs.Entitling.{allowed_programs, all_programs}

@@ -16,8 +16,8 @@ use Rattle.expansion.specs.Expansion.{chained}
 use Rattle.expansion.specs.Writing.{expansion_bytes}
 use Rattle.packing.specs.Packing.{largest_up_to, most_pieces, fit, wholes_from, part_after, part_from}
 use Rattle.pieces.specs.Pieces.{total}
-use Rattle.log.specs.Log.{Entry, packet, data_words, entry_words, log_words, packet_words_after, packet_words}
-use Rattle.log.proofs.Packets.{FitAll}
+use Rattle.packet_log.specs.Log.{Entry, packet, data_words, entry_words, log_words, packet_words_after, packet_words}
+use Rattle.packet_log.proofs.Packets.{FitAll}
 use Rattle.reassembly.specs.Reassembly.{Piece, lost_entries, forgotten, received, remembered, contents_step, sequence_step, beginning_step, psd_entries, pieces_step, piece_step, joined as joined_step, finished}
 use Rattle.reassembly.specs.Rights.{Label}
 use Rattle.reassembly.specs.Tally.{Tally, no_tally, counted, tallied, Countable}

@@ -8,7 +8,7 @@ use Rattle.layout.specs.Locators.{locator_at}
 use Rattle.modes.specs.Modes.{listing}
 use Rattle.pdu.specs.Reading.{mode_in, start_at, length_at}
 use Rattle.runs.specs.Transmissions.{Way, gone, here}
-use Rattle.log.specs.Log.{same_list}
+use Rattle.packet_log.specs.Log.{same_list}
 use Rattle.delivery.specs.Delivery.{Correctable, Copies, alone, paired, Step, receives, batches, stops, loses, refuses, Run, run_of, made}
 
 -- what a receiver reads of a PDU p that came as q, once corrected: the header is p's again

@@ -10,7 +10,7 @@ use Rattle.modes.specs.Modes.{listing}
 use Rattle.pdu.specs.Reading.{mode_in}
 use Rattle.pieces.specs.Pieces.{total}
 use Rattle.settings.specs.declared.Settings.{Settings}
-use Rattle.log.specs.Log.{log_words, packet_words}
+use Rattle.packet_log.specs.Log.{log_words, packet_words}
 use Rattle.reassembly.specs.Tally.{no_tally, tallied, Countable}
 use Rattle.runs.specs.Spans.{packet_at, Span, covers, every, whole_indices, entries_at}
 use Rattle.runs.specs.Transmissions.{Close, AddsUp}

@@ -2,7 +2,7 @@
 use mathlib.Core.List.{List}
 use mathlib.Core.Option.{Option}
 use Prim.Native.Nat.{ℕ}
-use Rattle.log.specs.Log.{log_words}
+use Rattle.packet_log.specs.Log.{log_words}
 use Rattle.reassembly.specs.Reassembly.{Said, Memory, remembered}
 use Rattle.reassembly.specs.Tally.{Tally}
 use Rattle.receiver.specs.Receiving.{memory_of, mode_of, shown, kept_by, tally_by}

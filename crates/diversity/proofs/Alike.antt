@@ -26,8 +26,8 @@ use Rattle.receiver.specs.Steps.{MarksOf, cause_at, CausesOf, head_of, come_of}
 use Rattle.receiver.proofs.Parsing.{all-marked, parsed}
 use Rattle.receiver.proofs.Rows.{both-on}
 use Rattle.receiver.proofs.Saying.{piece-here, same-said}
-use Rattle.log.specs.Log.{same_list}
-use Rattle.log.proofs.Same.{same_true}
+use Rattle.packet_log.specs.Log.{same_list}
+use Rattle.packet_log.proofs.Same.{same_true}
 use Rattle.diversity.specs.Diversity.{pair_piece, pair_pieces, pair_said, pair_come, front_of, differ}
 use Rattle.diversity.specs.Steps.{piece_by, pair_cause_at, PairCausesOf, mixed, exchanged}
 use Rattle.diversity.proofs.Mixing.{part-first, part-second}

@@ -8,7 +8,7 @@ use native.Mathlib.Omega.{arith}
 use lib.Dec.{eqb}
 use lib.ListN.{length, get_or, take}
 use lib.Seq.{take_all}
-use Rattle.log.specs.Log.{same_list}
+use Rattle.packet_log.specs.Log.{same_list}
 
 pub and_comm : (a b : Bool) → (a && b) ≡ (b && a)
 and_comm true true = refl

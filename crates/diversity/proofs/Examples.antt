@@ -10,7 +10,7 @@ use Rattle.layout.specs.Control.{control_of, control_at}
 use Rattle.layout.specs.Locators.{locator16}
 use Rattle.pdu.specs.Reading.{wrong_locator, lowest_below, width_of}
 use Rattle.reassembly.specs.Reassembly.{Piece, nothing, dropped, piece_step}
-use Rattle.log.specs.Log.{same_list}
+use Rattle.packet_log.specs.Log.{same_list}
 use Rattle.diversity.specs.Diversity.{pair_piece, pair_pieces, lower, wrong_in_pair, differ}
 
 -- ---- pieces

@@ -9,7 +9,7 @@ use borrow.Author.Tests.{eq-eqb, ne_eqb}
 use Rattle.reassembly.specs.Reassembly.{Piece}
 use Rattle.reassembly.specs.Run.{piece_at}
 use Rattle.receiver.specs.Steps.{cause_at}
-use Rattle.log.specs.Log.{same_list}
+use Rattle.packet_log.specs.Log.{same_list}
 use Rattle.diversity.specs.Diversity.{pair_piece}
 use Rattle.diversity.specs.Steps.{piece_by, pair_cause_at}
 

@@ -4,7 +4,7 @@ use Rattle.refusal.specs.Refusal.{first_of}
 use Rattle.buffer.specs.Buffer.{put_at}
 use Rattle.layout.specs.Control.{control_at}
 use Rattle.layout.specs.declared.ControlWord.{ControlWord}
-use Rattle.log.specs.Log.{log_words, same_list}
+use Rattle.packet_log.specs.Log.{log_words, same_list}
 use Rattle.correction.specs.Correction.{correction_of, corrected_pdu}
 use Rattle.correction.specs.declared.Correction.{Correction}
 use Rattle.correction.specs.declared.Correction.TheVariants.{Corrected, Refused}

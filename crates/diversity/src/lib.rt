@@ -7,7 +7,7 @@ ghost use Rattle.layout.specs.Control.{control_at};
 ghost use Rattle.pdu.specs.Reading.{reader_tests};
 ghost use Rattle.reassembly.specs.Run.{place_at, piece_at, Marked, Parsed};
 ghost use Rattle.receiver.specs.Steps.{cause_at, CausesOf, come_of, Usable, Takes};
-ghost use Rattle.log.specs.Log.{same_list};
+ghost use Rattle.packet_log.specs.Log.{same_list};
 ghost use Rattle.diversity.specs.Diversity.{pair_come, differ};
 ghost use Rattle.diversity.specs.Steps.{pair_cause_at, PairCausesOf, mixed, in_places, piece_to, exchanged};
 

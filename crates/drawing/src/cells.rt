@@ -3,7 +3,7 @@
 ghost use Rattle.std.specs.Prelude.{◌≤◌, ◌<◌};
 
 use clock::Clock;
-use csv::entry;
+use log_csv::entry;
 use drive::Pdu;
 use page::Shape;
 

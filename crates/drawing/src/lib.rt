@@ -5,7 +5,7 @@
 mod cells;
 
 use clock::Clock;
-use csv::lines;
+use log_csv::lines;
 use drive::Pdu;
 use gaps::Pace;
 use overview::{Scale, Stretch};

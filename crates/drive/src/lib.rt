@@ -1,8 +1,8 @@
 // A drive, as the lines of its log tell it; it stands on `csv` alone.
 #![tactic(auto)]
 
-use csv::entry;
-use csv::entry::Entry;
+use log_csv::entry;
+use log_csv::entry::Entry;
 
 // Causes of notes, beside those that have a name in csv (document 01, "Receiver").
 const SEQUENCE: u32 = 1;

@@ -24,7 +24,7 @@ use Rattle.pieces.specs.Pieces.{cut_by, locators_from, total}
 use Rattle.packing.specs.Packing.{largest_up_to, most_pieces, fit, wholes_from, part_after, part_from}
 use Rattle.writer.specs.Writing.{writer_opened, write_answer}
 use Rattle.crc.proofs.Examples as crc
-use Rattle.log.proofs.Examples as log
+use Rattle.packet_log.proofs.Examples as log
 use Rattle.header.specs.Header.{sum_up, term, syndrome, is_code_word, distance, exponents, length_refusal}
 use Rattle.header.proofs.CodeWords.{Bytes, zero-code-word}
 use Rattle.header.proofs.Distances.{count, count-le, distance_self}

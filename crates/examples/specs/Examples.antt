@@ -17,7 +17,7 @@ use Rattle.field.specs.Field.{pow}
 use Rattle.crc.specs.Crc.{crc_from}
 use Rattle.header.specs.Header.{exponents, is_code_word, length_refusal}
 use Rattle.correction.specs.Correction.{corrected}
-use Rattle.log.specs.Log.{packet, entry_words}
+use Rattle.packet_log.specs.Log.{packet, entry_words}
 
 -- the generator's coefficients in bytes 0 to 8, the rest zero
 unfoldable pub generator_word : List ℕ

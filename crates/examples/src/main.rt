@@ -307,7 +307,7 @@ fn writing_lines() {
 // (n)
 fn log_line() {
     let mut words = [0u32; 3];
-    log::put_packet(&mut words, 0, 5, b"\x11\x22\x33\x44", b"");
+    packet_log::put_packet(&mut words, 0, 5, b"\x11\x22\x33\x44", b"");
     say(b"(n) packet 5, bytes 11 22 33 44:");
     let mut i: usize = 0;
     while i < 3 {

@@ -6,7 +6,7 @@
 // which of them is near.
 #![tactic(auto)]
 
-use csv::entry;
+use log_csv::entry;
 use drive::{Edges, Pdu, Totals};
 
 // Where a PDU's packets lie: after all that were delivered before, or not known to lie elsewhere; where those of the last PDU with packets lie, which came twice;

@@ -7,8 +7,8 @@ use native.Mathlib.Omega.{arith}
 use lib.Dec.{eqb}
 use lib.ListN.{length}
 use borrow.Author.Tests.{eq-eqb, ne_eqb}
-use Rattle.log.specs.Log.{Entry, packet, psd, note, word, data_word, data_words, entry_words, log_words, kind_of}
-use Rattle.log.proofs.Packets.{Bytes, FitAll}
+use Rattle.packet_log.specs.Log.{Entry, packet, psd, note, word, data_word, data_words, entry_words, log_words, kind_of}
+use Rattle.packet_log.proofs.Packets.{Bytes, FitAll}
 use Rattle.join.specs.Join.{number, entries_of, is_log, numbers_of, with_bit29, partner_of, side_by_side, result_words}
 use Rattle.join.specs.Scan.{is_packet, numbers, data_run, first_words, from_number, partner, first_joined, joined_words}
 use Rattle.join.proofs.Fields.{kind-of, number_of, data-kind}

@@ -7,7 +7,7 @@ use native.Mathlib.Omega.{arith}
 use lib.Dec.{eqb, ltb}
 use lib.ListN.{length, length-append}
 use borrow.Author.Tests.{lt-ltb, ltb-true, eqb-true, ne_eqb}
-use Rattle.log.specs.Log.{Entry, packet, psd, note, entry_words, log_words}
+use Rattle.packet_log.specs.Log.{Entry, packet, psd, note, entry_words, log_words}
 use Rattle.join.specs.Join.{entries_of, is_log, numbers_of, counted_from, rising_after, rising, out_of_order, with_bit29, partner_of, side_by_side, result_words, join_refusal}
 use Rattle.bits.proofs.Tests.{both}
 use Rattle.join.proofs.Entries.{log-words}

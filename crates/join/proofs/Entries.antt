@@ -8,9 +8,9 @@ use lib.Dec.{eqb, leb, ltb}
 use lib.ListN.{length, take}
 use borrow.Author.Tests.{eq-eqb, ne_eqb, leb-true, ltb-true}
 use Rattle.bits.proofs.Tests.{both}
-use Rattle.log.specs.Log.{Entry, packet, psd, note, word, data_word, data_words, entry_words, log_words, kind_of, same_list, data_bytes}
-use Rattle.log.proofs.Packets.{Bytes, FitAll}
-use Rattle.log.proofs.Same.{same-itself, same_true}
+use Rattle.packet_log.specs.Log.{Entry, packet, psd, note, word, data_word, data_words, entry_words, log_words, kind_of, same_list, data_bytes}
+use Rattle.packet_log.proofs.Packets.{Bytes, FitAll}
+use Rattle.packet_log.proofs.Same.{same-itself, same_true}
 use Rattle.join.specs.Join.{data_of, begun_entry, entries_of, sized, all_sized, is_log}
 use Rattle.join.proofs.Fields.{kind-of, high-of, low_of, number_of, data-kind, data-bytes, high-most, low-most, number-most}
 

@@ -4,7 +4,7 @@ use mathlib.Core.Bool.{Bool, true, false, cond}
 use mathlib.Core.List.{List, [], ◌∷◌}
 use Prim.Native.Nat.{ℕ}
 use lib.ListN.{length, replicate}
-use Rattle.log.specs.Log.{packet, psd, note, data_words, entry_words, log_words, same_list, data_bytes}
+use Rattle.packet_log.specs.Log.{packet, psd, note, data_words, entry_words, log_words, same_list, data_bytes}
 use Rattle.join.specs.Join.{data_of, begun_entry, entries_of, sized, all_sized, is_log, numbers_of, rising_after, rising, out_of_order, with_bit29, partner_of, side_by_side, result_words, join_refusal}
 
 -- core 62, 63 and 0, with PSD and a note between them

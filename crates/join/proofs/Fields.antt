@@ -4,8 +4,8 @@ use mathlib.Core.List.{[], ◌∷◌}
 use Prim.Native.Nat.{ℕ, ◌+◌, ◌*◌, ◌/◌, ◌%◌, ◌<◌, ◌≤◌}
 use native.Mathlib.Omega.{arith}
 use lib.ListN.{take}
-use Rattle.log.specs.Log.{word, data_word, kind_of, data_bytes}
-use Rattle.log.proofs.Data.{bytes_back}
+use Rattle.packet_log.specs.Log.{word, data_word, kind_of, data_bytes}
+use Rattle.packet_log.proofs.Data.{bytes_back}
 use Rattle.join.specs.Join.{high, low, number}
 
 -- ---- the fields of a word that is laid out

@@ -6,9 +6,9 @@ use Prim.Native.Nat.{ℕ}
 use native.Mathlib.Omega.{arith}
 use lib.Dec.{ltb}
 use lib.ListN.{length}
-use Rattle.log.specs.Log.{Entry}
-use Rattle.log.proofs.Words.{log-append}
-use Rattle.log.proofs.Packets.{fit_append}
+use Rattle.packet_log.specs.Log.{Entry}
+use Rattle.packet_log.proofs.Words.{log-append}
+use Rattle.packet_log.proofs.Packets.{fit_append}
 use Rattle.join.specs.Join.{entries_of, sized, all_sized, is_log, numbers_of, out_of_order, result_words, join_refusal}
 use Rattle.bits.proofs.Tests.{both, one-and}
 use Rattle.join.proofs.Entries.{words-log, log-words}

@@ -7,8 +7,8 @@ use native.Mathlib.Omega.{arith}
 use lib.Dec.{eqb, leb, ltb}
 use lib.ListN.{length}
 use borrow.Author.Tests.{eqb-true, leb-true, ltb-true, eq-eqb, ne_eqb, le-leb, lt-ltb}
-use Rattle.log.specs.Log.{Entry, packet, psd, note, word, data_word, data_words, entry_words, log_words, kind_of}
-use Rattle.log.proofs.Packets.{Bytes, FitAll}
+use Rattle.packet_log.specs.Log.{Entry, packet, psd, note, word, data_word, data_words, entry_words, log_words, kind_of}
+use Rattle.packet_log.proofs.Packets.{Bytes, FitAll}
 use Rattle.join.specs.Join.{high, low, entries_of, sized, all_sized, is_log}
 use Rattle.join.specs.Scan.{head_fits_as, unused_zero, data_fits, fits, left_after, is_rest}
 use Rattle.join.proofs.Fields.{kind-of, high-of, low_of, data-kind, data-high, data-low, from_fields, high-most, low-most, data-fields}

@@ -9,7 +9,7 @@ use lib.Dec.{eqb}
 use lib.ListN.{length, get_or, take, drop, drop_of_length-le}
 use lib.Seq.{slice, slice_empty, drop-cons, take-suc, drop-append-le, length-take-le}
 use borrow.Author.Tests.{eq-eqb, ne_eqb}
-use Rattle.log.specs.Log.{kind_of}
+use Rattle.packet_log.specs.Log.{kind_of}
 use Rattle.join.specs.Join.{number}
 use Rattle.join.specs.Scan.{fits, left_after, is_rest, is_packet, numbers, data_run, from_number}
 

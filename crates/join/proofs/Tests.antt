@@ -5,7 +5,7 @@ use Prim.Native.Nat.{ℕ, zero, suc, ◌-◌, ◌/◌, ◌%◌, ◌<◌, ◌≤�
 use native.Mathlib.Omega.{arith}
 use lib.Dec.{eqb, leb}
 use borrow.Author.Tests.{eq-eqb, ne_eqb, lt-ltb, le-ltb, le-leb, lt-leb}
-use Rattle.log.specs.Log.{kind_of}
+use Rattle.packet_log.specs.Log.{kind_of}
 use Rattle.join.specs.Join.{high, low}
 use Rattle.join.specs.Scan.{head_fits_as, unused_zero, data_fits, fits, left_after}
 

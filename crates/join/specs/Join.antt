@@ -3,7 +3,7 @@ use Rattle.std.specs.Prelude.{Bool, true, not, ◌&&◌, cond, List, [], ◌∷�
 use Rattle.std.specs.Int.Bits.{bit_or}
 use Rattle.refusal.specs.Refusal.{first_of}
 use Rattle.buffer.specs.Buffer.{put_at}
-use Rattle.log.specs.Log.{Entry, packet, psd, note, entry_words, log_words, kind_of, same_list, data_bytes}
+use Rattle.packet_log.specs.Log.{Entry, packet, psd, note, entry_words, log_words, kind_of, same_list, data_bytes}
 use Rattle.join.specs.declared.Joined.{Joined}
 
 -- ---- words read as entries (document 01, "Receiver"; entry_words has the layout)

@@ -1,7 +1,7 @@
 -- Logs gone through word by word.
 -- What private steps of `join` promise each other; its own promise is in Join.antt alone.
 use Rattle.std.specs.Prelude.{◌≡◌, Bool, true, false, ◌&&◌, cond, List, [], ◌∷◌, ◌++◌, ℕ, zero, suc, ◌-◌, ◌/◌, ◌%◌, ◌<◌, ◌≤◌, min, eqb, leb, ltb, length, get_or, drop}
-use Rattle.log.specs.Log.{kind_of}
+use Rattle.packet_log.specs.Log.{kind_of}
 use Rattle.join.specs.Join.{high, low, number, with_bit29}
 
 -- ---- whether words are a log

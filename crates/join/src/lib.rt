@@ -4,7 +4,7 @@
 ghost use Rattle.std.specs.Prelude.{◌≡◌, true, ◌+◌, ◌-◌, ◌/◌, ◌%◌, ◌<◌, ◌≤◌, leb, length, get_or, drop};
 ghost use Rattle.std.proofs.Math.Seq.{slice};
 ghost use Rattle.buffer.specs.Buffer.{put_at};
-ghost use Rattle.log.specs.Log.{kind_of};
+ghost use Rattle.packet_log.specs.Log.{kind_of};
 ghost use Rattle.join.specs.Join.{high as high_of, low as low_of, number as number_of, is_log, counted_from, rising as rising_numbers, out_of_order, join_refusal, join_answer, result_after};
 ghost use Rattle.join.specs.Scan.{head_fits_as, unused_zero, data_fits, fits as fits_at, left_after, is_packet, numbers, data_run, from_number, Placed, partner, first_joined, joined_words};
 

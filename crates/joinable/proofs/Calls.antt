@@ -9,8 +9,8 @@ use borrow.Author.Tests.{eqb-true}
 use lib.ListN.{length, take, drop}
 use Rattle.buffer.specs.Buffer.{put_at}
 use Rattle.buffer.proofs.Laws.{take_put}
-use Rattle.log.specs.Log.{log_words, same_list}
-use Rattle.log.proofs.Packets.{Bytes as LogBytes}
+use Rattle.packet_log.specs.Log.{log_words, same_list}
+use Rattle.packet_log.proofs.Packets.{Bytes as LogBytes}
 use Rattle.reassembly.specs.Reassembly.{Said, Partial, nothing, beginning, Memory, received, lost_entries}
 use Rattle.reassembly.specs.Run.{partial_bytes}
 use Rattle.reassembly.proofs.Fitting.{SanePartial, SaneSaid, fit-received}

@@ -4,7 +4,7 @@ use mathlib.Core.Bool.{true}
 use mathlib.Core.List.{List, [], ◌∷◌}
 use Rattle.buffer.specs.Buffer.{put_at}
 use Rattle.modes.specs.Modes.{listing}
-use Rattle.log.specs.Log.{data_words, entry_words, log_words, same_list, data_bytes}
+use Rattle.packet_log.specs.Log.{data_words, entry_words, log_words, same_list, data_bytes}
 use Rattle.receiver.specs.Receiving.{fresh, lost_number, lost_answer, log_after_lost}
 use Rattle.join.specs.Join.{data_of, begun_entry, entries_of, sized, all_sized, is_log}
 use Rattle.delivery.specs.Delivery.{Station, Call, mark_lost, defined, seen_from, logs_in}

@@ -1,7 +1,7 @@
 -- The column after the words of entries is the tally of the entries.
 use Rattle.std.proofs.Common.{◌≡◌, ℕ, suc, ◌+◌, ◌/◌, ◌%◌, ◌<◌, ◌≤◌, true, false, cond, eqb, List, [], ◌∷◌, ◌++◌, length, get_or, drop, sym, refl, ap, ◌∙◌, add-one, arith, drop_of_length-le, drop-cons, eq-eqb, ne_eqb}
-use Rattle.log.specs.Log.{Entry, packet, psd, note, word, data_word, data_words, entry_words, log_words, kind_of}
-use Rattle.log.proofs.Packets.{Bytes, FitAll}
+use Rattle.packet_log.specs.Log.{Entry, packet, psd, note, word, data_word, data_words, entry_words, log_words, kind_of}
+use Rattle.packet_log.proofs.Packets.{Bytes, FitAll}
 use Rattle.reassembly.specs.Tally.{Tally, gap, counted, tallied, Grows, Countable}
 use Rattle.reassembly.proofs.Tallies.{tally-grows}
 use Rattle.loss.specs.Column.{wrapped, after_word, after_words}

@@ -1,6 +1,6 @@
 -- Document 02, Ask 14: the loss column after the words of a log (document 01, "Receiver").
 use Rattle.std.specs.Prelude.{ℕ, ◌/◌, ◌%◌, cond, List, [], ◌∷◌, ◌==◌}
-use Rattle.log.specs.Log.{kind_of}
+use Rattle.packet_log.specs.Log.{kind_of}
 use Rattle.reassembly.specs.Tally.{Tally, counted}
 use Rattle.receiver.specs.declared.Receiver.{Receiver}
 use Rattle.loss.specs.declared.Loss.{Loss}

@@ -15,7 +15,7 @@ use Rattle.buffer.specs.Buffer.{put_at}
 use Rattle.layout.specs.Control.{control_at}
 use Rattle.layout.specs.declared.ControlWord.{ControlWord}
 use Rattle.layout.specs.Locators.{locator_at}
-use Rattle.log.specs.Log.{log_words}
+use Rattle.packet_log.specs.Log.{log_words}
 use Rattle.correction.specs.Correction.{correction_of, corrected_pdu}
 use Rattle.correction.specs.Marks.{marks_refusal}
 use Rattle.correction.proofs.Answers.{corrected-allowed, no-marks-pdu}

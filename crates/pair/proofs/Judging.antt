@@ -26,7 +26,7 @@ use Rattle.receiver.specs.declared.Received.{Received}
 use Rattle.receiver.proofs.Answering.{answered-refused, answered-number}
 use Rattle.receiver.proofs.Rows.{first_on, same-listing}
 use Rattle.diversity.specs.Diversity.{copy_number, lower, wrong_in_pair, front_of, differ}
-use Rattle.log.specs.Log.{same_list}
+use Rattle.packet_log.specs.Log.{same_list}
 use Rattle.pair.specs.Steps.{come_as_both, both_number, Paired}
 
 -- ---- rows 5 to 12, of a copy

@@ -5,9 +5,9 @@
 mod list;
 
 use clock::Clock;
-use csv::entry::Entry;
-use csv::lines::Lines;
-use csv::{entry, lines};
+use log_csv::entry::Entry;
+use log_csv::lines::Lines;
+use log_csv::{entry, lines};
 use list::List;
 
 // A reading so far: whether it goes on, and whether all could be read; how many lines were read, whether the log has a loss column, and what is read ahead; the

@@ -1,6 +1,6 @@
 // The list of PSD texts: a row of a table for each one that is not the last one again.
 use clock::Clock;
-use csv::lines;
+use log_csv::lines;
 use page::title;
 
 // How many texts are listed at the most, and how full the list may be before another one: what one takes fits behind.

@@ -1,7 +1,7 @@
 // A drive as it is handed on: a page of its rows as an SVG picture, or all of it as an HTML page; on `readings`, `legend` and `particulars`.
 #![tactic(auto)]
 
-use csv::lines;
+use log_csv::lines;
 use drawing::Task;
 use legend::Ground;
 use page::{Shape, leaf};

@@ -1,9 +1,9 @@
 // The readings of a packet log's CSV, from its first line to its last: each goes over the PDUs, and draws what its task says; on `drawing` and `files`.
 #![tactic(auto)]
 
-use csv::entry::Entry;
-use csv::lines::Lines;
-use csv::{entry, lines};
+use log_csv::entry::Entry;
+use log_csv::lines::Lines;
+use log_csv::{entry, lines};
 use drawing::Task;
 use drive::Drive;
 use gaps::Gaps;

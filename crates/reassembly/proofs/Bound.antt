@@ -5,8 +5,8 @@ use mathlib.Core.List.{List, [], ◌∷◌, ◌++◌}
 use native.Mathlib.Omega.{arith}
 use lib.Dec.{ltb, eqb}
 use lib.ListN.{length, length-append}
-use Rattle.log.specs.Log.{packet, psd, note, log_words}
-use Rattle.log.proofs.Words.{entry_length}
+use Rattle.packet_log.specs.Log.{packet, psd, note, log_words}
+use Rattle.packet_log.proofs.Words.{entry_length}
 use Rattle.layout.specs.Control.{piece_number}
 use Rattle.reassembly.specs.Reassembly.{Piece, Said, Partial, nothing, beginning, Memory, Outcome, dropped, kept, in_sequence, sequence_step, beginning_step, psd_entries, finished, joined, piece_step, ends_here, pieces_step, continuing_step, contents_step, received}
 use Rattle.reassembly.specs.Run.{partial_bytes}

@@ -9,8 +9,8 @@ use borrow.Author.Tests.{ltb-false, ne_eqb}
 use lib.Dec.{ltb, eqb, eqb-suc-zero}
 use lib.ListN.{length, get_or, length-append}
 use lib.Seq.{length-take-le}
-use Rattle.log.specs.Log.{Entry, packet, psd, note, log_words}
-use Rattle.log.proofs.Words.{entry_length, log-append}
+use Rattle.packet_log.specs.Log.{Entry, packet, psd, note, log_words}
+use Rattle.packet_log.proofs.Words.{entry_length, log-append}
 use Rattle.layout.specs.Control.{piece_number}
 use Rattle.reassembly.specs.Reassembly.{Piece, Partial, nothing, beginning, Outcome, dropped, kept, psd_entries, finished, joined, piece_step, pieces_step, continuing_step, contents_step, received}
 use Rattle.reassembly.specs.Rights.{under}

@@ -4,7 +4,7 @@ use mathlib.Core.List.{List, [], ◌∷◌}
 use mathlib.Core.Option.{some}
 use mathlib.Core.Path.{◌≡◌, refl}
 use Prim.Native.Nat.{ℕ}
-use Rattle.log.specs.Log.{Entry, packet, psd, note}
+use Rattle.packet_log.specs.Log.{Entry, packet, psd, note}
 use Rattle.reassembly.specs.Reassembly.{Piece, Said, Partial, nothing, beginning, Outcome, sequence_step, beginning_step, psd_entries, finished, joined, piece_step, pieces_step, contents_step, received}
 use Rattle.reassembly.specs.Run.{piece_of}
 use Rattle.reassembly.specs.Tally.{Tally, no_tally, counted, tallied, passes_limit}

@@ -7,7 +7,7 @@ use native.Mathlib.Omega.{arith}
 use borrow.Author.Tests.{ltb-false}
 use lib.Dec.{ltb, eqb}
 use lib.ListN.{length, length-append}
-use Rattle.log.proofs.Packets.{Bytes, FitAll, fit_append}
+use Rattle.packet_log.proofs.Packets.{Bytes, FitAll, fit_append}
 use Rattle.layout.specs.Control.{piece_number}
 use Rattle.reassembly.specs.Reassembly.{Piece, Said, Partial, nothing, beginning, Memory, Outcome, dropped, kept, in_sequence, sequence_step, beginning_step, psd_entries, finished, joined, piece_step, ends_here, pieces_step, continuing_step, contents_step, received}
 use Rattle.reassembly.proofs.Laws.{delivered}

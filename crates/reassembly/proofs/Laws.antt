@@ -10,7 +10,7 @@ use lib.ListN.{length, take, length-append}
 use lib.Seq.{length-take-le}
 use Rattle.buffer.specs.Buffer.{put_at}
 use Rattle.buffer.proofs.Laws.{put-nil, put_front}
-use Rattle.log.specs.Log.{Entry, packet, entry_words, log_words}
+use Rattle.packet_log.specs.Log.{Entry, packet, entry_words, log_words}
 use Rattle.reassembly.specs.Reassembly.{Partial, nothing, beginning, Outcome, dropped, kept, finished, joined, piece_step}
 use Rattle.reassembly.specs.Run.{partial_of, run_after, keeps, writes, Did, Room, piece_of, ends_at}
 use Rattle.reassembly.specs.declared.Run.{Run}

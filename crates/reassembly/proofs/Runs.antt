@@ -12,8 +12,8 @@ use lib.ListN.{length, take, drop, get_or, length-append, length-drop, length-ta
 use lib.Seq.{length-take-le, drop_at}
 use Rattle.buffer.specs.Buffer.{put_at}
 use Rattle.buffer.proofs.Laws.{put-nil, put_then, take_put}
-use Rattle.log.specs.Log.{log_words}
-use Rattle.log.proofs.Words.{log-append}
+use Rattle.packet_log.specs.Log.{log_words}
+use Rattle.packet_log.proofs.Words.{log-append}
 use Rattle.reassembly.specs.Reassembly.{Piece, Partial, nothing, beginning, Outcome, dropped, kept, finished, joined, piece_step, pieces_step, ends_here}
 use Rattle.reassembly.specs.Run.{partial_bytes, partial_number, partial_of, run_after, keeps, writes, Did, Room, length_by, piece_at, piece_of, pieces_from, ends_at, Marked}
 use Rattle.reassembly.specs.declared.Run.{Run}

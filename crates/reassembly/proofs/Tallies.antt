@@ -7,8 +7,8 @@ use native.Mathlib.Omega.{arith}
 use borrow.Author.Tests.{ltb-false, le-ltb}
 use lib.Dec.{eqb, ltb}
 use lib.ListN.{length, length-append}
-use Rattle.log.specs.Log.{Entry, packet, psd, note, packets_of}
-use Rattle.log.proofs.Packets.{FitAll}
+use Rattle.packet_log.specs.Log.{Entry, packet, psd, note, packets_of}
+use Rattle.packet_log.proofs.Packets.{FitAll}
 use Rattle.layout.specs.Control.{piece_number}
 use Rattle.reassembly.specs.Reassembly.{Piece, Said, Partial, nothing, beginning, Memory, Outcome, dropped, kept, in_sequence, sequence_step, beginning_step, finished, joined, piece_step, ends_here, pieces_step, continuing_step, contents_step, received}
 use Rattle.reassembly.specs.Tally.{Tally, gap, counted, tallied, Grows, Countable, passes_limit}

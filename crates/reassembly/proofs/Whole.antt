@@ -7,7 +7,7 @@ use native.Mathlib.Omega.{arith}
 use lib.Dec.{eqb, eqb-suc-zero}
 use lib.ListN.{length, take, drop, get_or, length-drop, length-take}
 use Rattle.buffer.specs.Buffer.{put_at}
-use Rattle.log.specs.Log.{Entry, psd, note, entry_words, log_words}
+use Rattle.packet_log.specs.Log.{Entry, psd, note, entry_words, log_words}
 use Rattle.layout.specs.Control.{piece_number}
 use Rattle.reassembly.specs.Reassembly.{Said, Partial, nothing, beginning, Outcome, dropped, kept, in_sequence, sequence_step, beginning_step, psd_entries, piece_step, pieces_step, continuing_step, contents_step, received}
 use Rattle.reassembly.specs.Rights.{under}

@@ -5,7 +5,7 @@ use mathlib.Core.Bool.{Bool, true, false, cond}
 use mathlib.Core.List.{List, [], ◌∷◌, ◌++◌, append-nil}
 use native.Mathlib.Omega.{arith}
 use lib.Dec.{eqb}
-use Rattle.log.specs.Log.{Entry, packet, psd, note, packets_of}
+use Rattle.packet_log.specs.Log.{Entry, packet, psd, note, packets_of}
 use Rattle.layout.specs.Control.{piece_number}
 use Rattle.reassembly.specs.Reassembly.{Piece, Said, Partial, nothing, beginning, Memory, Outcome, dropped, sequence_step, beginning_step, psd_entries, joined, piece_step, ends_here, pieces_step, continuing_step, contents_step, received}
 use Rattle.reassembly.proofs.Runs.{ends-drops}

@@ -2,7 +2,7 @@
 -- partial packet here.
 use Rattle.std.specs.Prelude.{Bool, true, false, not, ◌&&◌, cond, List, [], ◌∷◌, ◌++◌, ℕ, suc, ◌+◌, ◌%◌, eqb, ltb, length}
 use Rattle.std.proofs.Math.Option.{Option, none, some}
-use Rattle.log.specs.Log.{Entry, packet, psd, note}
+use Rattle.packet_log.specs.Log.{Entry, packet, psd, note}
 use Rattle.layout.specs.Control.{piece_number}
 
 -- ---- what a PDU says, and what a receiver remembers

@@ -1,6 +1,6 @@
 -- Document 02, Ask 14: delivered and missing.
 use Rattle.std.specs.Prelude.{Bool, ◌||◌, cond, List, [], ◌∷◌, ℕ, zero, suc, ◌+◌, ◌-◌, ◌%◌, ◌≤◌, eqb, ltb}
-use Rattle.log.specs.Log.{Entry, packet, psd, note}
+use Rattle.packet_log.specs.Log.{Entry, packet, psd, note}
 use Rattle.reassembly.specs.declared.Tally.{Tally as Counts}
 
 -- counts, and the last delivered number; with delivered 0 the other two are 0

@@ -4,7 +4,7 @@
 
 ghost use Rattle.std.specs.Prelude.{◌≡◌, true, false, cond, List, ◌++◌, ℕ, ◌+◌, ◌-◌, ◌*◌, ◌≤◌, ◌<◌, eqb, length, take, get_or};
 ghost use Rattle.buffer.specs.Buffer.{put_at};
-ghost use Rattle.log.specs.Log.{log_words};
+ghost use Rattle.packet_log.specs.Log.{log_words};
 ghost use Rattle.layout.specs.Control.{piece_number};
 ghost use Rattle.reassembly.specs.Reassembly.{following, in_sequence, nothing, dropped, finished, piece_step, pieces_step, psd_entries, continuing_step, contents_step, received};
 ghost use Rattle.reassembly.specs.Rights.{under};
@@ -201,7 +201,7 @@ fn drop_noted(log: &mut [u32], at: usize, cause: u8, piece: usize) -> Run
     requires room { Room (dropped cause piece) at log.old }
     ensures { (c : List ℕ) → Did (dropped cause piece) at c log.old c log.new result }
 {
-    let m = log::put_note(&mut *log, at, cause, piece);
+    let m = packet_log::put_note(&mut *log, at, cause, piece);
     Run {
         held: 0,
         number: 0,
@@ -232,7 +232,7 @@ fn finish(
         return drop_noted(&mut *log, at, 5, k);
     }
     if ends {
-        let m = log::put_packet(&mut *log, at, n, &carry[..from], piece);
+        let m = packet_log::put_packet(&mut *log, at, n, &carry[..from], piece);
         return Run {
             held: 0,
             number: 0,
@@ -382,7 +382,7 @@ fn put_extra(log: &mut [u32], at: usize, bytes: &[u8]) -> usize
     if bytes.len() == 0 {
         return 0;
     }
-    log::put_psd(&mut *log, at, bytes)
+    packet_log::put_psd(&mut *log, at, bytes)
 }
 
 // Steps 3 and 4 of a PDU that is not withheld.
@@ -466,7 +466,7 @@ fn withhold(
     ensures { Did (contents_step true (said_of head marks causes pdu.now) (partial_of run.held run.number carry.old)) run.at carry.old log.old carry.new log.new result }
 {
     let at = run.at;
-    let m = log::put_note(&mut *log, at, 8, 0);
+    let m = packet_log::put_note(&mut *log, at, 8, 0);
     let next = Run {
         held: run.held,
         number: run.number,

@@ -6,7 +6,7 @@ use Prim.Native.Nat.{ℕ}
 use lib.Dec.{eqb}
 use borrow.Author.Tests.{eq-eqb, ne_eqb, eqb-true}
 use Rattle.buffer.specs.Buffer.{put_at}
-use Rattle.log.specs.Log.{log_words}
+use Rattle.packet_log.specs.Log.{log_words}
 use Rattle.reassembly.specs.Holder.{Come}
 use Rattle.reassembly.specs.Run.{partial_bytes}
 use Rattle.receiver.specs.Receiving.{refused_answer, outcome_in, taken_answer}

@@ -5,7 +5,7 @@ use mathlib.Core.List.{List}
 use Prim.Native.Nat.{ℕ, zero, suc, ◌+◌, ◌≤◌}
 use native.Mathlib.Omega.{arith}
 use lib.ListN.{length, get_or, drop, length-take}
-use Rattle.log.specs.Log.{log_words}
+use Rattle.packet_log.specs.Log.{log_words}
 use Rattle.reassembly.specs.Reassembly.{Partial, nothing, beginning, Outcome, received, pieces_step, ends_here, continuing_step, contents_step}
 use Rattle.reassembly.specs.Rights.{under}
 use Rattle.reassembly.specs.Run.{partial_bytes, partial_of, place_at, length_by, piece_at, piece_of, pieces_from, Marked, Parsed, said_of, memory_by, first_cause}

@@ -10,7 +10,7 @@ use lib.ListN.{length, get_or, drop}
 use borrow.Author.Tests.{eqb-true, ltb-false, lt-ltb, le-ltb, eq-eqb}
 use Rattle.refusal.specs.Refusal.{first_of, any_of}
 use Rattle.refusal.proofs.Rows.{past, passed, never, row_on, none-at}
-use Rattle.log.specs.Log.{packets_of}
+use Rattle.packet_log.specs.Log.{packets_of}
 use Rattle.reassembly.specs.Reassembly.{Memory}
 use Rattle.reassembly.specs.Tally.{Tally, Grows, Countable, passes_limit}
 use Rattle.reassembly.proofs.Tallies.{not-passed, tally-quiet, tally-grows, FairTally}

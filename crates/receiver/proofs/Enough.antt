@@ -15,7 +15,7 @@ use Rattle.modes.specs.declared.Mode.{Mode}
 use Rattle.header.proofs.Unique.{all_take}
 use Rattle.layout.specs.Control.{control_at}
 use Rattle.layout.specs.declared.ControlWord.{ControlWord}
-use Rattle.log.specs.Log.{log_words, entry_words}
+use Rattle.packet_log.specs.Log.{log_words, entry_words}
 use Rattle.correction.specs.Correction.{header_after}
 use Rattle.correction.specs.Marks.{marks_refusal, corrected_with, corrected_pdu_with}
 use Rattle.correction.proofs.MarkLists.{allowed-marks}

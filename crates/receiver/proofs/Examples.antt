@@ -5,7 +5,7 @@ use mathlib.Core.List.{List, [], ◌∷◌}
 use mathlib.Core.Option.{none, some}
 use Prim.Native.Nat.{ℕ}
 use Rattle.refusal.specs.Refusal.{any_of}
-use Rattle.log.specs.Log.{packet, note}
+use Rattle.packet_log.specs.Log.{packet, note}
 use Rattle.reassembly.specs.Reassembly.{Piece, Said, nothing, beginning, Memory, sequence_step, beginning_step, finished, joined, piece_step, continuing_step, contents_step, received, forgotten}
 use Rattle.reassembly.specs.Holder.{Come}
 use Rattle.receiver.specs.Entitling.{entitles, allowed_programs}

@@ -13,8 +13,8 @@ use Rattle.modes.specs.Modes.{listing}
 use Rattle.modes.specs.declared.Mode.{Mode}
 use Rattle.modes.specs.declared.Listing.{Listing}
 use Rattle.modes.specs.declared.Listing.TheVariants.{Listed, Refused}
-use Rattle.log.specs.Log.{note, entry_words, log_words}
-use Rattle.log.proofs.Words.{note-length}
+use Rattle.packet_log.specs.Log.{note, entry_words, log_words}
+use Rattle.packet_log.proofs.Words.{note-length}
 use Rattle.reassembly.specs.Reassembly.{lost_entries}
 use Rattle.reassembly.proofs.Laws.{one_entry}
 use Rattle.receiver.specs.Receiving.{wrong_fields, wrong_state, remembering, refused_answer, lost_number, lost_answer, log_after_lost}

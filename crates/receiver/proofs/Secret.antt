@@ -13,7 +13,7 @@ use Rattle.buffer.specs.Buffer.{put_at}
 use Rattle.modes.specs.declared.Listing.{Listing}
 use Rattle.layout.specs.Control.{control_at}
 use Rattle.layout.specs.declared.ControlWord.{ControlWord}
-use Rattle.log.specs.Log.{log_words}
+use Rattle.packet_log.specs.Log.{log_words}
 use Rattle.correction.specs.Marks.{corrected_pdu_with}
 use Rattle.expansion.specs.declared.Interpreted.{Interpreted}
 use Rattle.pdu.specs.Reading.{fields_of, mode_in, listing_of}

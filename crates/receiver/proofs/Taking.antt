@@ -8,7 +8,7 @@ use native.Mathlib.Nat.{zero-add}
 use native.Mathlib.Omega.{arith}
 use lib.ListN.{length, get_or}
 use borrow.Author.Tests.{lt-ltb, le-ltb}
-use Rattle.log.specs.Log.{log_words}
+use Rattle.packet_log.specs.Log.{log_words}
 use Rattle.reassembly.specs.Reassembly.{Outcome, received, remembered}
 use Rattle.reassembly.specs.Rights.{forgetting, in_force, kept_after, withheld_by, under}
 use Rattle.reassembly.specs.Run.{partial_bytes, partial_number, run_after, keeps, writes, Did, Room, place_at, Parsed, said_of, last_of, memory_by}

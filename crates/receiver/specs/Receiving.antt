@@ -9,7 +9,7 @@ use Rattle.crc.specs.Crc.{crc_from}
 use Rattle.layout.specs.Control.{control_at}
 use Rattle.layout.specs.declared.ControlWord.{ControlWord}
 use Rattle.layout.specs.Locators.{locator_at}
-use Rattle.log.specs.Log.{log_words}
+use Rattle.packet_log.specs.Log.{log_words}
 use Rattle.header.specs.Header.{allowed_length}
 use Rattle.correction.specs.Marks.{marks_refusal, corrected_with, corrected_pdu_with}
 use Rattle.pdu.specs.Reading.{start_at, length_at, fields_of, psd_of, reader_tests, listing_of, mode_in, uncorrectable, wrong_of}

@@ -8,7 +8,7 @@ use Rattle.modes.specs.Modes.{listing_number}
 use Rattle.modes.specs.declared.Mode.{Mode}
 use Rattle.layout.specs.Control.{control_at}
 use Rattle.layout.specs.declared.ControlWord.{ControlWord}
-use Rattle.log.specs.Log.{log_words}
+use Rattle.packet_log.specs.Log.{log_words}
 use Rattle.pdu.specs.Reading.{after_locators, expansion_count, fields_of, mark_at, mode_in, listing_of, reader_tests}
 use Rattle.reassembly.specs.Holder.{Come}
 use Rattle.reassembly.specs.Tally.{Tally}

@@ -649,7 +649,7 @@ fn lose_listed(r: Receiver, m: Mode, log: &mut [u32]) -> Received
     if log.len() < 1 {
         return refused(r, 13, 0);
     }
-    let words = log::put_note(&mut *log, 0, 6, 0);
+    let words = packet_log::put_note(&mut *log, 0, 6, 0);
     forgotten(r, words)
 }
 

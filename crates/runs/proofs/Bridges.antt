@@ -6,8 +6,8 @@ use mathlib.Core.Option.{Option, none}
 use mathlib.Core.List.{List, [], ◌∷◌, ◌++◌, append-nil}
 use native.Mathlib.Omega.{arith}
 use lib.ListN.{length, length-append}
-use Rattle.log.specs.Log.{log_words}
-use Rattle.log.proofs.Packets.{FitAll}
+use Rattle.packet_log.specs.Log.{log_words}
+use Rattle.packet_log.proofs.Packets.{FitAll}
 use Rattle.reassembly.specs.Reassembly.{following}
 use Rattle.reassembly.specs.Rights.{Rights, Label, in_force, barred}
 use Rattle.reassembly.specs.Holder.{Holder}

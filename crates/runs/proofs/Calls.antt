@@ -7,8 +7,8 @@ use mathlib.Core.Bool.{true, false}
 use mathlib.Core.List.{List, [], ◌∷◌, ◌++◌}
 use mathlib.Core.Option.{Option, none}
 use lib.ListN.{length, drop, replicate}
-use Rattle.log.specs.Log.{log_words}
-use Rattle.log.proofs.Packets.{FitAll}
+use Rattle.packet_log.specs.Log.{log_words}
+use Rattle.packet_log.proofs.Packets.{FitAll}
 use Rattle.reassembly.specs.Reassembly.{following}
 use Rattle.reassembly.specs.Rights.{Rights, Label}
 use Rattle.reassembly.specs.Tally.{Tally, Grows}

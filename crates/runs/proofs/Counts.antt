@@ -9,7 +9,7 @@ use native.Mathlib.Nat.{add-zero}
 use borrow.Author.Tests.{ne_eqb}
 use lib.Dec.{eqb}
 use lib.ListN.{length, drop}
-use Rattle.log.specs.Log.{Entry, packet, psd, note, packets_of}
+use Rattle.packet_log.specs.Log.{Entry, packet, psd, note, packets_of}
 use Rattle.reassembly.specs.Rights.{Rights}
 use Rattle.reassembly.specs.Tally.{Tally, no_tally, gap, counted, tallied}
 use Rattle.reassembly.proofs.Tallies.{tally-append}

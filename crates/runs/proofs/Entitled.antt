@@ -6,7 +6,7 @@ use mathlib.Core.List.{List, [], ◌∷◌, ◌++◌}
 use mathlib.Core.Option.{none, some}
 use borrow.Author.Tests.{eq-eqb}
 use lib.ListN.{drop}
-use Rattle.log.specs.Log.{Entry, packets_of}
+use Rattle.packet_log.specs.Log.{Entry, packets_of}
 use Rattle.reassembly.specs.Reassembly.{following, in_sequence, remembered, received}
 use Rattle.reassembly.specs.Rights.{Rights, in_force, withheld_by}
 use Rattle.reassembly.specs.Holder.{Come, Holder}

@@ -2,7 +2,7 @@
 use mathlib.Core.List.{List, [], ◌∷◌, ◌++◌}
 use mathlib.Core.Option.{none}
 use Prim.Native.Nat.{ℕ}
-use Rattle.log.specs.Log.{Entry}
+use Rattle.packet_log.specs.Log.{Entry}
 use Rattle.reassembly.specs.Reassembly.{received, remembered, lost_entries, forgotten}
 use Rattle.reassembly.specs.Rights.{Rights, kept_after}
 use Rattle.reassembly.specs.Tally.{no_tally, tallied}

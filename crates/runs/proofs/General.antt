@@ -8,9 +8,9 @@ use mathlib.Core.Option.{Option, none}
 use native.Mathlib.Omega.{arith}
 use native.Mathlib.Nat.{le_of_suc-le-suc, not-suc-le-zero}
 use lib.ListN.{length, take, drop, replicate, length-append, length-take}
-use Rattle.log.specs.Log.{Entry, log_words, packet_words, packets_of}
-use Rattle.log.proofs.Words.{log-append}
-use Rattle.log.proofs.Packets.{FitAll, fit_append, packet-words}
+use Rattle.packet_log.specs.Log.{Entry, log_words, packet_words, packets_of}
+use Rattle.packet_log.proofs.Words.{log-append}
+use Rattle.packet_log.proofs.Packets.{FitAll, fit_append, packet-words}
 use Rattle.reassembly.specs.Reassembly.{following}
 use Rattle.reassembly.specs.Rights.{Rights}
 use Rattle.reassembly.specs.Tally.{Tally, no_tally, tallied, Grows, Countable}

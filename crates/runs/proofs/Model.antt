@@ -6,7 +6,7 @@ use mathlib.Core.Bool.{Bool, true, false, cond}
 use mathlib.Core.List.{List, [], ◌∷◌, ◌++◌}
 use lib.Dec.{ltb}
 use lib.ListN.{length, take, drop, replicate}
-use Rattle.log.specs.Log.{Entry, packet}
+use Rattle.packet_log.specs.Log.{Entry, packet}
 use Rattle.reassembly.specs.Reassembly.{Piece, Said, Memory, following, received, remembered, lost_entries, forgotten}
 use Rattle.runs.specs.Spans.{Fate, lose, read, Mark, verdicts, Span}
 

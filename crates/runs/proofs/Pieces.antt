@@ -9,7 +9,7 @@ use borrow.Author.Tests.{lt-ltb, le-ltb}
 use lib.Dec.{eqb, ltb}
 use lib.ListN.{length, take, drop, replicate, length-take, length-replicate, take-append-drop}
 use lib.Seq.{take-add, drop_at}
-use Rattle.log.specs.Log.{Entry, packet, packets_of}
+use Rattle.packet_log.specs.Log.{Entry, packet, packets_of}
 use Rattle.reassembly.specs.Reassembly.{Partial, nothing, beginning, Outcome, dropped, kept, finished, joined, piece_step}
 use Rattle.reassembly.proofs.Laws.{delivered}
 use Rattle.runs.specs.Spans.{Mark}

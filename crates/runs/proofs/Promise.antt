@@ -4,7 +4,7 @@ use mathlib.Core.Path.{◌≡◌}
 use mathlib.Core.List.{List, [], ◌++◌}
 use Prim.Native.Nat.{ℕ}
 use lib.ListN.{replicate}
-use Rattle.log.specs.Log.{Entry, log_words, packet_words}
+use Rattle.packet_log.specs.Log.{Entry, log_words, packet_words}
 use Rattle.reassembly.specs.Rights.{Rights, Label}
 use Rattle.reassembly.specs.Tally.{Tally, no_tally, tallied}
 use Rattle.runs.specs.Spans.{Fate, Span, lies, whole_indices, due_at}

@@ -4,7 +4,7 @@ use mathlib.Core.Path.{◌≡◌, sym, ap, subst, ◌∙◌}
 use mathlib.Core.List.{List, ◌++◌}
 use mathlib.Core.Option.{none}
 use lib.ListN.{replicate}
-use Rattle.log.specs.Log.{log_words}
+use Rattle.packet_log.specs.Log.{log_words}
 use Rattle.reassembly.specs.Rights.{Rights}
 use Rattle.reassembly.specs.Tally.{no_tally, tallied}
 use Rattle.runs.specs.Spans.{Fate, lies, whole_indices, due_at}

@@ -9,7 +9,7 @@ use native.Mathlib.Nat.{add_assoc, zero-add, le_of_suc-le-suc, not-suc-le-zero}
 use borrow.Author.Tests.{lt-ltb, le-ltb, le-leb, lt-leb}
 use lib.ListN.{length, take, drop, replicate, get_or, length-append, length-drop, length-take, length-replicate, get_or-replicate, get_or-append}
 use lib.Seq.{take-add, drop-drop, get_or-append-add}
-use Rattle.log.specs.Log.{Entry, packet}
+use Rattle.packet_log.specs.Log.{Entry, packet}
 use Rattle.runs.proofs.Model.{cut, Fits, sent_after, Plan, later, marks, run_marks, all_taken, is_due, wanted, AllFit, Sized, whole_packets, bytes_in, spans_of, fates_of, nowhere}
 use Rattle.runs.specs.Spans.{Mark, verdicts, packet_at, covers, lies, every, whole_indices, due_at, entries_at}
 use Rattle.runs.proofs.Transmissions.{due_from}

@@ -9,7 +9,7 @@ use native.Mathlib.Nat.{zero-add, add-zero, suc-add, add-suc}
 use borrow.Author.Tests.{eq-eqb}
 use lib.Dec.{eqb, ltb}
 use lib.ListN.{length, take, drop, replicate, length-append, length-replicate, length-take, length-drop, drop_of_length-le}
-use Rattle.log.specs.Log.{packets_of}
+use Rattle.packet_log.specs.Log.{packets_of}
 use Rattle.reassembly.specs.Reassembly.{Piece, Partial, nothing, beginning, Memory, Outcome, kept, following, sequence_step, beginning_step, psd_entries, piece_step, ends_here, pieces_step, contents_step, received, remembered, forgotten}
 use Rattle.reassembly.proofs.Laws.{delivered}
 use Rattle.reassembly.proofs.Runs.{and_then, ends-drops}

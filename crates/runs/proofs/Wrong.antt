@@ -7,7 +7,7 @@ use Prim.Native.Nat.{ℕ}
 use native.Mathlib.Omega.{arith}
 use lib.Dec.{eqb}
 use lib.ListN.{length, replicate}
-use Rattle.log.specs.Log.{Entry, packet, note, packets_of}
+use Rattle.packet_log.specs.Log.{Entry, packet, note, packets_of}
 use Rattle.reassembly.specs.Reassembly.{Memory, sequence_step, beginning_step, psd_entries, finished, joined, piece_step, pieces_step, continuing_step, contents_step, received, remembered, forgotten}
 use Rattle.reassembly.specs.Rights.{Rights, Label}
 use Rattle.runs.specs.Transmissions.{Way, gone, here}

@@ -1,7 +1,7 @@
 -- What a run should deliver, by bytes: the packets joined, counted from 0; where the bytes of each PDU stand among them; and what came of each
 -- PDU: whether it came, whether it is withheld, and which of its pieces are taken.
 use Rattle.std.specs.Prelude.{Bool, true, false, not, ◌&&◌, cond, List, [], ◌∷◌, ◌++◌, map, ℕ, zero, suc, ◌+◌, ◌-◌, ◌%◌, eqb, ltb, leb, length, get_or}
-use Rattle.log.specs.Log.{Entry, packet}
+use Rattle.packet_log.specs.Log.{Entry, packet}
 
 -- ---- what came of a PDU, and of a byte
 

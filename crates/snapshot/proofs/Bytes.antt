@@ -7,10 +7,10 @@ use native.Mathlib.Omega.{arith}
 use lib.Dec.{eqb}
 use lib.ListN.{length, take, length-map}
 use borrow.Author.Tests.{eq-eqb, ne_eqb}
-use Rattle.log.specs.Log.{data_word, data_words, data_bytes}
-use Rattle.log.proofs.Data.{bytes_back as word_back}
-use Rattle.log.proofs.Packets.{Bytes}
-use Rattle.log.proofs.Words.{data-length}
+use Rattle.packet_log.specs.Log.{data_word, data_words, data_bytes}
+use Rattle.packet_log.proofs.Data.{bytes_back as word_back}
+use Rattle.packet_log.proofs.Packets.{Bytes}
+use Rattle.packet_log.proofs.Words.{data-length}
 use Rattle.snapshot.specs.Snapshot.{kind_in, byte_words, has, value_of, bytes_in, from_kind}
 
 -- a word of n bytes

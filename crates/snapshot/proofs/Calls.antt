@@ -17,7 +17,7 @@ use Rattle.receiver.specs.Steps.{state_tests}
 use Rattle.receiver.specs.declared.Receiver.{Receiver}
 use Rattle.receiver.specs.declared.Opened.{Opened}
 use Rattle.receiver.proofs.Rows.{first_on}
-use Rattle.log.specs.Log.{same_list}
+use Rattle.packet_log.specs.Log.{same_list}
 use Rattle.snapshot.specs.declared.Saved.{Saved}
 use Rattle.snapshot.specs.Snapshot.{Kinds, today, head_words, byte_words, count_words, words_with, saved_words, save_number, saved, words_after, has, bytes_in, from_kind, kinds_in, receiver_in, is_form, wrong_words, load_number, loaded, carry_loaded}
 use Rattle.snapshot.specs.Steps.{kinds, begins_with, are_bytes, is_front}

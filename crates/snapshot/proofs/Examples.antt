@@ -5,7 +5,7 @@ use mathlib.Core.List.{List, [], ◌∷◌, map}
 use Prim.Native.Nat.{ℕ}
 use Rattle.refusal.specs.Refusal.{any_of}
 use Rattle.modes.specs.Modes.{listing}
-use Rattle.log.specs.Log.{data_words, same_list, data_bytes}
+use Rattle.packet_log.specs.Log.{data_words, same_list, data_bytes}
 use Rattle.receiver.specs.Receiving.{fresh}
 use Rattle.receiver.specs.declared.Receiver.{Receiver}
 use Rattle.snapshot.specs.Snapshot.{today, head_words, byte_words, count_words, words_with, has, value_of, bytes_in, from_kind, receiver_in, is_form, wrong_words}

@@ -7,8 +7,8 @@ use native.Mathlib.Omega.{arith}
 use lib.ListN.{length, drop, set, length-append, length-set, drop_of_length-le}
 use Rattle.buffer.specs.Buffer.{put_at}
 use Rattle.buffer.proofs.Laws.{put-nil, put-length, put_then, put_one, put-cons}
-use Rattle.log.specs.Log.{data_words, data_word_at}
-use Rattle.log.proofs.Filling.{next_word}
+use Rattle.packet_log.specs.Log.{data_words, data_word_at}
+use Rattle.packet_log.proofs.Filling.{next_word}
 use Rattle.snapshot.specs.Snapshot.{optional, byte_words}
 
 -- of a list that is put first into a buffer, a rest is still to be written from a place on

@@ -7,9 +7,9 @@ use native.Mathlib.Omega.{arith}
 use lib.Dec.{eqb}
 use lib.ListN.{length, get_or}
 use borrow.Author.Tests.{eqb-true, eq-eqb}
-use Rattle.log.proofs.Packets.{Bytes}
+use Rattle.packet_log.proofs.Packets.{Bytes}
 use Rattle.receiver.specs.declared.Receiver.{Receiver}
-use Rattle.log.proofs.Same.{same-itself}
+use Rattle.packet_log.proofs.Same.{same-itself}
 use Rattle.snapshot.specs.Snapshot.{Kinds, byte_words, count_words, words_with, has, value_of, bytes_in, from_kind, kinds_in, receiver_in, is_form}
 use Rattle.snapshot.proofs.Bytes.{has-bytes, value-bytes, counts-bytes, bytes_back}
 use Rattle.snapshot.proofs.Parts.{part_words, has_part, value_part, has_parts, value-parts, bytes-parts, counts-parts, programs_value, head_parts, head-parts}

@@ -9,10 +9,10 @@ use lib.Dec.{eqb, ltb}
 use lib.ListN.{length, get_or, take, drop, length-append, length-drop, take-append-drop, drop_of_length-le}
 use lib.Seq.{drop-cons, drop-append_seam, get_or-drop, take_at}
 use borrow.Author.Tests.{eq-eqb, ne_eqb, eqb-true, lt-ltb, le-ltb}
-use Rattle.log.specs.Log.{data_words, same_list, data_bytes}
-use Rattle.log.proofs.Packets.{Bytes}
+use Rattle.packet_log.specs.Log.{data_words, same_list, data_bytes}
+use Rattle.packet_log.proofs.Packets.{Bytes}
 use Rattle.receiver.specs.declared.Receiver.{Receiver}
-use Rattle.log.proofs.Same.{same_true, same-itself}
+use Rattle.packet_log.proofs.Same.{same_true, same-itself}
 use Rattle.snapshot.specs.Snapshot.{kind_in, value_in, head_words, byte_words, count_words, words_with, has, value_of, bytes_in, from_kind, kinds_in, receiver_in, is_form}
 use Rattle.snapshot.specs.Steps.{begins_with, unused_clear, byte_fits, bytes_fit, are_bytes, is_front, byte_in}
 use Rattle.snapshot.proofs.Bytes.{byte_word, bytes-more, bytes_back, bytes-length, counts-bytes}

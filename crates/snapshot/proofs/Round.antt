@@ -12,11 +12,11 @@ use Rattle.buffer.specs.Buffer.{put_at}
 use Rattle.buffer.proofs.Laws.{take_put}
 use Rattle.refusal.specs.Refusal.{first_of, any_of}
 use Rattle.refusal.proofs.Rows.{row-off}
-use Rattle.log.proofs.Packets.{Bytes}
+use Rattle.packet_log.proofs.Packets.{Bytes}
 use Rattle.receiver.specs.Receiving.{wrong_state, opened_by}
 use Rattle.receiver.specs.declared.Receiver.{Receiver}
-use Rattle.log.specs.Log.{same_list}
-use Rattle.log.proofs.Same.{same_true}
+use Rattle.packet_log.specs.Log.{same_list}
+use Rattle.packet_log.proofs.Same.{same_true}
 use Rattle.snapshot.specs.Snapshot.{Kinds, today, head_words, byte_words, count_words, words_with, saved_words, save_tests, save_number, saved, words_after, kinds_in, receiver_in, bytes_in, is_form, wrong_words, load_tests, load_number, loaded, carry_loaded}
 use Rattle.snapshot.proofs.Bytes.{bytes-length}
 use Rattle.snapshot.proofs.Parts.{head_parts, head-parts, parts-length}

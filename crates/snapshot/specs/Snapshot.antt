@@ -2,7 +2,7 @@
 use Rattle.std.specs.Prelude.{Bool, true, false, not, ◌&&◌, ◌||◌, cond, List, [], ◌∷◌, ◌++◌, map, ℕ, ◌+◌, ◌*◌, ◌/◌, ◌%◌, eqb, ltb, length, get_or, take}
 use Rattle.refusal.specs.Refusal.{first_of, any_of}
 use Rattle.buffer.specs.Buffer.{put_at}
-use Rattle.log.specs.Log.{data_words, same_list, data_bytes}
+use Rattle.packet_log.specs.Log.{data_words, same_list, data_bytes}
 use Rattle.receiver.specs.Receiving.{wrong_state, opened_by}
 use Rattle.receiver.specs.declared.Receiver.{Receiver}
 use Rattle.receiver.specs.declared.Opened.{Opened}

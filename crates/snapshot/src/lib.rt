@@ -3,7 +3,7 @@
 
 ghost use Rattle.std.specs.Prelude.{◌≡◌, true, cond, ◌+◌, ◌-◌, ◌*◌, ◌/◌, ◌%◌, ◌<◌, ◌≤◌, min, length, get_or, drop};
 ghost use Rattle.buffer.specs.Buffer.{put_at};
-ghost use Rattle.log.specs.Log.{data_word_at, same_list};
+ghost use Rattle.packet_log.specs.Log.{data_word_at, same_list};
 ghost use Rattle.receiver.specs.Receiving.{no_receiver};
 ghost use Rattle.snapshot.specs.Snapshot.{state_word, optional, mode_word, held_word, register_word, programs_word, sequence_word, head_words, byte_words, count_words, saved_words, save_number, saved, words_after, kind_in, value_in, has as has_kind, value_of, bytes_in, from_kind, receiver_in, is_form, wrong_words, loaded, carry_loaded};
 ghost use Rattle.snapshot.specs.Steps.{kinds, begins_with, unused_clear, byte_fits, bytes_fit as fits_at, are_bytes, is_front, byte_in};

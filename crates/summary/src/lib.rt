@@ -1,9 +1,9 @@
 // The summary of a drive again, from the CSV of its log, on `drive`, `counts` and `files`: each line is counted as what it tells of was counted in the run.
 #![tactic(auto)]
 
-use csv::entry::Entry;
-use csv::lines::Lines;
-use csv::{entry, lines};
+use log_csv::entry::Entry;
+use log_csv::lines::Lines;
+use log_csv::{entry, lines};
 use drive::Drive;
 use outcome::Outcome;
 use receiver::Receiver;

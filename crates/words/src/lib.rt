@@ -2,7 +2,7 @@
 #![tactic(auto)]
 
 ghost use Rattle.std.specs.Prelude.{◌≡◌, ◌+◌, ◌*◌, ◌<◌, ◌≤◌, length, get_or};
-ghost use Rattle.log.specs.Log.{word as word_of};
+ghost use Rattle.packet_log.specs.Log.{word as word_of};
 
 // The kinds of words.
 pub const PACKET: u32 = 0;

@@ -3,7 +3,7 @@ use Prim.Native.Nat.{◌-◌, ◌≤◌}
 use native.Mathlib.Omega.{arith}
 use lib.Dec.{eqb}
 use lib.ListN.{length, get_or, take}
-use Rattle.log.specs.Log.{same_list}
+use Rattle.packet_log.specs.Log.{same_list}
 use Rattle.diversity.proofs.Bytes.{and_comm, same-lengths, same_start, same_turn, same_end}
 use Rattle.diversity.proofs.same_bytes.Statement.{statement}
 use Rattle.diversity.proofs.same_bytes.Tie as tie

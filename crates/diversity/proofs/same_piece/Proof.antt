@@ -1,5 +1,5 @@
 use mathlib.Core.Path.{ap₂, ◌∙◌}
-use Rattle.log.specs.Log.{same_list}
+use Rattle.packet_log.specs.Log.{same_list}
 use Rattle.diversity.proofs.Pairing.{piece_of}
 use borrow.Author.Rules.{rules}
 use Rattle.diversity.proofs.same_piece.Statement.{statement}

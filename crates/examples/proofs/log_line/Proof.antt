@@ -3,7 +3,7 @@ use native.Mathlib.Omega.{arith}
 use mathlib.Core.Path.{◌≡◌}
 use Prim.Native.Nat.{◌-◌, ◌≤◌}
 use lib.ListN.{length}
-use Rattle.log.proofs.Examples.{of-packet-5}
+use Rattle.packet_log.proofs.Examples.{of-packet-5}
 use Rattle.examples.proofs.log_line.Statement.{statement}
 use Rattle.examples.proofs.log_line.Tie as tie
 

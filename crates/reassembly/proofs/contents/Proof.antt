@@ -1,5 +1,5 @@
 use Rattle.buffer.specs.Buffer.{put_at}
-use Rattle.log.specs.Log.{log_words}
+use Rattle.packet_log.specs.Log.{log_words}
 use Rattle.reassembly.specs.Reassembly.{psd_entries}
 use Rattle.reassembly.specs.Run.{psd_by, Parsed}
 use Rattle.reassembly.proofs.Whole.{psd-is, psd-length, psd-room, pieces_room, pieces-did}

@@ -1,4 +1,4 @@
-use Rattle.log.specs.Log.{note}
+use Rattle.packet_log.specs.Log.{note}
 use Rattle.reassembly.specs.Reassembly.{dropped}
 use Rattle.reassembly.proofs.Laws.{room-entry, did-log}
 use native.Mathlib.Omega.{arith}

@@ -2,7 +2,7 @@ use borrow.Author.Rules.{rules}
 use native.Mathlib.Omega.{arith}
 use Prim.Native.Nat.{◌-◌}
 use lib.ListN.{length-set}
-use Rattle.log.proofs.Blocks.{four-put}
+use Rattle.packet_log.proofs.Blocks.{four-put}
 use Rattle.word_bytes.proofs.put_word.Statement.{statement}
 use Rattle.word_bytes.proofs.put_word.Tie as tie
 

@@ -1,0 +1,21 @@
+-- `packet_log::eight` meets its contract.
+use Prim.Native.Nat.{◌-◌}
+use borrow.Author.Rules.{rules}
+use Rattle.packet_log.proofs.Blocks.{eight-or}
+use Rattle.packet_log.proofs.eight.Statement.{statement}
+use Rattle.packet_log.proofs.eight.Tie as tie
+
+returns : tie.Need-returns
+returns c =
+    let v = c.before.before.before.before.before.before.before.before.four in
+    let d = c.before.before.before.before.before.before.wider in
+    let e = c.before.before.before.before.wider2 in
+    let f = c.before.before.wider3 in
+    let g = c.wider4 in
+    eight-or _ _ g.result f.result e.result d.result v.result f.ensures.1 e.ensures.1 d.ensures.1 v.ensures.1 g.ensures.0 f.ensures.0 e.ensures.0 d.ensures.0 v.ensures.0
+
+pub eight-spec : {M : Type 1} → statement M
+eight-spec =
+    tie.close (tie.spec (λ c. search rules) (λ c κs. search rules) (λ c. search rules) (λ c. search rules) (λ c κs. search rules) (λ c. search rules)
+    (λ c. search rules) (λ c. search rules) (λ c κs. search rules) (λ c. search rules) (λ c. search rules) (λ c. search rules) (λ c κs. search rules)
+    (λ c. search rules) (λ c. search rules) (λ c κs. search rules) (λ c. search rules) returns)

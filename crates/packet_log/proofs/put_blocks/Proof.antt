@@ -1,0 +1,83 @@
+-- `packet_log::put_blocks` meets its contract: before each turn the words that are left come behind those written, and the next twelve bytes are read.
+use borrow.Author.Rules.{rules}
+use native.Mathlib.Nat.{add-zero}
+use Rattle.buffer.specs.Buffer.{put_at}
+use Rattle.packet_log.specs.Log.{data_words}
+use Rattle.packet_log.specs.Blocks.{four_at, eight_at}
+use Rattle.packet_log.proofs.Filling.{none_more}
+use Rattle.packet_log.proofs.Blocks.{block-turn}
+use native.Mathlib.Omega.{arith}
+use mathlib.Core.Path.{◌≡◌, refl, ap, ◌∙◌}
+use Prim.Native.Nat.{ℕ, ◌+◌, ◌-◌, ◌*◌, ◌≤◌, ◌<◌}
+use lib.ListN.{length, drop}
+use mathlib.Core.List.{List, ◌++◌}
+use Rattle.packet_log.proofs.put_blocks.Statement.{statement}
+use Rattle.packet_log.proofs.put_blocks.Tie as tie
+
+abbrev invariant-loop : tie.invariant-loop
+invariant-loop log₀ at bytes from i₀ j₀ x₀ y₀ log i j x y =
+    (i ≡ from + 3 * j)
+    × (i + 12 ≤ length bytes)
+    × ((rest : List ℕ) → put_at log (at + j) (data_words (drop i (bytes ++ rest))) ≡ put_at log₀ at (data_words (drop from (bytes ++ rest))))
+    × (length log ≡ length log₀)
+    × (x ≡ eight_at bytes i)
+    × (y ≡ four_at bytes (i + 8))
+    × (y < 4294967296)
+
+abbrev decreases-loop : tie.decreases-loop
+decreases-loop log₀ at bytes from i₀ j₀ x₀ y₀ log i j x y = length bytes - i
+
+abbrev start : tie.At-loop invariant-loop decreases-loop → tie.Start invariant-loop decreases-loop
+start l = l.before.before.before.before.before.before
+
+-- four words more have a place in the log
+room : (l : tie.At-loop invariant-loop decreases-loop) → (start l).args.at + l.loop.j + 4 ≤ length l.loop.log
+room l = omega (arith, (start l).requires.1.1, l.loop.invariant.0, l.loop.invariant.1, l.loop.invariant.3)
+
+returns : tie.Need-returns invariant-loop decreases-loop
+returns c = (omega arith, λ rest. none_more _ _ c.before.before.before.args.at c.before.before.before.args.from)
+
+loop-holds : tie.Need-loop-init invariant-loop decreases-loop
+loop-holds c = (omega arith, omega arith, (λ rest. rw add-zero refl), refl, c.before.eight.ensures, c.four.ensures.0, c.four.ensures.1)
+
+put-block-requires : tie.Need-put-block-requires invariant-loop decreases-loop
+put-block-requires c κs = (omega (arith, room c.before.before), c.before.before.loop.invariant.6)
+
+loop-again : tie.Need-loop-preserved invariant-loop decreases-loop
+loop-again c =
+    let l = c.before.before.before.before.before.before.before in
+    let q = c.before.before.before.before.put-block in
+    let a = (start l).args in
+    let b : List ℕ = a.bytes.now in (
+      omega arith,
+      omega arith,
+      (λ rest. block-turn l.loop.log _ b rest _ a.at l.loop.i l.loop.j l.loop.x l.loop.y l.loop.invariant.1 (room l) (λ k. (l.before.before.before.before.shared-slice-known.given k).fits)
+          l.loop.invariant.4 l.loop.invariant.5 q.ensures (l.loop.invariant.2 rest)),
+      q.auto.0 ∙ l.loop.invariant.3,
+      c.before.eight2.ensures,
+      c.four2.ensures.0,
+      c.four2.ensures.1,
+    )
+
+put-block-requires-2 : tie.Need-put-block-requires-2 invariant-loop decreases-loop
+put-block-requires-2 c κs = (omega (arith, room c.before.before), c.before.before.loop.invariant.6)
+
+returns-2 : tie.Need-returns-2 invariant-loop decreases-loop
+returns-2 c =
+    let l = c.before.before.before.before.before in
+    let q = c.before.before.put-block2 in
+    let a = (start l).args in
+    let b : List ℕ = a.bytes.now in
+    let e : a.from + 3 * (l.loop.j + 4) ≡ l.loop.i + 12 = omega (arith, l.loop.invariant.0) in (
+      omega (arith, l.loop.invariant.0, l.loop.invariant.1),
+      (λ rest. ap (λ (n : ℕ). put_at q.new.0 (a.at + (l.loop.j + 4)) (data_words (drop n (b ++ rest)))) e
+          ∙ block-turn l.loop.log _ b rest _ a.at l.loop.i l.loop.j l.loop.x l.loop.y l.loop.invariant.1 (room l) (λ k. (l.before.before.before.before.shared-slice-known.given k).fits)
+          l.loop.invariant.4 l.loop.invariant.5 q.ensures (l.loop.invariant.2 rest)),
+    )
+
+pub put-blocks-spec : {M : Type 1} → statement M
+put-blocks-spec =
+    tie.close (tie.spec invariant-loop decreases-loop
+    (λ c. search rules) returns (λ c κs. search rules) (λ c. search rules) (λ c κs. search rules) loop-holds (λ c. search rules) (λ c. search rules)
+    put-block-requires (λ c. search rules) (λ c. search rules) (λ c κs. search rules) (λ c. search rules) (λ c κs. search rules) (λ c. search rules) loop-again
+    (λ c. search rules) put-block-requires-2 (λ c. search rules) (λ c. search rules) returns-2)
