@@ -1,5 +1,5 @@
-// The C library: each public operation with C's types, and the core's contract, on `writer`, `batch`, `selection`, `pair`, `snapshot`, `join`, `latency` and
-// `parity_share`. include/barzhilup.h declares them.
+// The C library: each public operation with C's types, and the core's contract, on `writer`, `batch`, `pair`, `snapshot`, `join`, `latency` and `parity_share`.
+// include/barzhilup.h declares them.
 #![tactic(auto)]
 
 ghost use Rattle.std.specs.Prelude.{◌≡◌, [], length};
@@ -11,8 +11,7 @@ ghost use Rattle.pdu.specs.Reading.{reading_of, read_pdu};
 ghost use Rattle.writer.specs.Writing.{writer_opened, write_answer, written_pdu};
 ghost use Rattle.receiver.specs.Receiving.{receiver_opened, opened_for, receive_answer, carry_after, pdu_after, log_after, lost_answer, log_after_lost};
 ghost use Rattle.batch.specs.Batches.{batch_received};
-ghost use Rattle.selection.specs.Selection.{choice_of, choice_number};
-ghost use Rattle.diversity.specs.Diversity.{pair_received};
+ghost use Rattle.diversity.specs.Diversity.{choice_of, choice_number, pair_received};
 ghost use Rattle.snapshot.specs.Snapshot.{saved, words_after, loaded, carry_loaded};
 ghost use Rattle.correction.specs.Marks.{correction_with, corrected_pdu_with};
 ghost use Rattle.correction.specs.Correction.{correction_of, corrected_pdu, correction_number, count_of};
@@ -310,7 +309,7 @@ pub extern "C" fn barzhilup_receive_batch(
 pub extern "C" fn barzhilup_choose(first: &[u8], second: &[u8]) -> u32
     ensures { result ≡ choice_number (choice_of first.now second.now) }
 {
-    selection::choice(first, second)
+    diversity::choice(first, second)
 }
 
 // Receives a pair of PDUs, two copies of one: each header that can be corrected is left corrected, and each piece is taken from a copy in which its CRC is

@@ -1,5 +1,5 @@
-// What comes of two copies of a PDU, a record of each of two files: two receivers heard one signal (document 02, Ask 5); on `selection`, `pair`, `outcome` and
-// `words`. An empty record is a copy that did not come.
+// What comes of two copies of a PDU, a record of each of two files: two receivers heard one signal (document 02, Ask 5); on `pair`, `outcome` and `words`. An
+// empty record is a copy that did not come.
 #![tactic(auto)]
 
 ghost use Rattle.std.specs.Prelude.{◌≤◌};
@@ -233,7 +233,7 @@ fn of_pair(
     second: &mut [u8],
     log: &mut [u32],
 ) -> Outcome {
-    let is_second = selection::choice(first, second) == 2;
+    let is_second = diversity::choice(first, second) == 2;
     let length = length_of(is_second, first, second);
     let before = header_of(is_second, first, second);
     let r = pair::receive(receiver, carry, &mut *first, &mut *second, &mut *log);

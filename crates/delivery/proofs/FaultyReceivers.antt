@@ -14,7 +14,7 @@ use Rattle.reassembly.specs.Reassembly.{Piece, received, forgotten}
 use Rattle.reassembly.specs.Holder.{Come}
 use Rattle.receiver.specs.Receiving.{memory_of, kept_of, tally_of, remembering, keeps_services, shown, mode_of, come}
 use Rattle.receiver.specs.declared.Receiver.{Receiver}
-use Rattle.selection.specs.Selection.{Choice, neither, the_first, the_second, choice_of}
+use Rattle.diversity.specs.Diversity.{Choice, neither, the_first, the_second, choice_of}
 use Rattle.delivery.proofs.Parts.{answer_of, carry_of, log_of}
 use Rattle.batch.specs.declared.Batch.{Batch}
 use Rattle.delivery.specs.Delivery.{Behaviour, Station, Call, receive, batch, mark_lost, defined, alone, paired}

@@ -32,8 +32,7 @@ use Rattle.runs.specs.Transmissions.{Way, gone, here}
 use Rattle.runs.specs.Spans.{Span, lies, every, due_at}
 use Rattle.runs.proofs.Model.{whole_packets}
 use Rattle.runs.proofs.Calls.{plain_fate}
-use Rattle.selection.specs.Selection.{Choice, neither, the_first, the_second, choice_of}
-use Rattle.diversity.specs.Diversity.{pair_received}
+use Rattle.diversity.specs.Diversity.{Choice, neither, the_first, the_second, choice_of, pair_received}
 use Rattle.delivery.specs.Delivery.{Packets, Writing, buffer_after, pdus_from, spans_from, InOrder, Behaviour, Station, receive, defined, RefusedAfter, logged_by, run_of, HeaderAltered, Correctable, Step, receives, loses, refuses, call_of, alone, paired, Through, in_received, Holds}
 use Rattle.delivery.proofs.Parts.{fresh_station, logs_from, made, spans, run_with, answer_of, log_of}
 use Rattle.delivery.specs.Copies.{bytes_at, crc_at, sealed_piece, as_sent, ways_from, restored, Damaged}

@@ -1,7 +1,7 @@
 -- How a PDU p with locators of a width may come as q, pieces damaged too: its first 96 bytes altered and marked within the bound (Delivery.antt, `Correctable`),
 -- bytes 96 to La as sent, and each piece with its CRC byte either as sent or damaged. What may happen to a received PDU is this one notion, by whatever register the
--- CRCs start with (document 02, Ask 2), and each promise is a case of it: demand 3 and marks (Ask 3), no damage, and bytes after the last locator as sent too
--- (Delivery.antt, `HeaderAltered`); two copies of a PDU (Ask 5), wrong CRCs (Diversity.antt, `WrongCrc`); bursts (Ask 12), no other damage (Bursts.antt, `Hit`).
+-- CRCs start with (document 02, Ask 2), and each promise is the case in which the rest is empty: demand 3 and marks (Ask 3), no damage (Delivery.antt,
+-- `HeaderAltered`); two copies of a PDU (Ask 5), wrong CRCs (Diversity.antt, `WrongCrc`); bursts (Ask 12), no other damage (Bursts.antt, `Hit`).
 use Rattle.std.specs.Prelude.{◌≡◌, Bool, false, ◌||◌, cond, List, [], ◌∷◌, ◌++◌, ℕ, ◌+◌, ◌<◌, length, get_or, take, drop}
 use Rattle.layout.specs.Control.{control_at}
 use Rattle.layout.specs.Locators.{locator_at}

@@ -1,17 +1,39 @@
 -- Two copies, computed.
-use mathlib.Core.Path.{◌≡◌, refl}
+use mathlib.Core.Path.{◌≡◌, refl, ap}
 use mathlib.Core.Bool.{true, false}
 use mathlib.Core.List.{List, [], ◌∷◌, ◌++◌}
 use Prim.Native.Nat.{ℕ}
 use lib.ListN.{replicate}
+use denote.Ref.{Bor}
 use Rattle.crc.specs.Crc.{crc_from, crc_byte, crc_bits, crc_bit}
 use Rattle.modes.specs.Modes.{listing}
 use Rattle.layout.specs.Control.{control_of, control_at}
 use Rattle.layout.specs.Locators.{locator16}
+use Rattle.correction.specs.declared.Correction.TheVariants.{Corrected, Refused}
 use Rattle.pdu.specs.Reading.{wrong_locator, lowest_below, width_of}
 use Rattle.reassembly.specs.Reassembly.{Piece, nothing, dropped, piece_step}
 use Rattle.packet_log.specs.Log.{same_list}
-use Rattle.diversity.specs.Diversity.{pair_piece, pair_pieces, lower, wrong_in_pair, differ}
+use Rattle.diversity.specs.Diversity.{neither, the_first, the_second, better, Chosen, pair_piece, pair_pieces, lower, wrong_in_pair, differ}
+
+-- ---- the better copy
+
+-- equal: the first
+pub equal-first : better (Corrected 2) (Corrected 2) ≡ the_first
+equal-first = refl
+
+pub fewer-second : better (Corrected 3) (Corrected 1) ≡ the_second
+fewer-second = refl
+
+-- of a refused length, and corrected in four bytes
+pub other-second : better (Refused 3) (Corrected 4) ≡ the_second
+other-second = refl
+
+pub none-neither : better (Refused 3) (Refused 4) ≡ neither
+none-neither = refl
+
+-- the chosen buffer has the bytes that it had, corrected or not
+pub not-corrected : (first second r : Bor (List ℕ)) → Chosen the_first first second r → r.now ≡ first.now
+not-corrected first second r e = ap (λ (x : Bor (List ℕ)). x.now) e
 
 -- ---- pieces
 

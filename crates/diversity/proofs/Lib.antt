@@ -1,6 +1,7 @@
 pub mod AfterPair
 pub mod Alike
 pub mod Bytes
+pub mod Choosing
 pub mod Examples
 pub mod Exchanging
 pub mod Mixing

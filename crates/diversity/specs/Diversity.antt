@@ -1,5 +1,7 @@
--- Document 02, Ask 5: two receivers on one signal give a pair of PDUs, two copies of what was sent. What receiving the pair as one PDU answers and leaves.
-use Rattle.std.specs.Prelude.{Bool, true, false, not, ◌&&◌, ◌||◌, cond, List, [], ◌∷◌, ◌++◌, ℕ, zero, suc, ◌+◌, ◌-◌, eqb, ltb, leb, length, take, drop}
+-- Document 02, Ask 5: two receivers on one signal give a pair of PDUs, two copies of what was sent. Which copy is the better one, and what receiving the pair
+-- as one PDU answers and leaves.
+use Rattle.std.specs.Prelude.{◌≡◌, Bool, true, false, not, ◌&&◌, ◌||◌, cond, List, [], ◌∷◌, ◌++◌, ℕ, zero, suc, ◌+◌, ◌-◌, eqb, ltb, leb, length, take, drop}
+use Rattle.std.specs.Borrow.{Bor}
 use Rattle.refusal.specs.Refusal.{first_of}
 use Rattle.buffer.specs.Buffer.{put_at}
 use Rattle.layout.specs.Control.{control_at}
@@ -17,10 +19,39 @@ use Rattle.receiver.specs.Steps.{state_tests, stream_tests}
 use Rattle.receiver.specs.declared.Receiver.{Receiver}
 use Rattle.receiver.specs.declared.Received.{Received}
 
+-- ---- the better copy
+
 -- the paper's mends. A length that is refused with 3 counts as one that can't be corrected
 abbrev pub correctable : Correction → Bool
 correctable (Corrected n) = true
 correctable (Refused n) = false
+
+pub data Choice : Type 0 where
+  neither : Choice
+  the_first : Choice
+  the_second : Choice
+
+-- the one with fewer corrected bytes, the first if equal; the other where one can't be corrected
+abbrev pub better : Correction → Correction → Choice
+better (Corrected m) (Corrected n) = cond (leb m n) the_first the_second
+better (Corrected m) (Refused n) = the_first
+better (Refused m) (Corrected n) = the_second
+better (Refused m) (Refused n) = neither
+
+unfoldable pub choice_of : List ℕ → List ℕ → Choice
+choice_of first second = better (correction_of first) (correction_of second)
+
+-- as a number, for C
+abbrev pub choice_number : Choice → ℕ
+choice_number neither = 0
+choice_number the_first = 1
+choice_number the_second = 2
+
+-- what is handed back: the chosen buffer itself, whole, with its place; or an empty part of the first, at its place
+abbrev pub Chosen : Choice → Bor (List ℕ) → Bor (List ℕ) → Bor (List ℕ) → Type 0
+Chosen the_first first second r = r ≡ first
+Chosen the_second first second r = r ≡ second
+Chosen neither first second r = (r.ref_ptr ≡ first.ptr) × (r.now ≡ [])
 
 -- ---- what two copies say together, both corrected and alike in bytes 8 to La, by the register that CRCs start with
 

@@ -1,8 +1,8 @@
 use native.Mathlib.Omega.{arith}
-use Rattle.selection.proofs.Choosing.{count-short, count_long, count-header}
+use Rattle.diversity.proofs.Choosing.{count-short, count_long, count-header}
 use borrow.Author.Rules.{rules}
-use Rattle.selection.proofs.count.Statement.{statement}
-use Rattle.selection.proofs.count.Tie as tie
+use Rattle.diversity.proofs.count.Statement.{statement}
+use Rattle.diversity.proofs.count.Tie as tie
 
 returns : tie.Need-returns
 returns c = count-short _ c.if1.true

@@ -1,8 +1,8 @@
 use native.Mathlib.Omega.{arith}
-use Rattle.selection.proofs.Choosing.{better-first, better-second}
+use Rattle.diversity.proofs.Choosing.{better-first, better-second}
 use borrow.Author.Rules.{rules}
-use Rattle.selection.proofs.better_of.Statement.{statement}
-use Rattle.selection.proofs.better_of.Tie as tie
+use Rattle.diversity.proofs.better_of.Statement.{statement}
+use Rattle.diversity.proofs.better_of.Tie as tie
 
 returns : tie.Need-returns
 returns c =

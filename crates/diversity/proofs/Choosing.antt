@@ -14,7 +14,7 @@ use Rattle.correction.specs.Correction.{correction_of}
 use Rattle.correction.specs.declared.Correction.{Correction}
 use Rattle.correction.specs.declared.Correction.TheVariants.{Corrected, Refused}
 use Rattle.correction.proofs.Answers.{length-refused, no-marks-answer}
-use Rattle.selection.specs.Selection.{Choice, neither, the_first, the_second, better, choice_of, choice_number}
+use Rattle.diversity.specs.Diversity.{Choice, neither, the_first, the_second, better, choice_of, choice_number}
 
 -- ---- how many bytes would be corrected
 

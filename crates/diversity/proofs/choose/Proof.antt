@@ -1,8 +1,8 @@
 use mathlib.Core.Path.{refl}
-use Rattle.selection.proofs.Choosing.{is-first, is-second, is-neither}
+use Rattle.diversity.proofs.Choosing.{is-first, is-second, is-neither}
 use borrow.Author.Rules.{rules}
-use Rattle.selection.proofs.choose.Statement.{statement}
-use Rattle.selection.proofs.choose.Tie as tie
+use Rattle.diversity.proofs.choose.Statement.{statement}
+use Rattle.diversity.proofs.choose.Tie as tie
 
 returns : tie.Need-returns
 returns c = rw (is-first _ _ _ c.before.choice.ensures c.if1.true) refl

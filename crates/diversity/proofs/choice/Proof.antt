@@ -1,7 +1,7 @@
-use Rattle.selection.proofs.Choosing.{choice-is}
+use Rattle.diversity.proofs.Choosing.{choice-is}
 use borrow.Author.Rules.{rules}
-use Rattle.selection.proofs.choice.Statement.{statement}
-use Rattle.selection.proofs.choice.Tie as tie
+use Rattle.diversity.proofs.choice.Statement.{statement}
+use Rattle.diversity.proofs.choice.Tie as tie
 
 returns : tie.Need-returns
 returns c =
