@@ -273,7 +273,7 @@ Each takes (s ∷ ss) (v ∷ vs) = takes s v.answer × Each takes ss vs
 
 -- ---- a run
 
--- So many consecutive PDUs from one on, none included, of those that a fresh writer makes with these calls, and the calls that go through them. Writer and receiver
+-- So many consecutive PDUs from one on, perhaps none, of those that a fresh writer makes with these calls, and the calls that go through them. Writer and receiver
 -- are opened for one mode and stream, and with one register that CRCs start with, whatever it is (document 02, Ask 2); the receiver with a list of entitled
 -- programs and with this carry
 pub record Run : Type 0 where

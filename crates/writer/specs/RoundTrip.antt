@@ -59,8 +59,8 @@ pub record Demand2 : Type 0 where
   pub corrects : (p : List ℕ) → 96 ≤ length p → length p ≤ 20480 → Bytes p → Corrects p
   -- document 02, Ask 3: and for every list of marks that is not refused with 19
   pub corrects-with : (marks p : List ℕ) → marks_refusal marks ≡ 0 → 96 ≤ length p → length p ≤ 20480 → Bytes p → CorrectsWith marks p
-  -- a call is refused by a row of the table or not at all, and with packets offered an accepted one sends at least one byte: a writer that always
-  -- refuses, or answers 17 early, or sends nothing, is none
+  -- a call is refused by a row of the table (`writer_tests`) or not at all, so a writer that always refuses, or answers 17 early, is none; and with packets offered
+  -- an accepted call sends at least one byte
   pub accepts : (settings : Settings) (psd lengths bytes : List ℕ) (size : ℕ) (w : Writer) (m : Mode) → listing w.mode w.stream ≡ Listed m
       → first_of (writer_tests settings psd lengths bytes size m w) ≡ 0 → (write_answer settings psd lengths bytes size w).refusal ≡ 0
   pub sends : (settings : Settings) (psd lengths bytes : List ℕ) (size : ℕ) (w : Writer) (m : Mode) → listing w.mode w.stream ≡ Listed m
