@@ -6,11 +6,11 @@ use lib.ListN.{get_or-eq_default}
 use Rattle.layout.proofs.byte_at.Statement.{statement}
 use Rattle.layout.proofs.byte_at.Tie as tie
 
-returns : tie.Need-returns
+returns : tie.Need-returns-then-i-pdu
 returns c = search rules
 
-returns-2 : tie.Need-returns-2
-returns-2 c = let p : List ℕ = c.before.args.pdu.now in sym (get_or-eq_default p 0 c.if1.false)
+returns-2 : tie.Need-returns
+returns-2 c = let p : List ℕ = c.before.args.pdu.now in sym (get_or-eq_default p 0 c.if-i-pdu.false)
 
-pub byte-at-spec : {M : Type 1} → statement M
-byte-at-spec = tie.close (tie.spec (λ c. search rules) returns returns-2)
+pub byte_at_spec : {M : Type 1} → statement M
+byte_at_spec = tie.close (tie.spec (λ c. search rules) returns returns-2)

@@ -8,7 +8,7 @@ returns : tie.Need-returns
 unfolding control_bytes
 returns c = cc
 
-pub control-bytes-spec : {M : Type 1} → statement M
-control-bytes-spec =
+pub control_bytes_spec : {M : Type 1} → statement M
+control_bytes_spec =
     tie.close (tie.spec (λ c κs. search rules) (λ c κs. search rules) (λ c κs. search rules) (λ c κs. search rules) (λ c κs. search rules)
     (λ c κs. search rules) (λ c κs. search rules) (λ c κs. search rules) returns)

@@ -13,9 +13,9 @@ returns c =
     let a = b.before in
     let z = a.before in
     c.fields.ensures
-    ∙ simp (z.byte_at.ensures, a.byte-at2.ensures, b.byte-at3.ensures, d.byte-at4.ensures, e.byte-at5.ensures, f.byte-at6.ensures)
+    ∙ simp (z.byte_at.ensures, a.byte_at-2.ensures, b.byte_at-3.ensures, d.byte_at-4.ensures, e.byte_at-5.ensures, f.byte_at-6.ensures)
 
-pub control-word-spec : {M : Type 1} → statement M
-control-word-spec =
+pub control_word_spec : {M : Type 1} → statement M
+control_word_spec =
     tie.close (tie.spec (λ c κs. search rules) (λ c κs. search rules) (λ c κs. search rules) (λ c κs. search rules) (λ c κs. search rules)
     (λ c κs. search rules) (λ c κs. search rules) returns)
