@@ -3,13 +3,13 @@ use Rattle.io.specs.Counts.{IsPrefixLen}
 use Rattle.text.proofs.fill.Statement.{statement}
 use Rattle.text.proofs.fill.Tie as tie
 
-abbrev invariant-loop : tie.invariant-loop
+abbrev invariant-loop : tie.invariant-loop-i
 invariant-loop out₀ at template numbers n₀ used₀ i₀ out n used i = (length out ≡ length out₀) × IsPrefixLen n out
 
-abbrev decreases-loop : tie.decreases-loop
+abbrev decreases-loop : tie.decreases-loop-i
 decreases-loop out₀ at template numbers n₀ used₀ i₀ out n used i = length template - i
 
-loop-again : tie.Need-loop-preserved invariant-loop decreases-loop
+loop-again : tie.Need-loop-i-preserved invariant-loop decreases-loop
 loop-again c = search rules
 
 pub fill_spec : {M : Type 1} → statement M

@@ -2,21 +2,21 @@ use Rattle.std.proofs.Common.{◌≡◌, ◌+◌, ◌≤◌, length, sym, arith,
 use Rattle.text.proofs.put.Statement.{statement}
 use Rattle.text.proofs.put.Tie as tie
 
-slice-aggregate-put-bytes : tie.Need-slice-aggregate-put-bytes
+slice-aggregate-put-bytes : tie.Need-slice_bounds-put_bytes-end
 slice-aggregate-put-bytes c = sym (length-take-le _ _ (omega arith))
 
-put-bytes-requires : tie.Need-put-bytes-requires
+put-bytes-requires : tie.Need-put_bytes-requires
 put-bytes-requires c κs =
-    let h = length-take-le c.before.before.least2.result c.before.before.before.before.before.before.args.bytes.now (omega arith) in
+    let h = length-take-le c.before.before.least-count.result c.before.before.before.before.before.before.args.bytes.now (omega arith) in
     omega arith
 
 returns : tie.Need-returns
 returns c =
     let d = c.before.before in
-    let n = d.before.before.before.before.least.result + d.before.before.before.least2.result in
-    let e : length d.put-bytes.new.0 ≡ length d.before.before.before.before.before.before.before.args.out.now = d.put-bytes.auto.0 in
-    let h : n ≤ length d.put-bytes.new.0 = omega arith in
-    ((h, sym (length-take-le n d.put-bytes.new.0 h)), (omega arith, cc))
+    let n = d.before.before.before.before.least-start.result + d.before.before.before.least-count.result in
+    let e : length d.put_bytes.new.0 ≡ length d.before.before.before.before.before.before.before.args.out.now = d.put_bytes.auto.0 in
+    let h : n ≤ length d.put_bytes.new.0 = omega arith in
+    ((h, sym (length-take-le n d.put_bytes.new.0 h)), (omega arith, cc))
 
 pub put_spec : {M : Type 1} → statement M
 put_spec =
