@@ -9,13 +9,13 @@ returns : tie.Need-returns
 returns c =
     let v = c.before.before.before.before.before.before.before.before.four in
     let d = c.before.before.before.before.before.before.wider in
-    let e = c.before.before.before.before.wider2 in
-    let f = c.before.before.wider3 in
-    let g = c.wider4 in
+    let e = c.before.before.before.before.wider-2 in
+    let f = c.before.before.wider-3 in
+    let g = c.wider-4 in
     eight-or _ _ g.result f.result e.result d.result v.result f.ensures.1 e.ensures.1 d.ensures.1 v.ensures.1 g.ensures.0 f.ensures.0 e.ensures.0 d.ensures.0 v.ensures.0
 
-pub eight-spec : {M : Type 1} → statement M
-eight-spec =
+pub eight_spec : {M : Type 1} → statement M
+eight_spec =
     tie.close (tie.spec (λ c. search rules) (λ c κs. search rules) (λ c. search rules) (λ c. search rules) (λ c κs. search rules) (λ c. search rules)
     (λ c. search rules) (λ c. search rules) (λ c κs. search rules) (λ c. search rules) (λ c. search rules) (λ c. search rules) (λ c κs. search rules)
     (λ c. search rules) (λ c. search rules) (λ c κs. search rules) (λ c. search rules) returns)

@@ -11,92 +11,92 @@ use Rattle.packet_log.proofs.put_data.Statement.{statement}
 use Rattle.packet_log.proofs.put_data.Tie as tie
 
 -- where the function begins
-abbrev one : tie.After-put-full-arg → tie.Start
+abbrev one : tie.After-put_full-arg-1 → tie.Start
 one c = c.before.before.before.before
 
-abbrev two : tie.After-put-one-arg → tie.Start
+abbrev two : tie.After-put_one-arg-1 → tie.Start
 two c = one c.before.before.before.before
 
-abbrev three : tie.After-slice-known3 → tie.Start
+abbrev three : tie.After-slice_known-3-1 → tie.Start
 three c = two c.before.before.before
 
-abbrev four : tie.After-put-full-arg2 → tie.Start
+abbrev four : tie.After-put_full-arg-2-1 → tie.Start
 four c = three c.before.before
 
-abbrev five : tie.After-put-one-arg2 → tie.Start
+abbrev five : tie.After-put_one-arg-2-1 → tie.Start
 five c = four c.before.before.before.before
 
-abbrev six : tie.After-slice-known5 → tie.Start
+abbrev six : tie.After-slice_known-5-1 → tie.Start
 six c = five c.before.before.before
 
 -- room for all words
 room : (c : tie.Start) → c.args.at + (length c.args.first.now + length c.args.second.now + 2) / 3 ≤ length c.args.log.now
 room c = omega (arith, c.requires.1, both-length c.args.first.now c.args.second.now)
 
-put-full-requires : tie.Need-put-full-requires
+put-full-requires : tie.Need-put_full-a-requires
 put-full-requires c κs = (omega arith, (omega arith, omega (arith, room (one c))))
 
-put-one-requires : tie.Need-put-one-requires
+put-one-requires : tie.Need-put_one-requires
 put-one-requires c κs =
-    let q = c.before.before.before.put_full in
+    let q = c.before.before.before.put_full-a in
     let s = (two c).args in
     (omega arith, omega (arith, room (two c), q.auto.0, left-length s.first.now s.second.now (3 * q.result), first_fits (length s.first.now) (length s.second.now) q.result _ q.ensures.0 refl))
 
-returns : tie.Need-returns
+returns : tie.Need-returns-then-first-second
 returns c =
     let t = (three c.before).args in
     let f : List ℕ = t.first.now in
     let g : List ℕ = t.second.now in
-    let q = c.before.before.before.before.before.before.before.put_full in
+    let q = c.before.before.before.before.before.before.before.put_full-a in
     let o = c.before.before.before.put_one in
     let b : ℕ = q.result + o.result in
-    let n : length (f ++ g) ≤ 3 * b = omega (arith, length-append f g, c.if1.true) in (
-      first_count (length f) (length g) q.result o.result q.ensures.0 o.ensures.0 c.if1.true ∙ sym (both-length f g),
+    let n : length (f ++ g) ≤ 3 * b = omega (arith, length-append f g, c.if-first-second.true) in (
+      first_count (length f) (length g) q.result o.result q.ensures.0 o.ensures.0 c.if-first-second.true ∙ sym (both-length f g),
       none_left _ (f ++ g) _ (t.at + b) (3 * b) n
           (behind _ _ (f ++ g) _ t.at q.result o.result (begun _ _ (f ++ g) t.at q.result (q.ensures.1 g)) o.ensures.1),
     )
 
 -- the first slice is written
-past : (c : tie.After-put-full-arg2) → length (four c).args.first.now ≤ 3 * (c.before.before.before.before.before.before.before.before.put_full.result + c.before.before.before.before.put_one.result)
+past : (c : tie.After-put_full-arg-2-1) → length (four c).args.first.now ≤ 3 * (c.before.before.before.before.before.before.before.before.put_full-a.result + c.before.before.before.before.put_one.result)
 past c =
-    let q = c.before.before.before.before.before.before.before.before.put_full in
+    let q = c.before.before.before.before.before.before.before.before.put_full-a in
     let o = c.before.before.before.before.put_one in
     let t = (four c).args in
-    past_first (length t.first.now) (length t.second.now) q.result o.result q.ensures.0 o.ensures.0 c.before.if1.false
+    past_first (length t.first.now) (length t.second.now) q.result o.result q.ensures.0 o.ensures.0 c.before.if-first-second.false
 
-sub-put-full : tie.Need-overflow-sub-put-full
+sub-put-full : tie.Need-overflow_sub-i
 sub-put-full c = omega (arith, past c)
 
-put-full-requires-2 : tie.Need-put-full-requires-2
+put-full-requires-2 : tie.Need-put_full-requires
 put-full-requires-2 c κs =
-    let q = c.before.before.before.before.before.before.before.before.put_full in
+    let q = c.before.before.before.before.before.before.before.before.put_full-a in
     let o = c.before.before.before.before.put_one in
     let t = (four c).args in (
-      omega (arith, past c, c.before.if1.false),
+      omega (arith, past c, c.before.if-first-second.false),
       (
         omega (arith, (four c).requires.0),
-        omega (arith, room (four c), q.auto.0, o.auto.0, second_fits (length t.first.now) (length t.second.now) q.result o.result q.ensures.0 o.ensures.0 c.before.if1.false),
+        omega (arith, room (four c), q.auto.0, o.auto.0, second_fits (length t.first.now) (length t.second.now) q.result o.result q.ensures.0 o.ensures.0 c.before.if-first-second.false),
       ),
     )
 
 -- how many full words the second slice has
-full : (c : tie.After-put-one-arg2) → c.before.before.before.put-full2.result ≡ (length (five c).args.first.now + length (five c).args.second.now - 3 * (c.before.before.before.before.before.before.before.before.before.before.before.before.put_full.result + c.before.before.before.before.before.before.before.before.put_one.result)) / 3
+full : (c : tie.After-put_one-arg-2-1) → c.before.before.before.put_full.result ≡ (length (five c).args.first.now + length (five c).args.second.now - 3 * (c.before.before.before.before.before.before.before.before.before.before.before.before.put_full-a.result + c.before.before.before.before.before.before.before.before.put_one.result)) / 3
 full c =
     let u = c.before.before.before.before in
-    let q = u.before.before.before.before.before.before.before.before.put_full in
+    let q = u.before.before.before.before.before.before.before.before.put_full-a in
     let o = u.before.before.before.before.put_one in
     let t = (five c).args in
-    c.before.before.before.put-full2.ensures.0
-    ∙ ap (λ (k : ℕ). k / 3) (left-in-second (length t.first.now) (length t.second.now) q.result o.result q.ensures.0 o.ensures.0 u.before.if1.false)
+    c.before.before.before.put_full.ensures.0
+    ∙ ap (λ (k : ℕ). k / 3) (left-in-second (length t.first.now) (length t.second.now) q.result o.result q.ensures.0 o.ensures.0 u.before.if-first-second.false)
 
-below_all : (c : tie.After-put-one-arg2) → 3 * (c.before.before.before.before.before.before.before.before.before.before.before.before.put_full.result + c.before.before.before.before.before.before.before.before.put_one.result + c.before.before.before.put-full2.result) ≤ length (five c).args.first.now + length (five c).args.second.now
-below_all c = omega (arith, full c, c.before.before.before.before.before.if1.false)
+below_all : (c : tie.After-put_one-arg-2-1) → 3 * (c.before.before.before.before.before.before.before.before.before.before.before.before.put_full-a.result + c.before.before.before.before.before.before.before.before.put_one.result + c.before.before.before.put_full.result) ≤ length (five c).args.first.now + length (five c).args.second.now
+below_all c = omega (arith, full c, c.before.before.before.before.before.if-first-second.false)
 
-put-one-requires-2 : tie.Need-put-one-requires-2
+put-one-requires-2 : tie.Need-put_one-requires-2
 put-one-requires-2 c κs =
-    let d = c.before.before.before.put-full2 in
+    let d = c.before.before.before.put_full in
     let u = c.before.before.before.before in
-    let q = u.before.before.before.before.before.before.before.before.put_full in
+    let q = u.before.before.before.before.before.before.before.before.put_full-a in
     let o = u.before.before.before.before.put_one in
     let t = (five c).args in
     let b : ℕ = q.result + o.result in
@@ -106,26 +106,26 @@ put-one-requires-2 c κs =
     )
 
 -- all words are written
-all : (c : tie.After-slice-known5) → c.before.before.before.before.before.before.before.before.before.before.before.before.before.before.before.put_full.result + c.before.before.before.before.before.before.before.before.before.before.before.put_one.result + c.before.before.before.before.before.before.put-full2.result + c.before.before.put-one2.result ≡ (length (six c).args.first.now + length (six c).args.second.now + 2) / 3
+all : (c : tie.After-slice_known-5-1) → c.before.before.before.before.before.before.before.before.before.before.before.before.before.before.before.put_full-a.result + c.before.before.before.before.before.before.before.before.before.before.before.put_one.result + c.before.before.before.before.before.before.put_full.result + c.before.before.put_one-2.result ≡ (length (six c).args.first.now + length (six c).args.second.now + 2) / 3
 all c =
     let v = c.before.before.before in
     let t = (six c).args in
-    let b : ℕ = c.before.before.before.before.before.before.before.before.before.before.before.before.before.before.before.put_full.result + c.before.before.before.before.before.before.before.before.before.before.before.put_one.result in
-    last-count (length t.first.now + length t.second.now) b c.before.before.before.before.before.before.put-full2.result c.before.before.put-one2.result
-    v.before.before.before.before.before.if1.false (full v) c.before.before.put-one2.ensures.0
+    let b : ℕ = c.before.before.before.before.before.before.before.before.before.before.before.before.before.before.before.put_full-a.result + c.before.before.before.before.before.before.before.before.before.before.before.put_one.result in
+    last-count (length t.first.now + length t.second.now) b c.before.before.before.before.before.before.put_full.result c.before.before.put_one-2.result
+    v.before.before.before.before.before.if-first-second.false (full v) c.before.before.put_one-2.ensures.0
 
-add-result : tie.Need-overflow-add-result
+add-result : tie.Need-overflow_add-result
 add-result c = omega (arith, all c, (six c).requires.0)
 
-returns-2 : tie.Need-returns-2
+returns-2 : tie.Need-returns
 returns-2 c =
     let t = (six c).args in
     let f : List ℕ = t.first.now in
     let g : List ℕ = t.second.now in
-    let e = c.before.before.put-one2 in
+    let e = c.before.before.put_one-2 in
     let u = c.before.before.before.before.before.before.before in
-    let d = c.before.before.before.before.before.before.put-full2 in
-    let q = u.before.before.before.before.before.before.before.before.put_full in
+    let d = c.before.before.before.before.before.before.put_full in
+    let q = u.before.before.before.before.before.before.before.before.put_full-a in
     let o = u.before.before.before.before.put_one in
     let b : ℕ = q.result + o.result in
     let w : ℕ = b + d.result + e.result in
@@ -139,8 +139,8 @@ returns-2 c =
           e.ensures.1),
     )
 
-pub put-data-spec : {M : Type 1} → statement M
-put-data-spec =
+pub put_data_spec : {M : Type 1} → statement M
+put_data_spec =
     tie.close (tie.spec put-full-requires (λ c. search rules) (λ c. search rules) put-one-requires (λ c. search rules) (λ c. search rules) (λ c. search rules)
     (λ c. search rules) returns (λ c. search rules) sub-put-full put-full-requires-2 (λ c. search rules) (λ c. search rules) (λ c. search rules)
     put-one-requires-2 add-result (λ c. search rules) returns-2)

@@ -8,14 +8,14 @@ use Rattle.packet_log.proofs.put_full.Tie as tie
 
 returns : tie.Need-returns
 returns c =
-    let a = c.before.before.before.before.before.before.put-blocks in
-    let b = c.before.before.put-words in
+    let a = c.before.before.before.before.before.before.put_blocks-blocks in
+    let b = c.before.before.put_words in
     let s = c.before.before.before.before.before.before.before.before.before.before.args in (
       omega (arith, a.ensures.0, b.ensures.0),
       (λ rest. onward _ _ _ _ s.at s.from a.result b.result (a.ensures.1 rest) (b.ensures.1 rest)),
     )
 
-pub put-full-spec : {M : Type 1} → statement M
-put-full-spec =
+pub put_full_spec : {M : Type 1} → statement M
+put_full_spec =
     tie.close (tie.spec (λ c κs. search rules) (λ c. search rules) (λ c. search rules) (λ c. search rules) (λ c κs. search rules) (λ c. search rules)
     (λ c. search rules) returns)

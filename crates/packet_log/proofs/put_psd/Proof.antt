@@ -10,38 +10,38 @@ use Rattle.packet_log.specs.Log.{data_words, entry_words}
 use Rattle.packet_log.proofs.put_psd.Statement.{statement}
 use Rattle.packet_log.proofs.put_psd.Tie as tie
 
-slice-write-log : tie.Need-slice-write-log
+slice-write-log : tie.Need-bounds-log-at
 unfolding entry_words
 slice-write-log c = let h = c.before.before.before.requires.1 in omega (arith, h)
 
-put-bytes-requires : tie.Need-put-bytes-requires
+put-bytes-requires : tie.Need-put_bytes-n-requires
 unfolding entry_words
 put-bytes-requires c κs =
     let h = c.before.before.before.before.before.requires.1 in
     (omega arith, simp length-set (omega (arith, h)))
 
-add-result : tie.Need-overflow-add-result
+add-result : tie.Need-overflow_add-result
 unfolding entry_words
 add-result c =
     let p = c.before.before.before.before.before.before.before.before in
-    omega (arith, p.requires.1, c.before.before.put-bytes.ensures.0)
+    omega (arith, p.requires.1, c.before.before.put_bytes-n.ensures.0)
 
-same_length : tie.Need-same-length
-same_length c = omega (arith, simp length-set at c.before.before.put-bytes.auto.0)
+same_length : tie.Need-shape_of-log
+same_length c = omega (arith, simp length-set at c.before.before.put_bytes-n.auto.0)
 
 returns : tie.Need-returns
 unfolding entry_words
 returns c =
     let p = c.before.before.before.before.before.before.before.before in
     let a = p.args in
-    let q = c.before.before.put-bytes in
+    let q = c.before.before.put_bytes-n in
     let w = c.before.before.before.before.before.word_of in
-    let l : List ℕ = a.log.now in
+    let l : List ℕ = a.log-1.now in
     let s : List ℕ = a.bytes.now in
     let h : a.at < length l = omega (arith, p.requires.1) in
     (omega (arith, q.ensures.0), q.ensures.1 ∙ put-cons l (data_words s) a.at w.result h ∙ ap (λ (x : ℕ). put_at l a.at (x ∷ data_words s)) w.ensures)
 
-pub put-psd-spec : {M : Type 1} → statement M
-put-psd-spec =
+pub put_psd_spec : {M : Type 1} → statement M
+put_psd_spec =
     tie.close (tie.spec (λ c. search rules) (λ c κs. search rules) (λ c. search rules) slice-write-log (λ c. search rules) (λ c. search rules)
     put-bytes-requires add-result same_length returns)

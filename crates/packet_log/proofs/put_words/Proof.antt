@@ -12,33 +12,33 @@ use Rattle.packet_log.proofs.Filling.{turn, word-in-first}
 use Rattle.packet_log.proofs.put_words.Statement.{statement}
 use Rattle.packet_log.proofs.put_words.Tie as tie
 
-abbrev invariant-loop : tie.invariant-loop
+abbrev invariant-loop : tie.invariant-loop-i
 invariant-loop log₀ at bytes from i₀ j₀ log i j =
     (i ≡ from + 3 * j) × (i ≤ length bytes) × ((rest : List ℕ) → put_at log (at + j) (data_words (drop i (bytes ++ rest))) ≡ put_at log₀ at (data_words (drop from (bytes ++ rest)))) × (length log ≡ length log₀)
 
-abbrev decreases-loop : tie.decreases-loop
+abbrev decreases-loop : tie.decreases-loop-i
 decreases-loop log₀ at bytes from i₀ j₀ log i j = length bytes - i
 
 -- a word more has a place in the log
-room : (c : tie.After-full-word invariant-loop decreases-loop) → c.before.before.before.before.before.args.at + c.before.before.loop.j < length c.before.before.loop.log
+room : (c : tie.After-full_word invariant-loop decreases-loop) → c.before.before.before.before.before.args.at + c.before.before.loop-i.j < length c.before.before.loop-i.log
 room c =
     let p = c.before.before in
-    omega (arith, p.before.before.before.requires.1.1, p.loop.invariant.0, p.loop.invariant.3, c.before.loop-test.true)
+    omega (arith, p.before.before.before.requires.1.1, p.loop-i.invariant.0, p.loop-i.invariant.3, c.before.loop-i-test.true)
 
-loop-holds : tie.Need-loop-init invariant-loop decreases-loop
+loop-holds : tie.Need-loop-i-init invariant-loop decreases-loop
 loop-holds c = (omega arith, omega arith, (λ rest. rw add-zero refl), refl)
 
-loop-again : tie.Need-loop-preserved invariant-loop decreases-loop
+loop-again : tie.Need-loop-i-preserved invariant-loop decreases-loop
 loop-again c =
     let p = c.before.before in
     let a = p.before.before.before.args in
     let b : List ℕ = a.bytes.now in (
       omega arith,
       omega arith,
-      (λ rest. turn p.loop.log (b ++ rest) (put_at a.log.now a.at (data_words (drop a.from (b ++ rest)))) a.at p.loop.i p.loop.j c.full-word.result
-          (omega (arith, length-append b rest, c.before.loop-test.true)) (room c)
-          (c.full-word.ensures ∙ word-in-first b rest p.loop.i (omega arith)) (p.loop.invariant.2 rest)),
-      simp length-set p.loop.invariant.3,
+      (λ rest. turn p.loop-i.log (b ++ rest) (put_at a.log.now a.at (data_words (drop a.from (b ++ rest)))) a.at p.loop-i.i p.loop-i.j c.full_word.result
+          (omega (arith, length-append b rest, c.before.loop-i-test.true)) (room c)
+          (c.full_word.ensures ∙ word-in-first b rest p.loop-i.i (omega arith)) (p.loop-i.invariant.2 rest)),
+      simp length-set p.loop-i.invariant.3,
     )
 
 returns : tie.Need-returns invariant-loop decreases-loop
@@ -46,11 +46,11 @@ returns c =
     let p = c.before in
     let a = p.before.before.before.args in (
       omega arith,
-      (λ rest. ap (λ (n : ℕ). put_at p.loop.log (a.at + p.loop.j) (data_words (drop n (a.bytes.now ++ rest)))) (sym p.loop.invariant.0) ∙ p.loop.invariant.2 rest),
+      (λ rest. ap (λ (n : ℕ). put_at p.loop-i.log (a.at + p.loop-i.j) (data_words (drop n (a.bytes.now ++ rest)))) (sym p.loop-i.invariant.0) ∙ p.loop-i.invariant.2 rest),
     )
 
-pub put-words-spec : {M : Type 1} → statement M
-put-words-spec =
+pub put_words_spec : {M : Type 1} → statement M
+put_words_spec =
     tie.close (tie.spec invariant-loop decreases-loop
     loop-holds (λ c. search rules) (λ c κs. search rules) (λ c. omega (arith, room c)) (λ c. omega (arith, room c)) (λ c. omega (arith, room c))
     (λ c. search rules) (λ c. omega (arith, room c)) (λ c. search rules) loop-again (λ c. search rules) returns)

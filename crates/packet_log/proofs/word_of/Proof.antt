@@ -6,5 +6,5 @@ use Rattle.packet_log.proofs.word_of.Tie as tie
 returns : tie.Need-returns
 returns c = refl
 
-pub word-of-spec : {M : Type 1} → statement M
-word-of-spec = tie.close (tie.spec (λ c. search rules) (λ c. search rules) (λ c. search rules) (λ c. search rules) returns)
+pub word_of_spec : {M : Type 1} → statement M
+word_of_spec = tie.close (tie.spec (λ c. search rules) (λ c. search rules) (λ c. search rules) (λ c. search rules) returns)
