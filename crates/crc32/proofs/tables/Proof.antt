@@ -7,5 +7,5 @@ returns : tie.Need-returns
 unfolding table
 returns c = rules
 
-pub tables-spec : {M : Type 1} → statement M
-tables-spec = tie.close (tie.spec returns)
+pub tables_spec : {M : Type 1} → statement M
+tables_spec = tie.close (tie.spec returns)

@@ -9,5 +9,5 @@ returns c =
     let e = c.before.before in
     looked-up e.args.tables.now e.requires e.args.register e.args.byte c.before.place.result c.before.place.ensures.0
 
-pub with-byte-spec : {M : Type 1} → statement M
-with-byte-spec = tie.close (tie.spec (λ c κs. search rules) (λ c. search rules) (λ c. search rules) returns)
+pub with_byte_spec : {M : Type 1} → statement M
+with_byte_spec = tie.close (tie.spec (λ c κs. search rules) (λ c. search rules) (λ c. search rules) returns)
