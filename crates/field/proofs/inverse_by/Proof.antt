@@ -6,16 +6,16 @@ use borrow.Author.Rules.{rules}
 use Rattle.field.proofs.inverse_by.Statement.{statement}
 use Rattle.field.proofs.inverse_by.Tie as tie
 
-returns : tie.Need-returns
-returns c = sym (ap inverse c.if1.true ∙ inverse-zero)
+returns : tie.Need-returns-then-x-eq0
+returns c = sym (ap inverse c.if-x-eq0.true ∙ inverse-zero)
 
-returns-2 : tie.Need-returns-2
+returns-2 : tie.Need-returns
 returns-2 c =
     let p = c.before.before in
     let m = c.before.complement.result in
-    c.power-by.ensures
+    c.power_by.ensures
     ∙ sym (inverse-only p.before.before.args.x (pow m) p.before.before.ranges.x.fits (pow-lt m)
-    (pow-inverse p.before.before.args.x p.logarithm-by.result m c.before.complement.ensures p.logarithm-by.ensures.1))
+    (pow-inverse p.before.before.args.x p.logarithm_by.result m c.before.complement.ensures p.logarithm_by.ensures.1))
 
-pub inverse-by-spec : {M : Type 1} → statement M
-inverse-by-spec = tie.close (tie.spec returns (λ c κs. search rules) (λ c κs. search rules) (λ c κs. search rules) returns-2)
+pub inverse_by_spec : {M : Type 1} → statement M
+inverse_by_spec = tie.close (tie.spec returns (λ c κs. search rules) (λ c κs. search rules) (λ c κs. search rules) returns-2)

@@ -4,7 +4,7 @@ use borrow.Author.Rules.{rules}
 use Rattle.field.proofs.logarithm_by.Statement.{statement}
 use Rattle.field.proofs.logarithm_by.Tie as tie
 
-cast-result : tie.Need-overflow-cast-result
+cast-result : tie.Need-overflow_cast-result-2
 cast-result c = omega (arith, c.before.requires.0.small c.before.args.x c.before.requires.1 c.before.ranges.x.fits)
 
 returns : tie.Need-returns
@@ -13,5 +13,5 @@ returns c = (
   c.before.requires.0.entry c.before.args.x c.before.requires.1 c.before.ranges.x.fits,
 )
 
-pub logarithm-by-spec : {M : Type 1} → statement M
-logarithm-by-spec = tie.close (tie.spec (λ c. search rules) cast-result returns)
+pub logarithm_by_spec : {M : Type 1} → statement M
+logarithm_by_spec = tie.close (tie.spec (λ c. search rules) cast-result returns)

@@ -7,5 +7,5 @@ returns : tie.Need-returns
 unfolding log_table
 returns c = record { small = log-lt; entry = log-rule }
 
-pub logarithms-spec : {M : Type 1} → statement M
-logarithms-spec = tie.close (tie.spec returns)
+pub logarithms_spec : {M : Type 1} → statement M
+logarithms_spec = tie.close (tie.spec returns)

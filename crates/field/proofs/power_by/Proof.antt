@@ -13,5 +13,5 @@ returns : tie.Need-returns
 returns c =
     c.before.requires.entry (c.before.args.k % 255) (let m : c.before.args.k % 255 < 255 = mod-lt c.before.args.k (lit< tt) in omega arith) ∙ pow-mod c.before.args.k
 
-pub power-by-spec : {M : Type 1} → statement M
-power-by-spec = tie.close (tie.spec (λ c. search rules) returns)
+pub power_by_spec : {M : Type 1} → statement M
+power_by_spec = tie.close (tie.spec (λ c. search rules) returns)

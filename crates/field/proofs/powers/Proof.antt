@@ -7,5 +7,5 @@ returns : tie.Need-returns
 unfolding long_table
 returns c = record { entry = long-rule }
 
-pub powers-spec : {M : Type 1} → statement M
-powers-spec = tie.close (tie.spec returns)
+pub powers_spec : {M : Type 1} → statement M
+powers_spec = tie.close (tie.spec returns)

@@ -8,19 +8,19 @@ use borrow.Author.Rules.{rules}
 use Rattle.field.proofs.product_by.Statement.{statement}
 use Rattle.field.proofs.product_by.Tie as tie
 
-returns : tie.Need-returns
-returns c = sym (ap (λ (x : ℕ). mul x c.before.args.y) c.if1.true ∙ mul-zero-l c.before.args.y)
+returns : tie.Need-returns-then-x-eq0
+returns c = sym (ap (λ (x : ℕ). mul x c.before.args.y) c.if-x-eq0.true ∙ mul-zero-l c.before.args.y)
 
-returns-2 : tie.Need-returns-2
-returns-2 c = sym (ap (mul c.before.before.args.x) c.if2.true ∙ mul-zero-r c.before.before.args.x)
+returns-2 : tie.Need-returns-then-y-eq0
+returns-2 c = sym (ap (mul c.before.before.args.x) c.if-y-eq0.true ∙ mul-zero-r c.before.before.args.x)
 
-returns-3 : tie.Need-returns-3
+returns-3 : tie.Need-returns
 returns-3 c =
     let l = c.before in
-    l.before.before.before.before.requires.0.entry (l.before.logarithm-by.result + l.logarithm-by2.result)
-    (omega (arith, l.before.logarithm-by.ensures.0, l.logarithm-by2.ensures.0))
-    ∙ pow-add l.before.logarithm-by.result l.logarithm-by2.result
-    ∙ ap₂ mul l.before.logarithm-by.ensures.1 l.logarithm-by2.ensures.1
+    l.before.before.before.before.requires.0.entry (l.before.logarithm_by.result + l.logarithm_by-2.result)
+    (omega (arith, l.before.logarithm_by.ensures.0, l.logarithm_by-2.ensures.0))
+    ∙ pow-add l.before.logarithm_by.result l.logarithm_by-2.result
+    ∙ ap₂ mul l.before.logarithm_by.ensures.1 l.logarithm_by-2.ensures.1
 
-pub product-by-spec : {M : Type 1} → statement M
-product-by-spec = tie.close (tie.spec returns returns-2 (λ c κs. search rules) (λ c κs. search rules) (λ c. search rules) (λ c. search rules) returns-3)
+pub product_by_spec : {M : Type 1} → statement M
+product_by_spec = tie.close (tie.spec returns returns-2 (λ c κs. search rules) (λ c κs. search rules) (λ c. search rules) (λ c. search rules) returns-3)
