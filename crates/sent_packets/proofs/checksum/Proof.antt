@@ -14,18 +14,18 @@ step : (bytes : List ℕ) (sum i : ℕ) → i < length bytes → checksum_from s
 unfolding checksum_from
 step bytes sum i h = rw (add-one, drop-cons bytes i 0 h)
 
-abbrev invariant-loop : tie.invariant-loop
+abbrev invariant-loop : tie.invariant-loop-i
 invariant-loop packet sum₀ i₀ sum i = (i ≤ length packet) × (sum < 251) × (checksum_from sum (drop i packet) ≡ checksum_from 0 packet)
 
-abbrev decreases-loop : tie.decreases-loop
+abbrev decreases-loop : tie.decreases-loop-i
 decreases-loop packet sum₀ i₀ sum i = length packet - i
 
-loop-holds : tie.Need-loop-init invariant-loop decreases-loop
+loop-holds : tie.Need-loop-i-init invariant-loop decreases-loop
 loop-holds c = (omega arith, omega arith, refl)
 
-loop-again : tie.Need-loop-preserved invariant-loop decreases-loop
+loop-again : tie.Need-loop-i-preserved invariant-loop decreases-loop
 loop-again c =
-    let l = c.before.before.before.loop in let bytes = c.before.before.before.before.before.args.packet.now in (
+    let l = c.before.before.before.loop-i in let bytes = c.before.before.before.before.before.args.packet.now in (
       omega arith,
       omega arith,
       ap (λ (x : ℕ). checksum_from ((l.sum * 31 + x) % 251) (drop (l.i + 1) bytes)) c.wide.ensures.0 ∙ sym (step bytes l.sum l.i (omega arith))
@@ -35,10 +35,10 @@ loop-again c =
 returns : tie.Need-returns invariant-loop decreases-loop
 unfolding checksum_from
 returns c =
-    let l = c.before.loop in let bytes = c.before.before.before.args.packet.now in
+    let l = c.before.loop-i in let bytes = c.before.before.before.args.packet.now in
     (ap (λ (x : List ℕ). checksum_from l.sum x) (sym (drop_of_length-le bytes {i = l.i} (omega arith))) ∙ l.invariant.2, l.invariant.1)
 
-pub checksum-spec : {M : Type 1} → statement M
-checksum-spec =
+pub checksum_spec : {M : Type 1} → statement M
+checksum_spec =
     tie.close (tie.spec invariant-loop decreases-loop
     loop-holds (λ c. search rules) (λ c. search rules) (λ c κs. search rules) (λ c. search rules) (λ c. search rules) (λ c. search rules) loop-again returns)

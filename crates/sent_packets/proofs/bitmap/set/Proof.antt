@@ -5,10 +5,10 @@ use Rattle.sent_packets.proofs.Bit.{set-this, set-others}
 use Rattle.sent_packets.proofs.bitmap.set.Statement.{statement}
 use Rattle.sent_packets.proofs.bitmap.set.Tie as tie
 
-returns : tie.Need-returns
+returns : tie.Need-returns-then-words-k
 returns c = (λ h. absurd (let f : ⊥ = omega arith in f), λ k n. refl)
 
-returns-2 : tie.Need-returns-2
+returns-2 : tie.Need-returns
 returns-2 c = let a = c.before.before.args in (set-this a.words.now a.index, set-others a.words.now a.index (omega arith))
 
 pub set_spec : {M : Type 1} → statement M
