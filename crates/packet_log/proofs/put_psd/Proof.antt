@@ -17,13 +17,13 @@ slice-write-log c = let h = c.before.before.before.requires.1 in omega (arith, h
 put-bytes-requires : tie.Need-put_bytes-n-requires
 unfolding entry_words
 put-bytes-requires c κs =
-    let h = c.before.before.before.before.before.requires.1 in
+    let h = c.before.before.before.before.requires.1 in
     (omega arith, simp length-set (omega (arith, h)))
 
 add-result : tie.Need-overflow_add-result
 unfolding entry_words
 add-result c =
-    let p = c.before.before.before.before.before.before.before.before in
+    let p = c.before.before.before.before.before.before.before in
     omega (arith, p.requires.1, c.before.before.put_bytes-n.ensures.0)
 
 same_length : tie.Need-shape_of-log
@@ -32,10 +32,10 @@ same_length c = omega (arith, simp length-set at c.before.before.put_bytes-n.aut
 returns : tie.Need-returns
 unfolding entry_words
 returns c =
-    let p = c.before.before.before.before.before.before.before.before in
+    let p = c.before.before.before.before.before.before.before in
     let a = p.args in
     let q = c.before.before.put_bytes-n in
-    let w = c.before.before.before.before.before.word_of in
+    let w = c.before.before.before.before.word_of in
     let l : List ℕ = a.log-1.now in
     let s : List ℕ = a.bytes.now in
     let h : a.at < length l = omega (arith, p.requires.1) in

@@ -11,7 +11,7 @@ decreases-loop table number from₀ left₀ from left = left
 loop-again : tie.Need-loop-left-preserved invariant-loop decreases-loop
 loop-again c = search rules
 
-part-result-end-2 : tie.Need-slice-bounds-result-end-2 invariant-loop decreases-loop
+part-result-end-2 : tie.Need-slice_bounds-result-end-2 invariant-loop decreases-loop
 part-result-end-2 c = search rules
 
 pub entry_spec : {M : Type 1} → statement M

@@ -7,14 +7,14 @@ slice-aggregate-put-bytes c = sym (length-take-le _ _ (omega arith))
 
 put-bytes-requires : tie.Need-put_bytes-requires
 put-bytes-requires c κs =
-    let h = length-take-le c.before.before.least-count.result c.before.before.before.before.before.before.args.bytes.now (omega arith) in
+    let h = length-take-le c.before.least-count.result c.before.before.before.before.before.args.bytes.now (omega arith) in
     omega arith
 
 returns : tie.Need-returns
 returns c =
     let d = c.before.before in
-    let n = d.before.before.before.before.least-start.result + d.before.before.before.least-count.result in
-    let e : length d.put_bytes.new.0 ≡ length d.before.before.before.before.before.before.before.args.out.now = d.put_bytes.auto.0 in
+    let n = d.before.before.before.least-start.result + d.before.before.least-count.result in
+    let e : length d.put_bytes.new.0 ≡ length d.before.before.before.before.before.before.args.out.now = d.put_bytes.auto.0 in
     let h : n ≤ length d.put_bytes.new.0 = omega arith in
     ((h, sym (length-take-le n d.put_bytes.new.0 h)), (omega arith, cc))
 
