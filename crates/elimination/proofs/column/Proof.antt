@@ -7,22 +7,22 @@ use Rattle.elimination.proofs.Steps.{column-next, column-end}
 use Rattle.elimination.proofs.column.Statement.{statement}
 use Rattle.elimination.proofs.column.Tie as tie
 
-abbrev invariant-loop : tie.invariant-loop
+abbrev invariant-loop : tie.invariant-loop-i
 invariant-loop k rows out₀ i₀ out i = (i ≤ k) × Column rows k out i
 
-abbrev decreases-loop : tie.decreases-loop
+abbrev decreases-loop : tie.decreases-loop-i
 decreases-loop k rows out₀ i₀ out i = k - i
 
-loop-holds : tie.Need-loop-init invariant-loop decreases-loop
+loop-holds : tie.Need-loop-i-init invariant-loop decreases-loop
 loop-holds c = (omega arith, record { long = search rules; taken = λ i l. absurd (omega arith) })
 
-loop-again : tie.Need-loop-preserved invariant-loop decreases-loop
-loop-again c = (omega arith, column-next _ _ c.before.before.loop.out _ _ (omega arith) c.before.before.loop.invariant.1 refl)
+loop-again : tie.Need-loop-i-preserved invariant-loop decreases-loop
+loop-again c = (omega arith, column-next _ _ c.before.before.loop-i.out _ _ (omega arith) c.before.before.loop-i.invariant.1 refl)
 
 returns : tie.Need-returns invariant-loop decreases-loop
-returns c = column-end _ _ _ c.before.loop.i (omega arith) c.before.loop.invariant.1
+returns c = column-end _ _ _ c.before.loop-i.i (omega arith) c.before.loop-i.invariant.1
 
-pub column-spec : {M : Type 1} → statement M
-column-spec =
+pub column_spec : {M : Type 1} → statement M
+column_spec =
     tie.close (tie.spec invariant-loop decreases-loop
     loop-holds (λ c. search rules) (λ c. search rules) (λ c. search rules) (λ c. search rules) (λ c. search rules) (λ c. search rules) loop-again returns)

@@ -11,32 +11,32 @@ use Rattle.elimination.proofs.Steps.{ClearRight, right-begin, right-skip, right-
 use Rattle.elimination.proofs.reduce_right.Statement.{statement}
 use Rattle.elimination.proofs.reduce_right.Tie as tie
 
-abbrev invariant-loop : tie.invariant-loop
+abbrev invariant-loop : tie.invariant-loop-r
 invariant-loop powers logarithms k p v top rows out₀ r₀ out r = (r ≤ 4) × ClearRight out₀ (λ i. get_or (get_or rows i []) k 0) top k out r
 
-abbrev decreases-loop : tie.decreases-loop
+abbrev decreases-loop : tie.decreases-loop-r
 decreases-loop powers logarithms k p v top rows out₀ r₀ out r = 4 - r
 
-loop-holds : tie.Need-loop-init invariant-loop decreases-loop
+loop-holds : tie.Need-loop-r-init invariant-loop decreases-loop
 loop-holds c = (omega arith, right-begin c.before.before.before.before.args.t4 _ _ _ _ _ (omega arith) (search rules))
 
-loop-again : tie.Need-loop-preserved invariant-loop decreases-loop
+loop-again : tie.Need-loop-r-preserved invariant-loop decreases-loop
 loop-again c = (
   omega arith,
   ⊎_elim
-      (λ w. rw w.3 (right-row _ _ _ _ c.before.before.loop.out c.before.before.loop.r _ c.before.before.loop.invariant.1 (omega arith) w.0.taken
-      (ap (bit_xor (get_or c.before.before.loop.out c.before.before.loop.r 0)) w.2.ensures)))
-      (λ w. rw w.1 (right-skip _ _ _ _ c.before.before.loop.out c.before.before.loop.r c.before.before.loop.invariant.1 w.0.left))
-      c.if1.branch,
+      (λ w. rw w.3 (right-row _ _ _ _ c.before.before.loop-r.out c.before.before.loop-r.r _ c.before.before.loop-r.invariant.1 (omega arith) w.0.taken
+      (ap (bit_xor (get_or c.before.before.loop-r.out c.before.before.loop-r.r 0)) w.2.ensures)))
+      (λ w. rw w.1 (right-skip _ _ _ _ c.before.before.loop-r.out c.before.before.loop-r.r c.before.before.loop-r.invariant.1 w.0.left))
+      c.if-r-k.branch,
 )
 
 returns : tie.Need-returns invariant-loop decreases-loop
 returns c =
-    right_end _ _ _ _ c.before.before.before.product-by.result _ c.before.loop.r (omega arith)
-    (c.before.before.before.product-by.ensures ∙ ap (λ (v : ℕ). mul v (get_or c.before.before.before.before.before.before.args.t4 c.before.before.before.before.before.before.args.p 0)) c.before.before.before.before.inverse-by.ensures) c.before.loop.invariant.1
+    right_end _ _ _ _ c.before.before.before.product_by-top.result _ c.before.loop-r.r (omega arith)
+    (c.before.before.before.product_by-top.ensures ∙ ap (λ (v : ℕ). mul v (get_or c.before.before.before.before.before.before.args.t4 c.before.before.before.before.before.before.args.p 0)) c.before.before.before.before.inverse_by-v.ensures) c.before.loop-r.invariant.1
 
-pub reduce-right-spec : {M : Type 1} → statement M
-reduce-right-spec =
+pub reduce_right_spec : {M : Type 1} → statement M
+reduce_right_spec =
     tie.close (tie.spec invariant-loop decreases-loop
     (λ c. search rules) (λ c. search rules) (λ c. search rules) (λ c κs. search rules) (λ c. search rules) (λ c κs. search rules) (λ c. search rules)
     (λ c. search rules) (λ c. search rules) (λ c. search rules) (λ c. search rules) (λ c. search rules) (λ c. search rules) loop-holds (λ c. search rules)

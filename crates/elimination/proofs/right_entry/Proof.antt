@@ -4,11 +4,11 @@ use borrow.Author.Tests.{lt-ltb, le-ltb}
 use Rattle.elimination.proofs.right_entry.Statement.{statement}
 use Rattle.elimination.proofs.right_entry.Tie as tie
 
-returns : tie.Need-returns
-returns c = simp (lt-ltb c.before.args.r c.before.args.h c.if1.true)
+returns : tie.Need-returns-then-r-h
+returns c = simp (lt-ltb c.before.args.r c.before.args.h c.if-r-h.true)
 
-returns-2 : tie.Need-returns-2
-returns-2 c = simp (le-ltb c.before.args.r c.before.args.h c.if1.false)
+returns-2 : tie.Need-returns
+returns-2 c = simp (le-ltb c.before.args.r c.before.args.h c.if-r-h.false)
 
-pub right-entry-spec : {M : Type 1} → statement M
-right-entry-spec = tie.close (tie.spec (λ c. search rules) (λ c. search rules) returns returns-2)
+pub right_entry_spec : {M : Type 1} → statement M
+right_entry_spec = tie.close (tie.spec (λ c. search rules) (λ c. search rules) returns returns-2)
