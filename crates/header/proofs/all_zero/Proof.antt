@@ -25,34 +25,34 @@ nonzero-here s i h n =
     let z : eqb (get_or s i 0) 0 ≡ false = ne_eqb _ _ n in
     ap all_zero (drop-cons s i 0 h) ∙ ap (λ b. b && all_zero (drop (suc i) s)) z
 
-abbrev invariant-loop : tie.invariant-loop
+abbrev invariant-loop : tie.invariant-loop-i
 invariant-loop s i₀ i = (i ≤ 8) × (all_zero (drop i s) ≡ all_zero s)
 
-abbrev decreases-loop : tie.decreases-loop
+abbrev decreases-loop : tie.decreases-loop-i
 decreases-loop s i₀ i = 8 - i
 
-loop-holds : tie.Need-loop-init invariant-loop decreases-loop
+loop-holds : tie.Need-loop-i-init invariant-loop decreases-loop
 loop-holds c = (omega arith, refl)
 
-returns : tie.Need-returns invariant-loop decreases-loop
+returns : tie.Need-returns-then-s-i-ne0 invariant-loop decreases-loop
 returns c =
     let p = c.before.before in
-    let h : p.loop.i < length p.before.args.t1 = omega arith in
-    sym (nonzero-here _ p.loop.i h c.if1.true) ∙ p.loop.invariant.1
+    let h : p.loop-i.i < length p.before.args.t1 = omega arith in
+    sym (nonzero-here _ p.loop-i.i h c.if-s-i-ne0.true) ∙ p.loop-i.invariant.1
 
-loop-again : tie.Need-loop-preserved invariant-loop decreases-loop
+loop-again : tie.Need-loop-i-preserved invariant-loop decreases-loop
 loop-again c =
     let p = c.before.before in
     let s : List ℕ = p.before.args.t1 in
-    let i : ℕ = p.loop.i in
+    let i : ℕ = p.loop-i.i in
     let h : i < length s = omega arith in
-    (omega arith, zero_more s i h c.if1.false ∙ p.loop.invariant.1)
+    (omega arith, zero_more s i h c.if-s-i-ne0.false ∙ p.loop-i.invariant.1)
 
-returns-2 : tie.Need-returns-2 invariant-loop decreases-loop
+returns-2 : tie.Need-returns invariant-loop decreases-loop
 returns-2 c =
     let p = c.before in
-    let h : length p.before.args.t1 ≤ p.loop.i = omega arith in
-    sym (ap all_zero (drop_of_length-le p.before.args.t1 h)) ∙ p.loop.invariant.1
+    let h : length p.before.args.t1 ≤ p.loop-i.i = omega arith in
+    sym (ap all_zero (drop_of_length-le p.before.args.t1 h)) ∙ p.loop-i.invariant.1
 
-pub all-zero-spec : {M : Type 1} → statement M
-all-zero-spec = tie.close (tie.spec invariant-loop decreases-loop loop-holds (λ c. search rules) returns (λ c. search rules) (λ c. search rules) loop-again returns-2)
+pub all_zero_spec : {M : Type 1} → statement M
+all_zero_spec = tie.close (tie.spec invariant-loop decreases-loop loop-holds (λ c. search rules) returns (λ c. search rules) (λ c. search rules) loop-again returns-2)

@@ -10,42 +10,42 @@ use Rattle.header.proofs.Lanes.{none, once, twice, joined}
 use Rattle.header.proofs.by_half.Statement.{statement}
 use Rattle.header.proofs.by_half.Tie as tie
 
-abbrev w : tie.After-doubled3 → ℕ
+abbrev w : tie.After-doubled-d → ℕ
 w p = p.before.before.before.args.w
 
-one : (p : tie.After-doubled3) → unpacked (w p) ≡ times_all 1 (unpacked (w p))
+one : (p : tie.After-doubled-d) → unpacked (w p) ≡ times_all 1 (unpacked (w p))
 one p = once (w p)
 
-two : (p : tie.After-doubled3) → unpacked p.before.before.doubled.result ≡ times_all 2 (unpacked (w p))
+two : (p : tie.After-doubled-d) → unpacked p.before.before.doubled-b.result ≡ times_all 2 (unpacked (w p))
 unfolding times_a
-two p = twice (w p) (w p) p.before.before.doubled.result 1 (lit< tt) p.before.before.doubled.ensures (one p)
+two p = twice (w p) (w p) p.before.before.doubled-b.result 1 (lit< tt) p.before.before.doubled-b.ensures (one p)
 
-four : (p : tie.After-doubled3) → unpacked p.before.doubled2.result ≡ times_all 4 (unpacked (w p))
+four : (p : tie.After-doubled-d) → unpacked p.before.doubled-c.result ≡ times_all 4 (unpacked (w p))
 unfolding times_a
-four p = twice (w p) p.before.before.doubled.result p.before.doubled2.result 2 (lit< tt) p.before.doubled2.ensures (two p)
+four p = twice (w p) p.before.before.doubled-b.result p.before.doubled-c.result 2 (lit< tt) p.before.doubled-c.ensures (two p)
 
-eight : (p : tie.After-doubled3) → unpacked p.doubled3.result ≡ times_all 8 (unpacked (w p))
+eight : (p : tie.After-doubled-d) → unpacked p.doubled-d.result ≡ times_all 8 (unpacked (w p))
 unfolding times_a
-eight p = twice (w p) p.before.doubled2.result p.doubled3.result 4 (lit< tt) p.doubled3.ensures (four p)
+eight p = twice (w p) p.before.doubled-c.result p.doubled-d.result 4 (lit< tt) p.doubled-d.ensures (four p)
 
 past : (n a : ℕ) → a ≤ n → (n ≡ a → ⊥) → a + 1 ≤ n
 past n a h e = omega arith
 
-fifteen : (c : tie.At-match-rest) → c.before.before.before.before.args.n ≡ 15
+fifteen : (c : tie.In_default) → c.before.before.before.before.args.n ≡ 15
 fifteen c =
     let n = c.before.before.before.before.args.n in
-    let h : 15 ≤ n = past n 14 (past n 13 (past n 12 (past n 11 (past n 10 (past n 9 (past n 8 (past n 7 (past n 6 (past n 5 (past n 4 (past n 3 (past n 2 (past n 1 (past n 0 (omega arith) c.match.rest.0.0.0.0.0.0.0.0.0.0.0.0.0.0.1) c.match.rest.0.0.0.0.0.0.0.0.0.0.0.0.0.1) c.match.rest.0.0.0.0.0.0.0.0.0.0.0.0.1) c.match.rest.0.0.0.0.0.0.0.0.0.0.0.1) c.match.rest.0.0.0.0.0.0.0.0.0.0.1) c.match.rest.0.0.0.0.0.0.0.0.0.1) c.match.rest.0.0.0.0.0.0.0.0.1) c.match.rest.0.0.0.0.0.0.0.1) c.match.rest.0.0.0.0.0.0.1) c.match.rest.0.0.0.0.0.1) c.match.rest.0.0.0.0.1) c.match.rest.0.0.0.1) c.match.rest.0.0.1) c.match.rest.0.1) c.match.rest.1 in
+    let h : 15 ≤ n = past n 14 (past n 13 (past n 12 (past n 11 (past n 10 (past n 9 (past n 8 (past n 7 (past n 6 (past n 5 (past n 4 (past n 3 (past n 2 (past n 1 (past n 0 (omega arith) c.in_default.rest.0.0.0.0.0.0.0.0.0.0.0.0.0.0.1) c.in_default.rest.0.0.0.0.0.0.0.0.0.0.0.0.0.1) c.in_default.rest.0.0.0.0.0.0.0.0.0.0.0.0.1) c.in_default.rest.0.0.0.0.0.0.0.0.0.0.0.1) c.in_default.rest.0.0.0.0.0.0.0.0.0.0.1) c.in_default.rest.0.0.0.0.0.0.0.0.0.1) c.in_default.rest.0.0.0.0.0.0.0.0.1) c.in_default.rest.0.0.0.0.0.0.0.1) c.in_default.rest.0.0.0.0.0.0.1) c.in_default.rest.0.0.0.0.0.1) c.in_default.rest.0.0.0.0.1) c.in_default.rest.0.0.0.1) c.in_default.rest.0.0.1) c.in_default.rest.0.1) c.in_default.rest.1 in
     omega (arith, h)
 
 -- one arm of the match: the half byte is k, and the result the word times k
-arm : (p : tie.After-doubled3) (x k n : ℕ) → n ≡ k → unpacked x ≡ times_all k (unpacked (w p)) → unpacked x ≡ times_all n (unpacked (w p))
+arm : (p : tie.After-doubled-d) (x k n : ℕ) → n ≡ k → unpacked x ≡ times_all k (unpacked (w p)) → unpacked x ≡ times_all n (unpacked (w p))
 arm p x k n e h = h ∙ ap (λ (m : ℕ). times_all m (unpacked (w p))) (sym e)
 
-returns-14 : tie.Need-returns-14
-returns-14 c = let p = c.before in arm p _ 13 _ c.match.keys14 (joined (w p) _ _ 12 1 (joined (w p) _ _ 8 4 (eight p) (four p)) (one p))
+returns-14 : tie.Need-returns-in-13
+returns-14 c = let p = c.before in arm p _ 13 _ c.in-13.is (joined (w p) _ _ 12 1 (joined (w p) _ _ 8 4 (eight p) (four p)) (one p))
 
-pub by-half-spec : {M : Type 1} → statement M
-by-half-spec =
+pub by_half_spec : {M : Type 1} → statement M
+by_half_spec =
     tie.close (tie.spec (λ c κs. search rules) (λ c κs. search rules) (λ c κs. search rules)
     (λ c. let p = c.before in arm p _ 0 _ c.match.keys1 (none (w p)))
     (λ c. let p = c.before in arm p _ 1 _ c.match.keys2 (one p))

@@ -34,41 +34,41 @@ module _ (u v : List ℕ) (n i : ℕ) (z : 0 < i) (hu : i ≤ length u) (hv : i 
   agree : get_or u (i - 1) 0 ≡ get_or v (i - 1) 0 → n ≡ distance (drop i u) (drop i v) → n ≡ distance (drop (i - 1) u) (drop (i - 1) v)
   agree d e = e ∙ sym (more ∙ ap (λ b. cond b (distance (drop i u) (drop i v)) (suc (distance (drop i u) (drop i v)))) (eq-eqb _ _ d))
 
-abbrev invariant-loop : tie.invariant-loop
+abbrev invariant-loop : tie.invariant-loop-place
 invariant-loop u v n₀ i₀ n i = (i ≤ 96) × (n ≤ 96 - i) × (n ≡ distance (drop i u) (drop i v))
 
-abbrev decreases-loop : tie.decreases-loop
+abbrev decreases-loop : tie.decreases-loop-place
 decreases-loop u v n₀ i₀ n i = i
 
-loop-holds : tie.Need-loop-init invariant-loop decreases-loop
+loop-holds : tie.Need-loop-place-init invariant-loop decreases-loop
 loop-holds c =
     let a = c.args in
     (omega arith, omega arith, none_left a.u.now a.v.now (omega arith))
 
-loop-again : tie.Need-loop-preserved invariant-loop decreases-loop
+loop-again : tie.Need-loop-place-preserved-then-u-place invariant-loop decreases-loop
 loop-again c =
     let p = c.before.before.before.before in (
       omega arith,
       omega arith,
-      differ p.before.args.u.now p.before.args.v.now p.loop.n p.loop.place (omega arith) (omega arith) (omega arith) c.if1.true p.loop.invariant.2,
+      differ p.before.args.u.now p.before.args.v.now p.loop-place.n p.loop-place.place (omega arith) (omega arith) (omega arith) c.if-u-place.true p.loop-place.invariant.2,
     )
 
-loop-again-2 : tie.Need-loop-preserved-2 invariant-loop decreases-loop
+loop-again-2 : tie.Need-loop-place-preserved invariant-loop decreases-loop
 loop-again-2 c =
     let p = c.before.before.before.before in (
       omega arith,
       omega arith,
-      agree p.before.args.u.now p.before.args.v.now p.loop.n p.loop.place (omega arith) (omega arith) (omega arith) c.if1.false p.loop.invariant.2,
+      agree p.before.args.u.now p.before.args.v.now p.loop-place.n p.loop-place.place (omega arith) (omega arith) (omega arith) c.if-u-place.false p.loop-place.invariant.2,
     )
 
 returns : tie.Need-returns invariant-loop decreases-loop
 returns c =
     let p = c.before in
-    let e : p.loop.place ≡ 0 = omega arith in
-    p.loop.invariant.2 ∙ ap (λ (k : ℕ). distance (drop k p.before.args.u.now) (drop k p.before.args.v.now)) e
+    let e : p.loop-place.place ≡ 0 = omega arith in
+    p.loop-place.invariant.2 ∙ ap (λ (k : ℕ). distance (drop k p.before.args.u.now) (drop k p.before.args.v.now)) e
 
-pub differing-spec : {M : Type 1} → statement M
-differing-spec =
+pub differing_spec : {M : Type 1} → statement M
+differing_spec =
     tie.close (tie.spec invariant-loop decreases-loop
     loop-holds (λ c. search rules) (λ c. search rules) (λ c. search rules) (λ c. search rules) (λ c. search rules) loop-again (λ c. search rules) loop-again-2
     returns)

@@ -7,7 +7,7 @@ use Rattle.header.proofs.is_code_word_by.Tie as tie
 
 returns : tie.Need-returns
 unfolding is_code_word
-returns c = c.all-zero.ensures ∙ ap all_zero c.before.syndromes-by.ensures
+returns c = c.all_zero.ensures ∙ ap all_zero c.before.syndromes_by.ensures
 
-pub is-code-word-by-spec : {M : Type 1} → statement M
-is-code-word-by-spec = tie.close (tie.spec (λ c κs. search rules) (λ c κs. search rules) returns)
+pub is_code_word_by_spec : {M : Type 1} → statement M
+is_code_word_by_spec = tie.close (tie.spec (λ c κs. search rules) (λ c κs. search rules) returns)

@@ -5,7 +5,7 @@ use Rattle.header.proofs.parity.Statement.{statement}
 use Rattle.header.proofs.parity.Tie as tie
 
 returns : tie.Need-returns
-returns c = c.unpack.ensures ∙ c.before.remainder.ensures
+returns c = c.unpack.ensures ∙ c.before.remainder-r.ensures
 
-pub parity-spec : {M : Type 1} → statement M
-parity-spec = tie.close (tie.spec (λ c κs. search rules) (λ c κs. search rules) returns)
+pub parity_spec : {M : Type 1} → statement M
+parity_spec = tie.close (tie.spec (λ c κs. search rules) (λ c κs. search rules) returns)

@@ -10,5 +10,5 @@ returns : tie.Need-returns
 unfolding points pow shift times_a
 returns c = refl
 
-pub point-spec : {M : Type 1} → statement M
-point-spec = tie.close (tie.spec (λ c. search rules) returns)
+pub point_spec : {M : Type 1} → statement M
+point_spec = tie.close (tie.spec (λ c. search rules) returns)

@@ -26,23 +26,23 @@ unfolding front_replaced
 done p f q i e l h =
     h ∙ ap₂ (λ (u : List ℕ) (n : ℕ). u ++ drop n p) (take_all i f (omega arith) ∙ sym (take_all (length p) f (omega arith))) (zero-add i ∙ e)
 
-abbrev invariant-loop : tie.invariant-loop
+abbrev invariant-loop : tie.invariant-loop-i
 invariant-loop pdu₀ front i₀ pdu i = (i ≤ length front) × (i ≤ length pdu₀) × (length pdu ≡ length pdu₀) × (pdu ≡ paste pdu₀ 0 front i)
 
-abbrev decreases-loop : tie.decreases-loop
+abbrev decreases-loop : tie.decreases-loop-i
 decreases-loop pdu₀ front i₀ pdu i = length front - i
 
-loop-holds : tie.Need-loop-init invariant-loop decreases-loop
+loop-holds : tie.Need-loop-i-init invariant-loop decreases-loop
 loop-holds c = (omega arith, omega arith, refl, refl)
 
-returns : tie.Need-returns invariant-loop decreases-loop
+returns : tie.Need-returns-then-i-pdu invariant-loop decreases-loop
 returns c =
-    let l = c.before.before.loop in
+    let l = c.before.before.loop-i in
     full _ _ l.pdu l.i (omega arith) (omega arith) l.invariant.3
 
-loop-again : tie.Need-loop-preserved invariant-loop decreases-loop
+loop-again : tie.Need-loop-i-preserved invariant-loop decreases-loop
 loop-again c =
-    let l = c.before.before.before.loop in
+    let l = c.before.before.before.loop-i in
     let a = c.before.before.before.before.args in (
       omega arith,
       omega arith,
@@ -50,13 +50,13 @@ loop-again c =
       paste_more a.pdu.now a.front.now l.pdu l.i l.invariant.3 (omega arith) (omega arith),
     )
 
-returns-2 : tie.Need-returns-2 invariant-loop decreases-loop
+returns-2 : tie.Need-returns invariant-loop decreases-loop
 returns-2 c =
-    let l = c.before.loop in
+    let l = c.before.loop-i in
     done _ _ l.pdu l.i (omega arith) (omega arith) l.invariant.3
 
-pub put-front-spec : {M : Type 1} → statement M
-put-front-spec =
+pub put_front_spec : {M : Type 1} → statement M
+put_front_spec =
     tie.close (tie.spec invariant-loop decreases-loop
     loop-holds (λ c. search rules) returns (λ c. search rules) (λ c. search rules) (λ c. search rules) (λ c. search rules) loop-again (λ c. search rules)
     returns-2)

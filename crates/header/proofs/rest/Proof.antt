@@ -11,7 +11,7 @@ returns : tie.Need-returns
 returns c =
     let s = c.before.before.before in
     ap values c.unpack.ensures
-    ∙ rest-values s.before.args.header.now c.before.before.word.result c.before.remainder.result (omega arith) (λ k. (s.shared-slice-known.given k).fits) c.before.before.word.ensures c.before.remainder.ensures
+    ∙ rest-values s.before.args.header.now c.before.before.word.result c.before.remainder.result (omega arith) (λ k. (s.shared_slice_known-1.given k).fits) c.before.before.word.ensures c.before.remainder.ensures
 
-pub rest-spec : {M : Type 1} → statement M
-rest-spec = tie.close (tie.spec (λ c κs. search rules) (λ c κs. search rules) (λ c κs. search rules) returns)
+pub rest_spec : {M : Type 1} → statement M
+rest_spec = tie.close (tie.spec (λ c κs. search rules) (λ c κs. search rules) (λ c κs. search rules) returns)

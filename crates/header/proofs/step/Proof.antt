@@ -10,15 +10,15 @@ use Rattle.header.proofs.step.Tie as tie
 returns : tie.Need-returns
 returns c =
     let s = c.before.before.before.before.before.before.before.before in
-    eight-parts s.args.v c.before.before.before.before.before.before.before.by_byte.result c.before.before.before.before.before.before.by-byte2.result c.before.before.before.before.before.by-byte3.result c.before.before.before.before.by-byte4.result c.before.before.before.by-byte5.result c.before.before.by-byte6.result c.before.by-byte7.result c.by-byte8.result
+    eight-parts s.args.v c.before.before.before.before.before.before.before.by_byte.result c.before.before.before.before.before.before.by_byte-2.result c.before.before.before.before.before.by_byte-3.result c.before.before.before.before.by_byte-4.result c.before.before.before.by_byte-5.result c.before.before.by_byte-6.result c.before.by_byte-7.result c.by_byte-8.result
     (c.before.before.before.before.before.before.before.by_byte.ensures ∙ ap (times_all _) s.requires.0.0)
-    (c.before.before.before.before.before.before.by-byte2.ensures ∙ ap (times_all _) s.requires.0.1)
-    (c.before.before.before.before.before.by-byte3.ensures ∙ ap (times_all _) s.requires.0.2)
-    (c.before.before.before.before.by-byte4.ensures ∙ ap (times_all _) s.requires.0.3)
-    (c.before.before.before.by-byte5.ensures ∙ ap (times_all _) s.requires.1.0)
-    (c.before.before.by-byte6.ensures ∙ ap (times_all _) s.requires.1.1)
-    (c.before.by-byte7.ensures ∙ ap (times_all _) s.requires.1.2)
-    (c.by-byte8.ensures ∙ ap (times_all _) s.requires.1.3)
+    (c.before.before.before.before.before.before.by_byte-2.ensures ∙ ap (times_all _) s.requires.0.1)
+    (c.before.before.before.before.before.by_byte-3.ensures ∙ ap (times_all _) s.requires.0.2)
+    (c.before.before.before.before.by_byte-4.ensures ∙ ap (times_all _) s.requires.0.3)
+    (c.before.before.before.by_byte-5.ensures ∙ ap (times_all _) s.requires.1.0)
+    (c.before.before.by_byte-6.ensures ∙ ap (times_all _) s.requires.1.1)
+    (c.before.by_byte-7.ensures ∙ ap (times_all _) s.requires.1.2)
+    (c.by_byte-8.ensures ∙ ap (times_all _) s.requires.1.3)
 
 pub step_spec : {M : Type 1} → statement M
 step_spec =

@@ -6,13 +6,13 @@ use borrow.Author.Rules.{rules}
 use Rattle.header.proofs.syndromes_by.Statement.{statement}
 use Rattle.header.proofs.syndromes_by.Tie as tie
 
-returns : tie.Need-returns
+returns : tie.Need-returns-then-all_zero
 returns c =
     let z = c.before in
-    values-zero z.before.rest.result (omega arith) (sym z.all-zero.ensures ∙ c.if1.true) ∙ z.before.rest.ensures
+    values-zero z.before.rest-e.result (omega arith) (sym z.all_zero.ensures ∙ c.if-all_zero.true) ∙ z.before.rest-e.ensures
 
-returns-2 : tie.Need-returns-2
-returns-2 c = c.sums.ensures ∙ c.before.before.before.before.rest.ensures
+returns-2 : tie.Need-returns
+returns-2 c = c.sums.ensures ∙ c.before.before.before.before.rest-e.ensures
 
-pub syndromes-by-spec : {M : Type 1} → statement M
-syndromes-by-spec = tie.close (tie.spec (λ c κs. search rules) (λ c κs. search rules) returns (λ c. search rules) (λ c κs. search rules) returns-2)
+pub syndromes_by_spec : {M : Type 1} → statement M
+syndromes_by_spec = tie.close (tie.spec (λ c κs. search rules) (λ c κs. search rules) returns (λ c. search rules) (λ c κs. search rules) returns-2)

@@ -8,17 +8,17 @@ returns : tie.Need-returns
 unfolding unpacked
 returns c =
     simp (
-      c.before.before.before.before.before.before.before.byte-from.ensures,
-      c.before.before.before.before.before.before.byte-from2.ensures,
-      c.before.before.before.before.before.byte-from3.ensures,
-      c.before.before.before.before.byte-from4.ensures,
-      c.before.before.before.byte-from5.ensures,
-      c.before.before.byte-from6.ensures,
-      c.before.byte-from7.ensures,
-      c.byte-from8.ensures,
+      c.before.before.before.before.before.before.before.byte_from.ensures,
+      c.before.before.before.before.before.before.byte_from-2.ensures,
+      c.before.before.before.before.before.byte_from-3.ensures,
+      c.before.before.before.before.byte_from-4.ensures,
+      c.before.before.before.byte_from-5.ensures,
+      c.before.before.byte_from-6.ensures,
+      c.before.byte_from-7.ensures,
+      c.byte_from-8.ensures,
     )
 
-pub unpack-spec : {M : Type 1} → statement M
-unpack-spec =
+pub unpack_spec : {M : Type 1} → statement M
+unpack_spec =
     tie.close (tie.spec (λ c κs. search rules) (λ c κs. search rules) (λ c κs. search rules) (λ c κs. search rules) (λ c κs. search rules)
     (λ c κs. search rules) (λ c κs. search rules) (λ c κs. search rules) returns)

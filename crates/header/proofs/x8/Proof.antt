@@ -9,5 +9,5 @@ use Rattle.header.proofs.x8.Tie as tie
 returns : tie.Need-returns
 returns c = ap unpacked c.coefficients.ensures ∙ generator-packed
 
-pub x8-spec : {M : Type 1} → statement M
-x8-spec = tie.close (tie.spec (λ c κs. search rules) (λ c κs. search rules) returns)
+pub x8_spec : {M : Type 1} → statement M
+x8_spec = tie.close (tie.spec (λ c κs. search rules) (λ c κs. search rules) returns)
