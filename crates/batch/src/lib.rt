@@ -13,7 +13,7 @@ use receiver::Receiver;
 // What came of a batch: the refusal number, 0 where there is none, with the smallest k whose locator is wrong where it is 11; how many PDUs were taken, and
 // how many log words were written; and the receiver as the last PDU taken left it.
 #[repr(C)]
-#[derive(Drop)]
+#[derive(Clone, Copy)]
 pub struct Batch {
     pub refusal: u32,
     pub wrong: u32,

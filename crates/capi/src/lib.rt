@@ -30,21 +30,21 @@ use writer::{Opened, Writer, Written};
 
 // S1 to S8.
 #[repr(C)]
-#[derive(Drop)]
+#[derive(Clone, Copy)]
 pub struct SyndromesAnswer {
     pub values: [u8; 8],
 }
 
 // Bytes 0 to 7 of a header.
 #[repr(C)]
-#[derive(Drop)]
+#[derive(Clone, Copy)]
 pub struct ParityAnswer {
     pub values: [u8; 8],
 }
 
 // The refusal number, 0 where there is none, and a parity with a share added.
 #[repr(C)]
-#[derive(Drop)]
+#[derive(Clone, Copy)]
 pub struct ShareAnswer {
     pub refusal: u32,
     pub parity: ParityAnswer,
@@ -52,7 +52,7 @@ pub struct ShareAnswer {
 
 // The refusal number, 0 where there is none, and how many bytes were corrected.
 #[repr(C)]
-#[derive(Drop)]
+#[derive(Clone, Copy)]
 pub struct CorrectionAnswer {
     pub refusal: u32,
     pub corrected: u32,
@@ -366,7 +366,7 @@ pub extern "C" fn barzhilup_load_receiver(words: &[u32], carry: &mut [u8]) -> re
 
 // The refusal number, 0 where there is none; the smallest latency without a dry tick, 0 where none was found; and whether one was.
 #[repr(C)]
-#[derive(Drop)]
+#[derive(Clone, Copy)]
 pub struct LatencyAnswer {
     pub refusal: u32,
     pub latency: u32,

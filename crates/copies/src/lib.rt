@@ -21,7 +21,7 @@ pub const BOTH: u8 = 5;
 pub const EITHER: u8 = 6;
 
 // How many pieces are taken from the first copy alone, from the second alone, and are alike in both.
-#[derive(Drop)]
+#[derive(Clone, Copy)]
 pub struct Pieces {
     pub first: u64,
     pub second: u64,
@@ -29,7 +29,7 @@ pub struct Pieces {
 }
 
 // What comes of two copies, and where the pieces are taken from, if the PDU is received.
-#[derive(Drop)]
+#[derive(Clone, Copy)]
 pub struct Taken {
     pub outcome: Outcome,
     pub pieces: Pieces,

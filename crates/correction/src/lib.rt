@@ -12,7 +12,7 @@ ghost use Rattle.correction.specs.ErrorPlaces.{value_from, located, Search};
 ghost use Rattle.correction.specs.ErrorValues.{Filtered, Stripped, value_at, points_of, DistinctPlaces, Repaired};
 
 // How many bytes of a header were corrected (0 to 4; with marks, to 8), or the refusal number (3, 19 or 4).
-#[derive(Drop)]
+#[derive(Clone, Copy)]
 pub enum Correction {
     Corrected(u32),
     Refused(u32),
@@ -152,7 +152,7 @@ fn evaluate(
 }
 
 // The first `count` of these places.
-#[derive(Drop)]
+#[derive(Clone, Copy)]
 struct Places {
     pub count: usize,
     pub places: [usize; 8],
@@ -284,7 +284,7 @@ fn candidate(
 }
 
 // A header after correction, and the answer.
-#[derive(Drop)]
+#[derive(Clone, Copy)]
 struct Decoded {
     pub header: [u8; 96],
     pub answer: Correction,

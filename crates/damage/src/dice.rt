@@ -6,7 +6,7 @@ ghost use Rattle.std.specs.Prelude.{◌<◌};
 const STEP: u64 = 11400714819323198485;
 
 // The state between two draws. `bits` is never 0.
-#[derive(Drop)]
+#[derive(Clone, Copy)]
 pub struct Dice {
     bits: u64,
     sum: u64,

@@ -13,14 +13,14 @@ use dice::Dice;
 const HEADER: u64 = 96;
 
 // The first `count` of these places.
-#[derive(Drop)]
+#[derive(Clone, Copy)]
 pub struct Places {
     pub count: usize,
     pub places: [u8; 96],
 }
 
 // A header after damage: how many bytes have another value, at which places, and the dice.
-#[derive(Drop)]
+#[derive(Clone, Copy)]
 pub struct Damage {
     pub altered: u64,
     pub marks: Places,
@@ -28,14 +28,14 @@ pub struct Damage {
 }
 
 // How many bytes of a header have another value, and the dice.
-#[derive(Drop)]
+#[derive(Clone, Copy)]
 struct Alteration {
     altered: u64,
     dice: Dice,
 }
 
 // How many bytes are still to be altered, and the dice.
-#[derive(Drop)]
+#[derive(Clone, Copy)]
 struct Rest {
     left: u64,
     dice: Dice,

@@ -121,7 +121,7 @@ fn reduce_right(
 }
 
 // The polynomial with a 1 at its degree and these coefficients below, zero at the points of the wrong bytes.
-#[derive(Drop)]
+#[derive(Clone, Copy)]
 pub struct Locator {
     pub degree: usize,
     pub coefficients: [u8; 4],

@@ -6,7 +6,7 @@ ghost use Rattle.expansion.specs.Expansion.{expansion_length, septets_at, known 
 ghost use Rattle.expansion.specs.Writing.{class_field, program_field, type_field, services_field, expansion_bytes, marked};
 
 // What expansion bytes say: values are 0 where not sent or not interpreted.
-#[derive(Drop)]
+#[derive(Clone, Copy)]
 pub struct Interpreted {
     // No rule is broken.
     pub right: bool,
@@ -186,7 +186,7 @@ fn interpret(pdu: &[u8], at: usize, n: usize) -> Interpreted
 }
 
 // The expansion bytes from a place on: how many there are, and what they say.
-#[derive(Drop)]
+#[derive(Clone, Copy)]
 pub struct Expansion {
     pub length: usize,
     pub values: Interpreted,
@@ -214,7 +214,7 @@ pub fn read_expansion(pdu: &[u8], at: u16, la: u8) -> Expansion
 
 // The fields to be sent, each with a flag that says whether it is.
 #[repr(C)]
-#[derive(Drop)]
+#[derive(Clone, Copy)]
 pub struct Fields {
     pub classed: bool,
     pub class: u8,
@@ -234,7 +234,7 @@ pub struct Fields {
 }
 
 // The first `length` of `bytes`.
-#[derive(Drop)]
+#[derive(Clone, Copy)]
 pub struct ExpansionBytes {
     pub bytes: [u8; 16],
     pub length: usize,

@@ -10,7 +10,7 @@ ghost use Rattle.join.specs.Scan.{head_fits_as, unused_zero, data_fits, fits as 
 
 // The refusal number, 0 where there is none, and how many words were written.
 #[repr(C)]
-#[derive(Drop)]
+#[derive(Clone, Copy)]
 pub struct Joined {
     pub refusal: u32,
     pub words: usize,

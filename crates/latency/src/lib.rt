@@ -10,14 +10,14 @@ ghost use Rattle.latency.specs.Bench.{Tried};
 use modes::{Listing, Mode};
 
 // The ticks from one PDU to the next, or the refusal number.
-#[derive(Drop)]
+#[derive(Clone, Copy)]
 pub enum Spacing {
     Every(usize),
     Refused(u32),
 }
 
 // The smallest latency from 0 to 7 without a dry tick, none since all eight have one, or the refusal number.
-#[derive(Drop)]
+#[derive(Clone, Copy)]
 pub enum Answer {
     Smallest(u8),
     AllDry,
@@ -25,7 +25,7 @@ pub enum Answer {
 }
 
 // What is told of ticks: how many are dry, the first of them, 0 where none is, and the most packets that wait.
-#[derive(Drop)]
+#[derive(Clone, Copy)]
 pub struct Tally {
     pub dry: usize,
     pub first: usize,
@@ -35,7 +35,7 @@ pub struct Tally {
 // What a latency does with the counts: the refusal number, 0 where there is none; how many ticks are run; and what is told of them. All others
 // are 0 where it is refused.
 #[repr(C)]
-#[derive(Drop)]
+#[derive(Clone, Copy)]
 pub struct Trial {
     pub refusal: u32,
     pub ticks: u32,
@@ -46,7 +46,7 @@ pub struct Trial {
 
 // The refusal number, 0 where there is none, and at how many ticks the packets that wait are shown.
 #[repr(C)]
-#[derive(Drop)]
+#[derive(Clone, Copy)]
 pub struct Shown {
     pub refusal: u32,
     pub count: u32,

@@ -8,7 +8,7 @@ ghost use Rattle.layout.specs.Locators.{bytes16, bytes12, locator_bytes, locator
 
 // The control word, bytes 8 to 13.
 #[repr(C)]
-#[derive(Drop)]
+#[derive(Clone, Copy)]
 pub struct ControlWord {
     pub mode: u8,
     pub stream: u8,

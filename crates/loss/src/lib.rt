@@ -9,7 +9,7 @@ ghost use Rattle.loss.specs.Column.{tally_in, with_tally, after_word, after_word
 use receiver::Receiver;
 
 // With delivered 0 the other two are 0.
-#[derive(Drop)]
+#[derive(Clone, Copy)]
 pub struct Loss {
     pub delivered: u32,
     pub missing: u32,

@@ -9,7 +9,7 @@ use damage::dice::Dice;
 use pdu::Reading;
 
 // How many pieces are hit, and the dice.
-#[derive(Drop)]
+#[derive(Clone, Copy)]
 pub struct Noise {
     pub hit: u64,
     pub dice: Dice,

@@ -18,7 +18,7 @@ pub const LOST: u8 = 1;
 pub const REFUSED: u8 = 2;
 
 // The outcome of a PDU, and the receiver after it.
-#[derive(Drop)]
+#[derive(Clone, Copy)]
 pub struct Outcome {
     pub kind: u8,
     // How many header bytes were corrected, or the refusal number, with the smallest k whose locator is wrong.

@@ -61,7 +61,7 @@ fn part_after(width: u8, extra: usize, size: usize, k: u8, used: usize) -> u16
 
 // The pieces that a PDU takes: their lengths, 0 after them; how many there are; how many packets end; and the length of the part of
 // the next, 0 for none.
-#[derive(Drop)]
+#[derive(Clone, Copy)]
 pub struct Packed {
     pub lengths: [u16; 64],
     pub nop: u8,

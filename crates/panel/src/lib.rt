@@ -14,7 +14,7 @@ use receiver::Receiver;
 
 // A piece of a PDU: its place and its length without its CRC byte, and whether its CRC is right.
 #[repr(C)]
-#[derive(Drop)]
+#[derive(Clone, Copy)]
 pub struct Piece {
     pub start: u16,
     pub length: u16,
@@ -24,7 +24,7 @@ pub struct Piece {
 // The answer of a receiver that was stepped in place: the refusal number, 0 where there is none, with the smallest k whose locator is wrong where
 // it is 11, and the count of log words written.
 #[repr(C)]
-#[derive(Drop)]
+#[derive(Clone, Copy)]
 pub struct Stepped {
     pub refusal: u32,
     pub wrong: u32,
@@ -32,7 +32,7 @@ pub struct Stepped {
 }
 
 // What a lent list is to hold: a reading, and its pieces at the front of an array, as many as the count.
-#[derive(Drop)]
+#[derive(Clone, Copy)]
 struct Told {
     reading: Reading,
     count: usize,

@@ -98,7 +98,7 @@ const SHARES: [u64; 88] = [
 ];
 
 // The refusal number, 0 where there is none, and the parity with the share added.
-#[derive(Drop)]
+#[derive(Clone, Copy)]
 pub struct Added {
     pub refusal: u32,
     pub parity: [u8; 8],

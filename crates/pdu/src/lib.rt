@@ -14,7 +14,7 @@ use modes::{Listing, Mode};
 
 // Expansion fields: 0 where not sent or not interpreted.
 #[repr(C)]
-#[derive(Drop)]
+#[derive(Clone, Copy)]
 pub struct ExpansionFields {
     pub class: u8,
     pub program: u8,
@@ -27,7 +27,7 @@ pub struct ExpansionFields {
 
 // A part of a PDU.
 #[repr(C)]
-#[derive(Drop)]
+#[derive(Clone, Copy)]
 pub struct Part {
     pub start: u32,
     pub length: u32,
@@ -35,7 +35,7 @@ pub struct Part {
 
 // What a PDU holds, or the number it is refused with; every other field is 0 then, but for the wrong locator with 11.
 #[repr(C)]
-#[derive(Drop)]
+#[derive(Clone, Copy)]
 pub struct Reading {
     pub refusal: u32,
     // With refusal 11, the smallest k whose locator is wrong.
@@ -71,7 +71,7 @@ fn expansion_of(y: &[u8], width: u8, c: ControlWord) -> Expansion
 
 // What stands before the pieces: the place where PSD begins, after the locators and the expansion bytes; and the program and the applied services, each 0
 // where not sent or not interpreted.
-#[derive(Drop)]
+#[derive(Clone, Copy)]
 pub struct Front {
     pub psd: usize,
     pub program: u8,
@@ -164,7 +164,7 @@ fn first_wrong(y: &[u8], width: u8, c: ControlWord) -> u8
 }
 
 // A refusal number from 7 to 12 or 0, and with 11 the smallest k whose locator is wrong.
-#[derive(Drop)]
+#[derive(Clone, Copy)]
 pub struct Verdict {
     pub number: u32,
     pub wrong: u8,
@@ -212,7 +212,7 @@ pub fn judge(y: &[u8], c: ControlWord, m: Mode) -> Verdict
 }
 
 // Each piece's start and length; 0 from NOP on.
-#[derive(Drop)]
+#[derive(Clone, Copy)]
 struct Spans {
     starts: [u16; 64],
     lengths: [u16; 64],

@@ -8,7 +8,7 @@ ghost use Rattle.header.specs.Header.{syndrome, syndromes};
 
 // S1 to S8.
 #[repr(C)]
-#[derive(Drop)]
+#[derive(Clone, Copy)]
 pub struct PowerSumsAnswer {
     pub values: [u8; 8],
 }

@@ -14,7 +14,7 @@ ghost use Rattle.reassembly.specs.Count.{count_finish, count_piece, with_piece, 
 
 // What is held and where the log stands, in the course of a step. The bytes are the first ones of the carry buffer; held length 0 means nothing
 // held, with number 0.
-#[derive(Drop)]
+#[derive(Clone, Copy)]
 pub struct Run {
     pub held: usize,
     pub number: u8,
@@ -22,7 +22,7 @@ pub struct Run {
 }
 
 // What a receiver remembers between PDUs. A field not known or not held is 0.
-#[derive(Drop)]
+#[derive(Clone, Copy)]
 pub struct State {
     pub known: bool,
     pub last: u8,
@@ -31,7 +31,7 @@ pub struct State {
 }
 
 // What a PDU's header says. PSD runs from `psd` to La. Program and applied services are 0 where not sent or not interpreted.
-#[derive(Drop)]
+#[derive(Clone, Copy)]
 pub struct Head {
     pub sequence: u8,
     pub pfirst: bool,
@@ -44,7 +44,7 @@ pub struct Head {
 }
 
 // The packets delivered, those missing between them, and the last delivered number (document 02, Ask 14); with delivered 0 the other two are 0.
-#[derive(Drop)]
+#[derive(Clone, Copy)]
 pub struct Tally {
     pub delivered: u64,
     pub missing: u64,
@@ -52,7 +52,7 @@ pub struct Tally {
 }
 
 // What a piece comes to: log words, bytes held after it, and whether it delivers a packet.
-#[derive(Drop)]
+#[derive(Clone, Copy)]
 pub struct PieceCount {
     pub words: usize,
     pub held: usize,
@@ -60,7 +60,7 @@ pub struct PieceCount {
 }
 
 // Log words counted before they are written, and the tally after them.
-#[derive(Drop)]
+#[derive(Clone, Copy)]
 pub struct Forecast {
     pub words: usize,
     pub tally: Tally,

@@ -24,7 +24,7 @@ use reassembly::{Head, Run, State, Tally};
 
 // What a receiver was opened with, and what it remembers. A field not known or not held is 0; held length 0 means nothing held.
 #[repr(C)]
-#[derive(Drop)]
+#[derive(Clone, Copy)]
 pub struct Receiver {
     pub mode: u8,
     pub stream: u8,
@@ -49,7 +49,7 @@ pub struct Receiver {
 
 // The refusal number, 0 where there is none, and the receiver: if refused, one that every call turns down with 1.
 #[repr(C)]
-#[derive(Drop)]
+#[derive(Clone, Copy)]
 pub struct Opened {
     pub refusal: u32,
     pub receiver: Receiver,
@@ -58,7 +58,7 @@ pub struct Opened {
 // The refusal number, 0 where there is none, with the smallest k whose locator is wrong where it is 11; the count of log words written; and the
 // next state, the same if refused.
 #[repr(C)]
-#[derive(Drop)]
+#[derive(Clone, Copy)]
 pub struct Received {
     pub refusal: u32,
     pub wrong: u32,
@@ -328,7 +328,7 @@ fn passes_limit(t: Tally) -> bool
 }
 
 // The applied services in force at a PDU, if known; 0 where not known.
-#[derive(Drop)]
+#[derive(Clone, Copy)]
 pub struct Services {
     pub known: bool,
     pub value: u8,

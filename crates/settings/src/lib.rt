@@ -8,7 +8,7 @@ ghost use Rattle.settings.specs.Settings.{program_of, class_one, access_one, bro
 use expansion::Fields;
 
 #[repr(C)]
-#[derive(Drop)]
+#[derive(Clone, Copy)]
 pub struct Settings {
     pub blend: u8,
     // Gain (core) or stream delay (enhanced).

@@ -12,7 +12,7 @@ use receiver::{Opened, Receiver};
 
 // The refusal number, 0 where there is none, and how many words were written.
 #[repr(C)]
-#[derive(Drop)]
+#[derive(Clone, Copy)]
 pub struct Saved {
     pub refusal: u32,
     pub words: u32,

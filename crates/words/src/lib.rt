@@ -15,7 +15,7 @@ pub const NOTE: u32 = 3;
 
 // A word's kind, and what stands in bits 29-16, the number of a packet or the cause of a note, and in bits 15-0, the length of a packet or of
 // PSD or the piece of a note.
-#[derive(Drop)]
+#[derive(Clone, Copy)]
 pub struct Word {
     pub kind: u32,
     pub high: u32,

@@ -17,7 +17,7 @@ use settings::Settings;
 
 // What a writer was opened with, and what it remembers.
 #[repr(C)]
-#[derive(Drop)]
+#[derive(Clone, Copy)]
 pub struct Writer {
     pub mode: u8,
     pub stream: u8,
@@ -32,7 +32,7 @@ pub struct Writer {
 
 // The refusal number, 0 where there is none, and the writer: if refused, one that every call turns down with 1.
 #[repr(C)]
-#[derive(Drop)]
+#[derive(Clone, Copy)]
 pub struct Opened {
     pub refusal: u32,
     pub writer: Writer,
@@ -40,7 +40,7 @@ pub struct Opened {
 
 // The refusal number, 0 where there is none; how many packets ended; and the next state, the same if refused.
 #[repr(C)]
-#[derive(Drop)]
+#[derive(Clone, Copy)]
 pub struct Written {
     pub refusal: u32,
     pub ended: u32,
