@@ -29,11 +29,11 @@ returns-3 : tie.Need-returns
 returns-3 c =
     let f = c.before.before in
     let d = f.before.before.before in
-    let w : List ℕ = d.before.before.before.before.before.before.before.args.pdu.now in
+    let w : List ℕ = d.before.before.before.before.before.before.args.pdu.now in
     let e : length_refusal (length w) ≡ 0 = length-allowed _ (omega arith) (omega arith) in
     let q : d.parity-p.result ≡ parity_of w = d.parity-p.ensures ∙ ap parity_of d.before.before.header_of-header.ensures ∙ parity-of-header w (omega arith) in
     let n : length (parity_of w) ≡ 8 = parity-length w in
-    (sym e, written w f.put_front.new.0 d.parity-p.result q (omega arith) f.put_front.ensures e)
+    (sym e, written w f.put_front.new.pdu d.parity-p.result q (omega arith) f.put_front.ensures e)
 
 pub write_parity_spec : {M : Type 1} → statement M
 write_parity_spec =

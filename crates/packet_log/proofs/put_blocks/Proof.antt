@@ -53,7 +53,7 @@ loop-again c =
       omega arith,
       (λ rest. block-turn l.loop-i.log _ b rest _ a.at l.loop-i.i l.loop-i.j l.loop-i.x l.loop-i.y l.loop-i.invariant.1 (room l) (λ k. (l.before.before.before.before.shared_slice_known-1.given k).fits)
           l.loop-i.invariant.4 l.loop-i.invariant.5 q.ensures (l.loop-i.invariant.2 rest)),
-      q.auto.0 ∙ l.loop-i.invariant.3,
+      q.auto.log ∙ l.loop-i.invariant.3,
       c.before.eight-x-in-loop-i.ensures,
       c.four-y-in-loop-i.ensures.0,
       c.four-y-in-loop-i.ensures.1,
@@ -70,7 +70,7 @@ returns-2 c =
     let b : List ℕ = a.bytes.now in
     let e : a.from + 3 * (l.loop-i.j + 4) ≡ l.loop-i.i + 12 = omega (arith, l.loop-i.invariant.0) in (
       omega (arith, l.loop-i.invariant.0, l.loop-i.invariant.1),
-      (λ rest. ap (λ (n : ℕ). put_at q.new.0 (a.at + (l.loop-i.j + 4)) (data_words (drop n (b ++ rest)))) e
+      (λ rest. ap (λ (n : ℕ). put_at q.new.log (a.at + (l.loop-i.j + 4)) (data_words (drop n (b ++ rest)))) e
           ∙ block-turn l.loop-i.log _ b rest _ a.at l.loop-i.i l.loop-i.j l.loop-i.x l.loop-i.y l.loop-i.invariant.1 (room l) (λ k. (l.before.before.before.before.shared_slice_known-1.given k).fits)
           l.loop-i.invariant.4 l.loop-i.invariant.5 q.ensures (l.loop-i.invariant.2 rest)),
     )

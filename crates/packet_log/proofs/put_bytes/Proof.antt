@@ -23,14 +23,14 @@ put-data-requires c κs =
     let t = c.before in
     let s = t.before.before.before.before in
     let a = s.args in
-    (omega (arith, s.requires.0), subst (λ (l : List ℕ). a.at + length (data_words l) ≤ length a.log-1.now) (sym (all t)) s.requires.1)
+    (omega (arith, s.requires.0), subst (λ (l : List ℕ). a.at + length (data_words l) ≤ length a.log.now) (sym (all t)) s.requires.1)
 
 returns : tie.Need-returns-then-first-eq0
 returns c =
     let q = c.before.before.put_data in
     let t = c.before.before.before.before in
     let a = t.before.before.before.before.args in
-    (q.ensures.0 ∙ ap (λ (l : List ℕ). length (data_words l)) (all t), q.ensures.1 ∙ ap (λ (l : List ℕ). put_at a.log-1.now a.at (data_words l)) (all t))
+    (q.ensures.0 ∙ ap (λ (l : List ℕ). length (data_words l)) (all t), q.ensures.1 ∙ ap (λ (l : List ℕ). put_at a.log.now a.at (data_words l)) (all t))
 
 returns-2 : tie.Need-returns
 returns-2 c = search rules

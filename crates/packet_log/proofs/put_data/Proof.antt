@@ -40,7 +40,7 @@ put-one-requires : tie.Need-put_one-requires
 put-one-requires c κs =
     let q = c.before.before.before.put_full-a in
     let s = (two c).args in
-    (omega arith, omega (arith, room (two c), q.auto.0, left-length s.first.now s.second.now (3 * q.result), first_fits (length s.first.now) (length s.second.now) q.result _ q.ensures.0 refl))
+    (omega arith, omega (arith, room (two c), q.auto.log, left-length s.first.now s.second.now (3 * q.result), first_fits (length s.first.now) (length s.second.now) q.result _ q.ensures.0 refl))
 
 returns : tie.Need-returns-then-first-second
 returns c =
@@ -75,7 +75,7 @@ put-full-requires-2 c κs =
       omega (arith, past c, c.before.if-first-second.false),
       (
         omega (arith, (four c).requires.0),
-        omega (arith, room (four c), q.auto.0, o.auto.0, second_fits (length t.first.now) (length t.second.now) q.result o.result q.ensures.0 o.ensures.0 c.before.if-first-second.false),
+        omega (arith, room (four c), q.auto.log, o.auto.log, second_fits (length t.first.now) (length t.second.now) q.result o.result q.ensures.0 o.ensures.0 c.before.if-first-second.false),
       ),
     )
 
@@ -102,7 +102,7 @@ put-one-requires-2 c κs =
     let b : ℕ = q.result + o.result in
     let n : ℕ = length t.first.now + length t.second.now in (
       omega (arith, (five c).requires.0),
-      omega (arith, room (five c), q.auto.0, o.auto.0, d.auto.0, left-length t.first.now t.second.now (3 * (b + d.result)), rest-fits n (b + d.result) (below_all c)),
+      omega (arith, room (five c), q.auto.log, o.auto.log, d.auto.log, left-length t.first.now t.second.now (3 * (b + d.result)), rest-fits n (b + d.result) (below_all c)),
     )
 
 -- all words are written

@@ -27,7 +27,7 @@ add-result c =
     omega (arith, p.requires.1, c.before.before.put_bytes-n.ensures.0)
 
 same_length : tie.Need-shape_of-log
-same_length c = omega (arith, simp length-set at c.before.before.put_bytes-n.auto.0)
+same_length c = omega (arith, simp length-set at c.before.before.put_bytes-n.auto.log)
 
 returns : tie.Need-returns
 unfolding entry_words
@@ -36,7 +36,7 @@ returns c =
     let a = p.args in
     let q = c.before.before.put_bytes-n in
     let w = c.before.before.before.before.word_of in
-    let l : List ℕ = a.log-1.now in
+    let l : List ℕ = a.log.now in
     let s : List ℕ = a.bytes.now in
     let h : a.at < length l = omega (arith, p.requires.1) in
     (omega (arith, q.ensures.0), q.ensures.1 ∙ put-cons l (data_words s) a.at w.result h ∙ ap (λ (x : ℕ). put_at l a.at (x ∷ data_words s)) w.ensures)

@@ -15,14 +15,14 @@ returns : tie.Need-returns
 returns c =
     let a = c.before.before.before.before.before.before.before.before.args in
     let b = c.before.before.before.put_bytes in
-    let l = a.pdu-1.now in
+    let l = a.pdu.now in
     let k = a.to - a.from in
     let w = take (a.to - a.from) (drop a.from a.bytes.now) in
     let d : length (drop a.from a.bytes.now) ≡ length a.bytes.now - a.from = length-drop a.from a.bytes.now in
     let n : length w ≡ k = length-take-le k (drop a.from a.bytes.now) (omega (arith, d, c.before.before.before.before.before.before.before.before.requires)) in
-    let e : b.new.0 ≡ put_at l a.at w = b.ensures in
-    let h : a.at + k < length b.new.0 = omega (arith, ap length e ∙ put-length l a.at w (omega (arith, n, c.before.before.before.before.before.before.before.before.requires)), c.before.before.before.before.before.before.before.before.requires) in
-    put_then l b.new.0 (set b.new.0 (a.at + k) c.crc_of-crc.result) w (c.crc_of-crc.result ∷ []) a.at (a.at + k) (omega (arith, n, c.before.before.before.before.before.before.before.before.requires)) (omega (arith, n)) e (put_one b.new.0 (a.at + k) c.crc_of-crc.result h)
+    let e : b.new.dst ≡ put_at l a.at w = b.ensures in
+    let h : a.at + k < length b.new.dst = omega (arith, ap length e ∙ put-length l a.at w (omega (arith, n, c.before.before.before.before.before.before.before.before.requires)), c.before.before.before.before.before.before.before.before.requires) in
+    put_then l b.new.dst (set b.new.dst (a.at + k) c.crc_of-crc.result) w (c.crc_of-crc.result ∷ []) a.at (a.at + k) (omega (arith, n, c.before.before.before.before.before.before.before.before.requires)) (omega (arith, n)) e (put_one b.new.dst (a.at + k) c.crc_of-crc.result h)
     ∙ ap (λ (x : ℕ). put_at l a.at (w ++ x ∷ [])) c.crc_of-crc.ensures
 
 pub put_piece_spec : {M : Type 1} → statement M

@@ -20,7 +20,7 @@ decreases-loop pdu₀ at register lengths bytes sent place₀ from₀ k₀ pdu p
 
 -- what the invariant says of one more piece
 left : (e : tie.In-loop-k invariant-loop decreases-loop) → let p = e.before in let a = p.before.before.before.before.args in
-    (p.loop-k.place + get_or a.lengths.now p.loop-k.k 0 + 1 + (total (drop (p.loop-k.k + 1) a.lengths.now) + (length a.lengths.now - (p.loop-k.k + 1))) ≤ length a.pdu-1.now)
+    (p.loop-k.place + get_or a.lengths.now p.loop-k.k 0 + 1 + (total (drop (p.loop-k.k + 1) a.lengths.now) + (length a.lengths.now - (p.loop-k.k + 1))) ≤ length a.pdu.now)
     × (p.loop-k.from + get_or a.lengths.now p.loop-k.k 0 + total (drop (p.loop-k.k + 1) a.lengths.now) ≤ length a.bytes.now)
 left e =
     let p = e.before in
@@ -57,7 +57,7 @@ loop-again c =
     let n = get_or ls p.loop-k.k 0 in
     let from = p.loop-k.from in
     let w = take n (drop from a.bytes.now) in
-    let l2 = c.before.before.put_piece.new.0 in
+    let l2 = c.before.before.put_piece.new.pdu in
     let m : from + n - from ≡ n = omega arith in
     let e0 : l2 ≡ put_at p.loop-k.pdu p.loop-k.place (with_crc a.register (take (from + n - from) (drop from a.bytes.now))) = c.before.before.put_piece.ensures in
     let e : l2 ≡ put_at p.loop-k.pdu p.loop-k.place (with_crc a.register w) = rw m at e0 in
@@ -65,13 +65,13 @@ loop-again c =
     let wl : length w ≡ n = length-take-le n (drop from a.bytes.now) (omega (arith, q, h.1)) in
     let z : length (with_crc a.register w) ≡ n + 1 = simp (length-append, wl) in
     let k : length l2 ≡ length p.loop-k.pdu = ap length e ∙ put-length p.loop-k.pdu p.loop-k.place (with_crc a.register w) (omega (arith, z, h.0, p.loop-k.invariant.1)) in
-    (omega (arith, c.before.before.before.before.before.loop-k-test.true), k ∙ p.loop-k.invariant.1, omega (arith, h.0), omega (arith, h.1), turn a.register p.loop-k.pdu l2 ls a.bytes.now (put_at a.pdu-1.now a.at (piece_bytes a.register (cut_by ls (drop a.sent a.bytes.now)))) p.loop-k.place from p.loop-k.k n c.before.before.before.before.before.loop-k-test.true refl (omega (arith, h.1)) (omega (arith, h.0, p.loop-k.invariant.1)) e p.loop-k.invariant.4)
+    (omega (arith, c.before.before.before.before.before.loop-k-test.true), k ∙ p.loop-k.invariant.1, omega (arith, h.0), omega (arith, h.1), turn a.register p.loop-k.pdu l2 ls a.bytes.now (put_at a.pdu.now a.at (piece_bytes a.register (cut_by ls (drop a.sent a.bytes.now)))) p.loop-k.place from p.loop-k.k n c.before.before.before.before.before.loop-k-test.true refl (omega (arith, h.1)) (omega (arith, h.0, p.loop-k.invariant.1)) e p.loop-k.invariant.4)
 
 returns : tie.Need-returns invariant-loop decreases-loop
 returns c =
     let p = c.before in
     let a = p.before.before.before.before.args in
-    none_left a.register p.loop-k.pdu a.lengths.now a.bytes.now (put_at a.pdu-1.now a.at (piece_bytes a.register (cut_by a.lengths.now (drop a.sent a.bytes.now)))) p.loop-k.place p.loop-k.from p.loop-k.k c.loop-k-test.false p.loop-k.invariant.4
+    none_left a.register p.loop-k.pdu a.lengths.now a.bytes.now (put_at a.pdu.now a.at (piece_bytes a.register (cut_by a.lengths.now (drop a.sent a.bytes.now)))) p.loop-k.place p.loop-k.from p.loop-k.k c.loop-k-test.false p.loop-k.invariant.4
 
 pub put_pieces_spec : {M : Type 1} → statement M
 put_pieces_spec =

@@ -14,9 +14,9 @@ returns : tie.Need-returns
 returns c =
     let d = c.before.before in
     let n = d.before.before.before.least-start.result + d.before.before.least-count.result in
-    let e : length d.put_bytes.new.0 ≡ length d.before.before.before.before.before.before.args.out.now = d.put_bytes.auto.0 in
-    let h : n ≤ length d.put_bytes.new.0 = omega arith in
-    ((h, sym (length-take-le n d.put_bytes.new.0 h)), (omega arith, cc))
+    let e : length d.put_bytes.new.dst ≡ length d.before.before.before.before.before.before.args.out.now = d.put_bytes.auto.dst in
+    let h : n ≤ length d.put_bytes.new.dst = omega arith in
+    ((h, sym (length-take-le n d.put_bytes.new.dst h)), (omega arith, cc))
 
 pub put_spec : {M : Type 1} → statement M
 put_spec =
