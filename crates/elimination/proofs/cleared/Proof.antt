@@ -21,9 +21,9 @@ loop-holds c = (omega arith, begin _ _ _ (search rules))
 loop-again : tie.Need-loop-i-preserved invariant-loop decreases-loop
 loop-again c = (
   omega arith,
-  grow 4 (cleared_by c.before.before.before.args.t3 c.before.before.before.args.t4 c.before.before.before.args.k) c.before.before.loop-i.out c.before.before.loop-i.i
-      (bit_xor (get_or c.before.before.before.args.t3 c.before.before.loop-i.i 0) c.product_by.result)
-      (omega arith) c.before.before.loop-i.invariant.1 (ap (λ (v : ℕ). bit_xor (get_or c.before.before.before.args.t3 c.before.before.loop-i.i 0) v) c.product_by.ensures),
+  grow 4 (cleared_by c.before.before.before.args.row c.before.before.before.args.p c.before.before.before.args.k) c.before.before.loop-i.out c.before.before.loop-i.i
+      (bit_xor (get_or c.before.before.before.args.row c.before.before.loop-i.i 0) c.product_by.result)
+      (omega arith) c.before.before.loop-i.invariant.1 (ap (λ (v : ℕ). bit_xor (get_or c.before.before.before.args.row c.before.before.loop-i.i 0) v) c.product_by.ensures),
 )
 
 returns : tie.Need-returns invariant-loop decreases-loop

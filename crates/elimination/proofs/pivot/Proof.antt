@@ -21,7 +21,7 @@ returns : tie.Need-returns-then-row-k-ne0 invariant-loop decreases-loop
 returns c = record { low = omega arith; high = omega arith; zeros = c.before.before.before.loop-r.invariant.2; here = λ l. c.if-row-k-ne0.true }
 
 loop-again : tie.Need-loop-r-preserved invariant-loop decreases-loop
-loop-again c = (omega arith, omega arith, zeros-again c.before.before.before.before.args.t1 c.before.before.before.before.args.k c.before.before.before.loop-r.r c.before.before.before.loop-r.invariant.2 c.if-row-k-ne0.false)
+loop-again c = (omega arith, omega arith, zeros-again c.before.before.before.before.args.m c.before.before.before.before.args.k c.before.before.before.loop-r.r c.before.before.before.loop-r.invariant.2 c.if-row-k-ne0.false)
 
 returns-2 : tie.Need-returns invariant-loop decreases-loop
 returns-2 c = record { low = omega arith; high = omega arith; zeros = λ i a b. c.before.loop-r.invariant.2 i a (omega arith); here = λ l. absurd (omega arith) }

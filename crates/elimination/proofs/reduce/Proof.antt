@@ -13,7 +13,7 @@ abbrev decreases-loop : tie.decreases-loop-r
 decreases-loop powers logarithms k p b top out₀ r₀ out r = 4 - r
 
 loop-holds : tie.Need-loop-r-init invariant-loop decreases-loop
-loop-holds c = (omega arith, clear-begin c.before.before.before.args.t3 _ _ _ _ (omega arith) (search rules))
+loop-holds c = (omega arith, clear-begin c.before.before.before.args.m _ _ _ _ (omega arith) (search rules))
 
 loop-again : tie.Need-loop-r-preserved invariant-loop decreases-loop
 loop-again c = (

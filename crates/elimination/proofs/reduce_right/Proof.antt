@@ -18,7 +18,7 @@ abbrev decreases-loop : tie.decreases-loop-r
 decreases-loop powers logarithms k p v top rows out₀ r₀ out r = 4 - r
 
 loop-holds : tie.Need-loop-r-init invariant-loop decreases-loop
-loop-holds c = (omega arith, right-begin c.before.before.before.before.args.t4 _ _ _ _ _ (omega arith) (search rules))
+loop-holds c = (omega arith, right-begin c.before.before.before.before.args.right _ _ _ _ _ (omega arith) (search rules))
 
 loop-again : tie.Need-loop-r-preserved invariant-loop decreases-loop
 loop-again c = (
@@ -33,7 +33,7 @@ loop-again c = (
 returns : tie.Need-returns invariant-loop decreases-loop
 returns c =
     right_end _ _ _ _ c.before.before.before.product_by-top.result _ c.before.loop-r.r (omega arith)
-    (c.before.before.before.product_by-top.ensures ∙ ap (λ (v : ℕ). mul v (get_or c.before.before.before.before.before.before.args.t4 c.before.before.before.before.before.before.args.p 0)) c.before.before.before.before.inverse_by-v.ensures) c.before.loop-r.invariant.1
+    (c.before.before.before.product_by-top.ensures ∙ ap (λ (v : ℕ). mul v (get_or c.before.before.before.before.before.before.args.right c.before.before.before.before.before.before.args.p 0)) c.before.before.before.before.inverse_by-v.ensures) c.before.loop-r.invariant.1
 
 pub reduce_right_spec : {M : Type 1} → statement M
 reduce_right_spec =

@@ -21,8 +21,8 @@ loop-holds c = (omega arith, begin _ _ _ (search rules))
 loop-again : tie.Need-loop-i-preserved invariant-loop decreases-loop
 loop-again c = (
   omega arith,
-  grow 4 (scaled_by c.before.before.before.before.args.t3 c.before.before.before.before.args.b) c.before.before.loop-i.out c.before.before.loop-i.i c.product_by.result
-      (omega arith) c.before.before.loop-i.invariant.1 (c.product_by.ensures ∙ ap (λ (v : ℕ). mul v (get_or c.before.before.before.before.args.t3 c.before.before.loop-i.i 0)) c.before.before.before.inverse_by-v.ensures),
+  grow 4 (scaled_by c.before.before.before.before.args.row c.before.before.before.before.args.b) c.before.before.loop-i.out c.before.before.loop-i.i c.product_by.result
+      (omega arith) c.before.before.loop-i.invariant.1 (c.product_by.ensures ∙ ap (λ (v : ℕ). mul v (get_or c.before.before.before.before.args.row c.before.before.loop-i.i 0)) c.before.before.before.inverse_by-v.ensures),
 )
 
 returns : tie.Need-returns invariant-loop decreases-loop
