@@ -5,12 +5,12 @@ use Rattle.field.proofs.logarithm_by.Statement.{statement}
 use Rattle.field.proofs.logarithm_by.Tie as tie
 
 cast-result : tie.Need-overflow_cast-result-2
-cast-result c = omega (arith, c.before.requires.0.small c.before.args.x c.before.requires.1 c.before.ranges.x.fits)
+cast-result c = omega (arith, c.before.before.requires.0.small c.before.before.args.x c.before.before.requires.1 c.before.before.ranges.x.fits)
 
 returns : tie.Need-returns
 returns c = (
-  c.before.requires.0.small c.before.args.x c.before.requires.1 c.before.ranges.x.fits,
-  c.before.requires.0.entry c.before.args.x c.before.requires.1 c.before.ranges.x.fits,
+  c.before.before.requires.0.small c.before.before.args.x c.before.before.requires.1 c.before.before.ranges.x.fits,
+  c.before.before.requires.0.entry c.before.before.args.x c.before.before.requires.1 c.before.before.ranges.x.fits,
 )
 
 pub logarithm_by_spec : {M : Type 1} → statement M

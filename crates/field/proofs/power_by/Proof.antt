@@ -11,7 +11,7 @@ use Rattle.field.proofs.power_by.Tie as tie
 
 returns : tie.Need-returns
 returns c =
-    c.before.requires.entry (c.before.args.k % 255) (let m : c.before.args.k % 255 < 255 = mod-lt c.before.args.k (lit< tt) in omega arith) ∙ pow-mod c.before.args.k
+    c.before.before.requires.entry (c.before.before.args.k % 255) (let m : c.before.before.args.k % 255 < 255 = mod-lt c.before.before.args.k (lit< tt) in omega arith) ∙ pow-mod c.before.before.args.k
 
 pub power_by_spec : {M : Type 1} → statement M
 power_by_spec = tie.close (tie.spec (λ c. search rules) returns)

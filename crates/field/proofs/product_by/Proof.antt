@@ -17,10 +17,10 @@ returns-2 c = sym (ap (mul c.before.before.args.x) c.if-y-eq0.true ∙ mul-zero-
 returns-3 : tie.Need-returns
 returns-3 c =
     let l = c.before in
-    l.before.before.before.before.requires.0.entry (l.before.logarithm_by.result + l.logarithm_by-2.result)
-    (omega (arith, l.before.logarithm_by.ensures.0, l.logarithm_by-2.ensures.0))
-    ∙ pow-add l.before.logarithm_by.result l.logarithm_by-2.result
-    ∙ ap₂ mul l.before.logarithm_by.ensures.1 l.logarithm_by-2.ensures.1
+    l.before.before.before.before.before.requires.0.entry (l.before.before.logarithm_by.result + l.before.logarithm_by-2.result)
+    (omega (arith, l.before.before.logarithm_by.ensures.0, l.before.logarithm_by-2.ensures.0))
+    ∙ pow-add l.before.before.logarithm_by.result l.before.logarithm_by-2.result
+    ∙ ap₂ mul l.before.before.logarithm_by.ensures.1 l.before.logarithm_by-2.ensures.1
 
 pub product_by_spec : {M : Type 1} → statement M
 product_by_spec = tie.close (tie.spec returns returns-2 (λ c κs. search rules) (λ c κs. search rules) (λ c. search rules) (λ c. search rules) returns-3)
