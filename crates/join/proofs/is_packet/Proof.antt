@@ -8,5 +8,5 @@ use Rattle.join.proofs.is_packet.Tie as tie
 returns : tie.Need-returns
 returns c = ap (λ (k : ℕ). eqb k 0) c.kind.ensures
 
-pub is-packet-spec : {M : Type 1} → statement M
-is-packet-spec = tie.close (tie.spec (λ c κs. search rules) returns)
+pub is_packet_spec : {M : Type 1} → statement M
+is_packet_spec = tie.close (tie.spec (λ c κs. search rules) returns)

@@ -9,22 +9,22 @@ use borrow.Author.Rules.{rules}
 use Rattle.join.proofs.length_at.Statement.{statement}
 use Rattle.join.proofs.length_at.Tie as tie
 
-returns : tie.Need-returns
+returns : tie.Need-returns-then-not-is_packet
 returns c =
     let a = c.before.before.before.before.before.before.args in
-    (ap length (first-none a.core.now a.enhanced.now a.i (omega arith) (sym c.before.is-packet.ensures ∙ not-true _ c.if1.true)), omega arith)
+    (ap length (first-none a.core.now a.enhanced.now a.i (omega arith) (sym c.before.is_packet.ensures ∙ not-true _ c.if-not-is_packet.true)), omega arith)
 
-returns-2 : tie.Need-returns-2
+returns-2 : tie.Need-returns
 returns-2 c =
     let a = c.before.before.before.before.before.before.before.before.before.args in
-    let e = c.before.before.run-end in (
-      first-size a.core.now a.enhanced.now a.i (omega arith) e.result c.partner-length.result (omega arith) (omega arith)
-          (sym c.before.before.before.before.is-packet.ensures ∙ not-false _ c.before.before.before.if1.false) e.ensures.1
-          (c.partner-length.ensures.0 ∙ ap (λ (n : ℕ). length (partner a.enhanced.now n)) c.before.number.ensures.0),
+    let e = c.before.before.run_end in (
+      first-size a.core.now a.enhanced.now a.i (omega arith) e.result c.partner_length.result (omega arith) (omega arith)
+          (sym c.before.before.before.before.is_packet.ensures ∙ not-false _ c.before.before.before.if-not-is_packet.false) e.ensures.1
+          (c.partner_length.ensures.0 ∙ ap (λ (n : ℕ). length (partner a.enhanced.now n)) c.before.number.ensures.0),
       omega arith,
     )
 
-pub length-at-spec : {M : Type 1} → statement M
-length-at-spec =
+pub length_at_spec : {M : Type 1} → statement M
+length_at_spec =
     tie.close (tie.spec (λ c. search rules) (λ c. search rules) (λ c κs. search rules) returns (λ c. search rules) (λ c κs. search rules) (λ c. search rules)
     (λ c κs. search rules) (λ c κs. search rules) (λ c. search rules) returns-2)

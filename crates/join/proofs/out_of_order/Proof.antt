@@ -9,26 +9,26 @@ use borrow.Author.Rules.{rules}
 use Rattle.join.proofs.out_of_order.Statement.{statement}
 use Rattle.join.proofs.out_of_order.Tie as tie
 
-returns : tie.Need-returns
+returns : tie.Need-returns-then-core-next_packet
 returns c =
     let a = c.before.before.before.before.args in
-    let s = c.before.next-packet in
-    no-core a.core.now a.enhanced.now s.result s.ensures.1.0 c.if1.true
+    let s = c.before.next_packet in
+    no-core a.core.now a.enhanced.now s.result s.ensures.1.0 c.if-core-next_packet.true
 
-returns-2 : tie.Need-returns-2
+returns-2 : tie.Need-returns-then-not-rising
 returns-2 c =
     let a = c.before.before.before.before.before.before.args in
-    let s = c.before.before.before.next-packet in
+    let s = c.before.before.before.next_packet in
     let h : s.result < length a.core.now = omega arith in
-    core-falls a.core.now a.enhanced.now s.result s.ensures.1.0 h (s.ensures.1.1 h) (sym c.before.rising.ensures ∙ not-true _ c.if2.true)
+    core-falls a.core.now a.enhanced.now s.result s.ensures.1.0 h (s.ensures.1.1 h) (sym c.before.rising.ensures ∙ not-true _ c.if-not-rising.true)
 
-returns-3 : tie.Need-returns-3
+returns-3 : tie.Need-returns
 returns-3 c =
     let a = c.before.before.before.before.before.before.before.args in
-    let s = c.before.before.before.before.next-packet in
+    let s = c.before.before.before.before.next_packet in
     let h : s.result < length a.core.now = omega arith in
-    ap not c.rising2.ensures
-    ∙ core-rises a.core.now a.enhanced.now s.result s.ensures.1.0 h (s.ensures.1.1 h) (sym c.before.before.rising.ensures ∙ not-false _ c.before.if2.false)
+    ap not c.rising-2.ensures
+    ∙ core-rises a.core.now a.enhanced.now s.result s.ensures.1.0 h (s.ensures.1.1 h) (sym c.before.before.rising.ensures ∙ not-false _ c.before.if-not-rising.false)
 
-pub out-of-order-spec : {M : Type 1} → statement M
-out-of-order-spec = tie.close (tie.spec (λ c κs. search rules) returns (λ c κs. search rules) returns-2 (λ c κs. search rules) returns-3)
+pub out_of_order_spec : {M : Type 1} → statement M
+out_of_order_spec = tie.close (tie.spec (λ c κs. search rules) returns (λ c κs. search rules) returns-2 (λ c κs. search rules) returns-3)

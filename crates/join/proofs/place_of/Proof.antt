@@ -5,5 +5,5 @@ use Rattle.join.proofs.place_of.Tie as tie
 returns : tie.Need-returns
 returns c = c.before.requires.1.1 c.before.args.n c.before.requires.0
 
-pub place-of-spec : {M : Type 1} → statement M
-place-of-spec = tie.close (tie.spec (λ c. search rules) (λ c. search rules) returns)
+pub place_of_spec : {M : Type 1} → statement M
+place_of_spec = tie.close (tie.spec (λ c. search rules) (λ c. search rules) returns)

@@ -2,11 +2,11 @@ use Rattle.join.proofs.Tests.{psd-wide, psd-length}
 use Rattle.join.proofs.psd_fits.Statement.{statement}
 use Rattle.join.proofs.psd_fits.Tie as tie
 
-returns : tie.Need-returns
-returns c = psd-wide c.before.args.h c.before.args.l c.if1.true
+returns : tie.Need-returns-then-h-ne0
+returns c = psd-wide c.before.args.h c.before.args.l c.if-h-ne0.true
 
-returns-2 : tie.Need-returns-2
-returns-2 c = psd-length c.before.args.h c.before.args.l c.if1.false
+returns-2 : tie.Need-returns
+returns-2 c = psd-length c.before.args.h c.before.args.l c.if-h-ne0.false
 
-pub psd-fits-spec : {M : Type 1} → statement M
-psd-fits-spec = tie.close (tie.spec returns returns-2)
+pub psd_fits_spec : {M : Type 1} → statement M
+psd_fits_spec = tie.close (tie.spec returns returns-2)
