@@ -16,14 +16,14 @@ returns-2 c =
     let t = c.before.before in
     let k = t.before.before in
     let a = k.before.before.before.before.before.before.args in
-    sum-call a.lengths.now a.carry.now a.pdus.now a.log.now a.ends.now a.receiver k.state-refusal.result k.state-refusal.ensures (omega (arith, t.before.if1.false)) t.sums-to.result t.sums-to.ensures c.begun2.result (not-true t.sums-to.result c.before.if2.true) c.begun2.ensures
+    sum-call a.lengths.now a.carry.now a.pdus.now a.log.now a.ends.now a.receiver k.state-refusal.result k.state-refusal.ensures (omega (arith, t.before.if1.false)) t.sums-to.result t.sums-to.ensures c.begun2.result (c.before.if2.true) c.begun2.ensures
 
 receive-each-requires : tie.Need-receive-each-requires
 receive-each-requires c κs =
     let t = c.before.before.before.before.before in
     let k = t.before.before in
     let a = k.before.before.before.before.before.before.args in
-    sum-right a.lengths.now a.carry.now a.pdus.now a.log.now a.ends.now a.receiver k.state-refusal.result k.state-refusal.ensures (omega (arith, t.before.if1.false)) t.sums-to.result t.sums-to.ensures (not-false t.sums-to.result c.before.before.before.before.if2.false)
+    sum-right a.lengths.now a.carry.now a.pdus.now a.log.now a.ends.now a.receiver k.state-refusal.result k.state-refusal.ensures (omega (arith, t.before.if1.false)) t.sums-to.result t.sums-to.ensures (c.before.before.before.before.if2.false)
 
 returns-3 : tie.Need-returns-3
 returns-3 c =
@@ -31,7 +31,7 @@ returns-3 c =
     let t = e.before.before.before.before.before.before in
     let k = t.before.before in
     let a = k.before.before.before.before.before.before.args in
-    each-call a.lengths.now a.carry.now a.pdus.now a.log.now a.ends.now a.receiver k.state-refusal.result k.state-refusal.ensures (omega (arith, t.before.if1.false)) t.sums-to.result t.sums-to.ensures e.receive-each.result e.receive-each.new.1.0 e.receive-each.new.1.1.0 e.receive-each.new.1.1.1.1.0 e.receive-each.new.1.1.1.1.1.0 (not-false t.sums-to.result e.before.before.before.before.before.if2.false) e.receive-each.ensures.0 e.receive-each.ensures.1
+    each-call a.lengths.now a.carry.now a.pdus.now a.log.now a.ends.now a.receiver k.state-refusal.result k.state-refusal.ensures (omega (arith, t.before.if1.false)) t.sums-to.result t.sums-to.ensures e.receive-each.result e.receive-each.new.1.0 e.receive-each.new.1.1.0 e.receive-each.new.1.1.1.1.0 e.receive-each.new.1.1.1.1.1.0 (e.before.before.before.before.before.if2.false) e.receive-each.ensures.0 e.receive-each.ensures.1
 
 pub receive-with-ends-spec : {M : Type 1} → statement M
 receive-with-ends-spec =

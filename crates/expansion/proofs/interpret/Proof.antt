@@ -40,7 +40,7 @@ returns-2 c =
     let e = c.before.before in
     let s = e.before in
     let p = s.before.before in
-    left-unknown (septets p.before.before.before) _ _ _ _ (inside s) p.loop-i.invariant.1 s.septet-b.ensures.0 e.if-id-next.false (sym c.before.known.ensures ∙ not-true _ c.if-not-known.true)
+    left-unknown (septets p.before.before.before) _ _ _ _ (inside s) p.loop-i.invariant.1 s.septet-b.ensures.0 e.if-id-next.false (sym c.before.known.ensures ∙ c.if-not-known.true)
 
 returns-3 : tie.Need-returns-then-b-eq0 invariant-loop decreases-loop
 returns-3 c =
@@ -50,7 +50,7 @@ returns-3 c =
     let p = s.before.before in
     c.nothing-then-b-eq0.ensures
     ∙ left-class-zero (septets p.before.before.before) _ _ _ _ (inside s) p.loop-i.invariant.1 s.septet-b.ensures.0 e.if-id-next.false
-    (sym k.known.ensures ∙ not-false _ c.before.before.if-not-known.false) c.before.if-b-eq0.true
+    (sym k.known.ensures ∙ c.before.before.if-not-known.false) c.before.if-b-eq0.true
 
 returns-4 : tie.Need-returns-then-n-i invariant-loop decreases-loop
 returns-4 c =
@@ -62,7 +62,7 @@ returns-4 c =
     let p = s.before.before in
     c.nothing-then-n-i.ensures
     ∙ left_cut (septets p.before.before.before) _ _ _ _ (inside s) p.loop-i.invariant.1 s.septet-b.ensures.0 e.if-id-next.false
-    (sym k.known.ensures ∙ not-false _ z.before.if-not-known.false) z.if-b-eq0.false
+    (sym k.known.ensures ∙ z.before.if-not-known.false) z.if-b-eq0.false
     (omega (arith, c.before.if-n-i.true, m.more_bytes-m.ensures.0, p.before.before.before.requires.1))
 
 add-i : tie.Need-overflow_add-i-in-loop-i-5 invariant-loop decreases-loop
@@ -100,7 +100,7 @@ loop-again c =
       h,
       subst (λ (x : ℕ). Left (septets p.before.before.before) c.absorbed-w.result (s.septet-b.result / 16 + 1) (p.loop-i.i + 1 + x)) (sym n)
           (left-next (septets p.before.before.before) _ _ _ _ (inside s) p.loop-i.invariant.1 s.septet-b.ensures.0 e.if-id-next.false
-          (sym k.known.ensures ∙ not-false _ z.before.if-not-known.false) z.if-b-eq0.false
+          (sym k.known.ensures ∙ z.before.if-not-known.false) z.if-b-eq0.false
           (omega (arith, h, n, p.before.before.before.requires.1)) _ _ _ c.before.before.before.septet-r0.ensures.0 c.before.before.septet-r1.ensures.0 c.before.septet-r2.ensures.0
           _ c.absorbed-w.ensures),
     )

@@ -12,14 +12,14 @@ use Rattle.join.proofs.length_at.Tie as tie
 returns : tie.Need-returns-then-not-is_packet
 returns c =
     let a = c.before.before.before.before.before.before.args in
-    (ap length (first-none a.core.now a.enhanced.now a.i (omega arith) (sym c.before.is_packet.ensures ∙ not-true _ c.if-not-is_packet.true)), omega arith)
+    (ap length (first-none a.core.now a.enhanced.now a.i (omega arith) (sym c.before.is_packet.ensures ∙ c.if-not-is_packet.true)), omega arith)
 
 returns-2 : tie.Need-returns
 returns-2 c =
     let a = c.before.before.before.before.before.before.before.before.before.args in
     let e = c.before.before.run_end in (
       first-size a.core.now a.enhanced.now a.i (omega arith) e.result c.partner_length.result (omega arith) (omega arith)
-          (sym c.before.before.before.before.is_packet.ensures ∙ not-false _ c.before.before.before.if-not-is_packet.false) e.ensures.1
+          (sym c.before.before.before.before.is_packet.ensures ∙ c.before.before.before.if-not-is_packet.false) e.ensures.1
           (c.partner_length.ensures.0 ∙ ap (λ (n : ℕ). length (partner a.enhanced.now n)) c.before.number.ensures.0),
       omega arith,
     )

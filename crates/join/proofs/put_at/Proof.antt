@@ -18,7 +18,7 @@ returns : tie.Need-returns-then-not-is_packet
 returns c =
     let a = c.before.before.before.before.before.before.before.args in
     put-none a.result.now (first_joined a.enhanced.now (drop a.i a.core.now)) a.at
-    (first-none a.core.now a.enhanced.now a.i (omega arith) (sym c.before.is_packet.ensures ∙ not-true _ c.if-not-is_packet.true))
+    (first-none a.core.now a.enhanced.now a.i (omega arith) (sym c.before.is_packet.ensures ∙ c.if-not-is_packet.true))
 
 put-words-requires : tie.Need-put_words-requires
 put-words-requires c κs =
@@ -26,7 +26,7 @@ put-words-requires c κs =
     let e = c.before.before.run_end-end in
     let w = number (get_or a.core.now a.i 0) in
     let s = first-size a.core.now a.enhanced.now a.i (omega arith) e.result (length (partner a.enhanced.now w)) (omega arith) (omega arith)
-    (sym c.before.before.before.before.is_packet.ensures ∙ not-false _ c.before.before.before.if-not-is_packet.false) e.ensures.1 refl in
+    (sym c.before.before.before.before.is_packet.ensures ∙ c.before.before.before.if-not-is_packet.false) e.ensures.1 refl in
     let p = part_length a.i e.result a.core.now (omega arith) (omega arith) in
     omega arith
 
@@ -36,7 +36,7 @@ put-partner-requires c κs =
     let e = c.before.before.before.before.before.before.before.run_end-end in
     let w = number (get_or a.core.now a.i 0) in
     let s = first-size a.core.now a.enhanced.now a.i (omega arith) e.result (length (partner a.enhanced.now w)) (omega arith) (omega arith)
-    (sym c.before.before.before.before.before.before.before.before.before.is_packet.ensures ∙ not-false _ c.before.before.before.before.before.before.before.before.if-not-is_packet.false) e.ensures.1 refl in
+    (sym c.before.before.before.before.before.before.before.before.before.is_packet.ensures ∙ c.before.before.before.before.before.before.before.before.if-not-is_packet.false) e.ensures.1 refl in
     let q = ap (λ (n : ℕ). length (partner a.enhanced.now n)) c.number.ensures.0 in
     let k = c.before.before.before.before.put_words.auto.dst in
     (omega arith, (c.number.ensures.1, c.before.before.before.before.before.before.before.before.before.before.before.before.before.before.before.requires.1.1))
@@ -46,7 +46,7 @@ returns-2 c =
     let a = c.before.before.before.before.before.before.before.before.before.before.before.before.before.before.before.before.before.before.args in
     let e = c.before.before.before.before.before.before.before.before.before.before.run_end-end in
     let w = number (get_or a.core.now a.i 0) in
-    let p = sym c.before.before.before.before.before.before.before.before.before.before.before.before.is_packet.ensures ∙ not-false _ c.before.before.before.before.before.before.before.before.before.before.before.if-not-is_packet.false in
+    let p = sym c.before.before.before.before.before.before.before.before.before.before.before.before.is_packet.ensures ∙ c.before.before.before.before.before.before.before.before.before.before.before.if-not-is_packet.false in
     let g = c.before.before.put_partner in
     let n = c.before.before.before.number in
     let s = first-size a.core.now a.enhanced.now a.i (omega arith) e.result (length (partner a.enhanced.now w)) (omega arith) (omega arith) p e.ensures.1 refl in

@@ -21,13 +21,13 @@ returns : tie.Need-returns invariant-loop decreases-loop
 returns c =
     let l = c.before.before.before.loop in
     let a = c.before.before.before.before.before.args in
-    here a.n a.counts.now l.v (omega arith) (sym c.before.runs-dry.ensures ∙ not-true _ c.if1.true) ∙ l.invariant.1
+    here a.n a.counts.now l.v (omega arith) (sym c.before.runs-dry.ensures ∙ c.if1.true) ∙ l.invariant.1
 
 loop-again : tie.Need-loop-preserved invariant-loop decreases-loop
 loop-again c =
     let l = c.before.before.before.loop in
     let a = c.before.before.before.before.before.args in
-    (omega arith, further a.n a.counts.now l.v (omega arith) (sym c.before.runs-dry.ensures ∙ not-false _ c.if1.false) ∙ l.invariant.1)
+    (omega arith, further a.n a.counts.now l.v (omega arith) (sym c.before.runs-dry.ensures ∙ c.if1.false) ∙ l.invariant.1)
 
 returns-2 : tie.Need-returns-2 invariant-loop decreases-loop
 returns-2 c =

@@ -11,13 +11,13 @@ use Rattle.packing.proofs.fits.Tie as tie
 returns : tie.Need-returns
 returns c =
     let a = c.before.before.args in
-    fit-past a.width a.extra a.size a.k a.used (sym c.before.within-limit.ensures ∙ not-true _ c.if1.true)
+    fit-past a.width a.extra a.size a.k a.used (sym c.before.within-limit.ensures ∙ c.if1.true)
 
 returns-2 : tie.Need-returns-2
 returns-2 c =
     let a = c.before.before.before.args in
     ap (λ (n : ℕ). leb (n + a.used) a.size) c.overhead.ensures.0
-    ∙ fit-within a.width a.extra a.size a.k a.used (leb-true a.k (most_pieces a.width a.extra) (sym c.before.before.within-limit.ensures ∙ not-false _ c.before.if1.false))
+    ∙ fit-within a.width a.extra a.size a.k a.used (leb-true a.k (most_pieces a.width a.extra) (sym c.before.before.within-limit.ensures ∙ c.before.if1.false))
 
 pub fits-spec : {M : Type 1} → statement M
 fits-spec = tie.close (tie.spec (λ c κs. search rules) returns (λ c κs. search rules) (λ c. search rules) returns-2)

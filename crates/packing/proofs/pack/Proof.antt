@@ -60,7 +60,7 @@ returns c =
     let used = p.loop.used in
     let e : n ≡ get_or ls k 0 - p.loop.gone = c.before.before.before.before.remainder.ensures.0 in
     let h : k < length ls = c.before.before.before.before.before.before.loop-test.true in
-    let t : fit a.width a.extra a.size (k + 1) (used + n + 1) ≡ false = sym c.before.before.before.fits2.ensures ∙ not-true _ c.before.before.if1.true in
+    let t : fit a.width a.extra a.size (k + 1) (used + n + 1) ≡ false = sym c.before.before.before.fits2.ensures ∙ c.before.before.if1.true in
     let q : c.before.part-after.result ≡ part a.width a.extra a.size a.sent ls = c.before.part-after.ensures ∙ sym (last-part a.width a.extra a.size ls k used p.loop.gone n h e t) ∙ p.loop.invariant.5 in
     finished p.loop.out _ (wholes a.width a.extra a.size a.sent ls) (wholes_left a.width a.extra a.size ls k used p.loop.gone) c.with_part.result.lengths k (part a.width a.extra a.size a.sent ls) c.before.part-after.result c.with_part.result.ended c.with_part.result.part c.with_part.result.nop (no_whole a.width a.extra a.size ls k used p.loop.gone n h e t) p.loop.invariant.3 p.loop.invariant.4 q c.with_part.ensures
 
@@ -89,7 +89,7 @@ loop-again c =
     let used = p.loop.used in
     let e : n ≡ get_or ls k 0 - p.loop.gone = c.before.before.remainder.ensures.0 in
     let h : k < length ls = c.before.before.before.before.loop-test.true in
-    let t : fit a.width a.extra a.size (k + 1) (used + n + 1) ≡ true = sym c.before.fits2.ensures ∙ not-false _ c.if1.false in
+    let t : fit a.width a.extra a.size (k + 1) (used + n + 1) ≡ true = sym c.before.fits2.ensures ∙ c.if1.false in
     let w : wholes_left a.width a.extra a.size ls k used p.loop.gone ≡ n ∷ wholes_left a.width a.extra a.size ls (k + 1) (used + n + 1) 0 = one-whole a.width a.extra a.size ls k used p.loop.gone n h e t in
     let i3 : put_at p.loop.out k (n ∷ wholes_left a.width a.extra a.size ls (k + 1) (used + n + 1) 0) ≡ put_at _ 0 (wholes a.width a.extra a.size a.sent ls) = rw w at p.loop.invariant.3 in
     let i4 : k + suc (length (wholes_left a.width a.extra a.size ls (k + 1) (used + n + 1) 0)) ≡ length (wholes a.width a.extra a.size a.sent ls) = rw w at p.loop.invariant.4 in

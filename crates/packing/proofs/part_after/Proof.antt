@@ -11,18 +11,18 @@ use Rattle.packing.proofs.part_after.Tie as tie
 returns : tie.Need-returns
 returns c =
     let a = c.before.before.args in
-    part_none a.width a.extra a.size a.k a.used (sym c.before.fits2.ensures ∙ not-true _ c.if1.true)
+    part_none a.width a.extra a.size a.k a.used (sym c.before.fits2.ensures ∙ c.if1.true)
 
 sub-result : tie.Need-overflow-sub-result
 sub-result c =
     let a = c.before.before.before.args in
-    let t = sym c.before.before.fits2.ensures ∙ not-false _ c.before.if1.false in
+    let t = sym c.before.before.fits2.ensures ∙ c.before.if1.false in
     omega (arith, c.overhead.ensures.0, fit-room a.width a.extra a.size (a.k + 1) (a.used + 2) t)
 
 returns-2 : tie.Need-returns-2
 returns-2 c =
     let a = c.before.before.before.args in
-    let t = sym c.before.before.fits2.ensures ∙ not-false _ c.before.if1.false in
+    let t = sym c.before.before.fits2.ensures ∙ c.before.if1.false in
     omega (arith, c.overhead.ensures.0, part-some a.width a.extra a.size a.k a.used t)
 
 pub part-after-spec : {M : Type 1} → statement M

@@ -26,7 +26,7 @@ fields-same : (e : tie.After-struct-known3)
 fields-same e = e.before.before.expansion-of.ensures.2
 
 fields-right : (e : tie.Else4) → (fields_of e.before.before.before.before.before.before.before.before.before.before.before.before.args.m.width e.before.before.before.before.before.before.before.before.before.before.before.before.args.c e.before.before.before.before.before.before.before.before.before.before.before.before.args.y.now).right ≡ true
-fields-right e = ap (λ (x : Interpreted). x.right) (sym (fields-same e.before)) ∙ not-false _ e.if4.false
+fields-right e = ap (λ (x : Interpreted). x.right) (sym (fields-same e.before)) ∙ e.if4.false
 
 none-wrong : (e : tie.Else5) → any_below e.before.before.before.before.before.before.before.before.before.before.before.before.before.before.before.args.c.nop (wrong_locator e.before.before.before.before.before.before.before.before.before.before.before.before.before.before.before.args.m.width e.before.before.before.before.before.before.before.before.before.before.before.before.before.before.before.args.c e.before.before.before.before.before.before.before.before.before.before.before.before.before.before.before.args.y.now) ≡ false
 none-wrong e =
@@ -52,7 +52,7 @@ returns-4 c = let a = c.before.before.before.before.before.before.before.before.
     let e3 = c.before.before.before.before.before in
     let e2 = e3.before.before in
     number-10 a.m a.c a.y.now (sequence-right e2.before.before) (flags-right e2) (la-right e3)
-    (ap (λ (x : Interpreted). x.right) (sym (fields-same c.before.before)) ∙ not-true _ c.before.if4.true) _ _ c.plain4.ensures.0 c.plain4.ensures.1
+    (ap (λ (x : Interpreted). x.right) (sym (fields-same c.before.before)) ∙ c.before.if4.true) _ _ c.plain4.ensures.0 c.plain4.ensures.1
 
 returns-5 : tie.Need-returns-5
 returns-5 c = let a = c.before.before.before.before.before.before.before.before.before.before.before.before.before.before.before.args in

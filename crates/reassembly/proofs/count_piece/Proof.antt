@@ -16,7 +16,7 @@ unfolding count_piece
 returns-2 c =
     let a = c.before.before.before.args in
     let z : eqb a.cause 0 ≡ true = eq-eqb a.cause 0 c.before.before.if1.false in
-    rw (z, not-true a.continues c.before.if2.true) c.count-finish.ensures
+    rw (z, c.before.if2.true) c.count-finish.ensures
 
 returns-3 : tie.Need-returns-3
 unfolding count_piece
@@ -24,7 +24,7 @@ returns-3 c =
     let a = c.before.before.before.args in
     let z : eqb a.cause 0 ≡ true = eq-eqb a.cause 0 c.before.before.if1.false in
     let y : eqb a.held 0 ≡ true = eq-eqb a.held 0 c.if3.true in
-    rw (z, not-false a.continues c.before.if2.false, y) refl
+    rw (z, c.before.if2.false, y) refl
 
 returns-4 : tie.Need-returns-4
 unfolding count_piece
@@ -32,7 +32,7 @@ returns-4 c =
     let a = c.before.before.before.before.args in
     let z : eqb a.cause 0 ≡ true = eq-eqb a.cause 0 c.before.before.before.if1.false in
     let y : eqb a.held 0 ≡ false = ne_eqb a.held 0 c.before.if3.false in
-    rw (z, not-false a.continues c.before.before.if2.false, y) c.count-finish2.ensures
+    rw (z, c.before.before.if2.false, y) c.count-finish2.ensures
 
 pub count-piece-spec : {M : Type 1} → statement M
 count-piece-spec = tie.close (tie.spec returns (λ c κs. omega arith) returns-2 returns-3 (λ c. omega arith) (λ c κs. omega arith) returns-4)

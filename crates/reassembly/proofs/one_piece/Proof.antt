@@ -22,37 +22,37 @@ finish-requires : tie.Need-finish-requires
 finish-requires c κs =
     let p = c.before.before.before.before.before.before.before in
     let a = p.args in
-    (omega arith, (omega arith, (omega arith, (omega arith, same-room a.run.at a.log.now (alone a.n a.k a.continues a.ends (partial_of a.run.held a.run.number a.carry.now) a.piece.now a.cause c.before.before.before.if1.false (not-true a.continues c.before.before.if2.true)) p.requires.1.1.1.1))))
+    (omega arith, (omega arith, (omega arith, (omega arith, same-room a.run.at a.log.now (alone a.n a.k a.continues a.ends (partial_of a.run.held a.run.number a.carry.now) a.piece.now a.cause c.before.before.before.if1.false (c.before.before.if2.true)) p.requires.1.1.1.1))))
 
 returns-2 : tie.Need-returns-2
 returns-2 c =
     let p = c.before.before.before.before.before.before.before.before.before.before.before.before in
     let a = p.args in
-    same_outcome (alone a.n a.k a.continues a.ends (partial_of a.run.held a.run.number a.carry.now) a.piece.now a.cause c.before.before.before.before.before.before.before.before.if1.false (not-true a.continues c.before.before.before.before.before.before.before.if2.true)) c.before.before.before.before.finish.ensures
+    same_outcome (alone a.n a.k a.continues a.ends (partial_of a.run.held a.run.number a.carry.now) a.piece.now a.cause c.before.before.before.before.before.before.before.before.if1.false (c.before.before.before.before.before.before.before.if2.true)) c.before.before.before.before.finish.ensures
 
 drop-noted-requires-2 : tie.Need-drop-noted-requires-2
 drop-noted-requires-2 c κs =
     let p = c.before.before.before.before.before.before.before in
     let a = p.args in
-    (omega arith, same-room a.run.at a.log.now (missing a.n a.k a.run.number a.continues a.ends a.cause a.run.held a.carry.now a.piece.now c.before.before.before.if1.false (not-false a.continues c.before.before.if2.false) c.before.if3.true) p.requires.1.1.1.1)
+    (omega arith, same-room a.run.at a.log.now (missing a.n a.k a.run.number a.continues a.ends a.cause a.run.held a.carry.now a.piece.now c.before.before.before.if1.false (c.before.before.if2.false) c.before.if3.true) p.requires.1.1.1.1)
 
 returns-3 : tie.Need-returns-3
 returns-3 c =
     let p = c.before.before.before.before.before.before.before.before.before.before in
     let a = p.args in
-    same_outcome (missing a.n a.k a.run.number a.continues a.ends a.cause a.run.held a.carry.now a.piece.now c.before.before.before.before.before.before.if1.false (not-false a.continues c.before.before.before.before.before.if2.false) c.before.before.before.before.if3.true) (c.before.before.drop-noted2.ensures a.carry.now)
+    same_outcome (missing a.n a.k a.run.number a.continues a.ends a.cause a.run.held a.carry.now a.piece.now c.before.before.before.before.before.before.if1.false (c.before.before.before.before.before.if2.false) c.before.before.before.before.if3.true) (c.before.before.drop-noted2.ensures a.carry.now)
 
 finish-requires-2 : tie.Need-finish-requires-2
 finish-requires-2 c κs =
     let p = c.before.before.before.before.before.before.before.before in
     let a = p.args in
-    (omega arith, (omega arith, (omega arith, (omega arith, same-room a.run.at a.log.now (together a.n a.k a.run.number a.continues a.ends a.cause a.run.held a.carry.now a.piece.now c.before.before.before.before.if1.false (not-false a.continues c.before.before.before.if2.false) c.before.before.if3.false) p.requires.1.1.1.1))))
+    (omega arith, (omega arith, (omega arith, (omega arith, same-room a.run.at a.log.now (together a.n a.k a.run.number a.continues a.ends a.cause a.run.held a.carry.now a.piece.now c.before.before.before.before.if1.false (c.before.before.before.if2.false) c.before.before.if3.false) p.requires.1.1.1.1))))
 
 returns-4 : tie.Need-returns-4
 returns-4 c =
     let p = c.before.before.before.before.before.before.before.before.before.before.before.before.before in
     let a = p.args in
-    same_outcome (together a.n a.k a.run.number a.continues a.ends a.cause a.run.held a.carry.now a.piece.now c.before.before.before.before.before.before.before.before.before.if1.false (not-false a.continues c.before.before.before.before.before.before.before.before.if2.false) c.before.before.before.before.before.before.before.if3.false) c.before.before.before.before.finish2.ensures
+    same_outcome (together a.n a.k a.run.number a.continues a.ends a.cause a.run.held a.carry.now a.piece.now c.before.before.before.before.before.before.before.before.before.if1.false (c.before.before.before.before.before.before.before.before.if2.false) c.before.before.before.before.before.before.before.if3.false) c.before.before.before.before.finish2.ensures
 
 pub one-piece-spec : {M : Type 1} → statement M
 one-piece-spec =

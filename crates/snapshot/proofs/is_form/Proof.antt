@@ -26,7 +26,7 @@ returns c =
     let q = c.before in
     let p = q.before.before in
     let s = p.before.before in
-    form-not s.args.words.now s.args.r _ _ s.requires refl refl p.place_of.result p.place_of.ensures.0 p.place_of.ensures.1 q.is-counts.result (counts-test q) (not-true _ c.if1.true)
+    form-not s.args.words.now s.args.r _ _ s.requires refl refl p.place_of.result p.place_of.ensures.0 p.place_of.ensures.1 q.is-counts.result (counts-test q) (c.if1.true)
 
 slice-aggregate-is-front : tie.Need-slice-aggregate-is-front
 slice-aggregate-is-front c =
@@ -40,7 +40,7 @@ returns-2 c =
     let q = d.before in
     let p = q.before.before in
     let s = p.before.before in
-    form-yes s.args.words.now s.args.r h.before.has.result h.has2.result s.requires h.before.has.ensures h.has2.ensures p.place_of.result p.place_of.ensures.0 p.place_of.ensures.1 q.is-counts.result (counts-test q) c.is_front.result (not-false _ d.if1.false) c.is_front.ensures
+    form-yes s.args.words.now s.args.r h.before.has.result h.has2.result s.requires h.before.has.ensures h.has2.ensures p.place_of.result p.place_of.ensures.0 p.place_of.ensures.1 q.is-counts.result (counts-test q) c.is_front.result (d.if1.false) c.is_front.ensures
 
 pub is-form-spec : {M : Type 1} → statement M
 is-form-spec =

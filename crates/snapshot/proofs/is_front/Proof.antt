@@ -39,14 +39,14 @@ returns c =
     let g = c.before in
     let p = g.before.before.before in
     let a = (begun p).args in
-    front-not a.words.now (kinds a.register a.programs) a.r (take p.put-head.result p.put-head.new.0) (written p) g.begins.result g.begins.ensures (not-true _ c.if1.true)
+    front-not a.words.now (kinds a.register a.programs) a.r (take p.put-head.result p.put-head.new.0) (written p) g.begins.result g.begins.ensures (c.if1.true)
 
 returns-2 : tie.Need-returns-2
 returns-2 c =
     let g = c.before.before.before in
     let p = g.before.before.before in
     let a = (begun p).args in
-    front-yes a.words.now (kinds a.register a.programs) a.r (take p.put-head.result p.put-head.new.0) (written p) g.begins.result g.begins.ensures p.put-head.result c.is-rest.result (not-false _ c.before.before.if1.false) p.put-head.ensures.0 c.is-rest.ensures
+    front-yes a.words.now (kinds a.register a.programs) a.r (take p.put-head.result p.put-head.new.0) (written p) g.begins.result g.begins.ensures p.put-head.result c.is-rest.result (c.before.before.if1.false) p.put-head.ensures.0 c.is-rest.ensures
 
 pub is-front-spec : {M : Type 1} → statement M
 is-front-spec =

@@ -23,14 +23,14 @@ returns : tie.Need-returns invariant-loop decreases-loop
 returns c =
     let p = c.before.before.before.before in
     let a = p.before.before.args in
-    rest-stop a.words.now p.loop.i (omega arith) p.loop.left (sym c.before.fits2.ensures ∙ not-true _ c.if1.true) ∙ p.loop.invariant
+    rest-stop a.words.now p.loop.i (omega arith) p.loop.left (sym c.before.fits2.ensures ∙ c.if1.true) ∙ p.loop.invariant
 
 loop-again : tie.Need-loop-preserved invariant-loop decreases-loop
 loop-again c =
     let p = c.before.before.before.before.before in
     let a = p.before.before.args in
     ap (λ (k : ℕ). are_bytes k (drop (p.loop.i + 1) a.words.now)) c.left_After.ensures
-    ∙ rest-next a.words.now p.loop.i (omega arith) p.loop.left (sym c.before.before.fits2.ensures ∙ not-false _ c.before.if1.false) ∙ p.loop.invariant
+    ∙ rest-next a.words.now p.loop.i (omega arith) p.loop.left (sym c.before.before.fits2.ensures ∙ c.before.if1.false) ∙ p.loop.invariant
 
 returns-2 : tie.Need-returns-2 invariant-loop decreases-loop
 returns-2 c =

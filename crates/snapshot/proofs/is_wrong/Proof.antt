@@ -10,13 +10,13 @@ returns : tie.Need-returns
 returns c =
     let q = c.before in
     let s = q.before.before in
-    wrong-form s.args.words.now s.args.r (has 3 s.args.words.now) (has 4 s.args.words.now) s.requires refl refl q.is-form.result q.is-form.ensures (not-true _ c.if1.true)
+    wrong-form s.args.words.now s.args.r (has 3 s.args.words.now) (has 4 s.args.words.now) s.requires refl refl q.is-form.result q.is-form.ensures (c.if1.true)
 
 returns-2 : tie.Need-returns-2
 returns-2 c =
     let q = c.before.before in
     let s = q.before.before in
-    wrong-state s.args.words.now s.args.r (has 3 s.args.words.now) (has 4 s.args.words.now) s.requires refl refl q.is-form.result q.is-form.ensures c.state-refusal.result (not-false _ c.before.if1.false) c.state-refusal.ensures
+    wrong-state s.args.words.now s.args.r (has 3 s.args.words.now) (has 4 s.args.words.now) s.requires refl refl q.is-form.result q.is-form.ensures c.state-refusal.result (c.before.if1.false) c.state-refusal.ensures
 
 pub is-wrong-spec : {M : Type 1} → statement M
 is-wrong-spec = tie.close (tie.spec (λ c κs. search rules) returns (λ c κs. search rules) returns-2)

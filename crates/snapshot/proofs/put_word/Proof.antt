@@ -14,14 +14,14 @@ use Rattle.snapshot.proofs.put_word.Tie as tie
 returns : tie.Need-returns
 returns c =
     let a = c.before.args in
-    let e : a.there ≡ false = not-true a.there c.if1.true in
+    let e : a.there ≡ false = c.if1.true in
     rw e (sym (add-zero a.at), sym (put-nil a.words.now a.at))
 
 -- there is room for it
 room : (c : tie.Else1) → c.before.args.at < length c.before.args.words.now
 room c =
     let a = c.before.args in
-    let e : a.there ≡ true = not-false a.there c.if1.false in
+    let e : a.there ≡ true = c.if1.false in
     let l : length (optional a.there a.word) ≡ 1 = ap (λ (t : Bool). length (optional t a.word)) e in
     omega (arith, c.before.requires, l)
 
@@ -31,7 +31,7 @@ slice-write-words c = omega (arith, room c)
 returns-2 : tie.Need-returns-2
 returns-2 c =
     let a = c.before.args in
-    let e : a.there ≡ true = not-false a.there c.if1.false in
+    let e : a.there ≡ true = c.if1.false in
     rw e (refl, put_one a.words.now a.at a.word (room c))
 
 pub put-word-spec : {M : Type 1} → statement M
