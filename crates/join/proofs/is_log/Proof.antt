@@ -24,15 +24,15 @@ returns : tie.Need-returns-then-not-fits invariant-loop decreases-loop
 returns c =
     let l = c.before.before.before.before.loop-i in
     let a = c.before.before.before.before.before.before.args in
-    formed-stop a.log.now l.i (omega arith) l.left (sym c.before.fits2.ensures ∙ c.if-not-fits.true) ∙ l.invariant.1
+    formed-stop a.log.now l.i (omega arith) l.left (sym c.before.fits.ensures ∙ c.if-not-fits.true) ∙ l.invariant.1
 
 loop-again : tie.Need-loop-i-preserved invariant-loop decreases-loop
 loop-again c =
     let l = c.before.before.before.before.before.before.loop-i in
     let a = c.before.before.before.before.before.before.before.before.args in (
       omega arith,
-      ap (λ (k : ℕ). is_rest k (drop (l.i + 1) a.log.now)) c.left_After.ensures
-          ∙ formed-next a.log.now l.i (omega arith) l.left (sym c.before.before.before.fits2.ensures ∙ c.before.before.if-not-fits.false) ∙ l.invariant.1,
+      ap (λ (k : ℕ). is_rest k (drop (l.i + 1) a.log.now)) c.left_after-next.ensures
+          ∙ formed-next a.log.now l.i (omega arith) l.left (sym c.before.before.before.fits.ensures ∙ c.before.before.if-not-fits.false) ∙ l.invariant.1,
     )
 
 returns-2 : tie.Need-returns invariant-loop decreases-loop

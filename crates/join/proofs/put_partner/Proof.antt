@@ -15,7 +15,7 @@ use Rattle.join.proofs.put_partner.Tie as tie
 returns : tie.Need-returns-then-enhanced-i
 returns c = put-none c.before.before.before.before.before.args.res.now (partner c.before.before.before.before.before.args.enhanced.now c.before.before.before.before.before.args.n) c.before.before.before.before.before.args.at (partner-none c.before.before.before.before.before.args.enhanced.now c.before.before.before.before.before.args.n c.before.place_of-i.result c.before.place_of-i.ensures.1 c.if-enhanced-i.true)
 
-slice-write-result : tie.Need-slice-write-result
+slice-write-result : tie.Need-bounds-res-at
 slice-write-result c =
     let a = c.before.before.before.before.before.before.before.args in
     let f = c.before.before.before.place_of-i in
