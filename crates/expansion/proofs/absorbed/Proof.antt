@@ -19,7 +19,7 @@ returns-4 : tie.Need-returns-in-2
 returns-4 c = with-type _ _ _ _ _ _ c.in-2.is
 
 returns-5 : tie.Need-returns-in_default
-returns-5 c = with-services _ _ _ _ _ _ _ c.before.in_default.rest.0.0.1 c.before.in_default.rest.0.1 c.before.in_default.rest.1 c.twenty_one.ensures
+returns-5 c = with-services _ _ _ _ _ _ _ c.before.in_default.in_default-own.rest.0.0.1 c.before.in_default.in_default-own.rest.0.1 c.before.in_default.in_default-own.rest.1 c.twenty_one.ensures
 
 pub absorbed_spec : {M : Type 1} → statement M
 absorbed_spec =
