@@ -17,7 +17,7 @@ use Rattle.join.proofs.put_at.Tie as tie
 returns : tie.Need-returns-then-not-is_packet
 returns c =
     let a = c.before.before.before.before.before.before.before.args in
-    put-none a.result.now (first_joined a.enhanced.now (drop a.i a.core.now)) a.at
+    put-none a.res.now (first_joined a.enhanced.now (drop a.i a.core.now)) a.at
     (first-none a.core.now a.enhanced.now a.i (omega arith) (sym c.before.is_packet.ensures ∙ c.if-not-is_packet.true))
 
 put-words-requires : tie.Need-put_words-requires
@@ -54,8 +54,8 @@ returns-2 c =
     let v : List ℕ = take (e.result - a.i) (drop a.i a.core.now) in
     let k : length v ≡ e.result - a.i = part_length a.i e.result a.core.now (omega arith) (omega arith) in (
       omega arith,
-      put_then a.result.now _ _ v (partner a.enhanced.now n.result) a.at (a.at + (e.result - a.i)) (omega arith) (omega arith) c.before.before.before.before.before.before.before.put_words.ensures g.ensures.1
-          ∙ ap (put_at a.result.now a.at)
+      put_then a.res.now _ _ v (partner a.enhanced.now n.result) a.at (a.at + (e.result - a.i)) (omega arith) (omega arith) c.before.before.before.before.before.before.before.put_words.ensures g.ensures.1
+          ∙ ap (put_at a.res.now a.at)
           (ap₂ ◌++◌ (part a.i e.result a.core.now (omega arith)) (ap (partner a.enhanced.now) n.ensures.0)
           ∙ first_some a.core.now a.enhanced.now a.i (omega arith) e.result (omega arith) (omega arith) p e.ensures.1),
     )

@@ -44,8 +44,8 @@ returns-2 c =
     let v = bit_or (get_or a.enhanced.now f.result 0) 0x20000000 in
     let w : List ℕ = take (e.result - (f.result + 1)) (drop (f.result + 1) a.enhanced.now) in (
       omega arith,
-      c.before.before.put_words.ensures ∙ put-cons a.result.now w a.at v (omega arith)
-          ∙ ap (put_at a.result.now a.at)
+      c.before.before.put_words.ensures ∙ put-cons a.res.now w a.at v (omega arith)
+          ∙ ap (put_at a.res.now a.at)
           (ap (λ (r : List ℕ). v ∷ r) (part (f.result + 1) e.result a.enhanced.now (omega arith))
           ∙ partner-some a.enhanced.now a.n f.result f.ensures.1 e.result h e.ensures.1),
     )
