@@ -13,8 +13,8 @@ use Rattle.words.proofs.entry_end.Tie as tie
 -- src/lib.rt:60:5
 -- src/lib.rt:60:5
 -- src/lib.rt:55:1
-pub entry-end-spec : {M : Type 1} → statement M
-entry-end-spec =
+pub entry_end_spec : {M : Type 1} → statement M
+entry_end_spec =
     tie.close (tie.spec (λ log from i₀ i. (from < i) × (i ≤ length log)) (λ log from i₀ i. length log - i)
     (λ c. search rules) (λ c. search rules) (λ c. search rules) (λ c. search rules) (λ c. search rules) (λ c. search rules) (λ c. search rules)
     (λ c. search rules) (λ c. search rules))
