@@ -19,9 +19,9 @@ loop-again : tie.Need-loop-r-preserved invariant-loop decreases-loop
 loop-again c = (
   omega arith,
   ⊎_elim
-      (λ w. rw w.3 (clear-row _ _ _ c.before.before.loop-r.out c.before.before.loop-r.r _ c.before.before.loop-r.invariant.1 (omega arith) w.0.taken w.2.ensures))
-      (λ w. rw w.1 (clear-skip _ _ _ c.before.before.loop-r.out c.before.before.loop-r.r c.before.before.loop-r.invariant.1 w.0.left))
-      c.if-r-k.branch,
+      (λ w. rw w.out-is (clear-row _ _ _ c.before.before.loop-r.out c.before.before.loop-r.r _ c.before.before.loop-r.invariant.1 (omega arith) w.if-r-k.true w.cleared.ensures))
+      (λ w. rw w.out-is (clear-skip _ _ _ c.before.before.loop-r.out c.before.before.loop-r.r c.before.before.loop-r.invariant.1 w.if-r-k.false))
+      c.if-r-k.branch-raw,
 )
 
 returns : tie.Need-returns invariant-loop decreases-loop

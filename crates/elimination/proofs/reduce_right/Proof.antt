@@ -24,10 +24,10 @@ loop-again : tie.Need-loop-r-preserved invariant-loop decreases-loop
 loop-again c = (
   omega arith,
   ⊎_elim
-      (λ w. rw w.3 (right-row _ _ _ _ c.before.before.loop-r.out c.before.before.loop-r.r _ c.before.before.loop-r.invariant.1 (omega arith) w.0.taken
-      (ap (bit_xor (get_or c.before.before.loop-r.out c.before.before.loop-r.r 0)) w.2.ensures)))
-      (λ w. rw w.1 (right-skip _ _ _ _ c.before.before.loop-r.out c.before.before.loop-r.r c.before.before.loop-r.invariant.1 w.0.left))
-      c.if-r-k.branch,
+      (λ w. rw w.out-is (right-row _ _ _ _ c.before.before.loop-r.out c.before.before.loop-r.r _ c.before.before.loop-r.invariant.1 (omega arith) w.if-r-k.true
+      (ap (bit_xor (get_or c.before.before.loop-r.out c.before.before.loop-r.r 0)) w.product_by.ensures)))
+      (λ w. rw w.out-is (right-skip _ _ _ _ c.before.before.loop-r.out c.before.before.loop-r.r c.before.before.loop-r.invariant.1 w.if-r-k.false))
+      c.if-r-k.branch-raw,
 )
 
 returns : tie.Need-returns invariant-loop decreases-loop
