@@ -12,7 +12,7 @@ use borrow.Author.Rules.{rules}
 use Rattle.contents.proofs.put_front.Statement.{statement}
 use Rattle.contents.proofs.put_front.Tie as tie
 
-put-bytes-requires : tie.Need-put-bytes-requires
+put-bytes-requires : tie.Need-put_bytes-requires
 put-bytes-requires c κs = search rules
 
 returns : tie.Need-returns
@@ -22,14 +22,14 @@ returns c =
     let z : List ℕ = replicate n 0 in
     let lz : length z ≡ n = length-replicate n 0 in
     let ll : length (locator_bytes a.width a.locators.now) ≡ locator_size a.width (length a.locators.now) = length-locators a.width a.locators.now in
-    let six : length a.t3 ≡ 6 = omega (arith, c.before.before.before.before.before.before.before.before.before.before.before.before.before.before.before.before.before.before.before.before.before.before.before.before.before.before.well-formed.1.1.0) in
-    let s : c.before.before.before.before.before.before.before.before.before.before.before.before.before.before.before.before.before.before.before.before.before.locator-size.result ≡ locator_size a.width (length a.locators.now) = c.before.before.before.before.before.before.before.before.before.before.before.before.before.before.before.before.before.before.before.before.before.locator-size.ensures in
+    let six : length a.control ≡ 6 = omega (arith, c.before.before.before.before.before.before.before.before.before.before.before.before.before.before.before.before.before.before.before.before.before.before.before.before.before.before.well_formed.1.1.0) in
+    let s : c.before.before.before.before.before.before.before.before.before.before.before.before.before.before.before.before.before.before.before.before.before.locator_size-at.result ≡ locator_size a.width (length a.locators.now) = c.before.before.before.before.before.before.before.before.before.before.before.before.before.before.before.before.before.before.before.before.before.locator_size-at.ensures in
     let room : 14 + locator_size a.width (length a.locators.now) + length a.expansion.now + length a.psd.now ≤ n = c.before.before.before.before.before.before.before.before.before.before.before.before.before.before.before.before.before.before.before.before.before.before.before.before.before.before.requires.0 in
-    let e0 : c.before.before.before.before.before.before.before.before.before.before.before.before.before.before.before.before.before.before.before.clear.new.0 ≡ z = c.before.before.before.before.before.before.before.before.before.before.before.before.before.before.before.before.before.before.before.clear.ensures in
-    let e1 : c.before.before.before.before.before.before.before.before.before.before.before.before.before.before.put-bytes.new.0 ≡ put_at z 8 a.t3 = c.before.before.before.before.before.before.before.before.before.before.before.before.before.before.put-bytes.ensures ∙ ap (λ (r : List ℕ). put_at r 8 a.t3) e0 in
-    four-puts z c.before.before.before.before.before.before.before.before.before.before.before.before.before.before.put-bytes.new.0 c.before.before.before.before.before.before.before.before.before.before.put-locators.new.1.0 c.before.before.before.before.before.before.put-bytes2.new.0 c.before.before.put-bytes3.new.0 a.t3 (locator_bytes a.width a.locators.now) a.expansion.now a.psd.now 14 (14 + c.before.before.before.before.before.before.before.before.before.before.before.before.before.before.before.before.before.before.before.before.before.locator-size.result) (14 + c.before.before.before.before.before.before.before.before.before.before.before.before.before.before.before.before.before.before.before.before.before.locator-size.result + length a.expansion.now) (omega (arith, lz, ll, six, room)) (omega (arith, six)) (omega (arith, s, ll)) refl e1 c.before.before.before.before.before.before.before.before.before.before.put-locators.ensures c.before.before.before.before.before.before.put-bytes2.ensures c.before.before.put-bytes3.ensures
+    let e0 : c.before.before.before.before.before.before.before.before.before.before.before.before.before.before.before.before.before.before.before.clear.new.dst ≡ z = c.before.before.before.before.before.before.before.before.before.before.before.before.before.before.before.before.before.before.before.clear.ensures in
+    let e1 : c.before.before.before.before.before.before.before.before.before.before.before.before.before.before.put_bytes.new.dst ≡ put_at z 8 a.control = c.before.before.before.before.before.before.before.before.before.before.before.before.before.before.put_bytes.ensures ∙ ap (λ (r : List ℕ). put_at r 8 a.control) e0 in
+    four-puts z c.before.before.before.before.before.before.before.before.before.before.before.before.before.before.put_bytes.new.dst c.before.before.before.before.before.before.before.before.before.before.put_locators.new.pdu.0 c.before.before.before.before.before.before.put_bytes-2.new.dst c.before.before.put_bytes-3.new.dst a.control (locator_bytes a.width a.locators.now) a.expansion.now a.psd.now 14 (14 + c.before.before.before.before.before.before.before.before.before.before.before.before.before.before.before.before.before.before.before.before.before.locator_size-at.result) (14 + c.before.before.before.before.before.before.before.before.before.before.before.before.before.before.before.before.before.before.before.before.before.locator_size-at.result + length a.expansion.now) (omega (arith, lz, ll, six, room)) (omega (arith, six)) (omega (arith, s, ll)) refl e1 c.before.before.before.before.before.before.before.before.before.before.put_locators.ensures c.before.before.before.before.before.before.put_bytes-2.ensures c.before.before.put_bytes-3.ensures
 
-pub put-front-spec : {M : Type 1} → statement M
-put-front-spec =
+pub put_front_spec : {M : Type 1} → statement M
+put_front_spec =
     tie.close (tie.spec (λ c. search rules) (λ c κs. search rules) (λ c. search rules) (λ c κs. search rules) (λ c. search rules) put-bytes-requires
     (λ c κs. search rules) (λ c κs. search rules) (λ c. search rules) (λ c κs. search rules) (λ c. search rules) returns)
