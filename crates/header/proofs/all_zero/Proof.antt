@@ -37,13 +37,13 @@ loop-holds c = (omega arith, refl)
 returns : tie.Need-returns-then-s-i-ne0 invariant-loop decreases-loop
 returns c =
     let p = c.before.before in
-    let h : p.loop-i.i < length p.before.args.t1 = omega arith in
+    let h : p.loop-i.i < length p.before.args.s = omega arith in
     sym (nonzero-here _ p.loop-i.i h c.if-s-i-ne0.true) ∙ p.loop-i.invariant.1
 
 loop-again : tie.Need-loop-i-preserved invariant-loop decreases-loop
 loop-again c =
     let p = c.before.before in
-    let s : List ℕ = p.before.args.t1 in
+    let s : List ℕ = p.before.args.s in
     let i : ℕ = p.loop-i.i in
     let h : i < length s = omega arith in
     (omega arith, zero_more s i h c.if-s-i-ne0.false ∙ p.loop-i.invariant.1)
@@ -51,8 +51,8 @@ loop-again c =
 returns-2 : tie.Need-returns invariant-loop decreases-loop
 returns-2 c =
     let p = c.before in
-    let h : length p.before.args.t1 ≤ p.loop-i.i = omega arith in
-    sym (ap all_zero (drop_of_length-le p.before.args.t1 h)) ∙ p.loop-i.invariant.1
+    let h : length p.before.args.s ≤ p.loop-i.i = omega arith in
+    sym (ap all_zero (drop_of_length-le p.before.args.s h)) ∙ p.loop-i.invariant.1
 
 pub all_zero_spec : {M : Type 1} → statement M
 all_zero_spec = tie.close (tie.spec invariant-loop decreases-loop loop-holds (λ c. search rules) returns (λ c. search rules) (λ c. search rules) loop-again returns-2)

@@ -34,7 +34,7 @@ past n a h e = omega arith
 fifteen : (c : tie.In_default) → c.before.before.before.before.args.n ≡ 15
 fifteen c =
     let n = c.before.before.before.before.args.n in
-    let h : 15 ≤ n = past n 14 (past n 13 (past n 12 (past n 11 (past n 10 (past n 9 (past n 8 (past n 7 (past n 6 (past n 5 (past n 4 (past n 3 (past n 2 (past n 1 (past n 0 (omega arith) c.in_default.rest.0.0.0.0.0.0.0.0.0.0.0.0.0.0.1) c.in_default.rest.0.0.0.0.0.0.0.0.0.0.0.0.0.1) c.in_default.rest.0.0.0.0.0.0.0.0.0.0.0.0.1) c.in_default.rest.0.0.0.0.0.0.0.0.0.0.0.1) c.in_default.rest.0.0.0.0.0.0.0.0.0.0.1) c.in_default.rest.0.0.0.0.0.0.0.0.0.1) c.in_default.rest.0.0.0.0.0.0.0.0.1) c.in_default.rest.0.0.0.0.0.0.0.1) c.in_default.rest.0.0.0.0.0.0.1) c.in_default.rest.0.0.0.0.0.1) c.in_default.rest.0.0.0.0.1) c.in_default.rest.0.0.0.1) c.in_default.rest.0.0.1) c.in_default.rest.0.1) c.in_default.rest.1 in
+    let h : 15 ≤ n = past n 14 (past n 13 (past n 12 (past n 11 (past n 10 (past n 9 (past n 8 (past n 7 (past n 6 (past n 5 (past n 4 (past n 3 (past n 2 (past n 1 (past n 0 (omega arith) c.in_default.in_default-own.rest.0.0.0.0.0.0.0.0.0.0.0.0.0.0.1) c.in_default.in_default-own.rest.0.0.0.0.0.0.0.0.0.0.0.0.0.1) c.in_default.in_default-own.rest.0.0.0.0.0.0.0.0.0.0.0.0.1) c.in_default.in_default-own.rest.0.0.0.0.0.0.0.0.0.0.0.1) c.in_default.in_default-own.rest.0.0.0.0.0.0.0.0.0.0.1) c.in_default.in_default-own.rest.0.0.0.0.0.0.0.0.0.1) c.in_default.in_default-own.rest.0.0.0.0.0.0.0.0.1) c.in_default.rest.0.0.0.0.0.0.0.1) c.in_default.rest.0.0.0.0.0.0.1) c.in_default.rest.0.0.0.0.0.1) c.in_default.rest.0.0.0.0.1) c.in_default.rest.0.0.0.1) c.in_default.rest.0.0.1) c.in_default.rest.0.1) c.in_default.rest.1 in
     omega (arith, h)
 
 -- one arm of the match: the half byte is k, and the result the word times k
