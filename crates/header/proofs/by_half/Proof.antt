@@ -34,7 +34,7 @@ past n a h e = omega arith
 fifteen : (c : tie.In_default) → c.before.before.before.before.args.n ≡ 15
 fifteen c =
     let n = c.before.before.before.before.args.n in
-    let h : 15 ≤ n = past n 14 (past n 13 (past n 12 (past n 11 (past n 10 (past n 9 (past n 8 (past n 7 (past n 6 (past n 5 (past n 4 (past n 3 (past n 2 (past n 1 (past n 0 (omega arith) c.in_default.in_default-own.rest.0.0.0.0.0.0.0.0.0.0.0.0.0.0.1) c.in_default.in_default-own.rest.0.0.0.0.0.0.0.0.0.0.0.0.0.1) c.in_default.in_default-own.rest.0.0.0.0.0.0.0.0.0.0.0.0.1) c.in_default.in_default-own.rest.0.0.0.0.0.0.0.0.0.0.0.1) c.in_default.in_default-own.rest.0.0.0.0.0.0.0.0.0.0.1) c.in_default.in_default-own.rest.0.0.0.0.0.0.0.0.0.1) c.in_default.in_default-own.rest.0.0.0.0.0.0.0.0.1) c.in_default.rest.0.0.0.0.0.0.0.1) c.in_default.rest.0.0.0.0.0.0.1) c.in_default.rest.0.0.0.0.0.1) c.in_default.rest.0.0.0.0.1) c.in_default.rest.0.0.0.1) c.in_default.rest.0.0.1) c.in_default.rest.0.1) c.in_default.rest.1 in
+    let h : 15 ≤ n = past n 14 (past n 13 (past n 12 (past n 11 (past n 10 (past n 9 (past n 8 (past n 7 (past n 6 (past n 5 (past n 4 (past n 3 (past n 2 (past n 1 (past n 0 (omega arith) c.in_default.in_default-own.rest.0.0.0.0.0.0.0.0.0.0.0.0.0.0.1) c.in_default.in_default-own.rest.0.0.0.0.0.0.0.0.0.0.0.0.0.1) c.in_default.in_default-own.rest.0.0.0.0.0.0.0.0.0.0.0.0.1) c.in_default.in_default-own.rest.0.0.0.0.0.0.0.0.0.0.0.1) c.in_default.in_default-own.rest.0.0.0.0.0.0.0.0.0.0.1) c.in_default.in_default-own.rest.0.0.0.0.0.0.0.0.0.1) c.in_default.in_default-own.rest.0.0.0.0.0.0.0.0.1) c.in_default.in_default-own.rest.0.0.0.0.0.0.0.1) c.in_default.in_default-own.rest.0.0.0.0.0.0.1) c.in_default.in_default-own.rest.0.0.0.0.0.1) c.in_default.in_default-own.rest.0.0.0.0.1) c.in_default.in_default-own.rest.0.0.0.1) c.in_default.in_default-own.rest.0.0.1) c.in_default.in_default-own.rest.0.1) c.in_default.in_default-own.rest.1 in
     omega (arith, h)
 
 -- one arm of the match: the half byte is k, and the result the word times k
@@ -47,20 +47,20 @@ returns-14 c = let p = c.before in arm p _ 13 _ c.in-13.is (joined (w p) _ _ 12 
 pub by_half_spec : {M : Type 1} → statement M
 by_half_spec =
     tie.close (tie.spec (λ c κs. search rules) (λ c κs. search rules) (λ c κs. search rules)
-    (λ c. let p = c.before in arm p _ 0 _ c.match.keys1 (none (w p)))
-    (λ c. let p = c.before in arm p _ 1 _ c.match.keys2 (one p))
-    (λ c. let p = c.before in arm p _ 2 _ c.match.keys3 (two p))
-    (λ c. let p = c.before in arm p _ 3 _ c.match.keys4 (joined (w p) _ _ 2 1 (two p) (one p)))
-    (λ c. let p = c.before in arm p _ 4 _ c.match.keys5 (four p))
-    (λ c. let p = c.before in arm p _ 5 _ c.match.keys6 (joined (w p) _ _ 4 1 (four p) (one p)))
-    (λ c. let p = c.before in arm p _ 6 _ c.match.keys7 (joined (w p) _ _ 4 2 (four p) (two p)))
-    (λ c. let p = c.before in arm p _ 7 _ c.match.keys8 (joined (w p) _ _ 6 1 (joined (w p) _ _ 4 2 (four p) (two p)) (one p)))
-    (λ c. let p = c.before in arm p _ 8 _ c.match.keys9 (eight p))
-    (λ c. let p = c.before in arm p _ 9 _ c.match.keys10 (joined (w p) _ _ 8 1 (eight p) (one p)))
-    (λ c. let p = c.before in arm p _ 10 _ c.match.keys11 (joined (w p) _ _ 8 2 (eight p) (two p)))
-    (λ c. let p = c.before in arm p _ 11 _ c.match.keys12 (joined (w p) _ _ 10 1 (joined (w p) _ _ 8 2 (eight p) (two p)) (one p)))
-    (λ c. let p = c.before in arm p _ 12 _ c.match.keys13 (joined (w p) _ _ 8 4 (eight p) (four p)))
+    (λ c. let p = c.before in arm p _ 0 _ c.in-0.is (none (w p)))
+    (λ c. let p = c.before in arm p _ 1 _ c.in-1.is (one p))
+    (λ c. let p = c.before in arm p _ 2 _ c.in-2.is (two p))
+    (λ c. let p = c.before in arm p _ 3 _ c.in-3.is (joined (w p) _ _ 2 1 (two p) (one p)))
+    (λ c. let p = c.before in arm p _ 4 _ c.in-4.is (four p))
+    (λ c. let p = c.before in arm p _ 5 _ c.in-5.is (joined (w p) _ _ 4 1 (four p) (one p)))
+    (λ c. let p = c.before in arm p _ 6 _ c.in-6.is (joined (w p) _ _ 4 2 (four p) (two p)))
+    (λ c. let p = c.before in arm p _ 7 _ c.in-7.is (joined (w p) _ _ 6 1 (joined (w p) _ _ 4 2 (four p) (two p)) (one p)))
+    (λ c. let p = c.before in arm p _ 8 _ c.in-8.is (eight p))
+    (λ c. let p = c.before in arm p _ 9 _ c.in-9.is (joined (w p) _ _ 8 1 (eight p) (one p)))
+    (λ c. let p = c.before in arm p _ 10 _ c.in-10.is (joined (w p) _ _ 8 2 (eight p) (two p)))
+    (λ c. let p = c.before in arm p _ 11 _ c.in-11.is (joined (w p) _ _ 10 1 (joined (w p) _ _ 8 2 (eight p) (two p)) (one p)))
+    (λ c. let p = c.before in arm p _ 12 _ c.in-12.is (joined (w p) _ _ 8 4 (eight p) (four p)))
     returns-14
-    (λ c. let p = c.before in arm p _ 14 _ c.match.keys15 (joined (w p) _ _ 12 2 (joined (w p) _ _ 8 4 (eight p) (four p)) (two p)))
+    (λ c. let p = c.before in arm p _ 14 _ c.in-14.is (joined (w p) _ _ 12 2 (joined (w p) _ _ 8 4 (eight p) (four p)) (two p)))
     (λ c. let p = c.before in arm p _ 15 _ (fifteen c)
     (joined (w p) _ _ 14 1 (joined (w p) _ _ 12 2 (joined (w p) _ _ 8 4 (eight p) (four p)) (two p)) (one p))))
