@@ -9,19 +9,19 @@ use Rattle.power_sums.proofs.Theorem.{same-sums}
 use Rattle.power_sums.proofs.same.Statement.{statement}
 use Rattle.power_sums.proofs.same.Tie as tie
 
-abbrev invariant-loop : tie.invariant-loop
+abbrev invariant-loop : tie.invariant-loop-k
 invariant-loop header one other k₀ k = (k ≤ 8) × (one ≡ other)
 
-abbrev decreases-loop : tie.decreases-loop
+abbrev decreases-loop : tie.decreases-loop-k
 decreases-loop header one other k₀ k = 8 - k
 
-loop-holds : tie.Need-loop-init invariant-loop decreases-loop
-loop-holds c = (omega arith, same-sums c.before.before.args.header.now c.before.sums.result c.syndromes.result c.before.sums.ensures c.syndromes.ensures)
+loop-holds : tie.Need-loop-k-init invariant-loop decreases-loop
+loop-holds c = (omega arith, same-sums c.before.before.args.header.now c.before.sums-one.result c.syndromes-other.result c.before.sums-one.ensures c.syndromes-other.ensures)
 
-returns : tie.Need-returns invariant-loop decreases-loop
+returns : tie.Need-returns-then-one-k invariant-loop decreases-loop
 returns c =
     let l = c.before.before in
-    absurd (c.if1.true (ap (λ (s : List ℕ). get_or s l.loop.k 0) l.loop.invariant.1))
+    absurd (c.if-one-k.true (ap (λ (s : List ℕ). get_or s l.loop-k.k 0) l.loop-k.invariant.1))
 
 pub same_spec : {M : Type 1} → statement M
 same_spec =

@@ -8,7 +8,7 @@ returns : tie.Need-returns
 unfolding syndromes
 returns c = cc
 
-pub sums-by-spec : {M : Type 1} → statement M
-sums-by-spec =
+pub sums_by_spec : {M : Type 1} → statement M
+sums_by_spec =
     tie.close (tie.spec (λ c κs. search rules) (λ c κs. search rules) (λ c κs. search rules) (λ c κs. search rules) (λ c κs. search rules)
     (λ c κs. search rules) (λ c κs. search rules) (λ c κs. search rules) returns)
