@@ -6,7 +6,7 @@ use Rattle.damage.proofs.turn.Tie as tie
 returns : tie.Need-returns
 returns c = passed _ _ _ _ (omega arith)
 
-returns-2 : tie.Need-returns-2
+returns-2 : tie.Need-returns
 returns-2 c = altered _ _ _ _ _ (omega arith) c.another.ensures (omega arith) (omega arith)
 
 pub turn_spec : {M : Type 1} → statement M

@@ -5,5 +5,5 @@ use Rattle.damage.proofs.dice.Dice.below.Tie as tie
 returns : tie.Need-returns
 returns c = mod-lt _ (search rules)
 
-pub below-spec : {M : Type 1} → statement M
-below-spec = tie.close (tie.spec (λ c κs. search rules) (λ c. search rules) returns)
+pub below_spec : {M : Type 1} → statement M
+below_spec = tie.close (tie.spec (λ c κs. search rules) (λ c. search rules) returns)
