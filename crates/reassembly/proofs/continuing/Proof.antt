@@ -6,30 +6,30 @@ use borrow.Author.Rules.{rules}
 use Rattle.reassembly.proofs.continuing.Statement.{statement}
 use Rattle.reassembly.proofs.continuing.Tie as tie
 
-returns : tie.Need-returns
+returns : tie.Need-returns-then-run-eq0
 returns c =
     let p = c.before.before.before.before.before in
     let a = p.args in
-    same_outcome (none-held (piece_number a.head.pfirst a.head.start 0) a.head.plast a.run.held a.run.number a.head.nop a.carry.now a.pdu.now a.marks a.t4 (omega (arith, c.if1.true))) (did_nothing a.run a.carry.now a.log.now (omega (arith, p.requires.0.0, p.requires.1.0)) p.requires.0.1)
+    same_outcome (none-held (piece_number a.head.pfirst a.head.start 0) a.head.plast a.run.held a.run.number a.head.nop a.carry.now a.pdu.now a.marks a.causes (omega (arith, c.if-run-eq0.true))) (did_nothing a.run a.carry.now a.log.now (omega (arith, p.requires.0.0, p.requires.1.0)) p.requires.0.1)
 
-returns-2 : tie.Need-returns-2
+returns-2 : tie.Need-returns-then-head-eq0
 returns-2 c =
     let p = c.before.before.before.before.before.before.before in
     let a = p.args in
-    same_outcome (no-piece (piece_number a.head.pfirst a.head.start 0) a.head.plast a.run.held a.run.number a.head.nop a.carry.now a.pdu.now a.marks a.t4 c.if2.true) (did_nothing a.run a.carry.now a.log.now (omega (arith, p.requires.0.0, p.requires.1.0)) p.requires.0.1)
+    same_outcome (no-piece (piece_number a.head.pfirst a.head.start 0) a.head.plast a.run.held a.run.number a.head.nop a.carry.now a.pdu.now a.marks a.causes c.if-head-eq0.true) (did_nothing a.run a.carry.now a.log.now (omega (arith, p.requires.0.0, p.requires.1.0)) p.requires.0.1)
 
-piece-at-requires : tie.Need-piece-at-requires
+piece-at-requires : tie.Need-piece_at-requires
 piece-at-requires c κs =
     let p = c.before.before.before.before.before.before.before.before.before in
     let a = p.args in
-    let some = c.before.before.if2.false in
-    (p.requires.0.0, (p.requires.1.0, (p.requires.1.1.0, ((omega (arith, some), p.requires.1.1.1.0), same-room a.run.at a.log.now (one_piece (piece_number a.head.pfirst a.head.start 0) a.head.plast a.run.held a.run.number a.head.nop a.carry.now a.pdu.now a.marks a.t4 (omega (arith, c.before.before.before.before.if1.false)) some) p.requires.1.1.1.1))))
+    let some = c.before.before.if-head-eq0.false in
+    (p.requires.0.0, (p.requires.1.0, (p.requires.1.1.0, ((omega (arith, some), p.requires.1.1.1.0), same-room a.run.at a.log.now (one_piece (piece_number a.head.pfirst a.head.start 0) a.head.plast a.run.held a.run.number a.head.nop a.carry.now a.pdu.now a.marks a.causes (omega (arith, c.before.before.before.before.if-run-eq0.false)) some) p.requires.1.1.1.1))))
 
-returns-3 : tie.Need-returns-3
+returns-3 : tie.Need-returns
 returns-3 c =
     let p = c.before.before.before.before.before.before.before.before.before.before.before.before.before.before in
     let a = p.args in
-    same_outcome (one_piece (piece_number a.head.pfirst a.head.start 0) a.head.plast a.run.held a.run.number a.head.nop a.carry.now a.pdu.now a.marks a.t4 (omega (arith, c.before.before.before.before.before.before.before.before.before.if1.false)) c.before.before.before.before.before.before.before.if2.false) c.before.before.before.before.piece-at.ensures
+    same_outcome (one_piece (piece_number a.head.pfirst a.head.start 0) a.head.plast a.run.held a.run.number a.head.nop a.carry.now a.pdu.now a.marks a.causes (omega (arith, c.before.before.before.before.before.before.before.before.before.if-run-eq0.false)) c.before.before.before.before.before.before.before.if-head-eq0.false) c.before.before.before.before.piece_at.ensures
 
-pub continuing-spec : {M : Type 1} → statement M
-continuing-spec = tie.close (tie.spec returns returns-2 (λ c. omega arith) piece-at-requires (λ c. search rules) (λ c. search rules) returns-3)
+pub continuing_spec : {M : Type 1} → statement M
+continuing_spec = tie.close (tie.spec returns returns-2 (λ c. omega arith) piece-at-requires (λ c. search rules) (λ c. search rules) returns-3)

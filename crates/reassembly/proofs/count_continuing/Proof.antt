@@ -6,37 +6,37 @@ use borrow.Author.Rules.{rules}
 use Rattle.reassembly.proofs.count_continuing.Statement.{statement}
 use Rattle.reassembly.proofs.count_continuing.Tie as tie
 
-returns : tie.Need-returns
+returns : tie.Need-returns-then-held-eq0
 returns c =
     let a = c.before.args in
-    none-counted a.head a.t3 a.t4 a.held a.x c.if1.true
+    none-counted a.head a.marks a.causes a.held a.x c.if-held-eq0.true
 
-returns-2 : tie.Need-returns-2
+returns-2 : tie.Need-returns-then-head-eq0
 returns-2 c =
     let a = c.before.before.before.args in
-    no-piece-counted a.head a.t3 a.t4 a.held a.x c.before.before.if1.false c.if2.true
+    no-piece-counted a.head a.marks a.causes a.held a.x c.before.before.if-held-eq0.false c.if-head-eq0.true
 
-add_a : tie.Need-overflow-add-a
-add_a c = omega (arith, c.place.ensures.1)
+add_a : tie.Need-overflow_add-a
+add_a c = omega (arith, c.place-a.ensures.1)
 
-sub-count-piece : tie.Need-overflow-sub-count-piece
+sub-count-piece : tie.Need-overflow_sub-e
 sub-count-piece c =
     let p = c.before.before.before.before.before.before.before in
-    let some = c.before.before.before.before.if2.false in
-    omega (arith, p.requires.1 0 (omega (arith, some)), c.before.before.before.place.ensures.0, c.before.before.place2.ensures.0)
+    let some = c.before.before.before.before.if-head-eq0.false in
+    omega (arith, p.requires.1 0 (omega (arith, some)), c.before.before.before.place-a.ensures.0, c.before.before.place-e.ensures.0)
 
-count-piece-requires : tie.Need-count-piece-requires
+count-piece-requires : tie.Need-count_piece-p-requires
 count-piece-requires c κs =
     let p = c.before.before.before.before.before.before.before in
-    (omega (arith, c.before.before.place2.ensures.1), p.requires.0.0)
+    (omega (arith, c.before.before.place-e.ensures.1), p.requires.0.0)
 
-add-piece-requires : tie.Need-add-piece-requires
+add-piece-requires : tie.Need-add_piece-requires
 add-piece-requires c κs =
     let p = c.before.before.before.before.before.before.before.before.before in
-    let t = c.before.count-piece in
+    let t = c.before.count_piece-p in
     (bounded-more 0 63 p.args.x (omega arith) p.requires.0.2, rw t.ensures (count_small _ _ _ _ _).0)
 
-returns-3 : tie.Need-returns-3
+returns-3 : tie.Need-returns
 returns-3 c =
     let k = c.before.before in
     let n = k.before in
@@ -44,12 +44,12 @@ returns-3 c =
     let l = e.before in
     let p = l.before.before.before.before in
     let a = p.args in
-    let t = k.count-piece in
-    let q = c.before.piece-number in
-    c.add-piece.ensures
-    ∙ piece-counted a.head a.t3 a.t4 a.held a.x l.before.before.before.if1.false l.before.if2.false l.place.result e.place2.result q.result n.ends-here.result l.place.ensures.0 e.place2.ensures.0 n.ends-here.ensures t.result t.ensures q.ensures
+    let t = k.count_piece-p in
+    let q = c.before.piece_number-n in
+    c.add_piece.ensures
+    ∙ piece-counted a.head a.marks a.causes a.held a.x l.before.before.before.if-held-eq0.false l.before.if-head-eq0.false l.place-a.result e.place-e.result q.result n.ends_here-ends.result l.place-a.ensures.0 e.place-e.ensures.0 n.ends_here-ends.ensures t.result t.ensures q.ensures
 
-pub count-continuing-spec : {M : Type 1} → statement M
-count-continuing-spec =
+pub count_continuing_spec : {M : Type 1} → statement M
+count_continuing_spec =
     tie.close (tie.spec returns returns-2 (λ c. omega arith) (λ c κs. search rules) add_a (λ c. omega arith) (λ c κs. search rules) (λ c. search rules)
     (λ c κs. search rules) (λ c. omega arith) sub-count-piece count-piece-requires (λ c κs. omega arith) add-piece-requires returns-3)

@@ -6,22 +6,22 @@ use Rattle.reassembly.specs.Tally.{counted}
 use Rattle.reassembly.proofs.count_delivery.Statement.{statement}
 use Rattle.reassembly.proofs.count_delivery.Tie as tie
 
-missed-before-requires : tie.Need-missed-before-requires
+missed-before-requires : tie.Need-missed_before-missed-requires
 missed-before-requires c κs = c.requires.2
 
-add-t4 : tie.Need-overflow-add-t4
+add-t4 : tie.Need-overflow_add-result
 add-t4 c = omega (arith, c.before.before.requires.0)
 
-add-t5 : tie.Need-overflow-add-t5
-add-t5 c = omega (arith, c.before.before.before.requires.1, c.before.before.missed-before.ensures.1)
+add-t5 : tie.Need-overflow_add-result-2
+add-t5 c = omega (arith, c.before.before.before.requires.1, c.before.before.missed_before-missed.ensures.1)
 
 returns : tie.Need-returns
 unfolding counted
 returns c =
     let a = c.before.before.before.args in
     let one : a.t.delivered + 1 ≡ suc a.t.delivered = add-one a.t.delivered in
-    let more = c.before.before.missed-before.ensures.0 in
+    let more = c.before.before.missed_before-missed.ensures.0 in
     λ i. record { delivered = one i; missing = a.t.missing + more i; last = a.n }
 
-pub count-delivery-spec : {M : Type 1} → statement M
-count-delivery-spec = tie.close (tie.spec missed-before-requires add-t4 add-t5 returns)
+pub count_delivery_spec : {M : Type 1} → statement M
+count_delivery_spec = tie.close (tie.spec missed-before-requires add-t4 add-t5 returns)

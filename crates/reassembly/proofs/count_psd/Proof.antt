@@ -4,11 +4,11 @@ use mathlib.Core.Path.{refl}
 use Rattle.reassembly.proofs.count_psd.Statement.{statement}
 use Rattle.reassembly.proofs.count_psd.Tie as tie
 
-returns : tie.Need-returns
-returns c = rw (eq-eqb c.before.args.n 0 c.if1.true) (refl, omega arith)
+returns : tie.Need-returns-then-n-eq0
+returns c = rw (eq-eqb c.before.args.n 0 c.if-n-eq0.true) (refl, omega arith)
 
-returns-2 : tie.Need-returns-2
-returns-2 c = rw (ne_eqb c.before.args.n 0 c.if1.false) (refl, omega arith)
+returns-2 : tie.Need-returns
+returns-2 c = rw (ne_eqb c.before.args.n 0 c.if-n-eq0.false) (refl, omega arith)
 
-pub count-psd-spec : {M : Type 1} → statement M
-count-psd-spec = tie.close (tie.spec returns (λ c. omega arith) (λ c. omega arith) returns-2)
+pub count_psd_spec : {M : Type 1} → statement M
+count_psd_spec = tie.close (tie.spec returns (λ c. omega arith) (λ c. omega arith) returns-2)

@@ -4,12 +4,12 @@ use mathlib.Core.Path.{refl}
 use Rattle.reassembly.proofs.ends_here.Statement.{statement}
 use Rattle.reassembly.proofs.ends_here.Tie as tie
 
-returns : tie.Need-returns
+returns : tie.Need-returns-then-left-eq0
 unfolding ends_at
-returns c = rw c.if1.true refl
+returns c = rw c.if-left-eq0.true refl
 
-returns-2 : tie.Need-returns-2
-returns-2 c = some_after c.before.args.plast c.before.args.left c.if1.false
+returns-2 : tie.Need-returns
+returns-2 c = some_after c.before.args.plast c.before.args.left c.if-left-eq0.false
 
-pub ends-here-spec : {M : Type 1} → statement M
-ends-here-spec = tie.close (tie.spec returns returns-2)
+pub ends_here_spec : {M : Type 1} → statement M
+ends_here_spec = tie.close (tie.spec returns returns-2)

@@ -4,14 +4,14 @@ use mathlib.Core.Path.{refl}
 use Rattle.reassembly.proofs.missed_before.Statement.{statement}
 use Rattle.reassembly.proofs.missed_before.Tie as tie
 
-returns : tie.Need-returns
-returns c = rw (eq-eqb c.before.before.args.t.delivered 0 (omega (arith, c.if1.true))) (refl, omega arith)
+returns : tie.Need-returns-then-t-eq0
+returns c = rw (eq-eqb c.before.before.args.t.delivered 0 (omega (arith, c.if-t-eq0.true))) (refl, omega arith)
 
-sub-result : tie.Need-overflow-sub-result
+sub-result : tie.Need-overflow_sub-result
 sub-result c = omega (arith, c.before.before.before.requires)
 
-returns-2 : tie.Need-returns-2
-returns-2 c = rw (ne_eqb c.before.before.before.args.t.delivered 0 (omega (arith, c.before.if1.false))) (refl, omega arith)
+returns-2 : tie.Need-returns
+returns-2 c = rw (ne_eqb c.before.before.before.args.t.delivered 0 (omega (arith, c.before.if-t-eq0.false))) (refl, omega arith)
 
-pub missed-before-spec : {M : Type 1} → statement M
-missed-before-spec = tie.close (tie.spec returns (λ c. omega arith) (λ c. omega arith) sub-result returns-2)
+pub missed_before_spec : {M : Type 1} → statement M
+missed_before_spec = tie.close (tie.spec returns (λ c. omega arith) (λ c. omega arith) sub-result returns-2)

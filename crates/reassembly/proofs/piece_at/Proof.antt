@@ -11,34 +11,34 @@ use borrow.Author.Rules.{rules}
 use Rattle.reassembly.proofs.piece_at.Statement.{statement}
 use Rattle.reassembly.proofs.piece_at.Tie as tie
 
-marked : (p : tie.Start) → Marked p.args.pdu.now p.args.t3 p.args.head.nop
+marked : (p : tie.Start) → Marked p.args.pdu.now p.args.marks p.args.head.nop
 marked p = p.requires.1.1.1.0.1
 
 -- the piece's bytes lie within the PDU
-within : (p : tie.Start) (l r : ℕ) → l ≡ get_or p.args.t3 p.args.k 0 → r ≡ get_or p.args.t3 (p.args.k + 1) 0 → (l + 1 ≤ r) × (r ≤ length p.args.pdu.now)
+within : (p : tie.Start) (l r : ℕ) → l ≡ get_or p.args.marks p.args.k 0 → r ≡ get_or p.args.marks (p.args.k + 1) 0 → (l + 1 ≤ r) × (r ≤ length p.args.pdu.now)
 within p l r e f =
     let more : p.args.k < p.args.head.nop = p.requires.1.1.1.0.0 in
     let up = (marked p).rising p.args.k more in
     let inside = (marked p).within p.args.k more in
     (omega (arith, up, e, f), omega (arith, inside, f))
 
-add_a : tie.Need-overflow-add-a
+add_a : tie.Need-overflow_add-a
 add_a c =
     let p = c.before.before.before.before in
     let more : p.args.k < p.args.head.nop = p.requires.1.1.1.0.0 in
-    omega (arith, (marked p).rising p.args.k more, (marked p).within p.args.k more, c.place.ensures.0)
+    omega (arith, (marked p).rising p.args.k more, (marked p).within p.args.k more, c.place-a.ensures.0)
 
-one-piece-requires : tie.Need-one-piece-requires
+one-piece-requires : tie.Need-one_piece-requires
 one-piece-requires c κs =
     let p = c.before.before.before.before.before.before.before.before.before.before.before in
     let a = p.args in
-    let m : List ℕ = a.t3 in
+    let m : List ℕ = a.marks in
     let more : a.k < a.head.nop = p.requires.1.1.1.0.0 in
     let w : Marked a.pdu.now m a.head.nop = p.requires.1.1.1.0.1 in
-    let l = c.before.before.before.before.before.before.before.place in
-    let r = c.before.before.before.before.before.before.place2 in
-    let n = c.before.before.before.before.before.piece-number in
-    let e = c.before.before.before.ends-here in
+    let l = c.before.before.before.before.before.before.before.place-a in
+    let r = c.before.before.before.before.before.before.place-e in
+    let n = c.before.before.before.before.before.piece_number-n in
+    let e = c.before.before.before.ends_here-ends in
     let same = piece_is a.pdu.now m a.k a.cause l.result r.result n.result (piece_number a.head.pfirst a.head.start a.k) a.continues e.result (ends_at a.head.plast (a.head.nop - (a.k + 1))) (partial_of a.run.held a.run.number a.carry.now) l.ensures.0 r.ensures.0 n.ensures e.ensures in
     let len = part_small a.pdu.now m a.head.nop a.k l.result r.result w more l.ensures.0 r.ensures.0 in
     (p.requires.0, (p.requires.1.0, (omega (arith, w.few), (omega (arith, len, p.requires.1.1.0), same-room a.run.at a.log.now (sym same) p.requires.1.1.1.1))))
@@ -47,23 +47,23 @@ returns : tie.Need-returns
 returns c =
     let p = c.before.before.before.before.before.before.before.before.before.before.before.before.before.before.before.before in
     let a = p.args in
-    let m : List ℕ = a.t3 in
-    let l = c.before.before.before.before.before.before.before.before.before.before.before.before.place in
-    let r = c.before.before.before.before.before.before.before.before.before.before.before.place2 in
-    let n = c.before.before.before.before.before.before.before.before.before.before.piece-number in
-    let e = c.before.before.before.before.before.before.before.before.ends-here in
+    let m : List ℕ = a.marks in
+    let l = c.before.before.before.before.before.before.before.before.before.before.before.before.place-a in
+    let r = c.before.before.before.before.before.before.before.before.before.before.before.place-e in
+    let n = c.before.before.before.before.before.before.before.before.before.before.piece_number-n in
+    let e = c.before.before.before.before.before.before.before.before.ends_here-ends in
     let same = piece_is a.pdu.now m a.k a.cause l.result r.result n.result (piece_number a.head.pfirst a.head.start a.k) a.continues e.result (ends_at a.head.plast (a.head.nop - (a.k + 1))) (partial_of a.run.held a.run.number a.carry.now) l.ensures.0 r.ensures.0 n.ensures e.ensures in
     same_outcome (sym same) c.before.before.before.before.one_piece.ensures
 
-pub piece-at-spec : {M : Type 1} → statement M
-piece-at-spec =
+pub piece_at_spec : {M : Type 1} → statement M
+piece_at_spec =
     tie.close (tie.spec (λ c. omega (arith, (marked c.before.before.before).few)) (λ c. omega (arith, (marked c.before.before.before).few))
     (λ c κs. search rules) add_a (λ c. omega (arith, (marked c.before.before.before.before).few))
     (λ c. omega (arith, (marked c.before.before.before.before).few)) (λ c. omega (arith, (marked c.before.before.before.before).few))
     (λ c κs. search rules) (λ c κs. omega (arith, (marked c.before.before.before.before.before).few))
     (λ c. omega (arith, (marked c.before.before.before.before.before.before).few))
     (λ c. omega (arith, c.before.before.before.before.before.before.before.requires.1.1.1.0.0)) (λ c κs. search rules)
-    (λ c. omega (arith, within c.before.before.before.before.before.before.before.before _ _ c.before.before.before.before.place.ensures.0 c.before.before.before.place2.ensures.0))
-    (λ c. omega (arith, within c.before.before.before.before.before.before.before.before _ _ c.before.before.before.before.place.ensures.0 c.before.before.before.place2.ensures.0))
-    (λ c. omega (arith, within c.before.before.before.before.before.before.before.before _ _ c.before.before.before.before.place.ensures.0 c.before.before.before.place2.ensures.0))
+    (λ c. omega (arith, within c.before.before.before.before.before.before.before.before _ _ c.before.before.before.before.place-a.ensures.0 c.before.before.before.place-e.ensures.0))
+    (λ c. omega (arith, within c.before.before.before.before.before.before.before.before _ _ c.before.before.before.before.place-a.ensures.0 c.before.before.before.place-e.ensures.0))
+    (λ c. omega (arith, within c.before.before.before.before.before.before.before.before _ _ c.before.before.before.before.place-a.ensures.0 c.before.before.before.place-e.ensures.0))
     one-piece-requires (λ c. search rules) (λ c. search rules) returns)
