@@ -7,7 +7,7 @@ use Rattle.parity_share.proofs.share_of_one.Tie as tie
 
 returns : tie.Need-returns
 unfolding share_table
-returns c = table-share c.args.place (omega arith) (omega arith)
+returns c = table-share c.before.before.args.place (omega arith) (omega arith)
 
-pub share-of-one-spec : {M : Type 1} → statement M
-share-of-one-spec = tie.close (tie.spec (λ c. search rules) (λ c. search rules) (λ c. search rules) returns)
+pub share_of_one_spec : {M : Type 1} → statement M
+share_of_one_spec = tie.close (tie.spec (λ c. search rules) (λ c. search rules) (λ c. search rules) returns)
