@@ -12,42 +12,42 @@ use Rattle.correction.proofs.correct_marked.Statement.{statement}
 use Rattle.correction.proofs.correct_marked.Tie as tie
 
 -- where the function begins
-abbrev begin : tie.After-header-of → tie.Start
-begin c = c.before.before.before.before.before.before.before.before
+abbrev begin : tie.After-header_of → tie.Start
+begin c = c.before.before.before.before.before.before.before
 
 -- every byte of the PDU is one
-bytes : (c : tie.After-header-of) → (i : ℕ) → get_or (begin c).args.pdu.now i 0 < 256
-bytes c i = (c.before.before.before.before.before.before.before.slice-known.given i).fits
+bytes : (c : tie.After-header_of) → (i : ℕ) → get_or (begin c).args.pdu.now i 0 < 256
+bytes c i = (c.before.before.before.before.before.before.slice_known-1.given i).fits
 
 -- the marks are not refused
-accepted : (c : tie.After-header-of) → marks_refusal (begin c).args.marks.now ≡ 0
-accepted c = sym c.before.before.before.marks-refusal.ensures ∙ c.before.before.if3.false
+accepted : (c : tie.After-header_of) → marks_refusal (begin c).args.marks.now ≡ 0
+accepted c = sym c.before.before.marks_refusal.ensures ∙ c.before.if-marks_refusal-ne0.false
 
-allowed : (c : tie.After-header-of) → (length (begin c).args.marks.now ≤ 8) × (allowed_marks (begin c).args.marks.now ≡ true)
+allowed : (c : tie.After-header_of) → (length (begin c).args.marks.now ≤ 8) × (allowed_marks (begin c).args.marks.now ≡ true)
 allowed c = allowed-marks _ (accepted c)
 
-returns : tie.Need-returns
+returns : tie.Need-returns-then-pdu-lt96
 returns c = length-refused _ _ (short-refused _ (omega arith))
 
-returns-2 : tie.Need-returns-2
+returns-2 : tie.Need-returns-then-pdu-gt20480
 returns-2 c = length-refused _ _ (long-refused _ (omega arith))
 
-returns-3 : tie.Need-returns-3
-returns-3 c = marks-refused _ _ (omega arith) (omega arith) (λ e. c.if3.true (c.before.marks-refusal.ensures ∙ e))
+returns-3 : tie.Need-returns-then-marks_refusal-ne0
+returns-3 c = marks-refused _ _ (omega arith) (omega arith) (λ e. c.if-marks_refusal-ne0.true (c.before.marks_refusal.ensures ∙ e))
 
-decode-requires : tie.Need-decode-requires
+decode-requires : tie.Need-decode-decoded-requires
 decode-requires c κs =
     let a = allowed c in
     (header-all-bytes (begin c).args.marks.now _ _ (omega arith) (omega arith) (bytes c) c.header_of.ensures, a)
 
-returns-4 : tie.Need-returns-4
+returns-4 : tie.Need-returns
 returns-4 c =
     let f = c.before.before in
     let e = f.before.before.before.before in
     let d = e.before in
-    pdu-answered (begin d).args.marks.now _ _ (omega arith) (omega arith) (bytes d) d.header_of.ensures _ _ _ (accepted d) (allowed d).0 e.decode.ensures f.put_front.ensures
+    pdu-answered (begin d).args.marks.now _ _ (omega arith) (omega arith) (bytes d) d.header_of.ensures _ _ _ (accepted d) (allowed d).0 e.decode-decoded.ensures f.put_front.ensures
 
-pub correct-marked-spec : {M : Type 1} → statement M
-correct-marked-spec =
+pub correct_marked_spec : {M : Type 1} → statement M
+correct_marked_spec =
     tie.close (tie.spec returns returns-2 (λ c κs. search rules) returns-3 (λ c κs. search rules) decode-requires (λ c. search rules) (λ c κs. search rules)
     (λ c. search rules) returns-4)

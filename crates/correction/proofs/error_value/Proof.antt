@@ -6,30 +6,30 @@ use Rattle.correction.proofs.Filtering.{Working, working-start, working-skip, wo
 use Rattle.correction.proofs.error_value.Statement.{statement}
 use Rattle.correction.proofs.error_value.Tie as tie
 
-abbrev invariant-loop : tie.invariant-loop
+abbrev invariant-loop : tie.invariant-loop-q
 invariant-loop powers logarithms m k z at t₀ f₀ q₀ t f q = (q ≤ m) × Working t₀ z k q t f
 
-abbrev decreases-loop : tie.decreases-loop
+abbrev decreases-loop : tie.decreases-loop-q
 decreases-loop powers logarithms m k z at t₀ f₀ q₀ t f q = m - q
 
-loop-holds : tie.Need-loop-init invariant-loop decreases-loop
+loop-holds : tie.Need-loop-q-init invariant-loop decreases-loop
 loop-holds c = (omega arith, working-start _ _ _)
 
-loop-again : tie.Need-loop-preserved invariant-loop decreases-loop
+loop-again : tie.Need-loop-q-preserved invariant-loop decreases-loop
 loop-again c = (
   omega arith,
   ⊎_elim
-      (λ w. rw (w.3, w.4) (working-next _ _ _ c.before.before.loop.q c.before.before.loop.t _ c.before.before.loop.f _ c.before.before.loop.invariant.1 w.0.taken w.1.ensures w.2.ensures))
-      (λ w. rw (w.1, w.2) (working-skip _ _ _ c.before.before.loop.q c.before.before.loop.t c.before.before.loop.f c.before.before.loop.invariant.1 w.0.left))
-      c.if1.branch,
+      (λ w. rw (w.3, w.4) (working-next _ _ _ c.before.before.loop-q.q c.before.before.loop-q.t _ c.before.before.loop-q.f _ c.before.before.loop-q.invariant.1 w.0.taken w.1.ensures w.2.ensures))
+      (λ w. rw (w.1, w.2) (working-skip _ _ _ c.before.before.loop-q.q c.before.before.loop-q.t c.before.before.loop-q.f c.before.before.loop-q.invariant.1 w.0.left))
+      c.if-q-k.branch,
 )
 
 returns : tie.Need-returns invariant-loop decreases-loop
-returns c = working-end c.before.before.before.before.args.s c.before.before.before.before.args.t4 c.before.before.before.before.args.k c.before.before.before.loop.q c.before.before.before.before.args.m c.before.before.before.loop.t c.before.before.before.loop.f _ c.before.inverse-by.result
-    (omega arith) (omega arith) (omega arith) c.before.before.before.loop.invariant.1 c.before.inverse-by.ensures c.product-by2.ensures
+returns c = working-end c.before.before.before.before.args.s c.before.before.before.before.args.z c.before.before.before.before.args.k c.before.before.before.loop-q.q c.before.before.before.before.args.m c.before.before.before.loop-q.t c.before.before.before.loop-q.f _ c.before.inverse_by-v.result
+    (omega arith) (omega arith) (omega arith) c.before.before.before.loop-q.invariant.1 c.before.inverse_by-v.ensures c.product_by.ensures
 
-pub error-value-spec : {M : Type 1} → statement M
-error-value-spec =
+pub error_value_spec : {M : Type 1} → statement M
+error_value_spec =
     tie.close (tie.spec invariant-loop decreases-loop
     (λ c. search rules) loop-holds (λ c. search rules) (λ c κs. search rules) (λ c κs. search rules) (λ c. search rules) (λ c. search rules) loop-again
     (λ c κs. search rules) (λ c. search rules) (λ c κs. search rules) returns)

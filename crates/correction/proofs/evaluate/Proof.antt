@@ -5,22 +5,22 @@ use Rattle.correction.proofs.Searching.{Evaluated, evaluate-start, evaluate-next
 use Rattle.correction.proofs.evaluate.Statement.{statement}
 use Rattle.correction.proofs.evaluate.Tie as tie
 
-abbrev invariant-loop : tie.invariant-loop
+abbrev invariant-loop : tie.invariant-loop-i
 invariant-loop powers logarithms degree x coefficients v₀ i₀ v i = (i ≤ 4) × Evaluated coefficients degree x i v
 
-abbrev decreases-loop : tie.decreases-loop
+abbrev decreases-loop : tie.decreases-loop-i
 decreases-loop powers logarithms degree x coefficients v₀ i₀ v i = i
 
-loop-holds : tie.Need-loop-init invariant-loop decreases-loop
+loop-holds : tie.Need-loop-i-init invariant-loop decreases-loop
 loop-holds c = (omega arith, evaluate-start _ _ _)
 
-loop-again : tie.Need-loop-preserved invariant-loop decreases-loop
-loop-again c = (omega arith, evaluate-next _ _ _ c.before.before.loop.i c.before.before.loop.v _ (omega arith) c.before.before.loop.invariant.1 c.product-by.ensures)
+loop-again : tie.Need-loop-i-preserved invariant-loop decreases-loop
+loop-again c = (omega arith, evaluate-next _ _ _ c.before.before.loop-i.i c.before.before.loop-i.v _ (omega arith) c.before.before.loop-i.invariant.1 c.product_by.ensures)
 
 returns : tie.Need-returns invariant-loop decreases-loop
-returns c = evaluate-end _ _ _ c.before.loop.i c.before.loop.v (omega arith) c.before.loop.invariant.1
+returns c = evaluate-end _ _ _ c.before.loop-i.i c.before.loop-i.v (omega arith) c.before.loop-i.invariant.1
 
-pub evaluate-spec : {M : Type 1} → statement M
-evaluate-spec =
+pub evaluate_spec : {M : Type 1} → statement M
+evaluate_spec =
     tie.close (tie.spec invariant-loop decreases-loop
     loop-holds (λ c. search rules) (λ c. search rules) (λ c κs. search rules) (λ c. search rules) loop-again returns)

@@ -8,25 +8,25 @@ use Rattle.correction.proofs.MarkLists.{marked-here, marked-past, marked-end}
 use Rattle.correction.proofs.is_marked.Statement.{statement}
 use Rattle.correction.proofs.is_marked.Tie as tie
 
-abbrev invariant-loop : tie.invariant-loop
+abbrev invariant-loop : tie.invariant-loop-k
 invariant-loop marks i k₀ k = (k ≤ length marks) × (is_marked marks i ≡ is_marked (drop k marks) i)
 
-abbrev decreases-loop : tie.decreases-loop
+abbrev decreases-loop : tie.decreases-loop-k
 decreases-loop marks i k₀ k = length marks - k
 
-loop-holds : tie.Need-loop-init invariant-loop decreases-loop
+loop-holds : tie.Need-loop-k-init invariant-loop decreases-loop
 loop-holds c = (omega arith, refl)
 
-returns : tie.Need-returns invariant-loop decreases-loop
-returns c = marked-here _ _ c.before.before.before.before.loop.k (omega arith) c.before.before.before.before.loop.invariant.1 (sym c.before.place.ensures ∙ c.if1.true)
+returns : tie.Need-returns-then-place-i invariant-loop decreases-loop
+returns c = marked-here _ _ c.before.before.before.before.loop-k.k (omega arith) c.before.before.before.before.loop-k.invariant.1 (sym c.before.place.ensures ∙ c.if-place-i.true)
 
-loop-again : tie.Need-loop-preserved invariant-loop decreases-loop
-loop-again c = (omega arith, marked-past _ _ c.before.before.before.before.loop.k (omega arith) c.before.before.before.before.loop.invariant.1 (λ e. c.if1.false (c.before.place.ensures ∙ e)))
+loop-again : tie.Need-loop-k-preserved invariant-loop decreases-loop
+loop-again c = (omega arith, marked-past _ _ c.before.before.before.before.loop-k.k (omega arith) c.before.before.before.before.loop-k.invariant.1 (λ e. c.if-place-i.false (c.before.place.ensures ∙ e)))
 
-returns-2 : tie.Need-returns-2 invariant-loop decreases-loop
-returns-2 c = marked-end _ _ c.before.loop.k (omega arith) c.before.loop.invariant.1
+returns-2 : tie.Need-returns invariant-loop decreases-loop
+returns-2 c = marked-end _ _ c.before.loop-k.k (omega arith) c.before.loop-k.invariant.1
 
-pub is-marked-spec : {M : Type 1} → statement M
-is-marked-spec =
+pub is_marked_spec : {M : Type 1} → statement M
+is_marked_spec =
     tie.close (tie.spec invariant-loop decreases-loop
     loop-holds (λ c. search rules) (λ c κs. search rules) returns (λ c. search rules) (λ c. search rules) loop-again returns-2)

@@ -9,45 +9,45 @@ use Rattle.correction.proofs.MarkLists.{marks-from, many-refused, over-refused, 
 use Rattle.correction.proofs.marks_refusal.Statement.{statement}
 use Rattle.correction.proofs.marks_refusal.Tie as tie
 
-abbrev invariant-loop : tie.invariant-loop
+abbrev invariant-loop : tie.invariant-loop-k
 invariant-loop marks k₀ k = (k ≤ length marks) × (allowed_marks marks ≡ allowed_marks (drop k marks))
 
-abbrev decreases-loop : tie.decreases-loop
+abbrev decreases-loop : tie.decreases-loop-k
 decreases-loop marks k₀ k = length marks - k
 
-returns : tie.Need-returns invariant-loop decreases-loop
-returns c = many-refused _ (omega (arith, c.if1.true))
+returns : tie.Need-returns-then-marks-gt8 invariant-loop decreases-loop
+returns c = many-refused _ (omega (arith, c.if-marks-gt8.true))
 
-loop-holds : tie.Need-loop-init invariant-loop decreases-loop
+loop-holds : tie.Need-loop-k-init invariant-loop decreases-loop
 loop-holds c = (omega arith, refl)
 
-returns-2 : tie.Need-returns-2 invariant-loop decreases-loop
+returns-2 : tie.Need-returns-then-at-gt95 invariant-loop decreases-loop
 returns-2 c =
     let l = c.before.before.before.before in
-    over-refused l.before.before.before.args.marks.now l.loop.k (omega arith) l.loop.invariant.1 (omega arith) (omega (arith, c.before.place.ensures, c.if2.true))
+    over-refused l.before.before.before.args.marks.now l.loop-k.k (omega arith) l.loop-k.invariant.1 (omega arith) (omega (arith, c.before.place-at.ensures, c.if-at-gt95.true))
 
-returns-3 : tie.Need-returns-3 invariant-loop decreases-loop
+returns-3 : tie.Need-returns-then-is_marked invariant-loop decreases-loop
 returns-3 c =
     let p = c.before.before.before.before in
     let l = p.before.before.before in
-    repeated-refused l.before.before.before.args.marks.now l.loop.k (omega arith) l.loop.invariant.1 (omega arith)
-    (sym c.if3.true ∙ c.before.is-marked.ensures ∙ ap (λ (ms : List ℕ). is_marked ms p.place.result) (marks-from l.before.before.before.args.marks.now (l.loop.k + 1)) ∙ ap (is_marked (drop (l.loop.k + 1) l.before.before.before.args.marks.now)) p.place.ensures)
+    repeated-refused l.before.before.before.args.marks.now l.loop-k.k (omega arith) l.loop-k.invariant.1 (omega arith)
+    (sym c.if-is_marked.true ∙ c.before.is_marked.ensures ∙ ap (λ (ms : List ℕ). is_marked ms p.place-at.result) (marks-from l.before.before.before.args.marks.now (l.loop-k.k + 1)) ∙ ap (is_marked (drop (l.loop-k.k + 1) l.before.before.before.args.marks.now)) p.place-at.ensures)
 
-loop-again : tie.Need-loop-preserved invariant-loop decreases-loop
+loop-again : tie.Need-loop-k-preserved invariant-loop decreases-loop
 loop-again c =
     let p = c.before.before.before.before in
     let l = p.before.before.before in (
       omega arith,
-      allowed-past l.before.before.before.args.marks.now l.loop.k (omega arith) l.loop.invariant.1 (omega arith)
-          (omega (arith, p.place.ensures, c.before.before.before.if2.false))
-          (sym c.if3.false ∙ c.before.is-marked.ensures ∙ ap (λ (ms : List ℕ). is_marked ms p.place.result) (marks-from l.before.before.before.args.marks.now (l.loop.k + 1)) ∙ ap (is_marked (drop (l.loop.k + 1) l.before.before.before.args.marks.now)) p.place.ensures),
+      allowed-past l.before.before.before.args.marks.now l.loop-k.k (omega arith) l.loop-k.invariant.1 (omega arith)
+          (omega (arith, p.place-at.ensures, c.before.before.before.if-at-gt95.false))
+          (sym c.if-is_marked.false ∙ c.before.is_marked.ensures ∙ ap (λ (ms : List ℕ). is_marked ms p.place-at.result) (marks-from l.before.before.before.args.marks.now (l.loop-k.k + 1)) ∙ ap (is_marked (drop (l.loop-k.k + 1) l.before.before.before.args.marks.now)) p.place-at.ensures),
     )
 
-returns-4 : tie.Need-returns-4 invariant-loop decreases-loop
-returns-4 c = marks-taken _ c.before.loop.k (omega arith) c.before.loop.invariant.1 (omega arith)
+returns-4 : tie.Need-returns invariant-loop decreases-loop
+returns-4 c = marks-taken _ c.before.loop-k.k (omega arith) c.before.loop-k.invariant.1 (omega arith)
 
-pub marks-refusal-spec : {M : Type 1} → statement M
-marks-refusal-spec =
+pub marks_refusal_spec : {M : Type 1} → statement M
+marks_refusal_spec =
     tie.close (tie.spec invariant-loop decreases-loop
     returns loop-holds (λ c. search rules) (λ c κs. search rules) returns-2 (λ c. search rules) (λ c. search rules) (λ c. search rules) (λ c. search rules)
     (λ c κs. search rules) returns-3 (λ c. search rules) loop-again returns-4)
