@@ -6,14 +6,14 @@ use borrow.Author.Rules.{rules}
 use Rattle.latency.proofs.counts_refused.Statement.{statement}
 use Rattle.latency.proofs.counts_refused.Tie as tie
 
-returns : tie.Need-returns
-returns c = refused_none c.before.before.args.counts.now c.if1.true
+returns : tie.Need-returns-then-counts-eq0
+returns c = refused_none c.before.before.args.counts.now c.if-counts-eq0.true
 
-returns-2 : tie.Need-returns-2
-returns-2 c = refused-many c.before.before.before.args.counts.now c.before.if1.false (omega arith)
+returns-2 : tie.Need-returns-then-counts-gt4096
+returns-2 c = refused-many c.before.before.before.args.counts.now c.before.if-counts-eq0.false (omega arith)
 
-returns-3 : tie.Need-returns-3
-returns-3 c = c.over-most.ensures ∙ refused_over c.before.before.before.before.args.counts.now c.before.before.if1.false (omega arith)
+returns-3 : tie.Need-returns
+returns-3 c = c.over_most.ensures ∙ refused_over c.before.before.before.before.args.counts.now c.before.before.if-counts-eq0.false (omega arith)
 
-pub counts-refused-spec : {M : Type 1} → statement M
-counts-refused-spec = tie.close (tie.spec returns returns-2 (λ c κs. search rules) returns-3)
+pub counts_refused_spec : {M : Type 1} → statement M
+counts_refused_spec = tie.close (tie.spec returns returns-2 (λ c κs. search rules) returns-3)

@@ -8,7 +8,7 @@ use Rattle.latency.proofs.runs_dry.Tie as tie
 
 returns : tie.Need-returns
 unfolding runs_dry
-returns c = ap (λ (q : Tally). ltb 0 q.dry) c.before.run.ensures
+returns c = ap (λ (q : Tally). ltb 0 q.dry) c.before.run-q.ensures
 
-pub runs-dry-spec : {M : Type 1} → statement M
-runs-dry-spec = tie.close (tie.spec (λ c κs. search rules) returns)
+pub runs_dry_spec : {M : Type 1} → statement M
+runs_dry_spec = tie.close (tie.spec (λ c κs. search rules) returns)

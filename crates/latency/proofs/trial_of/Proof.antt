@@ -7,35 +7,35 @@ use Rattle.latency.proofs.Turns.{told-small}
 use Rattle.latency.proofs.trial_of.Statement.{statement}
 use Rattle.latency.proofs.trial_of.Tie as tie
 
-mul-t6 : tie.Need-overflow-mul-t6
+mul-t6 : tie.Need-overflow_mul-result
 mul-t6 c =
     let s = c.before.before in
     omega (arith, ticks-most s.args.n s.args.counts.now s.requires)
 
-cast-t7 : tie.Need-overflow-cast-t7
+cast-t7 : tie.Need-overflow_cast-result
 cast-t7 c =
     let s = c.before.before in
     omega (arith, ticks-most s.args.n s.args.counts.now s.requires)
 
-cast-t8 : tie.Need-overflow-cast-t8
+cast-t8 : tie.Need-overflow_cast-result-2
 cast-t8 c =
     let s = c.before.before.before in
-    omega (arith, (told-small s.args.n s.args.counts.now s.requires s.args.v c.before.run.result c.before.run.ensures).0)
+    omega (arith, (told-small s.args.n s.args.counts.now s.requires s.args.v c.before.run-q.result c.before.run-q.ensures).0)
 
-cast-t9 : tie.Need-overflow-cast-t9
+cast-t9 : tie.Need-overflow_cast-result-3
 cast-t9 c =
     let s = c.before.before.before.before in
-    omega (arith, (told-small s.args.n s.args.counts.now s.requires s.args.v c.before.before.run.result c.before.before.run.ensures).1)
+    omega (arith, (told-small s.args.n s.args.counts.now s.requires s.args.v c.before.before.run-q.result c.before.before.run-q.ensures).1)
 
-cast-t10 : tie.Need-overflow-cast-t10
+cast-t10 : tie.Need-overflow_cast-result-4
 cast-t10 c =
     let s = c.before.before.before.before.before in
-    omega (arith, (told-small s.args.n s.args.counts.now s.requires s.args.v c.before.before.before.run.result c.before.before.before.run.ensures).2)
+    omega (arith, (told-small s.args.n s.args.counts.now s.requires s.args.v c.before.before.before.run-q.result c.before.before.before.run-q.ensures).2)
 
 returns : tie.Need-returns
 returns c =
     let s = c.before.before.before.before.before in
-    ap (trial_with (ticks s.args.n s.args.counts.now)) c.before.before.before.run.ensures
+    ap (trial_with (ticks s.args.n s.args.counts.now)) c.before.before.before.run-q.ensures
 
-pub trial-of-spec : {M : Type 1} → statement M
-trial-of-spec = tie.close (tie.spec (λ c κs. search rules) mul-t6 cast-t7 cast-t8 cast-t9 cast-t10 returns)
+pub trial_of_spec : {M : Type 1} → statement M
+trial_of_spec = tie.close (tie.spec (λ c κs. search rules) mul-t6 cast-t7 cast-t8 cast-t9 cast-t10 returns)
