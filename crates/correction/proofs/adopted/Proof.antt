@@ -27,7 +27,7 @@ inside c =
     (all_get_d (λ k. k < 96) l.before.before.before.args.marks.now (allowed-inside l.before.before.before.args.marks.now l.before.before.before.requires) l.loop-k.k (omega arith))
 
 element-copy-out-out : tie.Need-bounds-other-at invariant-loop decreases-loop
-element-copy-out-out c = inside c
+element-copy-out-out c = inside c.before
 
 array-write-out : tie.Need-bounds-out-at invariant-loop decreases-loop
 array-write-out c = inside c.before.before

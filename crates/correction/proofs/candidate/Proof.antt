@@ -28,9 +28,9 @@ inside : (c : tie.After-eliminate-locator) → All (λ k. k < 96) (start c).args
 inside c = allowed-inside (start c).args.marks.now (start c).requires.1.1.1.0
 
 -- what the elimination of the system found
-solution : (c : tie.After-eliminate-locator) → Solved (system_of (filtering c).stripped.result (spare (start c).args.marks.now)) c.eliminate-locator.result.degree c.eliminate-locator.result.coefficients
+solution : (c : tie.After-eliminate-locator) → Solved (system_of (filtering c).stripped-t.result (spare (start c).args.marks.now)) c.eliminate-locator.result.degree c.eliminate-locator.result.coefficients
 solution c =
-    let t = (filtering c).stripped.result in
+    let t = (filtering c).stripped-t.result in
     let h = c.before.before.before.spare-h in
     subst (λ (m : List (List ℕ)). Solved m c.eliminate-locator.result.degree c.eliminate-locator.result.coefficients)
     (ap₂ beside c.before.before.system.ensures c.before.right_side.ensures ∙ system-back t h.result ∙ ap (system_of t) h.ensures) c.eliminate-locator.ensures
@@ -39,7 +39,7 @@ error-places-requires : tie.Need-error_places-found-requires
 error-places-requires c κs =
     let e = c.before in (
       (solution e).small,
-      (few-places _ _ _ _ _ _ (few e) (inside e) (long e) (start e).requires.0 (start e).requires.1.0 (filtering e).stripped.ensures (solution e), (start e).requires.1.1.1.1),
+      (few-places _ _ _ _ _ _ (few e) (inside e) (long e) (start e).requires.0 (start e).requires.1.0 (filtering e).stripped-t.ensures (solution e), (start e).requires.1.1.1.1),
     )
 
 repaired-requires : tie.Need-repaired-requires
@@ -47,14 +47,14 @@ repaired-requires c κs =
     let p = c.before in
     let e = p.before.before in (
       p.error_places-found.ensures.few,
-      (distinct-places _ _ _ _ _ _ (few e) (inside e) (long e) (start e).requires.0 (start e).requires.1.0 (filtering e).stripped.ensures (solution e) _ _ p.error_places-found.ensures, (start e).requires.1.1.1.1),
+      (distinct-places _ _ _ _ _ _ (few e) (inside e) (long e) (start e).requires.0 (start e).requires.1.0 (filtering e).stripped-t.ensures (solution e) _ _ p.error_places-found.ensures, (start e).requires.1.1.1.1),
     )
 
 returns : tie.Need-returns
 returns c =
     let p = c.before.before in
     let e = p.before.before in
-    candidate-word _ _ _ _ _ _ (few e) (inside e) (long e) (start e).requires.0 (start e).requires.1.0 (filtering e).stripped.ensures (solution e) _ _ p.error_places-found.ensures _ c.repaired.ensures
+    candidate-word _ _ _ _ _ _ (few e) (inside e) (long e) (start e).requires.0 (start e).requires.1.0 (filtering e).stripped-t.ensures (solution e) _ _ p.error_places-found.ensures _ c.repaired.ensures
 
 pub candidate_spec : {M : Type 1} → statement M
 candidate_spec =

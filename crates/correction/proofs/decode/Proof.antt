@@ -23,7 +23,7 @@ unfolding is_code_word
 returns c =
     let s = c.before.before in
     let b = begin s in
-    answer-clean _ _ b.pre.1.0 (omega arith) b.pre.0 (ap all_zero (sym s.syndromes_by-s.ensures) ∙ sym c.before.all_zero.ensures ∙ c.if-all_zero.true)
+    answer-clean _ _ b.requires.1.0 (omega arith) b.requires.0 (ap all_zero (sym s.syndromes_by-s.ensures) ∙ sym c.before.all_zero.ensures ∙ c.if-all_zero.true)
 
 candidate-requires : tie.Need-candidate-fixed-requires
 candidate-requires c κs =

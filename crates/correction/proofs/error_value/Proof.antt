@@ -19,9 +19,9 @@ loop-again : tie.Need-loop-q-preserved invariant-loop decreases-loop
 loop-again c = (
   omega arith,
   ⊎_elim
-      (λ w. rw (w.3, w.4) (working-next _ _ _ c.before.before.loop-q.q c.before.before.loop-q.t _ c.before.before.loop-q.f _ c.before.before.loop-q.invariant.1 w.0.taken w.1.ensures w.2.ensures))
-      (λ w. rw (w.1, w.2) (working-skip _ _ _ c.before.before.loop-q.q c.before.before.loop-q.t c.before.before.loop-q.f c.before.before.loop-q.invariant.1 w.0.left))
-      c.if-q-k.branch,
+      (λ w. rw (w.t-is, w.f-is) (working-next _ _ _ c.before.before.loop-q.q c.before.before.loop-q.t _ c.before.before.loop-q.f _ c.before.before.loop-q.invariant.1 w.if-q-k.true w.filtered-next.ensures w.product_by-f.ensures))
+      (λ w. rw (w.t-is, w.f-is) (working-skip _ _ _ c.before.before.loop-q.q c.before.before.loop-q.t c.before.before.loop-q.f c.before.before.loop-q.invariant.1 w.if-q-k.false))
+      c.if-q-k.branch-raw,
 )
 
 returns : tie.Need-returns invariant-loop decreases-loop
