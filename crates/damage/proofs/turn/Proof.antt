@@ -3,7 +3,7 @@ use Rattle.damage.proofs.Altered.{passed, altered}
 use Rattle.damage.proofs.turn.Statement.{statement}
 use Rattle.damage.proofs.turn.Tie as tie
 
-returns : tie.Need-returns
+returns : tie.Need-returns-then-left-below
 returns c = passed _ _ _ _ (omega arith)
 
 returns-2 : tie.Need-returns
