@@ -27,7 +27,7 @@ returns c =
     let room : 14 + locator_size a.width (length a.locators.now) + length a.expansion.now + length a.psd.now ≤ n = c.before.before.before.before.before.before.before.before.before.before.before.before.before.before.before.before.before.before.before.before.before.before.before.before.before.before.requires.0 in
     let e0 : c.before.before.before.before.before.before.before.before.before.before.before.before.before.before.before.before.before.before.before.clear.new.dst ≡ z = c.before.before.before.before.before.before.before.before.before.before.before.before.before.before.before.before.before.before.before.clear.ensures in
     let e1 : c.before.before.before.before.before.before.before.before.before.before.before.before.before.before.put_bytes.new.dst ≡ put_at z 8 a.control = c.before.before.before.before.before.before.before.before.before.before.before.before.before.before.put_bytes.ensures ∙ ap (λ (r : List ℕ). put_at r 8 a.control) e0 in
-    four-puts z c.before.before.before.before.before.before.before.before.before.before.before.before.before.before.put_bytes.new.dst c.before.before.before.before.before.before.before.before.before.before.put_locators.new.pdu.0 c.before.before.before.before.before.before.put_bytes-2.new.dst c.before.before.put_bytes-3.new.dst a.control (locator_bytes a.width a.locators.now) a.expansion.now a.psd.now 14 (14 + c.before.before.before.before.before.before.before.before.before.before.before.before.before.before.before.before.before.before.before.before.before.locator_size-at.result) (14 + c.before.before.before.before.before.before.before.before.before.before.before.before.before.before.before.before.before.before.before.before.before.locator_size-at.result + length a.expansion.now) (omega (arith, lz, ll, six, room)) (omega (arith, six)) (omega (arith, s, ll)) refl e1 c.before.before.before.before.before.before.before.before.before.before.put_locators.ensures c.before.before.before.before.before.before.put_bytes-2.ensures c.before.before.put_bytes-3.ensures
+    four-puts z c.before.before.before.before.before.before.before.before.before.before.before.before.before.before.put_bytes.new.dst c.before.before.before.before.before.before.before.before.before.before.put_locators.new.pdu c.before.before.before.before.before.before.put_bytes-2.new.dst c.before.before.put_bytes-3.new.dst a.control (locator_bytes a.width a.locators.now) a.expansion.now a.psd.now 14 (14 + c.before.before.before.before.before.before.before.before.before.before.before.before.before.before.before.before.before.before.before.before.before.locator_size-at.result) (14 + c.before.before.before.before.before.before.before.before.before.before.before.before.before.before.before.before.before.before.before.before.before.locator_size-at.result + length a.expansion.now) (omega (arith, lz, ll, six, room)) (omega (arith, six)) (omega (arith, s, ll)) refl e1 c.before.before.before.before.before.before.before.before.before.before.put_locators.ensures c.before.before.before.before.before.before.put_bytes-2.ensures c.before.before.put_bytes-3.ensures
 
 pub put_front_spec : {M : Type 1} → statement M
 put_front_spec =

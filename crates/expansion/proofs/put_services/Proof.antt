@@ -5,14 +5,14 @@ use mathlib.Core.List.{[], ◌∷◌}
 use borrow.Author.Rules.{rules}
 use Prim.Native.Nat.{◌%◌, ◌/◌}
 use Rattle.expansion.specs.Expansion.{services}
-use Rattle.expansion.proofs.Putting.{so_far, full, one, further, not-put, all-put}
+use Rattle.expansion.proofs.Putting.{so_far, one, further, not-put, all-put}
 use Rattle.expansion.proofs.put_services.Statement.{statement}
 use Rattle.expansion.proofs.put_services.Tie as tie
 
 returns : tie.Need-returns-then-not-x
 returns c =
     let a = c.before.before.args in
-    (not-put a.x.serviced (services a.x.services a.x.marker) (so_far a.l) c.if-not-x.true, (omega arith, full a.l.bytes 16 c.before.before.well_formed.0.1.1.0.1.0.1))
+    (not-put a.x.serviced (services a.x.services a.x.marker) (so_far a.l) c.if-not-x.true, (omega arith, c.before.before.well_formed.0.1.1.0.1.0.1))
 
 returns-2 : tie.Need-returns
 returns-2 c =
