@@ -6,7 +6,7 @@ use Rattle.settings.proofs.fields_for.Tie as tie
 
 returns : tie.Need-returns
 unfolding fields_for
-returns c = rw c.before.before.before.before.program-of.ensures
+returns c = rw c.before.before.before.before.program_of-program.ensures
 
-pub fields-for-spec : {M : Type 1} → statement M
-fields-for-spec = tie.close (tie.spec (λ c κs. search rules) (λ c. search rules) returns)
+pub fields_for_spec : {M : Type 1} → statement M
+fields_for_spec = tie.close (tie.spec (λ c κs. search rules) (λ c. search rules) returns)
