@@ -10,5 +10,5 @@ pub put_spec : {M : Type 1} → statement M
 put_spec =
     tie.close (tie.spec (λ out₀ form log n₀ kind₀ i₀ out n kind i. (IsPrefixLen n out) × (length out ≡ length out₀) × (i ≤ length log))
     (λ out₀ form log n₀ kind₀ i₀ out n kind i. length log - i)
-    (λ c. search rules) (λ c κs. search rules) (λ c. search rules) (λ c. search rules) (λ c. search rules) (λ c κs. search rules) (λ c κs. search rules)
-    (λ c κs. search rules) (λ c. search rules) (λ c. search rules) (λ c. search rules) (λ c. search rules) (λ c. search rules))
+    (λ c. search rules) (λ c. search rules) (λ c. search rules) (λ c. search rules) (λ c. search rules) (λ c κs. search rules) (λ c κs. search rules)
+    (λ c. search rules) (λ c. search rules) (λ c. search rules) (λ c. search rules) (λ c. search rules) (λ c. search rules))
