@@ -13,10 +13,10 @@ returns c =
     let f = l.before in
     let x = f.before.before in
     let a = x.before.before.args in
-    accepted-parts a.width a.c a.y.now _ _ _ _ _ _ _ _ x.expansion-of.ensures.2 f.answered-fields.ensures
-    l.after-locators.ensures.0 x.expansion-of.ensures.0 refl q.psd-part.ensures.0 q.psd-part.ensures.1 s.piece-spans.ensures.0 s.piece-spans.ensures.1
+    accepted-parts a.width a.c a.y.now _ _ _ _ _ _ _ _ x.expansion_of-x.ensures.2 f.answered_fields-fields.ensures
+    l.after_locators.ensures.0 x.expansion_of-x.ensures.0 refl q.psd_part-psd.ensures.0 q.psd_part-psd.ensures.1 s.piece_spans-spans.ensures.0 s.piece_spans-spans.ensures.1
 
-pub accepted-reading-spec : {M : Type 1} → statement M
-accepted-reading-spec =
+pub accepted_reading_spec : {M : Type 1} → statement M
+accepted_reading_spec =
     tie.close (tie.spec (λ c κs. search rules) (λ c κs. search rules) (λ c κs. search rules) (λ c. search rules) (λ c. search rules) (λ c κs. search rules)
     (λ c κs. search rules) returns)

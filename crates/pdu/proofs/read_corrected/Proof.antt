@@ -20,29 +20,29 @@ listed_here y c l x ec el ex = ap (λ (w : ControlWord). listing w.mode w.stream
 same_word : (y : List ℕ) (c : ControlWord) (m : Mode) (r : Reading) → c ≡ control_at y → r ≡ listed_reading m c y → r ≡ listed_reading m (control_at y) y
 same_word y c m r e q = q ∙ ap (λ (w : ControlWord). listed_reading m w y) e
 
-read-listed-requires : tie.Need-read-listed-requires
+read-listed-requires : tie.Need-read_listed-requires
 read-listed-requires c κs =
     let w = c.before.before.before.before in
-    let y : List ℕ = w.before.before.args.y.now in
-    subst (λ (x : ControlWord). x.nop < 64) (sym w.control-word.ensures) (nop-small y)
+    let y : List ℕ = w.args.y.now in
+    subst (λ (x : ControlWord). x.nop < 64) (sym c.before.before.control_word-c.ensures) (nop-small y)
 
-returns : tie.Need-returns
+returns : tie.Need-returns-in-Listed
 returns c =
     let g = c.before.before in
     let l = g.before.before in
     let w = l.before in
-    let y : List ℕ = w.before.before.args.y.now in
-    judged-listed y _ _ (listed_here y _ _ _ w.control-word.ensures l.look_up.ensures g.listing.given.1) (same_word y _ _ _ w.control-word.ensures c.read-listed.ensures)
+    let y : List ℕ = w.args.y.now in
+    judged-listed y _ _ (listed_here y _ _ _ c.before.before.before.control_word-c.ensures c.before.before.look_up-listing.ensures c.before.in-Listed.is) (same_word y _ _ _ c.before.before.before.control_word-c.ensures c.read_listed.ensures)
 
-returns-2 : tie.Need-returns-2
+returns-2 : tie.Need-returns-in-Refused
 returns-2 c =
     let g = c.before.before in
     let l = g.before.before in
     let w = l.before in
-    let y : List ℕ = w.before.before.args.y.now in
-    judged-refused y _ _ (listed_here y _ _ _ w.control-word.ensures l.look_up.ensures g.listing2.given.1) c.refused-reading.ensures
+    let y : List ℕ = w.args.y.now in
+    judged-refused y _ _ (listed_here y _ _ _ c.before.before.before.control_word-c.ensures c.before.before.look_up-listing.ensures c.before.in-Refused.is) c.refused_reading.ensures
 
-pub read-corrected-spec : {M : Type 1} → statement M
-read-corrected-spec =
+pub read_corrected_spec : {M : Type 1} → statement M
+read_corrected_spec =
     tie.close (tie.spec (λ c κs. search rules) (λ c κs. search rules) (λ c. search rules) read-listed-requires (λ c. search rules) (λ c κs. search rules)
     returns returns-2)

@@ -5,7 +5,7 @@ use Rattle.pdu.proofs.refused_reading.Statement.{statement}
 use Rattle.pdu.proofs.refused_reading.Tie as tie
 
 returns : tie.Need-returns
-returns c = refused-parts _ _ _ _ _ c.no-control.ensures c.before.before.nothing.ensures c.before.answered-fields.ensures
+returns c = refused-parts _ _ _ _ _ c.no_control-control.ensures c.before.before.nothing-none.ensures c.before.answered_fields-fields.ensures
 
-pub refused-reading-spec : {M : Type 1} → statement M
-refused-reading-spec = tie.close (tie.spec (λ c κs. search rules) (λ c κs. search rules) (λ c κs. search rules) returns)
+pub refused_reading_spec : {M : Type 1} → statement M
+refused_reading_spec = tie.close (tie.spec (λ c κs. search rules) (λ c κs. search rules) (λ c κs. search rules) returns)
