@@ -12,7 +12,7 @@ returns c =
     let g = f.before.before.before in
     let k = g.before.before.before.before in
     let h = k.before.before in
-    taken _ _ _ _ _ _ (λ i. (h.slice_known-1.given i).fits) (sym c.before.before.before.before.before.before.before.before.correct-answer.ensures.0 ∙ c.in-Corrected.is) c.before.before.before.before.before.before.before.before.before.before.header_of-before.ensures c.before.before.before.before.before.before.before.before.correct-answer.ensures.1
+    taken _ _ _ _ _ _ (λ i. (h.slice_known-1.given i).fits) (sym c.before.before.before.before.before.before.before.before.correct-answer.ensures.0 ∙ c.before.before.before.before.before.in-Corrected.is) c.before.before.before.before.before.before.before.before.before.before.header_of-before.ensures c.before.before.before.before.before.before.before.before.correct-answer.ensures.1
     f.read_or_restore.ensures.0 f.read_or_restore.ensures.1
 
 returns-2 : tie.Need-returns-in-Refused
