@@ -7,11 +7,11 @@ use Prim.Native.Nat.{◌-◌}
 use Rattle.writer.proofs.sent_before.Statement.{statement}
 use Rattle.writer.proofs.sent_before.Tie as tie
 
-returns : tie.Need-returns
-returns c = let t : eqb c.before.args.ended 0 ≡ true = eq-eqb c.before.args.ended 0 c.if1.true in (rw t, omega arith)
+returns : tie.Need-returns-then-ended-eq0
+returns c = let t : eqb c.before.args.ended 0 ≡ true = eq-eqb c.before.args.ended 0 c.if-ended-eq0.true in (rw t, omega arith)
 
-returns-2 : tie.Need-returns-2
-returns-2 c = let t : eqb c.before.args.ended 0 ≡ false = ne_eqb c.before.args.ended 0 c.if1.false in (rw t, omega arith)
+returns-2 : tie.Need-returns
+returns-2 c = let t : eqb c.before.args.ended 0 ≡ false = ne_eqb c.before.args.ended 0 c.if-ended-eq0.false in (rw t, omega arith)
 
-pub sent-before-spec : {M : Type 1} → statement M
-sent-before-spec = tie.close (tie.spec returns returns-2)
+pub sent_before_spec : {M : Type 1} → statement M
+sent_before_spec = tie.close (tie.spec returns returns-2)

@@ -7,42 +7,42 @@ use lib.ListN.{length, drop, get_or}
 use Rattle.writer.proofs.wrong_lengths.Statement.{statement}
 use Rattle.writer.proofs.wrong_lengths.Tie as tie
 
-abbrev invariant-loop : tie.invariant-loop
+abbrev invariant-loop : tie.invariant-loop-k
 invariant-loop lengths count left₀ k₀ left k = wrongly (drop k lengths) left ≡ wrongly lengths count
 
-abbrev decreases-loop : tie.decreases-loop
+abbrev decreases-loop : tie.decreases-loop-k
 decreases-loop lengths count left₀ k₀ left k = length lengths - k
 
-loop-holds : tie.Need-loop-init invariant-loop decreases-loop
+loop-holds : tie.Need-loop-k-init invariant-loop decreases-loop
 loop-holds c = refl
 
-returns : tie.Need-returns invariant-loop decreases-loop
+returns : tie.Need-returns-then-n-left invariant-loop decreases-loop
 returns c =
     let p = c.before.before.before.before in
     let ls = p.before.before.args.lengths.now in
-    let e : c.before.wide.result ≡ get_or ls p.loop.k 0 = c.before.wide.ensures in
-    stops-here ls p.loop.k p.loop.left c.before.wide.result (wrongly ls p.before.before.args.count) c.before.before.before.loop-test.true e p.loop.invariant c.if1.true
+    let e : c.before.wide-n.result ≡ get_or ls p.loop-k.k 0 = c.before.wide-n.ensures in
+    stops-here ls p.loop-k.k p.loop-k.left c.before.wide-n.result (wrongly ls p.before.before.args.count) c.before.before.before.loop-k-test.true e p.loop-k.invariant c.if-n-left.true
 
-sub-left : tie.Need-overflow-sub-left invariant-loop decreases-loop
-sub-left c = not_more c.before.wide.result c.before.before.before.before.loop.left c.if1.false
+sub-left : tie.Need-overflow_sub-left invariant-loop decreases-loop
+sub-left c = not_more c.before.wide-n.result c.before.before.before.before.loop-k.left c.if-n-left.false
 
-loop-less : tie.Need-loop-smaller invariant-loop decreases-loop
-loop-less c = let h : c.before.before.before.before.loop.k < length c.before.before.before.before.before.before.args.lengths.now = c.before.before.before.loop-test.true in omega (arith, h)
+loop-less : tie.Need-loop-k-smaller invariant-loop decreases-loop
+loop-less c = let h : c.before.before.before.before.loop-k.k < length c.before.before.before.before.before.before.args.lengths.now = c.before.before.before.loop-k-test.true in omega (arith, h)
 
-loop-again : tie.Need-loop-preserved invariant-loop decreases-loop
+loop-again : tie.Need-loop-k-preserved invariant-loop decreases-loop
 loop-again c =
     let p = c.before.before.before.before in
     let ls = p.before.before.args.lengths.now in
-    let e : c.before.wide.result ≡ get_or ls p.loop.k 0 = c.before.wide.ensures in
-    goes-on-here ls p.loop.k p.loop.left c.before.wide.result (wrongly ls p.before.before.args.count) c.before.before.before.loop-test.true e p.loop.invariant c.if1.false
+    let e : c.before.wide-n.result ≡ get_or ls p.loop-k.k 0 = c.before.wide-n.ensures in
+    goes-on-here ls p.loop-k.k p.loop-k.left c.before.wide-n.result (wrongly ls p.before.before.args.count) c.before.before.before.loop-k-test.true e p.loop-k.invariant c.if-n-left.false
 
-returns-2 : tie.Need-returns-2 invariant-loop decreases-loop
+returns-2 : tie.Need-returns invariant-loop decreases-loop
 returns-2 c =
     let p = c.before in
     let ls = p.before.before.args.lengths.now in
-    sym (none_left ls p.loop.k p.loop.left c.loop-test.false) ∙ p.loop.invariant
+    sym (none_left ls p.loop-k.k p.loop-k.left c.loop-k-test.false) ∙ p.loop-k.invariant
 
-pub wrong-lengths-spec : {M : Type 1} → statement M
-wrong-lengths-spec =
+pub wrong_lengths_spec : {M : Type 1} → statement M
+wrong_lengths_spec =
     tie.close (tie.spec invariant-loop decreases-loop
     loop-holds (λ c. search rules) (λ c. search rules) (λ c κs. search rules) returns sub-left (λ c. search rules) loop-less loop-again returns-2)

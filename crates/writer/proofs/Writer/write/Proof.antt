@@ -6,18 +6,18 @@ use borrow.Author.Rules.{rules}
 use Rattle.writer.proofs.Writer.write.Statement.{statement}
 use Rattle.writer.proofs.Writer.write.Tie as tie
 
-write-or-refuse-requires : tie.Need-write-or-refuse-requires
-write-or-refuse-requires c κs = sym c.before.before.before.before.look_up.ensures ∙ c.before.before.m.given.1
+write-or-refuse-requires : tie.Need-write_or_refuse-requires
+write-or-refuse-requires c κs = sym c.before.before.look_up.ensures ∙ c.before.in-Listed.is
 
-returns : tie.Need-returns
+returns : tie.Need-returns-in-Listed
 returns c =
-    let a = c.before.before.before.before.before.before.before.before.before.before.before.before.args in
-    called a.settings a.psd.now a.lengths.now a.bytes.now (length a.pdu.now) a.self a.pdu.now _ _ _ _ c.before.before.before.before.before.before.before.look_up.ensures c.before.before.before.before.before.m.given.1 c.before.before.write-or-refuse.ensures
+    let a = c.before.before.before.before.before.before.before.before.before.before.args in
+    called a.settings a.psd.now a.lengths.now a.bytes.now (length a.pdu.now) a.self a.pdu.now _ _ _ _ c.before.before.before.before.before.look_up.ensures c.before.before.before.before.in-Listed.is c.before.before.write_or_refuse.ensures
 
-returns-2 : tie.Need-returns-2
+returns-2 : tie.Need-returns-in-Refused
 returns-2 c =
-    let a = c.before.before.before.before.before.before.before.before.args in
-    called a.settings a.psd.now a.lengths.now a.bytes.now (length a.pdu.now) a.self a.pdu.now _ _ _ _ c.before.before.before.look_up.ensures c.before.enum_told.given.1 (c.refused.ensures, refl)
+    let a = c.before.before.before.before.before.before.before.args in
+    called a.settings a.psd.now a.lengths.now a.bytes.now (length a.pdu.now) a.self a.pdu.now _ _ _ _ c.before.before.look_up.ensures c.before.in-Refused.is (c.refused.ensures, refl)
 
 pub write_spec : {M : Type 1} → statement M
 write_spec =
