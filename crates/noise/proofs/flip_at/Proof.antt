@@ -6,13 +6,13 @@ use Rattle.noise.specs.Noise.{flipped_at}
 use Rattle.noise.proofs.flip_at.Statement.{statement}
 use Rattle.noise.proofs.flip_at.Tie as tie
 
-returns : tie.Need-returns
+returns : tie.Need-returns-then-pdu-place
 unfolding flipped_at
 returns c = sym (set_out _ _ _ (omega arith))
 
-returns-2 : tie.Need-returns-2
+returns-2 : tie.Need-returns
 unfolding flipped_at
 returns-2 c = search rules
 
-pub flip-at-spec : {M : Type 1} → statement M
-flip-at-spec = tie.close (tie.spec returns (λ c. search rules) (λ c. search rules) (λ c. search rules) returns-2)
+pub flip_at_spec : {M : Type 1} → statement M
+flip_at_spec = tie.close (tie.spec returns (λ c. search rules) (λ c. search rules) (λ c. search rules) returns-2)

@@ -7,7 +7,7 @@ use Rattle.noise.proofs.strike.Tie as tie
 returns : tie.Need-returns
 returns c = strike-by _ _ _ _ _ _ c.before.before.before.flip.ensures (omega arith) (omega arith) (omega arith) (omega arith) (omega arith)
 
-pub strike-spec : {M : Type 1} → statement M
-strike-spec =
+pub strike_spec : {M : Type 1} → statement M
+strike_spec =
     tie.close (tie.spec (λ c κs. search rules) (λ c. search rules) (λ c. search rules) (λ c. search rules) (λ c κs. search rules) (λ c κs. search rules)
     (λ c. search rules) (λ c. search rules) (λ c. search rules) (λ c κs. search rules) (λ c κs. search rules) (λ c. search rules) returns)
