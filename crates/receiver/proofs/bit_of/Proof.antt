@@ -5,11 +5,11 @@ use borrow.Author.Rules.{rules}
 use Rattle.receiver.proofs.bit_of.Statement.{statement}
 use Rattle.receiver.proofs.bit_of.Tie as tie
 
-returns : tie.Need-returns
-returns c = (ap (λ (b : Bool). cond b c.before.before.before.args.bit 0) (sym c.if1.true ∙ c.before.is-listed.ensures), omega arith)
+returns : tie.Need-returns-then-is_listed
+returns c = (ap (λ (b : Bool). cond b c.before.before.before.args.bit 0) (sym c.if-is_listed.true ∙ c.before.is_listed.ensures), omega arith)
 
-returns-2 : tie.Need-returns-2
-returns-2 c = (ap (λ (b : Bool). cond b c.before.before.before.args.bit 0) (sym c.if1.false ∙ c.before.is-listed.ensures), omega arith)
+returns-2 : tie.Need-returns
+returns-2 c = (ap (λ (b : Bool). cond b c.before.before.before.args.bit 0) (sym c.if-is_listed.false ∙ c.before.is_listed.ensures), omega arith)
 
-pub bit-of-spec : {M : Type 1} → statement M
-bit-of-spec = tie.close (tie.spec (λ c κs. search rules) returns returns-2)
+pub bit_of_spec : {M : Type 1} → statement M
+bit_of_spec = tie.close (tie.spec (λ c κs. search rules) returns returns-2)

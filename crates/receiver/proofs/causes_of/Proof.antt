@@ -7,34 +7,34 @@ use Prim.Native.Nat.{◌-◌, ◌≤◌}
 use Rattle.receiver.proofs.causes_of.Statement.{statement}
 use Rattle.receiver.proofs.causes_of.Tie as tie
 
-abbrev invariant-loop : tie.invariant-loop
+abbrev invariant-loop : tie.invariant-loop-k
 invariant-loop register y marks nop causes₀ k₀ causes k = (k ≤ nop) × Filled (cause_at register y marks) k causes
 
-abbrev decreases-loop : tie.decreases-loop
+abbrev decreases-loop : tie.decreases-loop-k
 decreases-loop register y marks nop causes₀ k₀ causes k = nop - k
 
-loop-holds : tie.Need-loop-init invariant-loop decreases-loop
+loop-holds : tie.Need-loop-k-init invariant-loop decreases-loop
 loop-holds c = (omega arith, filled-start _)
 
-cause-at-requires : tie.Need-cause-at-requires invariant-loop decreases-loop
+cause-at-requires : tie.Need-cause_at-requires invariant-loop decreases-loop
 cause-at-requires c κs =
     let p = c.before in
     let w = p.before.before.requires in
-    (omega (arith, w.few), w.rising p.loop.k c.loop-test.true, w.within p.loop.k c.loop-test.true)
+    (omega (arith, w.few), w.rising p.loop-k.k c.loop-k-test.true, w.within p.loop-k.k c.loop-k-test.true)
 
-loop-again : tie.Need-loop-preserved invariant-loop decreases-loop
+loop-again : tie.Need-loop-k-preserved invariant-loop decreases-loop
 loop-again c =
     let p = c.before.before in
     let a = p.before.before.args in
-    (omega arith, filled_next (cause_at a.register a.y.now a.marks) p.loop.k _ p.loop.causes (omega (arith, p.before.before.requires.few)) c.cause-at.ensures p.loop.invariant.1)
+    (omega arith, filled_next (cause_at a.register a.y.now a.marks) p.loop-k.k _ p.loop-k.causes (omega (arith, p.before.before.requires.few)) c.cause_at.ensures p.loop-k.invariant.1)
 
 returns : tie.Need-returns invariant-loop decreases-loop
 returns c =
     let p = c.before in
     let a = p.before.before.args in
-    λ k h. filled_at (cause_at a.register a.y.now a.marks) p.loop.k k p.loop.causes (omega arith) (omega (arith, p.before.before.requires.few)) p.loop.invariant.1
+    λ k h. filled_at (cause_at a.register a.y.now a.marks) p.loop-k.k k p.loop-k.causes (omega arith) (omega (arith, p.before.before.requires.few)) p.loop-k.invariant.1
 
-pub causes-of-spec : {M : Type 1} → statement M
-causes-of-spec =
+pub causes_of_spec : {M : Type 1} → statement M
+causes_of_spec =
     tie.close (tie.spec invariant-loop decreases-loop
     loop-holds cause-at-requires (λ c. search rules) (λ c. search rules) (λ c. search rules) loop-again returns)

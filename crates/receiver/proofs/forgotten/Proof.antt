@@ -6,5 +6,5 @@ use Rattle.receiver.proofs.forgotten.Tie as tie
 returns : tie.Need-returns
 returns c = refl
 
-pub forgotten-spec : {M : Type 1} → statement M
-forgotten-spec = tie.close (tie.spec (λ c. search rules) returns)
+pub forgotten_spec : {M : Type 1} → statement M
+forgotten_spec = tie.close (tie.spec (λ c. search rules) returns)

@@ -5,7 +5,7 @@ use Rattle.receiver.proofs.head_of.Tie as tie
 returns : tie.Need-returns
 returns c =
     let k = c.before.before.before.args.c in
-    let e = c.before.read-front.ensures in
+    let e = c.before.read_front-front.ensures in
     λ i. record {
       sequence = k.sequence;
       pfirst = k.pfirst;
@@ -17,5 +17,5 @@ returns c =
       services = e.1.1 i;
     }
 
-pub head-of-spec : {M : Type 1} → statement M
-head-of-spec = tie.close (tie.spec (λ c κs. search rules) (λ c. search rules) returns)
+pub head_of_spec : {M : Type 1} → statement M
+head_of_spec = tie.close (tie.spec (λ c κs. search rules) (λ c. search rules) returns)

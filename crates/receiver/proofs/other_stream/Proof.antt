@@ -5,5 +5,5 @@ use Rattle.receiver.proofs.other_stream.Tie as tie
 returns : tie.Need-returns
 returns c = refl
 
-pub other-stream-spec : {M : Type 1} → statement M
-other-stream-spec = tie.close (tie.spec returns)
+pub other_stream_spec : {M : Type 1} → statement M
+other_stream_spec = tie.close (tie.spec returns)

@@ -8,7 +8,7 @@ use Rattle.receiver.proofs.wrong_services.Tie as tie
 returns : tie.Need-returns
 returns c =
     let r = c.before.before.before.before.before.args.r in
-    ap (λ (k : Bool). ltb 7 r.services || ((not r.serviced && not (eqb r.services 0)) || (r.serviced && not k))) c.before.before.before.before.keeps-services.ensures
+    ap (λ (k : Bool). ltb 7 r.services || ((not r.serviced && not (eqb r.services 0)) || (r.serviced && not k))) c.before.before.before.before.keeps_services-keeps.ensures
 
-pub wrong-services-spec : {M : Type 1} → statement M
-wrong-services-spec = tie.close (tie.spec (λ c κs. search rules) returns)
+pub wrong_services_spec : {M : Type 1} → statement M
+wrong_services_spec = tie.close (tie.spec (λ c κs. search rules) returns)
