@@ -3,9 +3,11 @@
 
 ghost use Rattle.std.specs.Prelude.{◌≤◌};
 
+use host::Host;
+
 // What is read ahead stands in the buffer between two places; the first of its bytes is so many from the file's start. `open` where there may be more, `failed`
 // where a read failed.
-#[derive(Drop)]
+#[derive(Clone, Copy)]
 pub struct Ahead {
     pub fd: i32,
     pub from: usize,
@@ -100,13 +102,13 @@ fn moved(a: Ahead, buf: &mut [u8], need: usize) -> Ahead {
 }
 
 // Reads on to a place in the buffer, or its end.
-fn read_to(a: Ahead, buf: &mut [u8], place: usize) -> Ahead {
+fn read_to(host: &Host, a: Ahead, buf: &mut [u8], place: usize) -> Ahead {
     let from = a.to;
     let to = least(place, buf.len());
     if to < from {
         return a;
     }
-    let r = records::fill(a.fd, &mut buf[from..to]);
+    let r = records::fill(host, a.fd, &mut buf[from..to]);
     Ahead {
         fd: a.fd,
         from: a.from,
@@ -119,12 +121,12 @@ fn read_to(a: Ahead, buf: &mut [u8], place: usize) -> Ahead {
 
 // The same with so many bytes read ahead, or as many as the file and the buffer have. No more than these are read, so that nothing is waited for that is not
 // asked for.
-pub fn filled(a: Ahead, buf: &mut [u8], need: usize) -> Ahead {
+pub fn filled(host: &Host, a: Ahead, buf: &mut [u8], need: usize) -> Ahead {
     if !a.open | (need <= size(a)) {
         return a;
     }
     let m = moved(a, buf, need);
-    read_to(m, buf, std::num::wrapping_add_usize(m.from, need))
+    read_to(host, m, buf, std::num::wrapping_add_usize(m.from, need))
 }
 
 // The number in the two bytes at a place of the buffer, low byte first; 0 where it has them not.

@@ -5,6 +5,7 @@
 ghost use Rattle.io.specs.Counts.{IsPrefixLen};
 
 use ahead::Ahead;
+use host::Host;
 use logging::{Onto, Run, Task, marks};
 use receiver::Receiver;
 use records::Record;
@@ -14,7 +15,7 @@ use resync::{Next, Wanted};
 const LINES: u64 = 5;
 
 // A run so far, what is read ahead, at how many places bytes were passed over, and how many bytes.
-#[derive(Drop)]
+#[derive(Clone, Copy)]
 pub struct Live {
     pub run: Run,
     pub ahead: Ahead,
@@ -63,11 +64,12 @@ fn with_reading(live: Live, n: Next) -> Live {
 }
 
 // The next record, or bytes that are passed over where that is asked for: records are known by PDUs of the receiver's mode and stream.
-fn next_of(resync: bool, receiver: Receiver, rest: Ahead, buf: &mut [u8]) -> Next {
+fn next_of(host: &Host, resync: bool, receiver: Receiver, rest: Ahead, buf: &mut [u8]) -> Next {
     if !resync {
-        return resync::read_next(rest, buf);
+        return resync::read_next(host, rest, buf);
     }
     resync::resync_next(
+        host,
         rest,
         buf,
         Wanted {
@@ -78,12 +80,13 @@ fn next_of(resync: bool, receiver: Receiver, rest: Ahead, buf: &mut [u8]) -> Nex
 }
 
 // Says that bytes before a place of the file are passed over, with its label, after so many such places.
-fn say_passed(from: &[u8], bytes: u64, place: u64, places: u64) {
+fn say_passed(host: &Host, from: &[u8], bytes: u64, place: u64, places: u64) {
     if LINES < places {
         return;
     }
     if places == LINES {
         options::say(
+            host,
             options::LOG,
             b": further places passed over are counted only\n",
         );
@@ -97,33 +100,34 @@ fn say_passed(from: &[u8], bytes: u64, place: u64, places: u64) {
         b": passed over @ bytes, from byte @ to byte @: no record begins there\n",
         &[bytes, std::num::wrapping_sub_u64(place, bytes), place],
     );
-    io::write_all(libc::STDERR_FILENO, &line[..k]);
+    host.write_all(host::STDERR, &line[..k]);
 }
 
 // Says so of a reading in which bytes were passed over.
-fn say_reading(from: &[u8], n: Next, places: u64) {
+fn say_reading(host: &Host, from: &[u8], n: Next, places: u64) {
     if n.status != resync::PASSED {
         return;
     }
     let rest = n.ahead;
-    say_passed(from, n.passed, rest.offset, places);
+    say_passed(host, from, n.passed, rest.offset, places);
 }
 
 // Reads the marks of a record that was read, or of bytes that are passed over, to the buffer's start; after the last record no marks may be left.
-fn marked(fd: i32, status: u8, places: &mut [u8]) -> Record
+fn marked(host: &Host, fd: i32, status: u8, places: &mut [u8]) -> Record
     ensures { IsPrefixLen result.length places.new }
 {
     if (status == records::WHOLE) | (status == resync::PASSED) {
-        return marks::next(fd, places);
+        return marks::next(host, fd, places);
     }
     Record {
-        status: marks::last(fd, places, status),
+        status: marks::last(host, fd, places, status),
         length: 0,
     }
 }
 
 // What comes of a reading, after its marks came to a status: a record is received, bytes that are passed over are a lost PDU, and others stop the run.
 fn taken(
+    host: &Host,
     onto: Onto,
     status: u8,
     n: Next,
@@ -148,6 +152,7 @@ fn taken(
         return run;
     }
     logging::received(
+        host,
         onto,
         carry,
         &mut buf[start..end],
@@ -160,14 +165,15 @@ fn taken(
 }
 
 // A run after another turn, whose state is saved in the file of a path, if there is one.
-pub fn saved(task: Task, path: &[u8], carry: &[u8], before: Live, live: Live) -> Live {
+pub fn saved(host: &Host, task: Task, path: &[u8], carry: &[u8], before: Live, live: Live) -> Live {
     let old = before.run;
     let run = live.run;
-    with_run(live, logging::saved(task, path, carry, old.pdus, run))
+    with_run(live, logging::saved(host, task, path, carry, old.pdus, run))
 }
 
 // Reads on and takes what came, and says where bytes were passed over.
 fn turn(
+    host: &Host,
     task: Task,
     resync: bool,
     path: &[u8],
@@ -181,11 +187,12 @@ fn turn(
     live: Live,
 ) -> Live {
     let run = live.run;
-    let n = next_of(resync, run.receiver, live.ahead, &mut *buf);
-    say_reading(from, n, live.places);
-    let m = marked(task.marks, n.status, places);
+    let n = next_of(host, resync, run.receiver, live.ahead, &mut *buf);
+    say_reading(host, from, n, live.places);
+    let m = marked(host, task.marks, n.status, places);
     let k = m.length;
     let next = taken(
+        host,
         task.onto,
         m.status,
         n,
@@ -198,6 +205,7 @@ fn turn(
         run,
     );
     saved(
+        host,
         task,
         path,
         carry,
@@ -213,13 +221,14 @@ pub fn is_going(live: Live) -> bool {
 }
 
 // How far a run is, where somebody looks on.
-pub fn progress(live: Live, shown: i64) -> i64 {
+pub fn progress(host: &Host, live: Live, shown: i64) -> i64 {
     let run = live.run;
-    logging::progress(run.pdus, shown)
+    logging::progress(host, run.pdus, shown)
 }
 
 // All turns. They are counted down from a number that no run uses up, since a proved loop has to end, and nothing says that a file does.
 fn all_turns(
+    host: &Host,
     task: Task,
     resync: bool,
     path: &[u8],
@@ -233,27 +242,27 @@ fn all_turns(
     start: Live,
 ) -> Live {
     let mut live = start;
-    let mut shown = files::second();
+    let mut shown = files::second(host);
     let mut turns = u64::MAX;
     while 0 < turns {
         let next = turn(
-            task, resync, path, from, carry, buf, places, log, block, counts, live,
+            host, task, resync, path, from, carry, buf, places, log, block, counts, live,
         );
         live = next;
         if !is_going(live) {
             return live;
         }
-        shown = progress(live, shown);
+        shown = progress(host, live, shown);
         turns -= 1;
     }
     live
 }
 
 // The run after all turns: what stands after all PDUs is written, if all are logged.
-pub fn ended(task: Task, block: &mut [u8], live: Live) -> Live {
+pub fn ended(host: &Host, task: Task, block: &mut [u8], live: Live) -> Live {
     let run = live.run;
     let onto = task.onto;
-    with_run(live, logging::ended(onto, block, run))
+    with_run(live, logging::ended(host, onto, block, run))
 }
 
 // The run where the log could not be written.
@@ -269,6 +278,7 @@ pub fn unwritten(live: Live) -> Live {
 // Logs all PDUs after what is read ahead in the buffer, of the file of a label, and saves how the run stands in the file of a path after each, if there is one.
 // Where `resync` is set, bytes at which no record begins are passed over. What stopped it before the end, its status says, and errno with that.
 pub fn log_all(
+    host: &Host,
     task: Task,
     resync: bool,
     path: &[u8],
@@ -281,10 +291,11 @@ pub fn log_all(
     let mut places = [0u8; 65535];
     let mut log = [0u32; 8400];
     let mut block = io::large_buffer();
-    if !logging::begin(task, &mut block) {
+    if !logging::begin(host, task, &mut block) {
         return unwritten(start);
     }
     let last = all_turns(
+        host,
         task,
         resync,
         path,
@@ -297,12 +308,13 @@ pub fn log_all(
         counts,
         start,
     );
-    ended(task, &mut block, last)
+    ended(host, task, &mut block, last)
 }
 
 // Passes over so many records, and places at which bytes are passed over, where `resync` is set, for a receiver of whose mode and stream records are known.
 // Answers what came of the last reading, and what is read ahead.
 pub fn pass_over(
+    host: &Host,
     resync: bool,
     receiver: Receiver,
     many: u64,
@@ -312,7 +324,7 @@ pub fn pass_over(
     let mut last = resync::nothing(start);
     let mut left = many;
     while 0 < left {
-        let next = next_of(resync, receiver, last.ahead, buf);
+        let next = next_of(host, resync, receiver, last.ahead, buf);
         last = next;
         if (last.status != records::WHOLE) & (last.status != resync::PASSED) {
             return last;

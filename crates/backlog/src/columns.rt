@@ -6,7 +6,7 @@ pub const MOST: usize = 640;
 const BLOCK: usize = 4096;
 
 // The bench that is drawn: mode, stream and latency; its ticks, how many of them a column has, and how many columns there are.
-#[derive(Drop)]
+#[derive(Clone, Copy)]
 pub struct Bench {
     pub mode: u8,
     pub stream: u8,

@@ -3,9 +3,10 @@
 #![tactic(auto)]
 
 use comparison::Sent;
+use host::Host;
 
 // The files that are written, -1 for those that are not asked for; what the packets are compared with, and how many were sent.
-#[derive(Drop)]
+#[derive(Clone, Copy)]
 pub struct Beside {
     pub packets: i32,
     pub adts: i32,
@@ -43,12 +44,12 @@ pub fn none() -> Beside {
 }
 
 // Writes what a file of a form has of a PDU's log, by a block, if there is such a file. Answers whether all is written.
-fn write(fd: i32, form: u8, log: &[u32], block: &mut [u8]) -> bool {
+fn write(host: &Host, fd: i32, form: u8, log: &[u32], block: &mut [u8]) -> bool {
     if fd < 0 {
         return true;
     }
     let n = packet_files::put(block, form, log);
-    io::write_all(fd, &block[..n])
+    host.write_all(fd, &block[..n])
 }
 
 // How a run stands by what came of comparing.
@@ -61,24 +62,31 @@ pub fn status_of(compared: u8) -> u8 {
 }
 
 // Compares the packets of a PDU's log with those that were sent, if that is asked for.
-fn compare(sent: Sent, row: &mut [u64], pdu: u64, log: &[u32]) -> u8 {
+fn compare(host: &Host, sent: Sent, row: &mut [u64], pdu: u64, log: &[u32]) -> u8 {
     if sent.fd < 0 {
         return KEPT;
     }
-    status_of(comparison::compare(sent, row, pdu, log))
+    status_of(comparison::compare(host, sent, row, pdu, log))
 }
 
 // Writes what the files have of the log of a PDU, counted from 0, by a block, and compares its packets; a row of counts keeps how the comparison stands.
-pub fn keep(b: Beside, row: &mut [u64], pdu: u64, log: &[u32], block: &mut [u8]) -> u8 {
-    if !write(b.packets, packet_files::RECORDS, log, block) {
+pub fn keep(
+    host: &Host,
+    b: Beside,
+    row: &mut [u64],
+    pdu: u64,
+    log: &[u32],
+    block: &mut [u8],
+) -> u8 {
+    if !write(host, b.packets, packet_files::RECORDS, log, block) {
         return PACKETS;
     }
-    if !write(b.adts, packet_files::FRAMES, log, block) {
+    if !write(host, b.adts, packet_files::FRAMES, log, block) {
         return ADTS;
     }
-    if !write(b.psd, packet_files::PSD, log, block) {
+    if !write(host, b.psd, packet_files::PSD, log, block) {
         return PSD;
     }
     let sent = b.sent;
-    compare(sent, row, pdu, log)
+    compare(host, sent, row, pdu, log)
 }

@@ -1,36 +1,37 @@
 // Whether the options for the files beside the log go together.
 use crate::{ALL, WRITTEN, option_of};
+use host::Host;
 use options::LOG;
 
 // Whether the log, or one of so many files beside it, goes to standard output.
-fn is_output_taken(many: u8) -> bool {
-    let mut taken = files::named(LOG, options::OUT) != files::PATH;
+fn is_output_taken(host: &Host, many: u8) -> bool {
+    let mut taken = files::named(host, LOG, options::OUT) != files::PATH;
     let mut k: u8 = 0;
     while k < many {
-        taken = taken | (files::named(LOG, option_of(k)) == files::DASH);
+        taken = taken | (files::named(host, LOG, option_of(k)) == files::DASH);
         k += 1;
     }
     taken
 }
 
 // Whether PDUs or marks are read from standard input.
-fn is_input_taken() -> bool {
-    (files::named(LOG, options::IN) != files::PATH)
-        | (files::named(LOG, options::SECOND) == files::DASH)
-        | (files::named(LOG, options::MARKS) == files::DASH)
+fn is_input_taken(host: &Host) -> bool {
+    (files::named(host, LOG, options::IN) != files::PATH)
+        | (files::named(host, LOG, options::SECOND) == files::DASH)
+        | (files::named(host, LOG, options::MARKS) == files::DASH)
 }
 
 // Whether what a dash stands for is taken, in the option of a number.
-fn is_taken(number: u8) -> bool {
+fn is_taken(host: &Host, number: u8) -> bool {
     if number < WRITTEN {
-        return is_output_taken(number);
+        return is_output_taken(host, number);
     }
-    is_input_taken()
+    is_input_taken(host)
 }
 
 // Whether an interrupted drive is asked for: how far the files beside the log are, its state does not tell.
-fn is_interrupted() -> bool {
-    options::given(LOG, options::SAVE) | options::given(LOG, options::RESUME)
+fn is_interrupted(host: &Host) -> bool {
+    options::given(host, LOG, options::SAVE) | options::given(host, LOG, options::RESUME)
 }
 
 // The text for what a dash stands for, where that is taken.
@@ -42,28 +43,29 @@ fn taken(number: u8) -> u32 {
 }
 
 // What is wrong with the option of a number, as a text of the table of `is_right`; 0 for nothing.
-fn wrong(number: u8) -> u32 {
-    let given = files::named(LOG, option_of(number));
+fn wrong(host: &Host, number: u8) -> u32 {
+    let given = files::named(host, LOG, option_of(number));
     if given == files::ABSENT {
         return 0;
     }
     if given == files::EMPTY {
         return 1;
     }
-    if is_interrupted() {
+    if is_interrupted(host) {
         return 2;
     }
-    if (given == files::DASH) & is_taken(number) {
+    if (given == files::DASH) & is_taken(host, number) {
         return taken(number);
     }
     0
 }
 
 // Whether the option of a number is right; if not, says what is wrong.
-fn is_right(number: u8) -> bool {
-    let k = wrong(number);
+fn is_right(host: &Host, number: u8) -> bool {
+    let k = wrong(host, number);
     if k != 0 {
         options::complain(
+            host,
             LOG,
             option_of(number),
             text::entry(
@@ -76,20 +78,20 @@ fn is_right(number: u8) -> bool {
 }
 
 // Whether an option for the comparison comes with the packets that were sent; if not, says so.
-fn has_sent(option: u8) -> bool {
-    if !options::given(LOG, option) | options::given(LOG, options::SENT) {
+fn has_sent(host: &Host, option: u8) -> bool {
+    if !options::given(host, LOG, option) | options::given(host, LOG, options::SENT) {
         return true;
     }
-    options::complain(LOG, option, b": nothing is compared (--sent)");
+    options::complain(host, LOG, option, b": nothing is compared (--sent)");
     false
 }
 
 // Whether the options go together; if not, says why.
-pub fn is_asked() -> bool {
-    let mut right = has_sent(options::COMPARED) & has_sent(options::SENT_ADTS);
+pub fn is_asked(host: &Host) -> bool {
+    let mut right = has_sent(host, options::COMPARED) & has_sent(host, options::SENT_ADTS);
     let mut k: u8 = 0;
     while k < ALL {
-        right = right & is_right(k);
+        right = right & is_right(host, k);
         k += 1;
     }
     right

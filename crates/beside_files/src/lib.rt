@@ -8,6 +8,7 @@ ghost use Rattle.io.specs.Counts.{IsPrefixLen};
 
 use beside::Beside;
 use comparison::Sent;
+use host::Host;
 use options::LOG;
 use packets::Source;
 
@@ -29,40 +30,40 @@ pub fn label_buffer() -> [u8; 24576]
 }
 
 // The label of the file of an option, by its number, and a zero byte.
-fn put_label(out: &mut [u8], at: usize, number: u8) -> usize
+fn put_label(host: &Host, out: &mut [u8], at: usize, number: u8) -> usize
     ensures { IsPrefixLen result out.new }
 {
     let mut label = files::label_buffer();
-    let n = files::put_label(&mut label, LOG, option_of(number));
+    let n = files::put_label(host, &mut label, LOG, option_of(number));
     let k = text::put(out, at, &label[..n]);
     text::put(out, k, b"\0")
 }
 
 // The labels of all files, as a table of texts.
-pub fn put_labels(out: &mut [u8]) -> usize
+pub fn put_labels(host: &Host, out: &mut [u8]) -> usize
     ensures { IsPrefixLen result out.new }
 {
     let mut n = text::put(out, 0, b"");
     let mut k: u8 = 0;
     while k < ALL {
-        n = put_label(out, n, k);
+        n = put_label(host, out, n, k);
         k += 1;
     }
     n
 }
 
 // What came of counting the packets of a file, and how many there are.
-#[derive(Drop)]
+#[derive(Clone, Copy)]
 struct Counted {
     status: u8,
     many: u64,
 }
 
 // Counts the packets that were sent, by a buffer, until one cannot be read or has no bytes.
-fn count(source: Source, buf: &mut [u8]) -> Counted {
+fn count(host: &Host, source: Source, buf: &mut [u8]) -> Counted {
     let mut many: u64 = 0;
     while many < u64::MAX {
-        let r = packets::read(source, buf);
+        let r = packets::read(host, source, buf);
         if (r.status != records::WHOLE) | (r.length == 0) {
             return Counted {
                 status: r.status,
@@ -78,7 +79,7 @@ fn count(source: Source, buf: &mut [u8]) -> Counted {
 }
 
 // The packets that were sent: whether they can be compared with, the number of their file, and how many there are.
-#[derive(Drop)]
+#[derive(Clone, Copy)]
 struct Compared {
     ok: bool,
     fd: i32,
@@ -94,9 +95,10 @@ fn not_compared() -> Compared {
 }
 
 // Counts the packets of an open file, which begins with one; where it cannot be gone back in, has something else than packets, or too many, says so.
-fn with_sent(fd: i32, label: &[u8]) -> Compared {
-    if !files::go_back(fd, 0) {
+fn with_sent(host: &Host, fd: i32, label: &[u8]) -> Compared {
+    if !files::go_back(host, fd, 0) {
         files::say(
+            host,
             label,
             b": is read more than once, so it cannot be a pipe or a terminal\n",
         );
@@ -105,12 +107,13 @@ fn with_sent(fd: i32, label: &[u8]) -> Compared {
     let mut buf = io::buffer();
     let source = Source {
         fd: fd,
-        adts: options::given(LOG, options::SENT_ADTS),
+        adts: options::given(host, LOG, options::SENT_ADTS),
     };
-    let c = count(source, &mut buf);
-    packets::say_end(label, c.status, c.many);
+    let c = count(host, source, &mut buf);
+    packets::say_end(host, label, c.status, c.many);
     if comparison::MOST < c.many {
         files::say(
+            host,
             label,
             b": has over 1,048,576 packets, more than can be compared with\n",
         );
@@ -124,35 +127,35 @@ fn with_sent(fd: i32, label: &[u8]) -> Compared {
 }
 
 // Opens the file of the packets that were sent, where one is given.
-fn open_sent(label: &[u8]) -> Compared {
-    if !options::given(LOG, options::SENT) {
+fn open_sent(host: &Host, label: &[u8]) -> Compared {
+    if !options::given(host, LOG, options::SENT) {
         return Compared {
             ok: true,
             fd: -1,
             many: 0,
         };
     }
-    let fd = files::open(LOG, options::SENT, label);
+    let fd = files::open(host, LOG, options::SENT, label);
     if fd < 0 {
         return not_compared();
     }
-    with_sent(fd, label)
+    with_sent(host, fd, label)
 }
 
 // A file that is written: its number, -1 where it is not asked for or cannot be made, and whether it is there, as far as it is asked for.
-#[derive(Drop)]
+#[derive(Clone, Copy)]
 struct Made {
     fd: i32,
     ok: bool,
 }
 
 // Makes the file of an option, by its number.
-fn make(labels: &[u8], number: u8) -> Made {
+fn make(host: &Host, labels: &[u8], number: u8) -> Made {
     let option = option_of(number);
-    if !options::given(LOG, option) {
+    if !options::given(host, LOG, option) {
         return Made { fd: -1, ok: true };
     }
-    let fd = files::open(LOG, option, text::entry(labels, number as u32));
+    let fd = files::open(host, LOG, option, text::entry(labels, number as u32));
     Made {
         fd: fd,
         ok: 0 <= fd,
@@ -168,10 +171,10 @@ fn put(list: &mut [i32], number: u8, fd: i32) {
 }
 
 // Makes the files that are written. Answers how many options are done, up to the first file that cannot be made.
-fn make_all(labels: &[u8], list: &mut [i32]) -> u8 {
+fn make_all(host: &Host, labels: &[u8], list: &mut [i32]) -> u8 {
     let mut k: u8 = 0;
     while k < WRITTEN {
-        let made = make(labels, k);
+        let made = make(host, labels, k);
         if !made.ok {
             return k;
         }
@@ -182,16 +185,16 @@ fn make_all(labels: &[u8], list: &mut [i32]) -> u8 {
 }
 
 // Removes the files that were made for so many options.
-fn unmake(many: u8) {
+fn unmake(host: &Host, many: u8) {
     let mut k: u8 = 0;
     while k < many {
-        files::unmake(LOG, option_of(k));
+        files::unmake(host, LOG, option_of(k));
         k += 1;
     }
 }
 
 // The files of a run: whether all are there, that of the log, and those beside it.
-#[derive(Drop)]
+#[derive(Clone, Copy)]
 pub struct Opened {
     pub ok: bool,
     pub output: i32,
@@ -207,17 +210,17 @@ fn not_opened() -> Opened {
 }
 
 // Makes the files beside that of the log, which is made; where one cannot be made, the others go, that of the log too.
-fn with_output(labels: &[u8], output: i32, s: Compared) -> Opened {
+fn with_output(host: &Host, labels: &[u8], output: i32, s: Compared) -> Opened {
     let mut list = [-1i32; 4];
-    let many = make_all(labels, &mut list);
+    let many = make_all(host, labels, &mut list);
     if many != WRITTEN {
-        unmake(many);
-        files::unmake(LOG, options::OUT);
+        unmake(host, many);
+        files::unmake(host, LOG, options::OUT);
         return not_opened();
     }
-    let titled = comparison::list::begin(list[3]);
+    let titled = comparison::list::begin(host, list[3]);
     if !titled {
-        os::fail(text::entry(labels, 3));
+        host.fail(text::entry(labels, 3));
     }
     Opened {
         ok: titled,
@@ -228,7 +231,7 @@ fn with_output(labels: &[u8], output: i32, s: Compared) -> Opened {
             psd: list[2],
             sent: Sent {
                 fd: s.fd,
-                adts: options::given(LOG, options::SENT_ADTS),
+                adts: options::given(host, LOG, options::SENT_ADTS),
                 list: list[3],
             },
             many: s.many,
@@ -237,26 +240,27 @@ fn with_output(labels: &[u8], output: i32, s: Compared) -> Opened {
 }
 
 // Opens the packets that were sent, and makes the file of the log, whose label this is, and those beside it. What cannot be had is said.
-pub fn open(onto: &[u8], labels: &[u8]) -> Opened {
-    let s = open_sent(text::entry(labels, 4));
+pub fn open(host: &Host, onto: &[u8], labels: &[u8]) -> Opened {
+    let s = open_sent(host, text::entry(labels, 4));
     if !s.ok {
         return not_opened();
     }
-    let output = files::open(LOG, options::OUT, onto);
+    let output = files::open(host, LOG, options::OUT, onto);
     if output < 0 {
         return not_opened();
     }
-    with_output(labels, output, s)
+    with_output(host, labels, output, s)
 }
 
 // Why no more PDUs are logged, where that is by one of these files.
-pub fn ends(status: u8, labels: &[u8]) {
+pub fn ends(host: &Host, status: u8, labels: &[u8]) {
     match status {
-        beside::PACKETS => os::fail(text::entry(labels, 0)),
-        beside::ADTS => os::fail(text::entry(labels, 1)),
-        beside::PSD => os::fail(text::entry(labels, 2)),
-        beside::LISTED => os::fail(text::entry(labels, 3)),
+        beside::PACKETS => host.fail(text::entry(labels, 0)),
+        beside::ADTS => host.fail(text::entry(labels, 1)),
+        beside::PSD => host.fail(text::entry(labels, 2)),
+        beside::LISTED => host.fail(text::entry(labels, 3)),
         beside::SENT => files::say(
+            host,
             text::entry(labels, 4),
             b": cannot be read again as it was\n",
         ),
@@ -265,46 +269,46 @@ pub fn ends(status: u8, labels: &[u8]) {
 }
 
 // Closes a file, if there is one. Answers whether that went well; if not, says why.
-fn close(fd: i32, label: &[u8]) -> bool {
+fn close(host: &Host, fd: i32, label: &[u8]) -> bool {
     if fd < 0 {
         return true;
     }
-    files::close(fd, label)
+    files::close(host, fd, label)
 }
 
 // Writes the last lines of the list where all PDUs are logged. Answers whether they are written; if not, says why.
-fn list_ended(sent: Sent, whole: bool, row: &[u64], labels: &[u8]) -> bool {
+fn list_ended(host: &Host, sent: Sent, whole: bool, row: &[u64], labels: &[u8]) -> bool {
     if !whole {
         return true;
     }
-    let status = beside::status_of(comparison::end(sent, row));
-    ends(status, labels);
+    let status = beside::status_of(comparison::end(host, sent, row));
+    ends(host, status, labels);
     status == beside::KEPT
 }
 
 // Says what came of the comparison.
-fn say_compared(row: &[u64]) {
+fn say_compared(host: &Host, row: &[u64]) {
     let mut lines = [0u8; 512];
     let n = comparison::put_summary(&mut lines, row);
-    io::write_all(libc::STDERR_FILENO, &lines[..n]);
+    host.write_all(host::STDERR, &lines[..n]);
 }
 
 // Ends the comparison, if there is one, where all PDUs are logged or not, and says what came of it.
-fn comparison_ended(sent: Sent, whole: bool, row: &[u64], labels: &[u8]) -> bool {
+fn comparison_ended(host: &Host, sent: Sent, whole: bool, row: &[u64], labels: &[u8]) -> bool {
     if sent.fd < 0 {
         return true;
     }
-    let ended = list_ended(sent, whole, row, labels);
-    say_compared(row);
-    ended & close(sent.list, text::entry(labels, 3))
+    let ended = list_ended(host, sent, whole, row, labels);
+    say_compared(host, row);
+    ended & close(host, sent.list, text::entry(labels, 3))
 }
 
 // Ends and closes the files, where all PDUs are logged or not. Answers whether that went well; if not, says why.
-pub fn finish(b: Beside, whole: bool, row: &[u64], labels: &[u8]) -> bool {
+pub fn finish(host: &Host, b: Beside, whole: bool, row: &[u64], labels: &[u8]) -> bool {
     let sent = b.sent;
-    let compared = comparison_ended(sent, whole, row, labels);
+    let compared = comparison_ended(host, sent, whole, row, labels);
     compared
-        & close(b.packets, text::entry(labels, 0))
-        & close(b.adts, text::entry(labels, 1))
-        & close(b.psd, text::entry(labels, 2))
+        & close(host, b.packets, text::entry(labels, 0))
+        & close(host, b.adts, text::entry(labels, 1))
+        & close(host, b.psd, text::entry(labels, 2))
 }

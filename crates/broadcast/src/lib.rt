@@ -1,6 +1,7 @@
 // A run of the writer in which settings and PSD may change from PDU to PDU; on `sending`, `schedule` and `psd_stream`.
 #![tactic(auto)]
 
+use host::Host;
 use packets::window;
 use packets::window::Window;
 use psd_stream::Supply;
@@ -9,7 +10,7 @@ use sending::{Run, Task, trial};
 use writer::Writer;
 
 // A broadcast so far: its run; the settings of the last PDU, by their names, the change that comes next, and how many have come; and the supply of PSD.
-#[derive(Drop)]
+#[derive(Clone, Copy)]
 pub struct Broadcast {
     pub run: Run,
     pub row: [u32; 22],
@@ -37,6 +38,7 @@ pub fn begin(
 
 // Sends all packets in PDUs of a length to a file: lengths over 20,480 are refused. The text has the changes of settings, the buffer the PSD.
 pub fn send(
+    host: &Host,
     output: i32,
     from: &[u8],
     onto: &[u8],
@@ -50,6 +52,7 @@ pub fn send(
     let mut pdu = [0u8; trial::OVER];
     let size = trial::size_for(length);
     all_turns(
+        host,
         output,
         from,
         onto,
@@ -64,6 +67,7 @@ pub fn send(
 
 // All turns. They are counted down from a number that no run uses up, since a proved loop has to end, and nothing says that a file does.
 fn all_turns(
+    host: &Host,
     output: i32,
     from: &[u8],
     onto: &[u8],
@@ -75,15 +79,17 @@ fn all_turns(
     start: Broadcast,
 ) -> Broadcast {
     let mut now = start;
-    let mut shown = files::second();
+    let mut shown = files::second(host);
     let mut turns = u64::MAX;
     while 0 < turns {
-        let next = turn(output, from, onto, text, psd, lengths, bytes, pdu, now);
+        let next = turn(
+            host, output, from, onto, text, psd, lengths, bytes, pdu, now,
+        );
         now = next;
         if !is_going(now) {
             return now;
         }
-        shown = progress(now, shown);
+        shown = progress(host, now, shown);
         turns -= 1;
     }
     now
@@ -96,13 +102,14 @@ fn is_going(b: Broadcast) -> bool {
 }
 
 // How far the work is, where somebody looks on, as `files::progress` has it.
-fn progress(b: Broadcast, shown: i64) -> i64 {
+fn progress(host: &Host, b: Broadcast, shown: i64) -> i64 {
     let run = b.run;
-    files::progress(options::GENERATE, run.pdus, shown)
+    files::progress(host, options::GENERATE, run.pdus, shown)
 }
 
 // Reads ahead and sends a PDU; stops where no packet waits.
 fn turn(
+    host: &Host,
     output: i32,
     from: &[u8],
     onto: &[u8],
@@ -113,12 +120,12 @@ fn turn(
     pdu: &mut [u8],
     b: Broadcast,
 ) -> Broadcast {
-    let w = window::filled(from, window_of(b), lengths, bytes);
+    let w = window::filled(host, from, window_of(b), lengths, bytes);
     if w.end <= w.first {
         let run = b.run;
         return with_run(b, sending::ended(run, w));
     }
-    due(output, onto, text, psd, w, lengths, bytes, pdu, b)
+    due(host, output, onto, text, psd, w, lengths, bytes, pdu, b)
 }
 
 // The packets that wait.
@@ -136,6 +143,7 @@ fn stopped(b: Broadcast, ok: bool) -> Broadcast {
 
 // Sends a PDU from the packets that wait, with the settings and the PSD that are due; stops where its PSD cannot be read.
 fn due(
+    host: &Host,
     output: i32,
     onto: &[u8],
     text: &[u8],
@@ -146,12 +154,12 @@ fn due(
     pdu: &mut [u8],
     b: Broadcast,
 ) -> Broadcast {
-    let ready = supplied(changed(text, b), psd);
+    let ready = supplied(host, changed(text, b), psd);
     let supply = ready.supply;
     if supply.status == records::FAILED {
         return stopped(ready, false);
     }
-    sent(output, onto, psd, w, lengths, bytes, pdu, ready)
+    sent(host, output, onto, psd, w, lengths, bytes, pdu, ready)
 }
 
 // The broadcast with the settings of its next PDU.
@@ -173,7 +181,7 @@ fn changed(text: &[u8], b: Broadcast) -> Broadcast {
 }
 
 // The broadcast with the PSD of its next PDU in the buffer.
-fn supplied(b: Broadcast, psd: &mut [u8]) -> Broadcast {
+fn supplied(host: &Host, b: Broadcast, psd: &mut [u8]) -> Broadcast {
     let run = b.run;
     let row = b.row;
     let next = b.next;
@@ -185,7 +193,7 @@ fn supplied(b: Broadcast, psd: &mut [u8]) -> Broadcast {
         row: row,
         next: next,
         changes: b.changes,
-        supply: psd_stream::next(supply, room, psd),
+        supply: psd_stream::next(host, supply, room, psd),
     }
 }
 
@@ -219,6 +227,7 @@ fn counted(b: Broadcast) -> Broadcast {
 
 // Sends a PDU from the packets that wait.
 fn sent(
+    host: &Host,
     output: i32,
     onto: &[u8],
     psd: &[u8],
@@ -236,7 +245,7 @@ fn sent(
         settings: named_settings::of(row),
     };
     let bytes_of_psd = psd_stream::part(psd, supply.length);
-    let next = sending::sent(task, onto, bytes_of_psd, w, lengths, bytes, pdu, run);
+    let next = sending::sent(host, task, onto, bytes_of_psd, w, lengths, bytes, pdu, run);
     if !next.going {
         return with_run(b, next);
     }
@@ -245,6 +254,7 @@ fn sent(
 
 // Whether a change of settings is right, and the writer takes it, with as much PSD as there may be; if not, says so with the number of its line.
 fn is_right(
+    host: &Host,
     label: &[u8],
     text: &[u8],
     change: Change,
@@ -258,15 +268,16 @@ fn is_right(
     if change.wrong != schedule::RIGHT {
         let mut words = io::buffer();
         let k = schedule::put_wrong(&mut words, 0, text, change);
-        files::say(&line[..n], &words[..k]);
+        files::say(host, &line[..n], &words[..k]);
         return false;
     }
     let row = change.row;
-    is_taken(&line[..n], row, supply, psd, length, writer)
+    is_taken(host, &line[..n], row, supply, psd, length, writer)
 }
 
 // Whether the writer takes the settings of a row, with as much PSD as there may be; if not, says why.
 pub fn is_taken(
+    host: &Host,
     label: &[u8],
     row: [u32; 22],
     supply: Supply,
@@ -277,11 +288,19 @@ pub fn is_taken(
     let settings = named_settings::of(row);
     let room = limits::room_for(writer.mode, writer.stream, settings);
     let n = psd_stream::tried(supply, room);
-    trial::is_taken(label, settings, psd_stream::part(psd, n), length, writer)
+    trial::is_taken(
+        host,
+        label,
+        settings,
+        psd_stream::part(psd, n),
+        length,
+        writer,
+    )
 }
 
 // Whether every change of a text is right, and the writer takes it; says so of the first that is not. Each change has a byte of the text at least.
 pub fn are_taken(
+    host: &Host,
     label: &[u8],
     text: &[u8],
     row: [u32; 22],
@@ -296,7 +315,7 @@ pub fn are_taken(
         if change.pdu == schedule::NEVER {
             return true;
         }
-        if !is_right(label, text, change, supply, psd, length, writer) {
+        if !is_right(host, label, text, change, supply, psd, length, writer) {
             return false;
         }
         let next = schedule::next(text, change);

@@ -7,15 +7,17 @@ mod report;
 
 use arguments::Job;
 use disorder::Outlet;
+use host::Host;
 use options::CHANNEL;
 use passage::{Run, Task};
 
 // The subcommand `channel`: answers the exit status.
-pub fn program() -> i32 {
-    if options::given(CHANNEL, options::HELP) {
-        return files::status(CHANNEL, report::usage());
+pub fn program(host: &Host) -> i32 {
+    if options::given(host, CHANNEL, options::HELP) {
+        return files::status(host, CHANNEL, report::usage(host));
     }
     if !files::check(
+        host,
         CHANNEL,
         options::MARKS_OUT,
         options::OUT,
@@ -23,44 +25,44 @@ pub fn program() -> i32 {
     ) {
         return files::WRONG;
     }
-    let job = arguments::asked();
+    let job = arguments::asked(host);
     if !job.ok {
         return files::WRONG;
     }
-    files::status(CHANNEL, run(job))
+    files::status(host, CHANNEL, run(host, job))
 }
 
 // Opens the file that is read, and sends its PDUs over the channel. Answers whether all is done; what went wrong is said.
-fn run(job: Job) -> bool {
+fn run(host: &Host, job: Job) -> bool {
     let mut from = files::label_buffer();
-    let input = files::opened(CHANNEL, options::IN, &mut from);
+    let input = files::opened(host, CHANNEL, options::IN, &mut from);
     if input.fd < 0 {
         return false;
     }
     let n = input.length;
-    with_input(job, &from[..n], input.fd)
+    with_input(host, job, &from[..n], input.fd)
 }
 
 // Makes the file of marks, where one is asked for.
-fn with_input(job: Job, from: &[u8], input: i32) -> bool {
-    if !options::given(CHANNEL, options::MARKS_OUT) {
-        return with_marks(job, from, input, b"", disorder::NO_MARKS);
+fn with_input(host: &Host, job: Job, from: &[u8], input: i32) -> bool {
+    if !options::given(host, CHANNEL, options::MARKS_OUT) {
+        return with_marks(host, job, from, input, b"", disorder::NO_MARKS);
     }
     let mut label = files::label_buffer();
-    let marks = files::opened(CHANNEL, options::MARKS_OUT, &mut label);
+    let marks = files::opened(host, CHANNEL, options::MARKS_OUT, &mut label);
     if marks.fd < 0 {
         return false;
     }
     let n = marks.length;
-    with_marks(job, from, input, &label[..n], marks.fd)
+    with_marks(host, job, from, input, &label[..n], marks.fd)
 }
 
 // Makes the file that is written, and sends every PDU over the channel. Where that file is not made, that of marks goes, too.
-fn with_marks(job: Job, from: &[u8], input: i32, marking: &[u8], marks: i32) -> bool {
+fn with_marks(host: &Host, job: Job, from: &[u8], input: i32, marking: &[u8], marks: i32) -> bool {
     let mut onto = files::label_buffer();
-    let pdus = files::opened(CHANNEL, options::OUT, &mut onto);
+    let pdus = files::opened(host, CHANNEL, options::OUT, &mut onto);
     if pdus.fd < 0 {
-        files::unmake(CHANNEL, options::MARKS_OUT);
+        files::unmake(host, CHANNEL, options::MARKS_OUT);
         return false;
     }
     let n = pdus.length;
@@ -73,30 +75,45 @@ fn with_marks(job: Job, from: &[u8], input: i32, marking: &[u8], marks: i32) -> 
         },
         channel: channel,
     };
-    let run = passage::send_all(task, job.seed);
-    report::ends(run.status, from, &onto[..n], marking, run.pdus, run.bytes);
-    finish(run, task, &onto[..n], marking)
+    let run = passage::send_all(host, task, job.seed);
+    report::ends(
+        host,
+        run.status,
+        from,
+        &onto[..n],
+        marking,
+        run.pdus,
+        run.bytes,
+    );
+    finish(host, run, task, &onto[..n], marking)
 }
 
 // Closes the files that are written, and says what the channel did.
-fn finish(run: Run, task: Task, onto: &[u8], marking: &[u8]) -> bool {
+fn finish(host: &Host, run: Run, task: Task, onto: &[u8], marking: &[u8]) -> bool {
     let outlet = task.outlet;
-    let closed = files::close(outlet.pdus, onto);
-    let kept = close_marks(outlet.marks, marking);
-    report::summary(run.pdus, run.missing, run.lost, run.damaged, run.altered);
+    let closed = files::close(host, outlet.pdus, onto);
+    let kept = close_marks(host, outlet.marks, marking);
+    report::summary(
+        host,
+        run.pdus,
+        run.missing,
+        run.lost,
+        run.damaged,
+        run.altered,
+    );
     let channel = task.channel;
     let rates = channel.rates;
     let road = run.road;
-    report::asked_for(report::BURSTS, channel.bursts, run.hit);
-    report::asked_for(report::TWICE, rates.twice, road.twice);
-    report::asked_for(report::SWAPPED, rates.swap, road.swapped);
-    report::asked_for(report::CUT, rates.cut, road.cut);
+    report::asked_for(host, report::BURSTS, channel.bursts, run.hit);
+    report::asked_for(host, report::TWICE, rates.twice, road.twice);
+    report::asked_for(host, report::SWAPPED, rates.swap, road.swapped);
+    report::asked_for(host, report::CUT, rates.cut, road.cut);
     (run.status == records::END) & closed & kept
 }
 
-fn close_marks(marks: i32, marking: &[u8]) -> bool {
+fn close_marks(host: &Host, marks: i32, marking: &[u8]) -> bool {
     if marks < 0 {
         return true;
     }
-    files::close(marks, marking)
+    files::close(host, marks, marking)
 }

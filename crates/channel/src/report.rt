@@ -1,8 +1,9 @@
 // What the program says on standard error, a line in one write.
+use host::Host;
 use options::CHANNEL;
 
 // A record has a length that no PDU has, after so many records of so many bytes.
-fn too_long(from: &[u8], pdus: u64, bytes: u64) {
+fn too_long(host: &Host, from: &[u8], pdus: u64, bytes: u64) {
     let mut words = [0u8; 128];
     let n = text::fill(
         &mut words,
@@ -10,24 +11,39 @@ fn too_long(from: &[u8], pdus: u64, bytes: u64) {
         b": the record of PDU @, at byte @, has a length over 20480, which no PDU has\n",
         &[pdus, bytes],
     );
-    files::say(from, &words[..n]);
+    files::say(host, from, &words[..n]);
 }
 
 // Why no more PDUs are sent, after so many, of so many bytes with their lengths; nothing where all are. PDUs and bytes are counted from 0.
-pub fn ends(status: u8, from: &[u8], onto: &[u8], marking: &[u8], pdus: u64, bytes: u64) {
+pub fn ends(
+    host: &Host,
+    status: u8,
+    from: &[u8],
+    onto: &[u8],
+    marking: &[u8],
+    pdus: u64,
+    bytes: u64,
+) {
     match status {
         records::END => {}
-        records::CUT => files::say_number(from, b": ends inside the record of PDU ", pdus, b"\n"),
-        records::LONG => too_long(from, pdus, bytes),
-        disorder::UNWRITTEN => os::fail(onto),
-        disorder::UNMARKED => os::fail(marking),
-        _ => os::fail(from),
+        records::CUT => files::say_number(
+            host,
+            from,
+            b": ends inside the record of PDU ",
+            pdus,
+            b"\n",
+        ),
+        records::LONG => too_long(host, from, pdus, bytes),
+        disorder::UNWRITTEN => host.fail(onto),
+        disorder::UNMARKED => host.fail(marking),
+        _ => host.fail(from),
     }
 }
 
 // What the channel did. PDUs that were marked lost before are counted apart.
-pub fn summary(pdus: u64, missing: u64, lost: u64, damaged: u64, altered: u64) {
+pub fn summary(host: &Host, pdus: u64, missing: u64, lost: u64, damaged: u64, altered: u64) {
     options::say_numbers(
+        host,
         CHANNEL,
         b": PDUs @ (lost before @), lost @, damaged @, bytes altered @\n",
         &[pdus, missing, lost, damaged, altered],
@@ -44,11 +60,12 @@ pub const SWAPPED: u32 = 2;
 pub const CUT: u32 = 3;
 
 // How often a thing happened that was asked for so many times in a thousand; nothing where it was for none.
-pub fn asked_for(thing: u32, in_a_thousand: u64, count: u64) {
+pub fn asked_for(host: &Host, thing: u32, in_a_thousand: u64, count: u64) {
     if in_a_thousand == 0 {
         return;
     }
     options::say_numbers(
+        host,
         CHANNEL,
         text::entry(
             b": pieces hit by bursts @\n\0: PDUs sent twice @\n\0: PDUs swapped with the next @\n\0: PDUs cut @\n\0",
@@ -59,8 +76,9 @@ pub fn asked_for(thing: u32, in_a_thousand: u64, count: u64) {
 }
 
 // How the program is used, on standard output.
-pub fn usage() -> bool {
+pub fn usage(host: &Host) -> bool {
     files::print_usage(
+        host,
         CHANNEL,
         b"usage: barzhilup channel [--in FILE] [--out FILE] [OPTION]...
 

@@ -7,7 +7,7 @@
 use modes::Listing;
 
 // A PDU takes `parts` / `whole` ms; where `parts` is 0 its time is not known.
-#[derive(Drop)]
+#[derive(Clone, Copy)]
 pub struct Clock {
     pub parts: u32,
     pub whole: u32,

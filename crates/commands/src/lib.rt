@@ -1,50 +1,49 @@
-// The program `barzhilup`, on `generator`, `channel`, `logger`, `coverage`, `trials` and `joiner`: its first argument says what it does. A C main calls it and
-// hands on its answer as the exit status.
+// The program `barzhilup`, on `generator`, `channel`, `logger`, `coverage`, `trials` and `joiner`: its first argument says what it does. The
+// crate `barzhilup` hands on its answer as the exit status.
 #![tactic(auto)]
 
-use libc::STDERR_FILENO;
+use host::{Host, STDERR};
 
 // 0 where all is done, 1 where the work stopped early, 2 where the usage is wrong.
-#[unsafe(no_mangle)]
-pub extern "C" fn barzhilup_main() -> i32 {
+pub fn barzhilup_main(host: &Host) -> i32 {
     let mut word = io::buffer();
-    let n = os::arg(1, &mut word);
-    run(&word[..n])
+    let n = host.arg(1, &mut word);
+    run(host, &word[..n])
 }
 
 // Runs a subcommand.
-fn run(word: &[u8]) -> i32 {
+fn run(host: &Host, word: &[u8]) -> i32 {
     if check::same(word, b"generate") {
-        return files::with_hint(options::GENERATE, generator::program());
+        return files::with_hint(host, options::GENERATE, generator::program(host));
     }
     if check::same(word, b"channel") {
-        return files::with_hint(options::CHANNEL, channel::program());
+        return files::with_hint(host, options::CHANNEL, channel::program(host));
     }
     if check::same(word, b"log") {
-        return files::with_hint(options::LOG, logger::program());
+        return files::with_hint(host, options::LOG, logger::program(host));
     }
     if check::same(word, b"coverage") {
-        return files::with_hint(options::COVERAGE, coverage::program());
+        return files::with_hint(host, options::COVERAGE, coverage::program(host));
     }
     if check::same(word, b"latency") {
-        return files::with_hint(options::LATENCY, trials::program());
+        return files::with_hint(host, options::LATENCY, trials::program(host));
     }
     if check::same(word, b"join") {
-        return files::with_hint(options::JOIN, joiner::program());
+        return files::with_hint(host, options::JOIN, joiner::program(host));
     }
-    about(word)
+    about(host, word)
 }
 
 // Says what the program is, or that a subcommand is missing or not known.
-fn about(word: &[u8]) -> i32 {
+fn about(host: &Host, word: &[u8]) -> i32 {
     if is_help(word) {
-        return files::status(options::BARZHILUP, print_usage());
+        return files::status(host, options::BARZHILUP, print_usage(host));
     }
     if check::same(word, b"--version") {
-        return files::status(options::BARZHILUP, print_version());
+        return files::status(host, options::BARZHILUP, print_version(host));
     }
-    unknown(word);
-    files::with_hint(options::BARZHILUP, files::WRONG)
+    unknown(host, word);
+    files::with_hint(host, options::BARZHILUP, files::WRONG)
 }
 
 fn is_help(word: &[u8]) -> bool {
@@ -54,8 +53,9 @@ fn is_help(word: &[u8]) -> bool {
     check::same(word, b"-h")
 }
 
-fn print_usage() -> bool {
+fn print_usage(host: &Host) -> bool {
     files::print_usage(
+        host,
         options::BARZHILUP,
         b"usage: barzhilup SUBCOMMAND [OPTION]...
 
@@ -78,19 +78,19 @@ last line on standard error says, 2 if the usage is wrong.
     )
 }
 
-fn print_version() -> bool {
-    files::print_usage(options::BARZHILUP, b"barzhilup 0.1.0\n")
+fn print_version(host: &Host) -> bool {
+    files::print_usage(host, options::BARZHILUP, b"barzhilup 0.1.0\n")
 }
 
 // Says that a subcommand is missing, or that there is none of this name; and which there are.
-fn unknown(word: &[u8]) {
-    if os::arg_count() < 2 {
-        options::say(options::BARZHILUP, b": subcommand missing\n");
+fn unknown(host: &Host, word: &[u8]) {
+    if host.arg_count() < 2 {
+        options::say(host, options::BARZHILUP, b": subcommand missing\n");
     } else {
-        options::say_argument(options::BARZHILUP, b": unknown subcommand ", word);
+        options::say_argument(host, options::BARZHILUP, b": unknown subcommand ", word);
     }
-    io::write_all(
-        STDERR_FILENO,
+    host.write_all(
+        STDERR,
         b"usage: barzhilup generate|channel|log|coverage|latency|join [OPTION]...\n",
     );
 }

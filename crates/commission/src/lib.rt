@@ -3,12 +3,13 @@
 #![tactic(auto)]
 
 use clock::Clock;
+use host::Host;
 use options::COVERAGE;
 use page::title;
 
 // What is asked for: whether it is asked rightly; HTML or SVG; how many PDUs stand in a row; how many rows on a page, 0 for all; the page, 0 for all; and how
 // long a PDU is.
-#[derive(Drop)]
+#[derive(Clone, Copy)]
 pub struct Asked {
     pub ok: bool,
     pub html: bool,
@@ -19,55 +20,60 @@ pub struct Asked {
 }
 
 // Whether the value of an option, if it is given, is UTF-8 of at most 200 bytes; says so where it is not.
-fn is_line(option: u8) -> bool {
+fn is_line(host: &Host, option: u8) -> bool {
     let mut value = io::buffer();
-    let n = options::value(COVERAGE, option, &mut value);
+    let n = options::value(host, COVERAGE, option, &mut value);
     if title::is_fit(&value[..n], title::MOST) {
         return true;
     }
-    options::complain(COVERAGE, option, b": over 200 bytes, or not UTF-8");
+    options::complain(host, COVERAGE, option, b": over 200 bytes, or not UTF-8");
     false
 }
 
 // The same for the note, which may be longer.
-fn is_note() -> bool {
+fn is_note(host: &Host) -> bool {
     let mut value = io::buffer();
-    let n = options::value(COVERAGE, options::NOTE, &mut value);
+    let n = options::value(host, COVERAGE, options::NOTE, &mut value);
     if title::is_fit(&value[..n], title::MOST_OF_NOTE) {
         return true;
     }
-    options::complain(COVERAGE, options::NOTE, b": over 4000 bytes, or not UTF-8");
+    options::complain(
+        host,
+        COVERAGE,
+        options::NOTE,
+        b": over 4000 bytes, or not UTF-8",
+    );
     false
 }
 
 // Whether an option that only an HTML page shows is given with one, or not at all; says so where it is not.
-fn is_shown(html: bool, option: u8) -> bool {
-    if html | !options::given(COVERAGE, option) {
+fn is_shown(host: &Host, html: bool, option: u8) -> bool {
+    if html | !options::given(host, COVERAGE, option) {
         return true;
     }
-    options::complain(COVERAGE, option, b": goes with --format html");
+    options::complain(host, COVERAGE, option, b": goes with --format html");
     false
 }
 
 // Whether the texts are right.
-fn are_texts(html: bool) -> bool {
-    let lines = is_line(options::TITLE)
-        & is_line(options::STATION)
-        & is_line(options::DATE)
-        & is_line(options::SOURCE);
-    let shown = is_shown(html, options::STATION)
-        & is_shown(html, options::DATE)
-        & is_shown(html, options::SOURCE);
-    lines & shown & is_note() & is_shown(html, options::NOTE)
+fn are_texts(host: &Host, html: bool) -> bool {
+    let lines = is_line(host, options::TITLE)
+        & is_line(host, options::STATION)
+        & is_line(host, options::DATE)
+        & is_line(host, options::SOURCE);
+    let shown = is_shown(host, html, options::STATION)
+        & is_shown(host, html, options::DATE)
+        & is_shown(host, html, options::SOURCE);
+    lines & shown & is_note(host) & is_shown(host, html, options::NOTE)
 }
 
 // Whether HTML is asked for: 0 for SVG, 1 for HTML, 2 for neither, which is said.
-fn format() -> u8 {
-    if !options::given(COVERAGE, options::FORMAT) {
+fn format(host: &Host) -> u8 {
+    if !options::given(host, COVERAGE, options::FORMAT) {
         return 0;
     }
     let mut value = io::buffer();
-    let n = options::value(COVERAGE, options::FORMAT, &mut value);
+    let n = options::value(host, COVERAGE, options::FORMAT, &mut value);
     if check::same(&value[..n], b"svg") {
         return 0;
     }
@@ -75,6 +81,7 @@ fn format() -> u8 {
         return 1;
     }
     options::complain_of(
+        host,
         COVERAGE,
         options::FORMAT,
         b": not svg or html: ",
@@ -84,23 +91,27 @@ fn format() -> u8 {
 }
 
 // How long a PDU is: as it is given, or that of the mode and stream, which are 0 where only the other is given.
-fn clock_of(ms: u32, mode: u32, stream: u32) -> Clock {
-    if options::given(COVERAGE, options::PDU_MS) {
+fn clock_of(host: &Host, ms: u32, mode: u32, stream: u32) -> Clock {
+    if options::given(host, COVERAGE, options::PDU_MS) {
         return clock::of_ms(ms);
     }
-    if options::given(COVERAGE, options::MODE) | options::given(COVERAGE, options::STREAM) {
+    if options::given(host, COVERAGE, options::MODE)
+        | options::given(host, COVERAGE, options::STREAM)
+    {
         return clock::of_mode((mode % 256) as u8, (stream % 256) as u8);
     }
     clock::none()
 }
 
 // Whether mode and stream are given and are not in the table of modes.
-pub fn is_unlisted() -> bool {
-    if !options::given(COVERAGE, options::MODE) & !options::given(COVERAGE, options::STREAM) {
+pub fn is_unlisted(host: &Host) -> bool {
+    if !options::given(host, COVERAGE, options::MODE)
+        & !options::given(host, COVERAGE, options::STREAM)
+    {
         return false;
     }
-    let mode = options::number(COVERAGE, options::MODE, 0, 0, 255);
-    let stream = options::number(COVERAGE, options::STREAM, 0, 0, 255);
+    let mode = options::number(host, COVERAGE, options::MODE, 0, 0, 255);
+    let stream = options::number(host, COVERAGE, options::STREAM, 0, 0, 255);
     !clock::is_known(clock::of_mode((mode.value % 256) as u8, (stream.value % 256) as u8))
 }
 
@@ -121,22 +132,22 @@ fn page_if(html: bool) -> u32 {
 }
 
 // What is asked for. What is wrong is said.
-pub fn asked_for() -> Asked {
-    let f = format();
+pub fn asked_for(host: &Host) -> Asked {
+    let f = format(host);
     let html = f == 1;
-    let columns = options::number(COVERAGE, options::COLUMNS, 100, 20, 200);
-    let rows = options::number(COVERAGE, options::ROWS, rows_if(html), 1, 1000);
-    let page = options::number(COVERAGE, options::PAGE, page_if(html), 1, 1000000);
-    let mode = options::number(COVERAGE, options::MODE, 0, 0, 255);
-    let stream = options::number(COVERAGE, options::STREAM, 0, 0, 255);
-    let ms = options::number(COVERAGE, options::PDU_MS, 0, 1, 60000);
+    let columns = options::number(host, COVERAGE, options::COLUMNS, 100, 20, 200);
+    let rows = options::number(host, COVERAGE, options::ROWS, rows_if(html), 1, 1000);
+    let page = options::number(host, COVERAGE, options::PAGE, page_if(html), 1, 1000000);
+    let mode = options::number(host, COVERAGE, options::MODE, 0, 0, 255);
+    let stream = options::number(host, COVERAGE, options::STREAM, 0, 0, 255);
+    let ms = options::number(host, COVERAGE, options::PDU_MS, 0, 1, 60000);
     let numbers = columns.ok & rows.ok & page.ok & mode.ok & stream.ok & ms.ok;
     Asked {
-        ok: are_texts(html | (f == 2)) & numbers & (f != 2),
+        ok: are_texts(host, html | (f == 2)) & numbers & (f != 2),
         html: html,
         columns: columns.value,
         rows: rows.value,
         page: page.value,
-        clock: clock_of(ms.value, mode.value, stream.value),
+        clock: clock_of(host, ms.value, mode.value, stream.value),
     }
 }

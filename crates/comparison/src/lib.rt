@@ -8,10 +8,11 @@ mod search;
 ghost use Rattle.std.specs.Prelude.{◌≡◌, length};
 ghost use Rattle.io.specs.Counts.{IsPrefixLen};
 
+use host::Host;
 use search::Found;
 
 // The file of the packets that were sent, as records or in ADTS frames, and the file in which each has a line; either is -1 where there is none.
-#[derive(Drop)]
+#[derive(Clone, Copy)]
 pub struct Sent {
     pub fd: i32,
     pub adts: bool,
@@ -144,59 +145,74 @@ fn go_on(row: &mut [u64], f: Found) {
 }
 
 // Takes a packet that is delivered.
-fn delivered(sent: Sent, row: &mut [u64], f: Found, pdu: u64) -> u8 {
+fn delivered(host: &Host, sent: Sent, row: &mut [u64], f: Found, pdu: u64) -> u8 {
     deliver(row, f.index);
     keep_first(row, f.index);
     keep_end(row, f.index);
     go_on(row, f);
-    list::came(sent, list::DELIVERED, f.index, f.length, pdu)
+    list::came(host, sent, list::DELIVERED, f.index, f.length, pdu)
 }
 
 // Counts a packet that came again.
-fn again(sent: Sent, row: &mut [u64], f: Found, pdu: u64) -> u8 {
+fn again(host: &Host, sent: Sent, row: &mut [u64], f: Found, pdu: u64) -> u8 {
     add(row, AGAIN);
     go_on(row, f);
-    list::came(sent, list::AGAIN, f.index, f.length, pdu)
+    list::came(host, sent, list::AGAIN, f.index, f.length, pdu)
 }
 
 // Counts a packet that was never sent, and says so.
-fn never(sent: Sent, row: &mut [u64], number: u64, length: usize, pdu: u64) -> u8 {
-    list::say_never(at(row, NEVER), pdu, number, length as u64);
+fn never(host: &Host, sent: Sent, row: &mut [u64], number: u64, length: usize, pdu: u64) -> u8 {
+    list::say_never(host, at(row, NEVER), pdu, number, length as u64);
     add(row, NEVER);
-    list::never(sent, number, length, pdu)
+    list::never(host, sent, number, length, pdu)
 }
 
 // Looks for a packet that a PDU delivers, and counts what came of it.
-fn packet_came(sent: Sent, row: &mut [u64], pdu: u64, number: u64, packet: &[u8]) -> u8 {
-    let f = search::looked_for(sent, row, number, packet);
+fn packet_came(
+    host: &Host,
+    sent: Sent,
+    row: &mut [u64],
+    pdu: u64,
+    number: u64,
+    packet: &[u8],
+) -> u8 {
+    let f = search::looked_for(host, sent, row, number, packet);
     let how = f.how;
     match how {
-        search::NEW => delivered(sent, row, f, pdu),
-        search::OLD => again(sent, row, f, pdu),
-        search::NOWHERE => never(sent, row, number, packet.len(), pdu),
+        search::NEW => delivered(host, sent, row, f, pdu),
+        search::OLD => again(host, sent, row, f, pdu),
+        search::NOWHERE => never(host, sent, row, number, packet.len(), pdu),
         _ => UNREAD,
     }
 }
 
 // What comes of the word at a place of a PDU's log: the first one of a packet is looked for.
-fn word_came(sent: Sent, row: &mut [u64], pdu: u64, log: &[u32], i: usize, word: u32) -> u8 {
+fn word_came(
+    host: &Host,
+    sent: Sent,
+    row: &mut [u64],
+    pdu: u64,
+    log: &[u32],
+    i: usize,
+    word: u32,
+) -> u8 {
     let w = words::split(word);
     if w.kind != words::PACKET {
         return COMPARED;
     }
     let mut packet = io::buffer();
     let n = packet_files::put_entry(&mut packet, log, std::num::wrapping_add_usize(i, 1));
-    packet_came(sent, row, pdu, w.high as u64, &packet[..n])
+    packet_came(host, sent, row, pdu, w.high as u64, &packet[..n])
 }
 
 // Compares the packets of a PDU's log, the PDU counted from 0.
-pub fn compare(sent: Sent, row: &mut [u64], pdu: u64, log: &[u32]) -> u8 {
-    if !search::is_ready(sent, row) {
+pub fn compare(host: &Host, sent: Sent, row: &mut [u64], pdu: u64, log: &[u32]) -> u8 {
+    if !search::is_ready(host, sent, row) {
         return UNREAD;
     }
     let mut i: usize = 0;
     while i < log.len() {
-        let status = word_came(sent, row, pdu, log, i, log[i]);
+        let status = word_came(host, sent, row, pdu, log, i, log[i]);
         if status != COMPARED {
             return status;
         }
@@ -206,12 +222,12 @@ pub fn compare(sent: Sent, row: &mut [u64], pdu: u64, log: &[u32]) -> u8 {
 }
 
 // Writes the lines of the packets that are missing, and the last line, where all PDUs are logged.
-pub fn end(sent: Sent, row: &[u64]) -> u8 {
-    let status = list::missing(sent, row);
+pub fn end(host: &Host, sent: Sent, row: &[u64]) -> u8 {
+    let status = list::missing(host, sent, row);
     if status != COMPARED {
         return status;
     }
-    list::end(sent, at(row, SENT))
+    list::end(host, sent, at(row, SENT))
 }
 
 // The line for packets that are alike, if there are any.

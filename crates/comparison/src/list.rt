@@ -2,6 +2,7 @@
 ghost use Rattle.io.specs.Counts.{IsPrefixLen};
 
 use crate::{Sent, search};
+use host::Host;
 
 // What came of a packet: it is delivered, missing, or came again.
 pub const DELIVERED: u32 = 0;
@@ -22,29 +23,30 @@ const END: u32 = 4;
 const SAID: u64 = 5;
 
 // Writes a line of the list, if there is one, with its numbers.
-fn write(sent: Sent, line: u32, numbers: &[u64]) -> u8 {
+fn write(host: &Host, sent: Sent, line: u32, numbers: &[u64]) -> u8 {
     if sent.list < 0 {
         return crate::COMPARED;
     }
     let mut out = [0u8; 128];
     let n = text::fill(&mut out, 0, text::entry(&LINES, line), numbers);
-    if io::write_all(sent.list, &out[..n]) {
+    if host.write_all(sent.list, &out[..n]) {
         return crate::COMPARED;
     }
     crate::UNLISTED
 }
 
 // What stands before all packets. Answers whether it is written.
-pub fn begin(fd: i32) -> bool {
+pub fn begin(host: &Host, fd: i32) -> bool {
     if fd < 0 {
         return true;
     }
-    io::write_all(fd, b"index,number,length,state,pdu\n")
+    host.write_all(fd, b"index,number,length,state,pdu\n")
 }
 
 // The line of a packet that came in a PDU.
-pub fn came(sent: Sent, line: u32, index: u64, length: usize, pdu: u64) -> u8 {
+pub fn came(host: &Host, sent: Sent, line: u32, index: u64, length: usize, pdu: u64) -> u8 {
     write(
+        host,
         sent,
         line,
         &[index, sent_packets::number_at(index), length as u64, pdu],
@@ -52,25 +54,25 @@ pub fn came(sent: Sent, line: u32, index: u64, length: usize, pdu: u64) -> u8 {
 }
 
 // The line of a packet that was never sent.
-pub fn never(sent: Sent, number: u64, length: usize, pdu: u64) -> u8 {
-    write(sent, NEVER, &[number, length as u64, pdu])
+pub fn never(host: &Host, sent: Sent, number: u64, length: usize, pdu: u64) -> u8 {
+    write(host, sent, NEVER, &[number, length as u64, pdu])
 }
 
 // The list's last line, where it has all packets.
-pub fn end(sent: Sent, packets: u64) -> u8 {
-    write(sent, END, &[packets])
+pub fn end(host: &Host, sent: Sent, packets: u64) -> u8 {
+    write(host, sent, END, &[packets])
 }
 
 // The line of the packet with an index and a length, if it is missing.
-fn missed(sent: Sent, row: &[u64], index: u64, length: usize) -> u8 {
+fn missed(host: &Host, sent: Sent, row: &[u64], index: u64, length: usize) -> u8 {
     if sent_packets::bitmap::at(crate::bitmap(row), index) != 0 {
         return crate::COMPARED;
     }
-    came(sent, MISSING, index, length, 0)
+    came(host, sent, MISSING, index, length, 0)
 }
 
 // The lines of the packets that are missing.
-pub fn missing(sent: Sent, row: &[u64]) -> u8 {
+pub fn missing(host: &Host, sent: Sent, row: &[u64]) -> u8 {
     if sent.list < 0 {
         return crate::COMPARED;
     }
@@ -78,11 +80,11 @@ pub fn missing(sent: Sent, row: &[u64]) -> u8 {
     let mut index: u64 = 0;
     let mut byte: u64 = 0;
     while index < all {
-        let s = search::span_at(sent, byte);
+        let s = search::span_at(host, sent, byte);
         if s.to == 0 {
             return crate::UNREAD;
         }
-        let status = missed(sent, row, index, search::length_of(s));
+        let status = missed(host, sent, row, index, search::length_of(s));
         if status != crate::COMPARED {
             return status;
         }
@@ -93,7 +95,7 @@ pub fn missing(sent: Sent, row: &[u64]) -> u8 {
 }
 
 // Says that a packet of a PDU was never sent, after so many such packets.
-pub fn say_never(before: u64, pdu: u64, number: u64, length: u64) {
+pub fn say_never(host: &Host, before: u64, pdu: u64, number: u64, length: u64) {
     if SAID < before {
         return;
     }
@@ -107,7 +109,7 @@ pub fn say_never(before: u64, pdu: u64, number: u64, length: u64) {
         ),
         &[pdu, number, length],
     );
-    io::write_all(libc::STDERR_FILENO, &line[..n]);
+    host.write_all(host::STDERR, &line[..n]);
 }
 
 // A share in tenths of a per cent; 0 where it is none.

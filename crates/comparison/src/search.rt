@@ -3,6 +3,7 @@
 ghost use Rattle.io.specs.Counts.{IsPrefixLen};
 
 use crate::Sent;
+use host::Host;
 use sent_packets::Span;
 
 // What came of a search: found among the packets that are not delivered yet, found among those that are, found nowhere, or not to be told since the file cannot
@@ -16,7 +17,7 @@ pub const NOWHERE: u8 = 2;
 pub const UNREAD: u8 = 3;
 
 // What came of a search; of a packet that is found its index, its bytes, and the byte of the file after it.
-#[derive(Drop)]
+#[derive(Clone, Copy)]
 pub struct Found {
     pub how: u8,
     pub index: u64,
@@ -35,17 +36,17 @@ fn not_found(how: u8) -> Found {
 }
 
 // Reads to the buffer's start from a byte of a file on. Answers how many bytes.
-fn read(fd: i32, buf: &mut [u8], byte: u64) -> usize
+fn read(host: &Host, fd: i32, buf: &mut [u8], byte: u64) -> usize
     ensures { IsPrefixLen result buf.new }
 {
-    let got = libc::pread(fd, &mut *buf, (byte % 0x4000000000000000) as i64);
+    let got = host.read_at(fd, &mut *buf, byte % 0x4000000000000000);
     io::count(got, buf)
 }
 
 // Where the packet stands whose record or frame begins at a byte of the file.
-pub fn span_at(sent: Sent, byte: u64) -> Span {
+pub fn span_at(host: &Host, sent: Sent, byte: u64) -> Span {
     let mut head = [0u8; 9];
-    let n = read(sent.fd, &mut head, byte);
+    let n = read(host, sent.fd, &mut head, byte);
     sent_packets::span_of(&head[..n], sent.adts)
 }
 
@@ -80,7 +81,7 @@ fn keep(row: &mut [u64], index: u64, byte: u64, checksum: u64) {
 }
 
 // A packet, by its index and the byte of the file at which it begins.
-#[derive(Drop)]
+#[derive(Clone, Copy)]
 struct Place {
     index: u64,
     byte: u64,
@@ -102,22 +103,30 @@ fn known_before(row: &[u64], index: u64) -> Place {
 }
 
 // The byte at which the packet with an index begins; where the file has none, one at which none begins.
-fn byte_of(sent: Sent, row: &[u64], index: u64) -> u64 {
+fn byte_of(host: &Host, sent: Sent, row: &[u64], index: u64) -> u64 {
     let known = known_before(row, index);
     let mut k = known.index;
     let mut byte = known.byte;
     while k < index {
-        byte = after(byte, span_at(sent, byte));
+        byte = after(byte, span_at(host, sent, byte));
         k += 1;
     }
     byte
 }
 
 // Whether the packet with an index is the one that is looked for, by its number and bytes; `how` is that of one that is.
-fn tried(sent: Sent, row: &[u64], index: u64, how: u8, number: u64, packet: &[u8]) -> Found {
-    let byte = byte_of(sent, row, index);
+fn tried(
+    host: &Host,
+    sent: Sent,
+    row: &[u64],
+    index: u64,
+    how: u8,
+    number: u64,
+    packet: &[u8],
+) -> Found {
+    let byte = byte_of(host, sent, row, index);
     let mut bytes = [0u8; 4608];
-    let n = read(sent.fd, &mut bytes, byte);
+    let n = read(host, sent.fd, &mut bytes, byte);
     let s = sent_packets::span_of(&bytes[..n], sent.adts);
     if s.to == 0 {
         return not_found(UNREAD);
@@ -140,7 +149,7 @@ fn checksum_at(row: &[u64], index: u64) -> u64 {
 }
 
 // Counts a packet that is the same as the one 64 before, which has the same number.
-fn count_alike(sent: Sent, row: &mut [u64], index: u64, packet: &[u8], checksum: u64) {
+fn count_alike(host: &Host, sent: Sent, row: &mut [u64], index: u64, packet: &[u8], checksum: u64) {
     if index < 64 {
         return;
     }
@@ -148,31 +157,31 @@ fn count_alike(sent: Sent, row: &mut [u64], index: u64, packet: &[u8], checksum:
         return;
     }
     let number = sent_packets::number_at(index);
-    let f = tried(sent, row, index - 64, OLD, number, packet);
+    let f = tried(host, sent, row, index - 64, OLD, number, packet);
     if f.how == OLD {
         crate::add(row, crate::ALIKE);
     }
 }
 
 // Keeps what a search needs of the packet with an index, whose record or frame begins at a byte. Answers where it stands.
-fn learn(sent: Sent, row: &mut [u64], index: u64, byte: u64) -> Span {
+fn learn(host: &Host, sent: Sent, row: &mut [u64], index: u64, byte: u64) -> Span {
     let mut bytes = [0u8; 4608];
-    let n = read(sent.fd, &mut bytes, byte);
+    let n = read(host, sent.fd, &mut bytes, byte);
     let s = sent_packets::span_of(&bytes[..n], sent.adts);
     let packet = sent_packets::packet_of(&bytes[..n], s.from, s.to);
     let checksum = sent_packets::checksum(packet) as u64;
     keep(row, index, byte, checksum);
-    count_alike(sent, row, index, packet, checksum);
+    count_alike(host, sent, row, index, packet, checksum);
     s
 }
 
 // Goes once through the file. Answers whether all packets are there.
-fn learn_all(sent: Sent, row: &mut [u64]) -> bool {
+fn learn_all(host: &Host, sent: Sent, row: &mut [u64]) -> bool {
     let all = crate::at(row, crate::SENT);
     let mut index: u64 = 0;
     let mut byte: u64 = 0;
     while index < all {
-        let s = learn(sent, row, index, byte);
+        let s = learn(host, sent, row, index, byte);
         if s.to == 0 {
             return false;
         }
@@ -183,11 +192,11 @@ fn learn_all(sent: Sent, row: &mut [u64]) -> bool {
 }
 
 // Whether what a search needs is kept; the first time, goes through the file for it.
-pub fn is_ready(sent: Sent, row: &mut [u64]) -> bool {
+pub fn is_ready(host: &Host, sent: Sent, row: &mut [u64]) -> bool {
     if crate::at(row, crate::READY) != 0 {
         return true;
     }
-    if !learn_all(sent, row) {
+    if !learn_all(host, sent, row) {
         return false;
     }
     crate::set(row, crate::READY, 1);
@@ -228,14 +237,22 @@ fn index_in(first: u64, more: u64, rounds: u64, number: u64) -> u64 {
 }
 
 // Looks for a packet among those that are delivered or not, as is asked.
-fn among(sent: Sent, row: &[u64], how: u8, number: u64, packet: &[u8], checksum: u64) -> Found {
+fn among(
+    host: &Host,
+    sent: Sent,
+    row: &[u64],
+    how: u8,
+    number: u64,
+    packet: &[u8],
+    checksum: u64,
+) -> Found {
     let rounds = rounds_of(row);
     let first = first_round(row, number);
     let mut k: u64 = 0;
     while k < rounds {
         let index = index_in(first, k, rounds, number);
         if may_be(row, index, how, checksum) {
-            let f = tried(sent, row, index, how, number, packet);
+            let f = tried(host, sent, row, index, how, number, packet);
             if f.how != NOWHERE {
                 return f;
             }
@@ -246,11 +263,11 @@ fn among(sent: Sent, row: &[u64], how: u8, number: u64, packet: &[u8], checksum:
 }
 
 // Looks for a packet of a number.
-pub fn looked_for(sent: Sent, row: &[u64], number: u64, packet: &[u8]) -> Found {
+pub fn looked_for(host: &Host, sent: Sent, row: &[u64], number: u64, packet: &[u8]) -> Found {
     let checksum = sent_packets::checksum(packet) as u64;
-    let f = among(sent, row, NEW, number, packet, checksum);
+    let f = among(host, sent, row, NEW, number, packet, checksum);
     if f.how != NOWHERE {
         return f;
     }
-    among(sent, row, OLD, number, packet, checksum)
+    among(host, sent, row, OLD, number, packet, checksum)
 }

@@ -4,6 +4,8 @@
 
 ghost use Rattle.std.specs.Prelude.{◌≡◌, ◌<◌};
 
+use host::Host;
+
 // How a list stands: it goes on, it is read, a byte is neither a digit nor a blank, or a read failed and errno names why.
 pub const GOING: u8 = 0;
 
@@ -14,7 +16,7 @@ pub const STRANGE: u8 = 2;
 pub const FAILED: u8 = 3;
 
 // A list so far: how it stands, how many counts are stored, whether one is begun and its value so far, and the line that is read, from 1.
-#[derive(Drop)]
+#[derive(Clone, Copy)]
 pub struct List {
     pub status: u8,
     pub count: usize,
@@ -137,8 +139,8 @@ fn ended(list: List, failed: bool, counts: &mut [u32]) -> List {
 }
 
 // The list after the next block of a file.
-fn turn(fd: i32, list: List, buf: &mut [u8], counts: &mut [u32]) -> List {
-    let got = records::fill(fd, buf);
+fn turn(host: &Host, fd: i32, list: List, buf: &mut [u8], counts: &mut [u32]) -> List {
+    let got = records::fill(host, fd, buf);
     let next = after_block(list, &buf[..got.length], counts);
     if next.status != GOING {
         return next;
@@ -151,12 +153,12 @@ fn turn(fd: i32, list: List, buf: &mut [u8], counts: &mut [u32]) -> List {
 
 // Reads the counts of a file into a row, as many as there is room for. The blocks are counted down from a number that no file uses up, since a
 // proved loop has to end, and nothing says that a file does.
-pub fn read(fd: i32, counts: &mut [u32]) -> List {
+pub fn read(host: &Host, fd: i32, counts: &mut [u32]) -> List {
     let mut buf = io::large_buffer();
     let mut list = empty();
     let mut turns = u64::MAX;
     while 0 < turns {
-        let next = turn(fd, list, &mut buf, counts);
+        let next = turn(host, fd, list, &mut buf, counts);
         list = next;
         if list.status != GOING {
             return list;
@@ -171,7 +173,7 @@ pub fn from_text(text: &[u8], counts: &mut [u32]) -> List {
     let mut list = empty();
     let mut at: usize = 0;
     while at <= text.len() {
-        let end = bytes::scan::find(text, at, text.len(), b',');
+        let end = text::find(text, at, text.len(), b',');
         let number = text::parse(&text[at..end]);
         if !number.ok {
             return stopped(list, STRANGE);

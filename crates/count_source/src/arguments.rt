@@ -2,15 +2,18 @@
 ghost use Rattle.std.specs.Prelude.{◌≤◌};
 ghost use Rattle.io.specs.Counts.{IsPrefixLen};
 
+use host::Host;
 use options::LATENCY;
 use text::Number;
 
 // Whether counts are given twice; says so.
-fn is_twofold() -> bool {
-    let twofold = options::given(LATENCY, options::COUNTS)
-        & (options::given(LATENCY, options::IN) | options::given(LATENCY, options::PACKETS));
+fn is_twofold(host: &Host) -> bool {
+    let twofold = options::given(host, LATENCY, options::COUNTS)
+        & (options::given(host, LATENCY, options::IN)
+            | options::given(host, LATENCY, options::PACKETS));
     if twofold {
         options::complain(
+            host,
             LATENCY,
             options::COUNTS,
             b": takes the place of --in and --packets",
@@ -20,11 +23,12 @@ fn is_twofold() -> bool {
 }
 
 // Whether every option is one that is known, with its value, and they go together; if not, says what is wrong.
-pub fn check() -> bool {
-    if !transmission::check(LATENCY) {
+pub fn check(host: &Host) -> bool {
+    if !transmission::check(host, LATENCY) {
         return false;
     }
     if !files::is_apart(
+        host,
         LATENCY,
         options::SVG,
         options::OUT,
@@ -32,39 +36,40 @@ pub fn check() -> bool {
     ) {
         return false;
     }
-    !is_twofold()
+    !is_twofold(host)
 }
 
 // The latency that is to be drawn, if one is given.
-pub fn draw() -> Number
+pub fn draw(host: &Host) -> Number
     ensures { result.value ≤ 7 }
 {
-    options::number(LATENCY, options::DRAW, 0, 0, 7)
+    options::number(host, LATENCY, options::DRAW, 0, 0, 7)
 }
 
 // The label of what is read: the file, standard input or the option with the counts.
-pub fn put_label(out: &mut [u8]) -> usize
+pub fn put_label(host: &Host, out: &mut [u8]) -> usize
     ensures { IsPrefixLen result out.new }
 {
-    if options::given(LATENCY, options::COUNTS) {
+    if options::given(host, LATENCY, options::COUNTS) {
         let n = options::put_program(out, LATENCY);
         return text::put(out, n, b": --counts");
     }
-    files::put_label(out, LATENCY, options::IN)
+    files::put_label(host, out, LATENCY, options::IN)
 }
 
 // The counts of the option that has them into a row. Answers how many; 0 where it is not given. Where it has other things, says so and answers
 // that it is not ok.
-pub fn from_option(counts: &mut [u32]) -> Listed {
-    if !options::given(LATENCY, options::COUNTS) {
+pub fn from_option(host: &Host, counts: &mut [u32]) -> Listed {
+    if !options::given(host, LATENCY, options::COUNTS) {
         return Listed { ok: true, count: 0 };
     }
     let mut value = io::buffer();
-    let n = options::value(LATENCY, options::COUNTS, &mut value);
+    let n = options::value(host, LATENCY, options::COUNTS, &mut value);
     let list = count_list::from_text(&value[..n], counts);
     let ok = list.status == count_list::READ;
     if !ok {
         options::complain_of(
+            host,
             LATENCY,
             options::COUNTS,
             b": not numbers with commas between them: ",
@@ -78,7 +83,7 @@ pub fn from_option(counts: &mut [u32]) -> Listed {
 }
 
 // Counts in a row: whether they are there, and how many.
-#[derive(Drop)]
+#[derive(Clone, Copy)]
 pub struct Listed {
     pub ok: bool,
     pub count: usize,

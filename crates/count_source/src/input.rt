@@ -1,5 +1,6 @@
 // Where the counts come from: a text, or packets that are packed as `generate` packs them.
 use crate::arguments::Listed;
+use host::Host;
 use options::LATENCY;
 use packets::window::Window;
 use packets::{Source, window};
@@ -15,17 +16,18 @@ fn none() -> Listed {
 }
 
 // The counts of a text; says why they cannot be read.
-fn from_text(label: &[u8], input: i32, counts: &mut [u32]) -> Listed {
-    let list = count_list::read(input, counts);
+fn from_text(host: &Host, label: &[u8], input: i32, counts: &mut [u32]) -> Listed {
+    let list = count_list::read(host, input, counts);
     let status = list.status;
     match status {
         count_list::STRANGE => files::say_number(
+            host,
             label,
             b": line ",
             list.line,
             b": not counts with blanks between them\n",
         ),
-        count_list::FAILED => os::fail(label),
+        count_list::FAILED => host.fail(label),
         _ => {}
     }
     Listed {
@@ -48,7 +50,7 @@ fn note(counts: &mut [u32], at: usize, run: Run) -> usize {
 }
 
 // The run after its last PDU, and how many counts are stored.
-#[derive(Drop)]
+#[derive(Clone, Copy)]
 struct Stored {
     run: Run,
     count: usize,
@@ -56,6 +58,7 @@ struct Stored {
 
 // Packs packets, and stores how many end in each PDU, until there are no more or no room is left.
 fn packed(
+    host: &Host,
     task: Task,
     label: &[u8],
     psd: &[u8],
@@ -70,6 +73,7 @@ fn packed(
     let mut left = counts.len();
     while 0 < left {
         let next = sending::turn(
+            host,
             task,
             label,
             b"barzhilup latency",
@@ -96,16 +100,17 @@ fn packed(
 }
 
 // The packets of a file before the first is read: records, or ADTS frames.
-fn window_of(input: i32) -> Window {
+fn window_of(host: &Host, input: i32) -> Window {
     let source = Source {
         fd: input,
-        adts: options::given(LATENCY, options::ADTS),
+        adts: options::given(host, LATENCY, options::ADTS),
     };
-    window::begin(source, options::given(LATENCY, options::RESYNC))
+    window::begin(source, options::given(host, LATENCY, options::RESYNC))
 }
 
 // Packs packets into PDUs of a length.
 fn from_packets(
+    host: &Host,
     label: &[u8],
     input: i32,
     asked: Transmission,
@@ -123,17 +128,18 @@ fn from_packets(
         settings: settings,
     };
     let done = packed(
+        host,
         task,
         label,
         psd,
         &mut lengths,
         &mut bytes,
         &mut pdu[0..size],
-        sending::begin(writer, window_of(input)),
+        sending::begin(writer, window_of(host, input)),
         counts,
     );
     let run = done.run;
-    window::say_places(LATENCY, run.window);
+    window::say_places(host, LATENCY, run.window);
     Listed {
         ok: run.ok,
         count: done.count,
@@ -141,14 +147,21 @@ fn from_packets(
 }
 
 // Reads the PSD, tries the settings, and opens the file of packets.
-fn with_writer(label: &[u8], asked: Transmission, writer: Writer, counts: &mut [u32]) -> Listed {
+fn with_writer(
+    host: &Host,
+    label: &[u8],
+    asked: Transmission,
+    writer: Writer,
+    counts: &mut [u32],
+) -> Listed {
     let mut psd = [0u8; 256];
-    let read = transmission::psd::read(LATENCY, &mut psd);
+    let read = transmission::psd::read(host, LATENCY, &mut psd);
     if read.status == records::FAILED {
         return none();
     }
     let settings = asked.settings;
     if !trial::is_taken(
+        host,
         b"barzhilup latency",
         settings,
         &psd[..read.length],
@@ -157,23 +170,31 @@ fn with_writer(label: &[u8], asked: Transmission, writer: Writer, counts: &mut [
     ) {
         return none();
     }
-    let input = files::open(LATENCY, options::IN, label);
+    let input = files::open(host, LATENCY, options::IN, label);
     if input < 0 {
         return none();
     }
-    from_packets(label, input, asked, &psd[..read.length], writer, counts)
+    from_packets(
+        host,
+        label,
+        input,
+        asked,
+        &psd[..read.length],
+        writer,
+        counts,
+    )
 }
 
 // The counts that are asked for, where no option has them; what went wrong is said.
-pub fn read(label: &[u8], asked: Transmission, counts: &mut [u32]) -> Listed {
-    if options::given(LATENCY, options::PACKETS) {
+pub fn read(host: &Host, label: &[u8], asked: Transmission, counts: &mut [u32]) -> Listed {
+    if options::given(host, LATENCY, options::PACKETS) {
         let opened = writer::open(asked.mode, asked.stream, asked.register);
         let writer = opened.writer;
-        return with_writer(label, asked, writer, counts);
+        return with_writer(host, label, asked, writer, counts);
     }
-    let input = files::open(LATENCY, options::IN, label);
+    let input = files::open(host, LATENCY, options::IN, label);
     if input < 0 {
         return none();
     }
-    from_text(label, input, counts)
+    from_text(host, label, input, counts)
 }

@@ -8,47 +8,49 @@ mod tally;
 
 use commission::Asked;
 use drawing::Task;
+use host::Host;
 use options::COVERAGE;
 use page::leaf;
 use page::leaf::Book;
 use readings::Run;
 
 // The program: answers its exit status.
-pub fn program() -> i32 {
-    if options::given(COVERAGE, options::HELP) {
-        return files::status(COVERAGE, report::usage());
+pub fn program(host: &Host) -> i32 {
+    if options::given(host, COVERAGE, options::HELP) {
+        return files::status(host, COVERAGE, report::usage(host));
     }
-    if !options::check(COVERAGE) {
+    if !options::check(host, COVERAGE) {
         return files::WRONG;
     }
-    let asked = commission::asked_for();
+    let asked = commission::asked_for(host);
     if !asked.ok {
         return files::WRONG;
     }
-    files::status(COVERAGE, with_options(asked))
+    files::status(host, COVERAGE, with_options(host, asked))
 }
 
 // Opens the CSV. Answers whether all is done; what went wrong is said.
-fn with_options(asked: Asked) -> bool {
-    if commission::is_unlisted() {
-        report::say_unlisted();
+fn with_options(host: &Host, asked: Asked) -> bool {
+    if commission::is_unlisted(host) {
+        report::say_unlisted(host);
         return false;
     }
     let mut from = files::label_buffer();
-    let input = files::opened(COVERAGE, options::IN, &mut from);
+    let input = files::opened(host, COVERAGE, options::IN, &mut from);
     if input.fd < 0 {
         return false;
     }
     let n = input.length;
-    let start = files::place(input.fd);
+    let start = files::place(host, input.fd);
     if start < 0 {
         files::say(
+            host,
             &from[..n],
             b": is to be read twice, and cannot be: not a file\n",
         );
         return false;
     }
-    with_input(asked, &from[..n], input.fd, start)
+    with_input(host, asked, &from[..n], input.fd, start)
 }
 
 // The pages, for so many PDUs with so many packets at the most.
@@ -97,80 +99,84 @@ fn drawing_after(task: Task, asked: Asked, first: Run) -> Task {
 }
 
 // Counts.
-fn with_input(asked: Asked, from: &[u8], input: i32, start: i64) -> bool {
+fn with_input(host: &Host, asked: Asked, from: &[u8], input: i32, start: i64) -> bool {
     let mut buf = io::large_buffer();
     let mut block = [0u8; 1];
     let task = counting(asked, input, start);
-    let first = readings::read_all(task, &mut buf, &mut block, 0);
-    if !report::is_read(first, from, from) {
+    let first = readings::read_all(host, task, &mut buf, &mut block, 0);
+    if !report::is_read(host, first, from, from) {
         return false;
     }
     let next = drawing_after(task, asked, first);
     let book = next.book;
     if leaf::count(book) < asked.page {
-        report::say_pages(leaf::count(book));
+        report::say_pages(host, leaf::count(book));
         return false;
     }
-    said_of_rows(page::rows(leaf::shape(book, 0)), asked.rows);
-    with_task(next, from, &mut buf)
+    said_of_rows(host, page::rows(leaf::shape(book, 0)), asked.rows);
+    with_task(host, next, from, &mut buf)
 }
 
 // Says that a page has more rows than are read on one, where no count of them is given.
-fn said_of_rows(rows: u32, given: u32) {
+fn said_of_rows(host: &Host, rows: u32, given: u32) {
     if (given == 0) & (60 < rows) {
-        report::say_rows(rows);
+        report::say_rows(host, rows);
     }
 }
 
 // Makes the picture's file.
-fn with_task(task: Task, from: &[u8], buf: &mut [u8]) -> bool {
+fn with_task(host: &Host, task: Task, from: &[u8], buf: &mut [u8]) -> bool {
     let mut onto = files::label_buffer();
-    let output = files::opened(COVERAGE, options::OUT, &mut onto);
+    let output = files::opened(host, COVERAGE, options::OUT, &mut onto);
     if output.fd < 0 {
         return false;
     }
     let n = output.length;
     let mut next = task;
     next.output = output.fd;
-    with_output(next, from, &onto[..n], buf)
+    with_output(host, next, from, &onto[..n], buf)
 }
 
-fn drawn(task: Task, buf: &mut [u8]) -> Run {
+fn drawn(host: &Host, task: Task, buf: &mut [u8]) -> Run {
     if task.html {
-        return printing::html(task, buf);
+        return printing::html(host, task, buf);
     }
-    printing::svg(task, buf)
+    printing::svg(host, task, buf)
 }
 
 // Draws, and closes the picture's file.
-fn with_output(task: Task, from: &[u8], onto: &[u8], buf: &mut [u8]) -> bool {
-    let run = drawn(task, buf);
-    let done = report::is_read(run, from, onto);
-    let closed = files::close(task.output, onto);
+fn with_output(host: &Host, task: Task, from: &[u8], onto: &[u8], buf: &mut [u8]) -> bool {
+    let run = drawn(host, task, buf);
+    let done = report::is_read(host, run, from, onto);
+    let closed = files::close(host, task.output, onto);
     let book = task.book;
-    said(run, book.pdus, from) & done & closed
+    said(host, run, book.pdus, from) & done & closed
 }
 
 // Says what the picture shows. Answers whether the CSV was the same in all readings.
-fn said(run: Run, counted: u32, from: &[u8]) -> bool {
+fn said(host: &Host, run: Run, counted: u32, from: &[u8]) -> bool {
     let d = run.drive;
     let g = run.gaps;
     let same = d.count == counted;
     if run.state == readings::READ {
-        said_of_log(d.whole, d.counted, same, from);
+        said_of_log(host, d.whole, d.counted, same, from);
     }
-    tally::say(d, g);
+    tally::say(host, d, g);
     same
 }
 
-fn said_of_log(whole: bool, counted: bool, same: bool, from: &[u8]) {
+fn said_of_log(host: &Host, whole: bool, counted: bool, same: bool, from: &[u8]) {
     if !same {
-        files::say(from, b": changed while it was read\n");
+        files::say(host, from, b": changed while it was read\n");
     }
     if !whole {
-        files::say(from, b": has no last line: the log is not whole\n");
+        files::say(host, from, b": has no last line: the log is not whole\n");
     }
     if !counted {
-        files::say(from, b": has no loss column: no packets are counted\n");
+        files::say(
+            host,
+            from,
+            b": has no loss column: no packets are counted\n",
+        );
     }
 }

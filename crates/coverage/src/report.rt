@@ -1,15 +1,16 @@
 // What the program says on standard error, a line in one write.
-use libc::STDERR_FILENO;
+use host::{Host, STDERR};
 use options::COVERAGE;
 use readings::Run;
 
-fn say(line: &[u8]) {
-    io::write_all(STDERR_FILENO, line);
+fn say(host: &Host, line: &[u8]) {
+    host.write_all(STDERR, line);
 }
 
 // How many pages there are, where another one is asked for.
-pub fn say_pages(pages: u32) {
+pub fn say_pages(host: &Host, pages: u32) {
     options::say_numbers(
+        host,
         COVERAGE,
         b": --page: there are only so many pages: @\n",
         &[pages as u64],
@@ -17,16 +18,17 @@ pub fn say_pages(pages: u32) {
 }
 
 // That mode and stream are not in the table.
-pub fn say_unlisted() {
+pub fn say_unlisted(host: &Host) {
     let mut line = [0u8; 512];
     let mut n = options::put_program(&mut line, COVERAGE);
     n = limits::put_unlisted(&mut line, n);
-    say(&line[..n]);
+    say(host, &line[..n]);
 }
 
 // That a picture by itself has more rows than are read on a page, and how there are pages.
-pub fn say_rows(rows: u32) {
+pub fn say_rows(host: &Host, rows: u32) {
     options::say_numbers(
+        host,
         COVERAGE,
         b": --rows: not given, so the picture has all rows: @; --rows N draws a page of N rows, --page K another one, --format html pages to print\n",
         &[rows as u64],
@@ -34,7 +36,7 @@ pub fn say_rows(rows: u32) {
 }
 
 // What is wrong with a line of a file, counted from 1.
-fn wrong_line(label: &[u8], number: u64, wrong: u8) {
+fn wrong_line(host: &Host, label: &[u8], number: u64, wrong: u8) {
     let mut line = [0u8; 4800];
     let mut n = text::put(&mut line, 0, label);
     n = text::fill(&mut line, n, b": line @: ", &[number]);
@@ -46,24 +48,30 @@ fn wrong_line(label: &[u8], number: u64, wrong: u8) {
             wrong as u32,
         ),
     );
-    say(&line[..n]);
+    say(host, &line[..n]);
 }
 
 // Why a reading stopped; nothing where all lines are read. Answers whether they are.
-pub fn is_read(run: Run, from: &[u8], onto: &[u8]) -> bool {
+pub fn is_read(host: &Host, run: Run, from: &[u8], onto: &[u8]) -> bool {
     let state = run.state;
     match state {
-        readings::WRONG => wrong_line(from, std::num::wrapping_add_u64(run.count, 1), run.wrong),
-        readings::NOT_READ => os::fail(from),
-        readings::NOT_WRITTEN => os::fail(onto),
+        readings::WRONG => wrong_line(
+            host,
+            from,
+            std::num::wrapping_add_u64(run.count, 1),
+            run.wrong,
+        ),
+        readings::NOT_READ => host.fail(from),
+        readings::NOT_WRITTEN => host.fail(onto),
         _ => {}
     }
     state == readings::READ
 }
 
 // How the program is used, on standard output.
-pub fn usage() -> bool {
+pub fn usage(host: &Host) -> bool {
     files::print_usage(
+        host,
         COVERAGE,
         b"usage: barzhilup coverage [--in FILE] [--out FILE] [OPTION]...
 

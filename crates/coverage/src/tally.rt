@@ -3,7 +3,7 @@ ghost use Rattle.io.specs.Counts.{IsPrefixLen};
 
 use drive::{Copies, Drive, Totals};
 use gaps::Gaps;
-use libc::STDERR_FILENO;
+use host::{Host, STDERR};
 use page::share;
 
 // The line's beginning, up to the PDUs that were received and their shares.
@@ -83,7 +83,7 @@ fn put_end(out: &mut [u8], at: usize, c: Copies) -> usize
 }
 
 // The totals of a drive on standard error.
-pub fn say(d: Drive, g: Gaps) {
+pub fn say(host: &Host, d: Drive, g: Gaps) {
     let t = d.totals;
     let copies = d.copies;
     let mut line = [0u8; 512];
@@ -97,28 +97,28 @@ pub fn say(d: Drive, g: Gaps) {
     );
     n = put_loss(&mut line, n, d.counted, t, g.hidden);
     let end = put_end(&mut line, n, copies);
-    io::write_all(STDERR_FILENO, &line[..end]);
-    say_missing(d.counted, t, g);
+    host.write_all(STDERR, &line[..end]);
+    say_missing(host, d.counted, t, g);
 }
 
 // What counts as missing, and when the count is exact, where there is one.
-fn say_missing(counted: bool, t: Totals, g: Gaps) {
+fn say_missing(host: &Host, counted: bool, t: Totals, g: Gaps) {
     if !counted {
         return;
     }
     if g.hidden == 0 {
-        io::write_all(
-            STDERR_FILENO,
+        host.write_all(
+            STDERR,
             b"barzhilup coverage: withheld packets and those with a damaged piece count as missing; missing is exact from the first packet delivered to the last where each PDU comes or is marked lost once, in turn, and fewer than 64 packets are missing between two delivered\n",
         );
     } else {
-        say_about(g);
+        say_about(host, g);
     }
-    say_turns(t, g);
+    say_turns(host, t, g);
 }
 
 // What the estimate is, and what is certain.
-fn say_about(g: Gaps) {
+fn say_about(host: &Host, g: Gaps) {
     let pace = g.pace;
     let tenths = gaps::packets_in(pace, 10);
     let mut line = [0u8; 512];
@@ -128,11 +128,11 @@ fn say_about(g: Gaps) {
         b"barzhilup coverage: withheld packets and those with a damaged piece count as missing; at least is what packet numbers tell, which repeat after 64; about takes, between each two packets delivered, the count that fits the numbers and is nearest to @.@ packets for each PDU lost, refused or withheld there\n",
         &[tenths / 10, tenths % 10],
     );
-    io::write_all(STDERR_FILENO, &line[..n]);
+    host.write_all(STDERR, &line[..n]);
 }
 
 // How many PDUs look as if they came twice or out of turn, where there are any, and what the record has, which counts their packets again.
-fn say_turns(t: Totals, g: Gaps) {
+fn say_turns(host: &Host, t: Totals, g: Gaps) {
     if (g.twice == 0) & (g.late == 0) {
         return;
     }
@@ -148,5 +148,5 @@ fn say_turns(t: Totals, g: Gaps) {
             std::num::wrapping_add_u64(t.missing as u64, g.excess),
         ],
     );
-    io::write_all(STDERR_FILENO, &line[..n]);
+    host.write_all(STDERR, &line[..n]);
 }

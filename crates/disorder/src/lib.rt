@@ -4,9 +4,10 @@
 
 use damage::dice;
 use damage::dice::Dice;
+use host::Host;
 
 // How many PDUs in a thousand come twice, change places with the next record, and are cut.
-#[derive(Drop)]
+#[derive(Clone, Copy)]
 pub struct Rates {
     pub twice: u64,
     pub swap: u64,
@@ -14,7 +15,7 @@ pub struct Rates {
 }
 
 // Where records go: PDUs, and the places of their altered bytes, if these are asked for.
-#[derive(Drop)]
+#[derive(Clone, Copy)]
 pub struct Outlet {
     pub pdus: i32,
     pub marks: i32,
@@ -37,7 +38,7 @@ pub fn room() -> [u8; 65632] {
 
 // A road so far: its dice; of the record that is held back how often it is to be written, 0 where none is held, where it ends in a lent buffer and
 // where its marks do; and how many PDUs came twice, changed places and were cut.
-#[derive(Drop)]
+#[derive(Clone, Copy)]
 pub struct Road {
     pub dice: Dice,
     pub times: u64,
@@ -49,14 +50,14 @@ pub struct Road {
 }
 
 // A road after a record, and what came of writing.
-#[derive(Drop)]
+#[derive(Clone, Copy)]
 pub struct Passed {
     pub status: u8,
     pub road: Road,
 }
 
 // What becomes of a PDU: whether it comes twice, whether it is held back, whether it is cut and how many bytes are left of it, and the dice.
-#[derive(Drop)]
+#[derive(Clone, Copy)]
 struct Fate {
     twice: bool,
     swap: bool,
@@ -127,29 +128,29 @@ fn times_of(twice: bool) -> u64 {
 }
 
 // Writes a record and its marks.
-fn write_once(outlet: Outlet, pdu: &[u8], marks: &[u8]) -> u8 {
-    if !records::write(outlet.pdus, pdu) {
+fn write_once(host: &Host, outlet: Outlet, pdu: &[u8], marks: &[u8]) -> u8 {
+    if !records::write(host, outlet.pdus, pdu) {
         return UNWRITTEN;
     }
     if outlet.marks < 0 {
         return WRITTEN;
     }
-    if !records::write(outlet.marks, marks) {
+    if !records::write(host, outlet.marks, marks) {
         return UNMARKED;
     }
     WRITTEN
 }
 
 // Writes a record and its marks once, twice, or not at all.
-fn write(outlet: Outlet, pdu: &[u8], marks: &[u8], times: u64) -> u8 {
+fn write(host: &Host, outlet: Outlet, pdu: &[u8], marks: &[u8], times: u64) -> u8 {
     if times == 0 {
         return WRITTEN;
     }
-    let first = write_once(outlet, pdu, marks);
+    let first = write_once(host, outlet, pdu, marks);
     if (first != WRITTEN) | (times == 1) {
         return first;
     }
-    write_once(outlet, pdu, marks)
+    write_once(host, outlet, pdu, marks)
 }
 
 // The part of a buffer between two places; nothing where there is no such part.
@@ -163,10 +164,11 @@ fn part(buf: &[u8], from: usize, to: usize) -> &[u8] {
 }
 
 // Writes the record that is held back, if one is.
-pub fn release(outlet: Outlet, held: &[u8], road: Road) -> u8 {
+pub fn release(host: &Host, outlet: Outlet, held: &[u8], road: Road) -> u8 {
     let length = road.length;
     let end = road.end;
     write(
+        host,
         outlet,
         part(held, 0, length),
         part(held, length, end),
@@ -200,6 +202,7 @@ fn hold(pdu: &[u8], marks: &[u8], held: &mut [u8], road: Road, fate: Fate) -> Pa
 
 // Writes a record, and after it the one that is held back.
 fn write_both(
+    host: &Host,
     outlet: Outlet,
     pdu: &[u8],
     marks: &[u8],
@@ -207,7 +210,7 @@ fn write_both(
     road: Road,
     fate: Fate,
 ) -> Passed {
-    let first = write(outlet, pdu, marks, times_of(fate.twice));
+    let first = write(host, outlet, pdu, marks, times_of(fate.twice));
     if first != WRITTEN {
         return Passed {
             status: first,
@@ -215,13 +218,14 @@ fn write_both(
         };
     }
     Passed {
-        status: release(outlet, held, road),
+        status: release(host, outlet, held, road),
         road: with(road, fate, 0, 0, 0),
     }
 }
 
 // A record comes along the road, an empty one for a PDU marked lost: it is held back, or written with the one that is.
 pub fn pass(
+    host: &Host,
     outlet: Outlet,
     rates: Rates,
     pdu: &[u8],
@@ -235,5 +239,5 @@ pub fn pass(
     if fate.swap & (road.times == 0) {
         return hold(part(pdu, 0, n), marks, held, road, fate);
     }
-    write_both(outlet, part(pdu, 0, n), marks, held, road, fate)
+    write_both(host, outlet, part(pdu, 0, n), marks, held, road, fate)
 }

@@ -3,8 +3,8 @@
 ghost use Rattle.std.specs.Prelude.{◌≤◌, ◌<◌};
 
 use clock::Clock;
-use log_csv::entry;
 use drive::Pdu;
+use log_csv::entry;
 use page::Shape;
 
 // Which cell a PDU has: 0 received, 1 to 4 by how many bytes of its header were corrected, 5 lost, 6 refused.

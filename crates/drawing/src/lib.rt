@@ -5,9 +5,10 @@
 mod cells;
 
 use clock::Clock;
-use log_csv::lines;
 use drive::Pdu;
 use gaps::Pace;
+use host::Host;
+use log_csv::lines;
 use overview::{Scale, Stretch};
 use page::leaf;
 use page::leaf::Book;
@@ -24,7 +25,7 @@ pub const ROWS: u8 = 2;
 
 // The CSV and where it begins, where the picture goes, and whether that is HTML; what a reading draws; the page that is asked for, 0 for all, and its first PDU; the pages, how
 // long a PDU is, how many packets end in one, and the overview's stretches.
-#[derive(Drop)]
+#[derive(Clone, Copy)]
 pub struct Task {
     pub input: i32,
     pub start: i64,
@@ -40,36 +41,36 @@ pub struct Task {
 }
 
 // What waits in the block, and whether all before it is written.
-#[derive(Drop)]
+#[derive(Clone, Copy)]
 pub struct Waiting {
     pub ok: bool,
     pub at: usize,
 }
 
 // Writes what stands in the block up to a place.
-pub fn written(output: i32, block: &[u8], at: usize) -> Waiting {
+pub fn written(host: &Host, output: i32, block: &[u8], at: usize) -> Waiting {
     Waiting {
-        ok: io::write_all(output, lines::part(block, 0, at)),
+        ok: host.write_all(output, lines::part(block, 0, at)),
         at: 0,
     }
 }
 
 // Writes it where the block is full.
-fn written_if_full(output: i32, block: &[u8], at: usize) -> Waiting {
+fn written_if_full(host: &Host, output: i32, block: &[u8], at: usize) -> Waiting {
     if at < FULL {
         return Waiting { ok: true, at: at };
     }
-    written(output, block, at)
+    written(host, output, block, at)
 }
 
 // The beginning of a page in HTML, before its first PDU.
-fn opened(task: Task, block: &mut [u8], at: usize, number: u32) -> usize {
+fn opened(host: &Host, task: Task, block: &mut [u8], at: usize, number: u32) -> usize {
     let book = task.book;
     let c = task.clock;
     if !task.html | !leaf::is_first(book, number) {
         return at;
     }
-    let n = sheet::put_page_start(block, at);
+    let n = sheet::put_page_start(host, block, at);
     picture::put_page_head(
         block,
         n,
@@ -90,16 +91,24 @@ fn closed(task: Task, block: &mut [u8], at: usize, number: u32) -> usize {
 }
 
 // Draws a PDU into its row, if its page is asked for.
-fn drawn(task: Task, block: &mut [u8], number: u32, pdu: Pdu, turn: u32, at: usize) -> Waiting {
+fn drawn(
+    host: &Host,
+    task: Task,
+    block: &mut [u8],
+    number: u32,
+    pdu: Pdu,
+    turn: u32,
+    at: usize,
+) -> Waiting {
     let book = task.book;
     let c = task.clock;
     if (task.only != 0) & (task.only != leaf::number_of(book, number)) {
         return Waiting { ok: true, at: at };
     }
-    let mut n = opened(task, block, at, number);
+    let mut n = opened(host, task, block, at, number);
     n = cells::put_pdu(block, n, leaf::shape(book, number), c, number, pdu, turn);
     n = closed(task, block, n, number);
-    written_if_full(task.output, block, n)
+    written_if_full(host, task.output, block, n)
 }
 
 // Whether a PDU is the first of another stretch than the one that the reading is in.
@@ -109,17 +118,18 @@ pub fn is_beyond(task: Task, s: Stretch, number: u32) -> bool {
 }
 
 // Draws the stretch that the reading is in, where the strip is drawn.
-pub fn stretch_drawn(task: Task, block: &mut [u8], s: Stretch, at: usize) -> Waiting {
+pub fn stretch_drawn(host: &Host, task: Task, block: &mut [u8], s: Stretch, at: usize) -> Waiting {
     let scale = task.scale;
     if (task.draws != STRIP) | (s.pdus == 0) {
         return Waiting { ok: true, at: at };
     }
     let n = overview::put_stretch(block, at, scale, s);
-    written_if_full(task.output, block, n)
+    written_if_full(host, task.output, block, n)
 }
 
 // Draws what a PDU adds: its cell, which has a mark where it looks as if it came twice or out of turn, or the stretch before it.
 pub fn put(
+    host: &Host,
     task: Task,
     block: &mut [u8],
     at: usize,
@@ -129,10 +139,10 @@ pub fn put(
     turn: u32,
 ) -> Waiting {
     if task.draws == ROWS {
-        return drawn(task, block, number, pdu, turn, at);
+        return drawn(host, task, block, number, pdu, turn, at);
     }
     if is_beyond(task, s, number) {
-        return stretch_drawn(task, block, s, at);
+        return stretch_drawn(host, task, block, s, at);
     }
     Waiting { ok: true, at: at }
 }

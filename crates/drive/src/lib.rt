@@ -17,7 +17,7 @@ const TOO_LONG: u32 = 5;
 // sequence does not follow, whether a packet that was held or continued has no other part, how many bytes of its header were corrected, how many notes it has,
 // how many of its pieces have a wrong CRC, how many packets it delivered, and how many are missing before these: by so many the loss column grew (document 02,
 // Ask 14).
-#[derive(Drop)]
+#[derive(Clone, Copy)]
 pub struct Pdu {
     pub kind: u32,
     pub copy: u32,
@@ -34,7 +34,7 @@ pub struct Pdu {
 
 // The numbers of a PDU's first packet and of its last, and the CRC-32 of the last, 0 where it delivered none; and how many notes tell of a packet that was not
 // delivered before the first, and after the last, all of them where there is none.
-#[derive(Drop)]
+#[derive(Clone, Copy)]
 pub struct Edges {
     pub first: u32,
     pub last: u32,
@@ -45,7 +45,7 @@ pub struct Edges {
 
 // How many PDUs were received, were received with a corrected header, were withheld, were lost and were refused; how many pieces have a wrong CRC; the
 // most packets that one PDU delivered; and the loss column after the last PDU.
-#[derive(Drop)]
+#[derive(Clone, Copy)]
 pub struct Totals {
     pub received: u64,
     pub corrected: u64,
@@ -59,7 +59,7 @@ pub struct Totals {
 }
 
 // How many PDUs that came as two copies are taken from the first, from the second, from both, and from either.
-#[derive(Drop)]
+#[derive(Clone, Copy)]
 pub struct Copies {
     pub first: u64,
     pub second: u64,
@@ -68,7 +68,7 @@ pub struct Copies {
 }
 
 // A drive so far: whether its last line is there, whether its log has a loss column, how many PDUs there are, the last of them, the totals, and the copies.
-#[derive(Drop)]
+#[derive(Clone, Copy)]
 pub struct Drive {
     pub whole: bool,
     pub counted: bool,

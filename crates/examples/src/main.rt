@@ -1,67 +1,72 @@
-// Runs the examples of document 01 on the proved code, `writer`, `log` and what these stand on, and writes through the toolchain's `io` what it answers.
+// Runs the examples of document 01 on the proved code, `writer`, `log` and what these stand on, and writes through `host` what it answers.
 #![tactic(auto)]
 
 ghost use Rattle.std.specs.Prelude.{◌≡◌, ◌≤◌, length};
 
 use correction::Correction;
+use host::{Host, STDOUT};
 use layout::ControlWord;
-use libc::STDOUT_FILENO;
 use settings::Settings;
 use writer::Writer;
 
 const EXPONENTS: [usize; 9] = [36, 203, 3, 220, 253, 211, 240, 176, 0];
 
-fn main() {
-    control_line();
+fn main(rt: HostRuntime) {
+    let host = &Host::new(rt);
+    control_line(host);
     locators_line(
+        host,
         b"(b) 2C 01 BC 02 read in 16 bits:",
         16,
         b"\0\0\0\0\0\0\0\0\0\0\0\0\0\0\x2c\x01\xbc\x02",
     );
     locators_line(
+        host,
         b"(c) 2C C1 2B read in 12 bits:",
         12,
         b"\0\0\0\0\0\0\0\0\0\0\0\0\0\0\x2c\xc1\x2b",
     );
-    crc_line(b"(d) CRC of 01: ", b"\x01");
-    crc_line(b"(e) CRC of 80: ", b"\x80");
-    crc_line(b"(f) CRC of 01 00: ", b"\x01\x00");
-    generator_line();
+    crc_line(host, b"(d) CRC of 01: ", b"\x01");
+    crc_line(host, b"(e) CRC of 80: ", b"\x80");
+    crc_line(host, b"(f) CRC of 01 00: ", b"\x01\x00");
+    generator_line(host);
     choices_line(
+        host,
         b"(h) four of the nine zeroed, choices corrected to the generator in 4 bytes: ",
         4,
         0,
     );
     choices_line(
+        host,
         b"(i) five of the nine zeroed, choices corrected to all zero in 4 bytes: ",
         5,
         511,
     );
-    writing_lines();
-    log_line();
-    length_line();
+    writing_lines(host);
+    log_line(host);
+    length_line(host);
 }
 
-fn say(text: &[u8]) {
-    io::write_all(STDOUT_FILENO, text);
+fn say(host: &Host, text: &[u8]) {
+    host.write_all(STDOUT, text);
 }
 
-fn end_line() {
-    say(b"\n");
+fn end_line(host: &Host) {
+    say(host, b"\n");
 }
 
-fn hex_byte(b: u8) {
-    say(b" ");
-    io::print_hex(STDOUT_FILENO, b as u64, 2);
+fn hex_byte(host: &Host, b: u8) {
+    say(host, b" ");
+    host.print_hex(STDOUT, b as u64, 2);
 }
 
-fn hex_word(w: u32) {
-    say(b" ");
-    io::print_hex(STDOUT_FILENO, w as u64, 8);
+fn hex_word(host: &Host, w: u32) {
+    say(host, b" ");
+    host.print_hex(STDOUT, w as u64, 8);
 }
 
 // (a)
-fn control_line() {
+fn control_line(host: &Host) {
     let c = ControlWord {
         mode: 0,
         stream: 0,
@@ -78,29 +83,29 @@ fn control_line() {
         la: 17,
     };
     let b = layout::control_bytes(c);
-    say(b"(a) control word:");
+    say(host, b"(a) control word:");
     let mut i: usize = 0;
     while i < 6 {
-        hex_byte(b[i]);
+        hex_byte(host, b[i]);
         i += 1;
     }
-    end_line();
+    end_line(host);
 }
 
 // (b), (c): the first two locators of a PDU.
-fn locators_line(label: &[u8], width: u8, pdu: &[u8]) {
-    say(label);
-    say(b" ");
-    io::print_decimal(STDOUT_FILENO, layout::locator(width, pdu, 0) as u64);
-    say(b" ");
-    io::print_decimal(STDOUT_FILENO, layout::locator(width, pdu, 1) as u64);
-    end_line();
+fn locators_line(host: &Host, label: &[u8], width: u8, pdu: &[u8]) {
+    say(host, label);
+    say(host, b" ");
+    host.print_decimal(STDOUT, layout::locator(width, pdu, 0) as u64);
+    say(host, b" ");
+    host.print_decimal(STDOUT, layout::locator(width, pdu, 1) as u64);
+    end_line(host);
 }
 
-fn crc_line(label: &[u8], bytes: &[u8]) {
-    say(label);
-    io::print_hex(STDOUT_FILENO, crc::crc8(bytes) as u64, 2);
-    end_line();
+fn crc_line(host: &Host, label: &[u8], bytes: &[u8]) {
+    say(host, label);
+    host.print_hex(STDOUT, crc::crc8(bytes) as u64, 2);
+    end_line(host);
 }
 
 // a to the power of an exponent, or 0 where the bit is set.
@@ -127,17 +132,17 @@ fn generator(mask: u32) -> [u8; 96]
 }
 
 // (g)
-fn generator_line() {
+fn generator_line(host: &Host) {
     let word = generator(0);
     let s = header::syndromes(&word);
-    say(b"(g) sums of the generator's coefficients:");
+    say(host, b"(g) sums of the generator's coefficients:");
     let mut i: usize = 0;
     while i < 8 {
-        say(b" ");
-        io::print_hex(STDOUT_FILENO, s[i] as u64, 2);
+        say(host, b" ");
+        host.print_hex(STDOUT, s[i] as u64, 2);
         i += 1;
     }
-    end_line();
+    end_line(host);
 }
 
 // How many of the nine lowest bits are set.
@@ -210,7 +215,7 @@ fn chosen_right(mask: u32, set: u32, wanted: u32) -> u32
 }
 
 // (h), (i): of the masks with this many bits set, how many are corrected to the wanted word.
-fn choices_line(label: &[u8], set: u32, wanted: u32) {
+fn choices_line(host: &Host, label: &[u8], set: u32, wanted: u32) {
     let mut right: u32 = 0;
     let mut all: u32 = 0;
     let mut mask: u32 = 0;
@@ -219,11 +224,11 @@ fn choices_line(label: &[u8], set: u32, wanted: u32) {
         right += chosen_right(mask, set, wanted);
         mask += 1;
     }
-    say(label);
-    io::print_decimal(STDOUT_FILENO, right as u64);
-    say(b" of ");
-    io::print_decimal(STDOUT_FILENO, all as u64);
-    end_line();
+    say(host, label);
+    host.print_decimal(STDOUT, right as u64);
+    say(host, b" of ");
+    host.print_decimal(STDOUT, all as u64);
+    end_line(host);
 }
 
 fn no_settings() -> Settings {
@@ -246,28 +251,35 @@ fn no_settings() -> Settings {
     }
 }
 
-fn number(label: &[u8], n: u64) {
-    say(label);
-    io::print_decimal(STDOUT_FILENO, n);
+fn number(host: &Host, label: &[u8], n: u64) {
+    say(host, label);
+    host.print_decimal(STDOUT, n);
 }
 
 // The PDU's locators of 16 bits, and its starting number.
-fn locators_and_start(pdu: &[u8]) {
+fn locators_and_start(host: &Host, pdu: &[u8]) {
     let c = layout::control_word(pdu);
-    say(b", locators");
+    say(host, b", locators");
     let mut k: u8 = 0;
     while k < c.nop {
-        number(b" ", layout::locator(16, pdu, k) as u64);
+        number(host, b" ", layout::locator(16, pdu, k) as u64);
         k += 1;
     }
-    number(b", start ", c.start as u64);
+    number(host, b", start ", c.start as u64);
     if c.plast {
-        say(b", Plast");
+        say(host, b", Plast");
     }
 }
 
 // Writes a PDU of 96 bytes with a PSD of so many bytes, and says what the call answers.
-fn writing_line(label: &[u8], w: Writer, psd: usize, lengths: &[u16], count: usize) -> Writer
+fn writing_line(
+    host: &Host,
+    label: &[u8],
+    w: Writer,
+    psd: usize,
+    lengths: &[u16],
+    count: usize,
+) -> Writer
     requires { (psd ≤ 128) × (count ≤ 156) }
 {
     let psds = [0u8; 128];
@@ -280,52 +292,52 @@ fn writing_line(label: &[u8], w: Writer, psd: usize, lengths: &[u16], count: usi
         &bytes[..count],
         &mut pdu,
     );
-    say(label);
-    number(b" refusal ", r.refusal as u64);
+    say(host, label);
+    number(host, b" refusal ", r.refusal as u64);
     if r.refusal == 0 {
-        number(b", ended ", r.ended as u64);
-        number(b", sent ", r.writer.sent as u64);
-        locators_and_start(&pdu);
+        number(host, b", ended ", r.ended as u64);
+        number(host, b", sent ", r.writer.sent as u64);
+        locators_and_start(host, &pdu);
     }
-    end_line();
+    end_line(host);
     r.writer
 }
 
 // (j) to (m)
-fn writing_lines() {
+fn writing_lines(host: &Host) {
     let one: [u16; 1] = [100];
     let fifty: [u16; 2] = [100, 50];
     let more: [u16; 2] = [100, 56];
     let opened = writer::open(0, 0, 0);
-    let next = writing_line(b"(j) packet of 100:", opened.writer, 0, &one, 100);
-    writing_line(b"(k) next, with one of 50:", next, 0, &fifty, 150);
-    writing_line(b"(l) with 56 instead:", next, 0, &more, 156);
-    writing_line(b"(m) PSD 78:", opened.writer, 78, &one, 100);
-    writing_line(b"(m) PSD 79:", opened.writer, 79, &one, 100);
+    let next = writing_line(host, b"(j) packet of 100:", opened.writer, 0, &one, 100);
+    writing_line(host, b"(k) next, with one of 50:", next, 0, &fifty, 150);
+    writing_line(host, b"(l) with 56 instead:", next, 0, &more, 156);
+    writing_line(host, b"(m) PSD 78:", opened.writer, 78, &one, 100);
+    writing_line(host, b"(m) PSD 79:", opened.writer, 79, &one, 100);
 }
 
 // (n)
-fn log_line() {
+fn log_line(host: &Host) {
     let mut words = [0u32; 3];
     packet_log::put_packet(&mut words, 0, 5, b"\x11\x22\x33\x44", b"");
-    say(b"(n) packet 5, bytes 11 22 33 44:");
+    say(host, b"(n) packet 5, bytes 11 22 33 44:");
     let mut i: usize = 0;
     while i < 3 {
-        hex_word(words[i]);
+        hex_word(host, words[i]);
         i += 1;
     }
-    end_line();
+    end_line(host);
 }
 
 // (n): length 95
-fn length_line() {
+fn length_line(host: &Host) {
     let mut pdu = [0u8; 95];
     let answer = correction::correct(&mut pdu);
     let number = match answer {
         Correction::Corrected(_) => 0,
         Correction::Refused(n) => n,
     };
-    say(b"(n) length 95: ");
-    io::print_decimal(STDOUT_FILENO, number as u64);
-    end_line();
+    say(host, b"(n) length 95: ");
+    host.print_decimal(STDOUT, number as u64);
+    end_line(host);
 }

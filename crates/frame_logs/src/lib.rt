@@ -5,6 +5,8 @@
 ghost use Rattle.std.specs.Prelude.{◌≡◌, ◌+◌, ◌*◌, ◌<◌, length};
 ghost use Rattle.io.specs.Counts.{IsPrefixLen};
 
+use host::Host;
+
 // How reading stands beside what a record's reading answers: a record is no row of words, or a frame's log has more words than its buffer.
 pub const NO_WORDS: u8 = 5;
 
@@ -68,7 +70,7 @@ fn put_words(log: &mut [u32], start: usize, bytes: &[u8]) -> usize
 }
 
 // A frame so far: how its reading stands, how many words its log has, and how many PDUs were read of the file.
-#[derive(Drop)]
+#[derive(Clone, Copy)]
 pub struct Frame {
     pub status: u8,
     pub words: usize,
@@ -117,14 +119,14 @@ fn with_record(frame: Frame, bytes: &[u8], log: &mut [u32]) -> Frame
 }
 
 // The frame with the next PDU of the file.
-fn next(fd: i32, frame: Frame, buf: &mut [u8], log: &mut [u32]) -> Frame
+fn next(host: &Host, fd: i32, frame: Frame, buf: &mut [u8], log: &mut [u32]) -> Frame
     requires { IsPrefixLen frame.words log.old }
     ensures { IsPrefixLen result.words log.new }
 {
     if fd < 0 {
         return stopped(frame, records::END);
     }
-    let r = records::read(fd, buf);
+    let r = records::read(host, fd, buf);
     if r.status != records::WHOLE {
         return stopped(frame, r.status);
     }
@@ -133,13 +135,13 @@ fn next(fd: i32, frame: Frame, buf: &mut [u8], log: &mut [u32]) -> Frame
 }
 
 // Reads a frame of so many PDUs, to the log's start, after so many PDUs; where the file is at its end, of fewer or none.
-pub fn read(fd: i32, count: u32, before: u64, buf: &mut [u8], log: &mut [u32]) -> Frame
+pub fn read(host: &Host, fd: i32, count: u32, before: u64, buf: &mut [u8], log: &mut [u32]) -> Frame
     ensures { IsPrefixLen result.words log.new }
 {
     let mut frame = begun(before);
     let mut left = count;
     while 0 < left {
-        let more = next(fd, frame, buf, log);
+        let more = next(host, fd, frame, buf, log);
         frame = more;
         if frame.status != records::WHOLE {
             return frame;

@@ -6,8 +6,8 @@
 // which of them is near.
 #![tactic(auto)]
 
-use log_csv::entry;
 use drive::{Edges, Pdu, Totals};
+use log_csv::entry;
 
 // Where a PDU's packets lie: after all that were delivered before, or not known to lie elsewhere; where those of the last PDU with packets lie, which came twice;
 // or in a gap before some that were delivered, out of turn.
@@ -18,21 +18,21 @@ pub const TWICE: u32 = 1;
 pub const LATE: u32 = 2;
 
 // Packets in PDUs that came with nothing wrong: how many such PDUs there are, and how many packets end in them.
-#[derive(Drop)]
+#[derive(Clone, Copy)]
 pub struct Pace {
     pub pdus: u32,
     pub packets: u32,
 }
 
 // PDUs in a row that were lost or refused: the first of them, and how many.
-#[derive(Drop)]
+#[derive(Clone, Copy)]
 pub struct Row {
     pub from: u32,
     pub count: u32,
 }
 
 // Packets in a row that are missing, or lie before the first one delivered and so do not count: the number of the first of them, and how many.
-#[derive(Drop)]
+#[derive(Clone, Copy)]
 pub struct Hole {
     pub missing: bool,
     pub from: u32,
@@ -43,7 +43,7 @@ pub struct Hole {
 // notes tell of one packet that was not. The number of the packet that all others lie before, and a hole before it that lost PDUs do not account for. Of the
 // whole: the packets that are missing beyond what numbers tell, PDUs that look as if they came twice and out of turn, by how much the record's delivered and
 // missing are too high for these, the pace, and PDUs in a row that were lost or refused, up to the last one and the longest.
-#[derive(Drop)]
+#[derive(Clone, Copy)]
 pub struct Gaps {
     pub begun: bool,
     pub last: u32,

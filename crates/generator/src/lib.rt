@@ -4,6 +4,7 @@
 mod report;
 
 use broadcast::Broadcast;
+use host::Host;
 use options::GENERATE;
 use packets::window::Window;
 use packets::{Source, window};
@@ -13,15 +14,16 @@ use transmission::Transmission;
 use writer::Writer;
 
 // The program: answers its exit status.
-pub fn program() -> i32 {
-    if options::given(GENERATE, options::HELP) {
-        return files::status(GENERATE, report::usage());
+pub fn program(host: &Host) -> i32 {
+    if options::given(host, GENERATE, options::HELP) {
+        return files::status(host, GENERATE, report::usage(host));
     }
-    if !inputs::check() {
+    if !inputs::check(host) {
         return files::WRONG;
     }
-    let asked = transmission::asked(GENERATE);
+    let asked = transmission::asked(host, GENERATE);
     let most = options::number(
+        host,
         GENERATE,
         options::PSD_BYTES,
         psd_stream::MOST,
@@ -31,15 +33,16 @@ pub fn program() -> i32 {
     if !asked.ok | !most.ok {
         return files::WRONG;
     }
-    files::status(GENERATE, run(asked, most.value as usize))
+    files::status(host, GENERATE, run(host, asked, most.value as usize))
 }
 
 // Makes the PDUs, each with at most so many bytes of PSD that runs across them. Answers whether all is done; what went wrong is said.
-fn run(asked: Transmission, most: usize) -> bool {
+fn run(host: &Host, asked: Transmission, most: usize) -> bool {
     let opened = writer::open(asked.mode, asked.stream, asked.register);
     if opened.refusal != 0 {
         let settings = asked.settings;
         trial::say_refused(
+            host,
             b"barzhilup generate",
             opened.refusal,
             asked.mode,
@@ -51,17 +54,24 @@ fn run(asked: Transmission, most: usize) -> bool {
     }
     let writer = opened.writer;
     let mut psd = [0u8; 256];
-    let supply = inputs::supply(most, &mut psd);
+    let supply = inputs::supply(host, most, &mut psd);
     if supply.status == records::FAILED {
         return false;
     }
-    with_supply(asked, writer, supply, &mut psd)
+    with_supply(host, asked, writer, supply, &mut psd)
 }
 
 // Tries the settings of the options, and reads their changes.
-fn with_supply(asked: Transmission, writer: Writer, supply: Supply, psd: &mut [u8]) -> bool {
+fn with_supply(
+    host: &Host,
+    asked: Transmission,
+    writer: Writer,
+    supply: Supply,
+    psd: &mut [u8],
+) -> bool {
     let row = asked.row;
     if !broadcast::is_taken(
+        host,
         b"barzhilup generate",
         row,
         supply,
@@ -73,17 +83,18 @@ fn with_supply(asked: Transmission, writer: Writer, supply: Supply, psd: &mut [u
     }
     let mut text = io::large_buffer();
     let mut label = files::label_buffer();
-    let n = files::put_label(&mut label, GENERATE, options::SETTINGS);
-    let read = inputs::settings(&mut text, &label[..n]);
+    let n = files::put_label(host, &mut label, GENERATE, options::SETTINGS);
+    let read = inputs::settings(host, &mut text, &label[..n]);
     if read.status == records::FAILED {
         return false;
     }
     let k = read.length;
-    with_changes(asked, writer, supply, psd, &text[..k], &label[..n])
+    with_changes(host, asked, writer, supply, psd, &text[..k], &label[..n])
 }
 
 // Tries the changes, and opens the file of packets.
 fn with_changes(
+    host: &Host,
     asked: Transmission,
     writer: Writer,
     supply: Supply,
@@ -92,30 +103,31 @@ fn with_changes(
     label: &[u8],
 ) -> bool {
     let row = asked.row;
-    if !broadcast::are_taken(label, text, row, supply, psd, asked.length, writer) {
+    if !broadcast::are_taken(host, label, text, row, supply, psd, asked.length, writer) {
         return false;
     }
     let mut from = files::label_buffer();
-    let input = files::opened(GENERATE, options::IN, &mut from);
+    let input = files::opened(host, GENERATE, options::IN, &mut from);
     if input.fd < 0 {
         return false;
     }
     let n = input.length;
-    let start = broadcast::begin(writer, window_of(input.fd), text, row, supply);
-    with_input(asked.length, psd, text, label, &from[..n], start)
+    let start = broadcast::begin(writer, window_of(host, input.fd), text, row, supply);
+    with_input(host, asked.length, psd, text, label, &from[..n], start)
 }
 
 // The packets of a file before the first is read: records, or ADTS frames.
-fn window_of(input: i32) -> Window {
+fn window_of(host: &Host, input: i32) -> Window {
     let source = Source {
         fd: input,
-        adts: options::given(GENERATE, options::ADTS),
+        adts: options::given(host, GENERATE, options::ADTS),
     };
-    window::begin(source, options::given(GENERATE, options::RESYNC))
+    window::begin(source, options::given(host, GENERATE, options::RESYNC))
 }
 
 // Opens the file of PDUs.
 fn with_input(
+    host: &Host,
     length: usize,
     psd: &mut [u8],
     text: &[u8],
@@ -124,16 +136,27 @@ fn with_input(
     start: Broadcast,
 ) -> bool {
     let mut onto = files::label_buffer();
-    let output = files::opened(GENERATE, options::OUT, &mut onto);
+    let output = files::opened(host, GENERATE, options::OUT, &mut onto);
     if output.fd < 0 {
         return false;
     }
     let n = output.length;
-    with_output(length, psd, text, label, from, &onto[..n], output.fd, start)
+    with_output(
+        host,
+        length,
+        psd,
+        text,
+        label,
+        from,
+        &onto[..n],
+        output.fd,
+        start,
+    )
 }
 
 // Sends, and closes the file of PDUs.
 fn with_output(
+    host: &Host,
     length: usize,
     psd: &mut [u8],
     text: &[u8],
@@ -143,18 +166,18 @@ fn with_output(
     output: i32,
     start: Broadcast,
 ) -> bool {
-    let done = broadcast::send(output, from, onto, text, psd, length, start);
-    report::psd_ends(done);
-    let closed = files::close(output, onto);
-    finish(done, label) & closed
+    let done = broadcast::send(host, output, from, onto, text, psd, length, start);
+    report::psd_ends(host, done);
+    let closed = files::close(host, output, onto);
+    finish(host, done, label) & closed
 }
 
 // Says what is sent.
-fn finish(done: Broadcast, label: &[u8]) -> bool {
+fn finish(host: &Host, done: Broadcast, label: &[u8]) -> bool {
     let run = done.run;
-    report::summary(run.packets, run.octets, run.pdus, run.size);
-    window::say_places(GENERATE, broadcast::window_of(done));
-    report::psd(done);
-    report::changes(done, label);
+    report::summary(host, run.packets, run.octets, run.pdus, run.size);
+    window::say_places(host, GENERATE, broadcast::window_of(done));
+    report::psd(host, done);
+    report::changes(host, done, label);
     run.ok
 }

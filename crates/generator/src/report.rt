@@ -1,10 +1,12 @@
 // What the program says of its work.
 use broadcast::Broadcast;
+use host::Host;
 use options::GENERATE;
 
 // What is sent, on standard error.
-pub fn summary(packets: u64, octets: u64, pdus: u64, size: u64) {
+pub fn summary(host: &Host, packets: u64, octets: u64, pdus: u64, size: u64) {
     options::say_numbers(
+        host,
         GENERATE,
         b": packets @ (bytes @), PDUs @ (bytes @)\n",
         &[packets, octets, pdus, size],
@@ -12,42 +14,48 @@ pub fn summary(packets: u64, octets: u64, pdus: u64, size: u64) {
 }
 
 // Says that PSD that runs across PDUs could not be read, if so.
-pub fn psd_ends(done: Broadcast) {
+pub fn psd_ends(host: &Host, done: Broadcast) {
     let supply = done.supply;
     if supply.status != records::FAILED {
         return;
     }
     let mut label = files::label_buffer();
-    let n = files::put_label(&mut label, GENERATE, options::PSD_STREAM);
-    files::say(&label[..n], b": cannot be read\n");
+    let n = files::put_label(host, &mut label, GENERATE, options::PSD_STREAM);
+    files::say(host, &label[..n], b": cannot be read\n");
 }
 
 // How much is sent of PSD that runs across PDUs, and whether its file has more.
-pub fn psd(done: Broadcast) {
-    if !options::given(GENERATE, options::PSD_STREAM) {
+pub fn psd(host: &Host, done: Broadcast) {
+    if !options::given(host, GENERATE, options::PSD_STREAM) {
         return;
     }
     let supply = done.supply;
-    options::say_numbers(GENERATE, b": bytes of PSD @\n", &[supply.sent]);
-    if !psd_stream::has_more(supply) {
+    options::say_numbers(host, GENERATE, b": bytes of PSD @\n", &[supply.sent]);
+    if !psd_stream::has_more(host, supply) {
         return;
     }
     let mut label = files::label_buffer();
-    let n = files::put_label(&mut label, GENERATE, options::PSD_STREAM);
-    files::say(&label[..n], b": has more PSD than was sent\n");
+    let n = files::put_label(host, &mut label, GENERATE, options::PSD_STREAM);
+    files::say(host, &label[..n], b": has more PSD than was sent\n");
 }
 
 // How many changes of settings came, and which did not.
-pub fn changes(done: Broadcast, label: &[u8]) {
-    if !options::given(GENERATE, options::SETTINGS) {
+pub fn changes(host: &Host, done: Broadcast, label: &[u8]) {
+    if !options::given(host, GENERATE, options::SETTINGS) {
         return;
     }
-    options::say_numbers(GENERATE, b": changes of settings @\n", &[done.changes]);
+    options::say_numbers(
+        host,
+        GENERATE,
+        b": changes of settings @\n",
+        &[done.changes],
+    );
     let next = done.next;
     if next.pdu == schedule::NEVER {
         return;
     }
     files::say_number(
+        host,
         label,
         b": line ",
         next.line,
@@ -56,15 +64,16 @@ pub fn changes(done: Broadcast, label: &[u8]) {
 }
 
 // How the program is used, on standard output.
-pub fn usage() -> bool {
-    if !print_options() {
+pub fn usage(host: &Host) -> bool {
+    if !print_options(host) {
         return false;
     }
-    mode_table::print(GENERATE)
+    mode_table::print(host, GENERATE)
 }
 
-fn print_options() -> bool {
+fn print_options(host: &Host) -> bool {
     files::print_usage(
+        host,
         GENERATE,
         b"usage: barzhilup generate [--in FILE] [--out FILE] [OPTION]...
 

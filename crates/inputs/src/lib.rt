@@ -3,60 +3,67 @@
 
 ghost use Rattle.io.specs.Counts.{IsPrefixLen};
 
+use host::Host;
 use options::GENERATE;
 use psd_stream::Supply;
 use records::Record;
 
 // Whether an option is right; if not, says what is wrong.
-fn is_right(option: u8, wrong: bool, words: &[u8]) -> bool {
+fn is_right(host: &Host, option: u8, wrong: bool, words: &[u8]) -> bool {
     if wrong {
-        options::complain(GENERATE, option, words);
+        options::complain(host, GENERATE, option, words);
     }
     !wrong
 }
 
 // Whether an option is not given without the name of a file; if it is, says so.
-fn has_name(option: u8) -> bool {
+fn has_name(host: &Host, option: u8) -> bool {
     is_right(
+        host,
         option,
-        files::named(GENERATE, option) == files::EMPTY,
+        files::named(host, GENERATE, option) == files::EMPTY,
         b": value missing",
     )
 }
 
 // Whether an option is given as a dash, which stands for standard input.
-fn is_dash(option: u8) -> bool {
-    files::named(GENERATE, option) == files::DASH
+fn is_dash(host: &Host, option: u8) -> bool {
+    files::named(host, GENERATE, option) == files::DASH
 }
 
 // Whether an option comes with PSD that runs across PDUs; if not, says so.
-fn has_stream(option: u8, streams: bool) -> bool {
+fn has_stream(host: &Host, option: u8, streams: bool) -> bool {
     is_right(
+        host,
         option,
-        !streams & options::given(GENERATE, option),
+        !streams & options::given(host, GENERATE, option),
         b": no PSD runs across PDUs (--psd-stream)",
     )
 }
 
 // Whether the options that say what is read besides packets go together; if not, says what is wrong.
-fn go_together() -> bool {
-    let streams = options::given(GENERATE, options::PSD_STREAM);
+fn go_together(host: &Host) -> bool {
+    let streams = options::given(host, GENERATE, options::PSD_STREAM);
     is_right(
+        host,
         options::PSD_STREAM,
-        streams & options::given(GENERATE, options::PSD),
+        streams & options::given(host, GENERATE, options::PSD),
         b": takes the place of --psd",
-    ) & has_stream(options::PSD_BYTES, streams)
-        & has_stream(options::PSD_REPEAT, streams)
+    ) & has_stream(host, options::PSD_BYTES, streams)
+        & has_stream(host, options::PSD_REPEAT, streams)
         & is_right(
+            host,
             options::SETTINGS,
-            is_dash(options::SETTINGS) & (is_dash(options::PSD) | is_dash(options::PSD_STREAM)),
+            is_dash(host, options::SETTINGS)
+                & (is_dash(host, options::PSD) | is_dash(host, options::PSD_STREAM)),
             b": standard input has the PSD",
         )
 }
 
 // Whether the file of an option and the packets are not both on standard input; if they are, says so.
-fn is_apart(option: u8) -> bool {
+fn is_apart(host: &Host, option: u8) -> bool {
     files::is_apart(
+        host,
         GENERATE,
         option,
         options::IN,
@@ -65,17 +72,17 @@ fn is_apart(option: u8) -> bool {
 }
 
 // Whether every option is one that is known, with its value, and they go together; if not, says what is wrong.
-pub fn check() -> bool {
-    if !transmission::check(GENERATE) {
+pub fn check(host: &Host) -> bool {
+    if !transmission::check(host, GENERATE) {
         return false;
     }
-    if !is_apart(options::PSD_STREAM) {
+    if !is_apart(host, options::PSD_STREAM) {
         return false;
     }
-    if !is_apart(options::SETTINGS) {
+    if !is_apart(host, options::SETTINGS) {
         return false;
     }
-    has_name(options::PSD_STREAM) & has_name(options::SETTINGS) & go_together()
+    has_name(host, options::PSD_STREAM) & has_name(host, options::SETTINGS) & go_together(host)
 }
 
 // A supply of PSD that cannot be had, which is said.
@@ -93,16 +100,22 @@ fn none(fd: i32) -> Supply {
 }
 
 // The supply of a file whose bytes run across PDUs, at most so many in each; its status is FAILED where it cannot be had, which is said.
-fn stream(most: usize) -> Supply {
+fn stream(host: &Host, most: usize) -> Supply {
     let mut label = files::label_buffer();
-    let file = files::opened(GENERATE, options::PSD_STREAM, &mut label);
+    let file = files::opened(host, GENERATE, options::PSD_STREAM, &mut label);
     if file.fd < 0 {
         return none(file.fd);
     }
-    let supply = psd_stream::of(file.fd, options::given(GENERATE, options::PSD_REPEAT), most);
+    let supply = psd_stream::of(
+        host,
+        file.fd,
+        options::given(host, GENERATE, options::PSD_REPEAT),
+        most,
+    );
     if supply.repeats & (supply.start < 0) {
         let n = file.length;
         files::say(
+            host,
             &label[..n],
             b": cannot be read again from its start (--psd-repeat)\n",
         );
@@ -112,11 +125,11 @@ fn stream(most: usize) -> Supply {
 }
 
 // The supply of PSD that is asked for, in the buffer where it is the same for every PDU; its status is FAILED where it cannot be had, which is said.
-pub fn supply(most: usize, psd: &mut [u8]) -> Supply {
-    if options::given(GENERATE, options::PSD_STREAM) {
-        return stream(most);
+pub fn supply(host: &Host, most: usize, psd: &mut [u8]) -> Supply {
+    if options::given(host, GENERATE, options::PSD_STREAM) {
+        return stream(host, most);
     }
-    let read = transmission::psd::read(GENERATE, psd);
+    let read = transmission::psd::read(host, GENERATE, psd);
     if read.status == records::FAILED {
         return none(-1);
     }
@@ -124,39 +137,39 @@ pub fn supply(most: usize, psd: &mut [u8]) -> Supply {
 }
 
 // Reads the changes of settings to the buffer's start. Answers WHOLE where they are there, also where none are asked for; if not, says why.
-pub fn settings(text: &mut [u8], label: &[u8]) -> Record
+pub fn settings(host: &Host, text: &mut [u8], label: &[u8]) -> Record
     ensures { IsPrefixLen result.length text.new }
 {
-    if !options::given(GENERATE, options::SETTINGS) {
+    if !options::given(host, GENERATE, options::SETTINGS) {
         return Record {
             status: records::WHOLE,
             length: 0,
         };
     }
-    let fd = files::open(GENERATE, options::SETTINGS, label);
+    let fd = files::open(host, GENERATE, options::SETTINGS, label);
     if fd < 0 {
         return Record {
             status: records::FAILED,
             length: 0,
         };
     }
-    let read = records::fill(fd, text);
-    libc::close(fd);
+    let read = records::fill(host, fd, text);
+    host.close(fd);
     Record {
-        status: judged(read.status, label),
+        status: judged(host, read.status, label),
         length: read.length,
     }
 }
 
 // What a reading of the changes comes to: a buffer that is full may not have all of them.
-fn judged(status: u8, label: &[u8]) -> u8 {
+fn judged(host: &Host, status: u8, label: &[u8]) -> u8 {
     match status {
         records::WHOLE => {
-            files::say(label, b": has over 65,535 bytes\n");
+            files::say(host, label, b": has over 65,535 bytes\n");
             records::FAILED
         }
         records::FAILED => {
-            os::fail(label);
+            host.fail(label);
             records::FAILED
         }
         _ => records::WHOLE,

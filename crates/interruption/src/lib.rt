@@ -4,106 +4,118 @@
 
 ghost use Rattle.io.specs.Counts.{IsPrefixLen};
 
+use host::Host;
 use options::LOG;
 use saved_state::State;
 
 // Whether an option is right; if not, says what is wrong.
-fn is_right(option: u8, wrong: bool, words: &[u8]) -> bool {
+fn is_right(host: &Host, option: u8, wrong: bool, words: &[u8]) -> bool {
     if wrong {
-        options::complain(LOG, option, words);
+        options::complain(host, LOG, option, words);
     }
     !wrong
 }
 
 // Whether an option names a file.
-fn is_file(option: u8) -> bool {
-    files::named(LOG, option) == files::PATH
+fn is_file(host: &Host, option: u8) -> bool {
+    files::named(host, LOG, option) == files::PATH
 }
 
 // Whether the files of both options can be had as they are asked for; if not, says why.
-fn are_files(saves: bool, resumes: bool) -> bool {
+fn are_files(host: &Host, saves: bool, resumes: bool) -> bool {
     is_right(
+        host,
         options::SAVE,
-        saves & !is_file(options::SAVE),
+        saves & !is_file(host, options::SAVE),
         b": names no file",
     ) & is_right(
+        host,
         options::SAVE,
-        saves & !is_file(options::OUT),
+        saves & !is_file(host, options::OUT),
         b": the log goes to no file (--out)",
     ) & is_right(
+        host,
         options::RESUME,
-        resumes & !is_file(options::RESUME),
+        resumes & !is_file(host, options::RESUME),
         b": names no file",
     )
 }
 
 // Whether the receiver is opened by an option, which a saved one is not.
-fn is_opened() -> bool {
-    options::given(LOG, options::MODE)
-        | options::given(LOG, options::STREAM)
-        | options::given(LOG, options::CRC_START)
-        | options::given(LOG, options::ENTITLED)
+fn is_opened(host: &Host) -> bool {
+    options::given(host, LOG, options::MODE)
+        | options::given(host, LOG, options::STREAM)
+        | options::given(host, LOG, options::CRC_START)
+        | options::given(host, LOG, options::ENTITLED)
 }
 
 // Whether the options go together; if not, says why.
-pub fn is_asked() -> bool {
-    let saves = options::given(LOG, options::SAVE);
-    let resumes = options::given(LOG, options::RESUME);
-    let pairs = options::given(LOG, options::SECOND);
-    are_files(saves, resumes)
-        & is_right(options::SAVE, saves & pairs, b": not with two recordings")
+pub fn is_asked(host: &Host) -> bool {
+    let saves = options::given(host, LOG, options::SAVE);
+    let resumes = options::given(host, LOG, options::RESUME);
+    let pairs = options::given(host, LOG, options::SECOND);
+    are_files(host, saves, resumes)
         & is_right(
+            host,
+            options::SAVE,
+            saves & pairs,
+            b": not with two recordings",
+        )
+        & is_right(
+            host,
             options::RESUME,
             resumes & pairs,
             b": not with two recordings",
         )
         & is_right(
+            host,
             options::RESUME,
-            resumes & is_opened(),
+            resumes & is_opened(host),
             b": its file has mode, stream, start of CRCs and programs",
         )
         & is_right(
+            host,
             options::SKIP,
-            options::given(LOG, options::SKIP) & !resumes,
+            options::given(host, LOG, options::SKIP) & !resumes,
             b": nothing is resumed (--resume)",
         )
 }
 
 // How a run begins: whether it can, and how the drive stands.
-#[derive(Drop)]
+#[derive(Clone, Copy)]
 pub struct Start {
     pub ok: bool,
     pub state: State,
 }
 
 // Says that a receiver is not opened, for the file of a label where it has one.
-fn refused(label: &[u8], refusal: u32) {
+fn refused(host: &Host, label: &[u8], refusal: u32) {
     let mut line = [0u8; 4800];
     let n = text::put(&mut line, 0, label);
     let m = text::fill(&mut line, n, b": refused with @: ", &[refusal as u64]);
     let k = causes::put_refused(&mut line, m, refusal, 0);
-    io::write_all(libc::STDERR_FILENO, &line[..k]);
+    host.write_all(host::STDERR, &line[..k]);
 }
 
 // Says that no receiver is opened for a mode and a stream: with 5 by the words in which a writer refuses them, that have the table.
-fn not_opened(refusal: u32, mode: u8, stream: u8) {
+fn not_opened(host: &Host, refusal: u32, mode: u8, stream: u8) {
     if refusal != 5 {
-        refused(b"barzhilup log", refusal);
+        refused(host, b"barzhilup log", refusal);
         return;
     }
     let mut line = [0u8; 256];
     let n = options::put_program(&mut line, LOG);
     let settings = named_settings::of(named_settings::none());
     let k = limits::put(&mut line, n, refusal, mode, stream, 0, settings);
-    io::write_all(libc::STDERR_FILENO, &line[..k]);
+    host.write_all(host::STDERR, &line[..k]);
 }
 
 // A receiver that is opened for a mode, a stream, a register and the entitled programs of the option; if it is refused, says so.
-fn opened(mode: u8, stream: u8, register: u8) -> Start {
-    let o = opening::open(mode, stream, register);
+fn opened(host: &Host, mode: u8, stream: u8, register: u8) -> Start {
+    let o = opening::open(host, mode, stream, register);
     let receiver = o.receiver;
     if o.refusal != 0 {
-        not_opened(o.refusal, mode, stream);
+        not_opened(host, o.refusal, mode, stream);
     }
     Start {
         ok: o.refusal == 0,
@@ -130,13 +142,13 @@ fn none() -> Start {
 }
 
 // Says what came of a saved state: what is wrong, or how far the drive is. Answers whether it can go on.
-fn say_loaded(label: &[u8], ok: bool, refusal: u32, pdus: u64, bytes: u64) -> bool {
+fn say_loaded(host: &Host, label: &[u8], ok: bool, refusal: u32, pdus: u64, bytes: u64) -> bool {
     if !ok {
-        os::fail(label);
+        host.fail(label);
         return false;
     }
     if refusal != 0 {
-        refused(label, refusal);
+        refused(host, label, refusal);
         return false;
     }
     let mut line = [0u8; 4800];
@@ -147,16 +159,16 @@ fn say_loaded(label: &[u8], ok: bool, refusal: u32, pdus: u64, bytes: u64) -> bo
         b": goes on after @ PDUs and @ bytes of their log\n",
         &[pdus, bytes],
     );
-    io::write_all(libc::STDERR_FILENO, &line[..k]);
+    host.write_all(host::STDERR, &line[..k]);
     true
 }
 
 // The state that an open file has, whose label this is; its held bytes go to the carry.
-fn resumed(fd: i32, label: &[u8], carry: &mut [u8]) -> Start {
-    let l = saved_state::load(fd, carry);
+fn resumed(host: &Host, fd: i32, label: &[u8], carry: &mut [u8]) -> Start {
+    let l = saved_state::load(host, fd, carry);
     let state = l.state;
-    let ok = say_loaded(label, l.ok, l.refusal, state.pdus, state.bytes);
-    libc::close(fd);
+    let ok = say_loaded(host, label, l.ok, l.refusal, state.pdus, state.bytes);
+    host.close(fd);
     Start {
         ok: ok,
         state: state,
@@ -164,24 +176,24 @@ fn resumed(fd: i32, label: &[u8], carry: &mut [u8]) -> Start {
 }
 
 // How a run begins: as the file of `--resume` has it, or with a receiver that is opened. If it cannot begin, says why.
-pub fn begin(mode: u8, stream: u8, register: u8, carry: &mut [u8]) -> Start {
-    if !options::given(LOG, options::RESUME) {
-        return opened(mode, stream, register);
+pub fn begin(host: &Host, mode: u8, stream: u8, register: u8, carry: &mut [u8]) -> Start {
+    if !options::given(host, LOG, options::RESUME) {
+        return opened(host, mode, stream, register);
     }
     let mut label = files::label_buffer();
-    let file = files::opened(LOG, options::RESUME, &mut label);
+    let file = files::opened(host, LOG, options::RESUME, &mut label);
     if file.fd < 0 {
         return none();
     }
     let n = file.length;
-    resumed(file.fd, &label[..n], carry)
+    resumed(host, file.fd, &label[..n], carry)
 }
 
 // What came of passing over so many records of a file, by a buffer: WHOLE, or what came of the reading that ended it.
-fn passed(fd: i32, many: u64, buf: &mut [u8]) -> u8 {
+fn passed(host: &Host, fd: i32, many: u64, buf: &mut [u8]) -> u8 {
     let mut left = many;
     while 0 < left {
-        let r = records::read(fd, buf);
+        let r = records::read(host, fd, buf);
         if r.status != records::WHOLE {
             return r.status;
         }
@@ -191,19 +203,20 @@ fn passed(fd: i32, many: u64, buf: &mut [u8]) -> u8 {
 }
 
 // Passes over the records of so many PDUs in a file, where `--skip` is given and there is one. Answers whether they are there; if not, says so with its label.
-pub fn pass_over(fd: i32, label: &[u8], many: u64) -> bool {
-    if !options::given(LOG, options::SKIP) | (fd < 0) {
+pub fn pass_over(host: &Host, fd: i32, label: &[u8], many: u64) -> bool {
+    if !options::given(host, LOG, options::SKIP) | (fd < 0) {
         return true;
     }
     let mut buf = [0u8; 65535];
-    match passed(fd, many, &mut buf) {
+    match passed(host, fd, many, &mut buf) {
         records::WHOLE => true,
         records::FAILED => {
-            os::fail(label);
+            host.fail(label);
             false
         }
         _ => {
             files::say_number(
+                host,
                 label,
                 b": has fewer than the ",
                 many,
@@ -215,33 +228,33 @@ pub fn pass_over(fd: i32, label: &[u8], many: u64) -> bool {
 }
 
 // The name of the file of `--save`; nothing where none is asked for.
-pub fn put_path(path: &mut [u8]) -> usize
+pub fn put_path(host: &Host, path: &mut [u8]) -> usize
     ensures { IsPrefixLen result path.new }
 {
-    options::value(LOG, options::SAVE, path)
+    options::value(host, LOG, options::SAVE, path)
 }
 
 // Puts how the drive stands into the file of a name that is taken for it. Answers whether that went well; if not, the file goes.
-fn first_state(state: State, carry: &[u8]) -> bool {
+fn first_state(host: &Host, state: State, carry: &[u8]) -> bool {
     let mut path = io::buffer();
-    let n = put_path(&mut path);
-    if saved_state::save(&path[..n], state, carry) {
+    let n = put_path(host, &mut path);
+    if saved_state::save(host, &path[..n], state, carry) {
         return true;
     }
-    files::unmake(LOG, options::SAVE);
+    files::unmake(host, LOG, options::SAVE);
     false
 }
 
 // Makes the file of `--save`, where one is asked for, with how the drive stands. Answers whether that went well; if not, says why, and there is none.
-pub fn make(state: State, carry: &[u8]) -> bool {
-    if !options::given(LOG, options::SAVE) {
+pub fn make(host: &Host, state: State, carry: &[u8]) -> bool {
+    if !options::given(host, LOG, options::SAVE) {
         return true;
     }
     let mut label = files::label_buffer();
-    let file = files::opened(LOG, options::SAVE, &mut label);
+    let file = files::opened(host, LOG, options::SAVE, &mut label);
     if file.fd < 0 {
         return false;
     }
-    libc::close(file.fd);
-    first_state(state, carry)
+    host.close(file.fd);
+    first_state(host, state, carry)
 }

@@ -3,12 +3,13 @@
 
 ghost use Rattle.std.specs.Prelude.{◌≤◌};
 
+use host::Host;
 use options::LOG;
 use text::Number;
 
 // What is asked for; ok where mode, stream, the register that CRCs start with, the entitled programs, format and the records of a frame are given as they can
 // be, and the options go together.
-#[derive(Drop)]
+#[derive(Clone, Copy)]
 pub struct Job {
     pub ok: bool,
     // Whether mode and stream are those of the first PDU that can be read.
@@ -24,34 +25,34 @@ pub struct Job {
 }
 
 // A number of one byte, 0 where its option is not given.
-fn number(option: u8) -> Number
+fn number(host: &Host, option: u8) -> Number
     ensures { result.value ≤ 255 }
 {
-    options::number(LOG, option, 0, 0, 255)
+    options::number(host, LOG, option, 0, 0, 255)
 }
 
 // Whether mode and stream are to be those of the first PDU that can be read.
-fn is_auto() -> bool {
+fn is_auto(host: &Host) -> bool {
     let mut value = [0u8; 8];
-    let n = options::value(LOG, options::MODE, &mut value);
+    let n = options::value(host, LOG, options::MODE, &mut value);
     check::same(&value[..n], b"auto")
 }
 
 // The mode, 0 where it is not given as a number.
-fn mode_asked(auto: bool) -> Number
+fn mode_asked(host: &Host, auto: bool) -> Number
     ensures { result.value ≤ 255 }
 {
     if auto {
         return Number { ok: true, value: 0 };
     }
-    number(options::MODE)
+    number(host, options::MODE)
 }
 
 // Whether an option by which PDUs are not read one by one from one file is given.
-fn is_otherwise() -> bool {
-    options::given(LOG, options::BATCH)
-        | options::given(LOG, options::MARKS)
-        | options::given(LOG, options::SECOND)
+fn is_otherwise(host: &Host) -> bool {
+    options::given(host, LOG, options::BATCH)
+        | options::given(host, LOG, options::MARKS)
+        | options::given(host, LOG, options::SECOND)
 }
 
 fn format_named(name: &[u8]) -> u8 {
@@ -74,15 +75,16 @@ fn format_named(name: &[u8]) -> u8 {
 }
 
 // The format that is asked for; where there is no such format, says so.
-fn format_asked() -> u8 {
-    if !options::given(LOG, options::FORMAT) {
+fn format_asked(host: &Host) -> u8 {
+    if !options::given(host, LOG, options::FORMAT) {
         return formats::TEXT;
     }
     let mut name = io::buffer();
-    let n = options::value(LOG, options::FORMAT, &mut name);
+    let n = options::value(host, LOG, options::FORMAT, &mut name);
     let format = format_named(&name[..n]);
     if format == formats::NO_FORMAT {
         options::complain_of(
+            host,
             LOG,
             options::FORMAT,
             b": not words, text, csv, json or records: ",
@@ -93,86 +95,98 @@ fn format_asked() -> u8 {
 }
 
 // Whether an option is right; if not, says what is wrong.
-fn is_right(option: u8, wrong: bool, words: &[u8]) -> bool {
+fn is_right(host: &Host, option: u8, wrong: bool, words: &[u8]) -> bool {
     if wrong {
-        options::complain(LOG, option, words);
+        options::complain(host, LOG, option, words);
     }
     !wrong
 }
 
 // Whether frames can be received in one call with what else is asked for (document 02, Ask 3: only mending and the single receive call take marks;
 // Ask 5: a pair is received by a call of its own); if not, says so.
-fn can_batch() -> bool {
-    let batches = options::given(LOG, options::BATCH);
-    let marks = options::given(LOG, options::MARKS);
-    let pairs = options::given(LOG, options::SECOND);
-    is_right(options::BATCH, batches & marks, b": a batch takes no marks")
-        & is_right(
-            options::BATCH,
-            batches & !marks & pairs,
-            b": a batch takes no pairs",
-        )
+fn can_batch(host: &Host) -> bool {
+    let batches = options::given(host, LOG, options::BATCH);
+    let marks = options::given(host, LOG, options::MARKS);
+    let pairs = options::given(host, LOG, options::SECOND);
+    is_right(
+        host,
+        options::BATCH,
+        batches & marks,
+        b": a batch takes no marks",
+    ) & is_right(
+        host,
+        options::BATCH,
+        batches & !marks & pairs,
+        b": a batch takes no pairs",
+    )
 }
 
 // Whether the file of an option and the PDUs are not both on standard input; if they are, says so.
-fn is_apart(option: u8) -> bool {
-    files::is_apart(LOG, option, options::IN, b": standard input has the PDUs")
+fn is_apart(host: &Host, option: u8) -> bool {
+    files::is_apart(
+        host,
+        LOG,
+        option,
+        options::IN,
+        b": standard input has the PDUs",
+    )
 }
 
 // Whether copies have no marks; if they have, says so.
-fn can_pair() -> bool {
+fn can_pair(host: &Host) -> bool {
     is_right(
+        host,
         options::SECOND,
-        options::given(LOG, options::SECOND) & options::given(LOG, options::MARKS),
+        options::given(host, LOG, options::SECOND) & options::given(host, LOG, options::MARKS),
         b": a pair takes no marks",
     )
 }
 
 // Whether every option is one that is known, with its value, and the files go together; if not, says what is wrong.
-pub fn check() -> bool {
-    if !options::check(LOG) {
+pub fn check(host: &Host) -> bool {
+    if !options::check(host, LOG) {
         return false;
     }
-    if !is_apart(options::MARKS) {
+    if !is_apart(host, options::MARKS) {
         return false;
     }
-    if !is_apart(options::SECOND) {
+    if !is_apart(host, options::SECOND) {
         return false;
     }
-    can_pair()
+    can_pair(host)
 }
 
 // Whether the log that is summed up has a name; if not, says so.
-fn has_name() -> bool {
+fn has_name(host: &Host) -> bool {
     let mut name = io::buffer();
-    if options::value(LOG, options::SUMMARY, &mut name) != 0 {
+    if options::value(host, LOG, options::SUMMARY, &mut name) != 0 {
         return true;
     }
-    options::complain(LOG, options::SUMMARY, b": value missing");
+    options::complain(host, LOG, options::SUMMARY, b": value missing");
     false
 }
 
 // Whether the summary of a log is asked for alone, as one argument or as two after the subcommand; if not, says so.
-pub fn is_alone() -> bool {
+pub fn is_alone(host: &Host) -> bool {
     let mut first = [0u8; 16];
-    let n = os::arg(2, &mut first);
-    let count = os::arg_count();
+    let n = host.arg(2, &mut first);
+    let count = host.arg_count();
     if (count == 3) | ((count == 4) & check::same(&first[..n], b"--summary")) {
-        return has_name();
+        return has_name(host);
     }
-    options::complain(LOG, options::SUMMARY, b": goes with no other option");
+    options::complain(host, LOG, options::SUMMARY, b": goes with no other option");
     false
 }
 
-pub fn asked() -> Job {
-    let auto = is_auto();
-    let resync = options::given(LOG, options::RESYNC);
-    let mode = mode_asked(auto);
-    let stream = number(options::STREAM);
-    let register = number(options::CRC_START);
-    let programs = opening::is_asked();
-    let format = format_asked();
-    let batch = options::number(LOG, options::BATCH, 0, 1, 64);
+pub fn asked(host: &Host) -> Job {
+    let auto = is_auto(host);
+    let resync = options::given(host, LOG, options::RESYNC);
+    let mode = mode_asked(host, auto);
+    let stream = number(host, options::STREAM);
+    let register = number(host, options::CRC_START);
+    let programs = opening::is_asked(host);
+    let format = format_asked(host);
+    let batch = options::number(host, LOG, options::BATCH, 0, 1, 64);
     Job {
         ok: mode.ok
             & stream.ok
@@ -180,19 +194,21 @@ pub fn asked() -> Job {
             & programs
             & (format != formats::NO_FORMAT)
             & batch.ok
-            & can_batch()
+            & can_batch(host)
             & is_right(
+                host,
                 options::RESYNC,
-                resync & is_otherwise(),
+                resync & is_otherwise(host),
                 b": not with --batch, --marks or --second",
             )
             & is_right(
+                host,
                 options::MODE,
-                auto & is_otherwise(),
+                auto & is_otherwise(host),
                 b" auto: not with --batch, --marks or --second",
             )
-            & interruption::is_asked()
-            & beside_files::asked::is_asked(),
+            & interruption::is_asked(host)
+            & beside_files::asked::is_asked(host),
         auto: auto,
         resync: resync,
         mode: mode.value as u8,

@@ -1,4 +1,5 @@
 // What the command line asks for.
+use host::Host;
 use options::JOIN;
 use text::Number;
 
@@ -6,7 +7,7 @@ use text::Number;
 const MOST: u32 = 64;
 
 // What is asked for; ok where the counts of PDUs in a frame and the format are given as they can be.
-#[derive(Drop)]
+#[derive(Clone, Copy)]
 pub struct Job {
     pub ok: bool,
     pub core: u32,
@@ -15,8 +16,9 @@ pub struct Job {
 }
 
 // Whether every option is one that is known, with its value, and the logs do not share standard input; if not, says what is wrong.
-pub fn check() -> bool {
+pub fn check(host: &Host) -> bool {
     files::check(
+        host,
         JOIN,
         options::ENHANCED,
         options::IN,
@@ -25,8 +27,8 @@ pub fn check() -> bool {
 }
 
 // How many PDUs of a stream a frame has.
-fn pdus(option: u8, default: u32) -> Number {
-    options::number(JOIN, option, default, 1, MOST)
+fn pdus(host: &Host, option: u8, default: u32) -> Number {
+    options::number(host, JOIN, option, default, 1, MOST)
 }
 
 fn format_named(name: &[u8]) -> u8 {
@@ -40,23 +42,29 @@ fn format_named(name: &[u8]) -> u8 {
 }
 
 // The format that is asked for; where there is no such format, says so.
-fn format_asked() -> u8 {
-    if !options::given(JOIN, options::FORMAT) {
+fn format_asked(host: &Host) -> u8 {
+    if !options::given(host, JOIN, options::FORMAT) {
         return side_by_side::CSV;
     }
     let mut name = io::buffer();
-    let n = options::value(JOIN, options::FORMAT, &mut name);
+    let n = options::value(host, JOIN, options::FORMAT, &mut name);
     let format = format_named(&name[..n]);
     if format == side_by_side::NO_FORMAT {
-        options::complain_of(JOIN, options::FORMAT, b": not words or csv: ", &name[..n]);
+        options::complain_of(
+            host,
+            JOIN,
+            options::FORMAT,
+            b": not words or csv: ",
+            &name[..n],
+        );
     }
     format
 }
 
-pub fn asked() -> Job {
-    let core = pdus(options::CORE_PDUS, 8);
-    let enhanced = pdus(options::ENHANCED_PDUS, 1);
-    let format = format_asked();
+pub fn asked(host: &Host) -> Job {
+    let core = pdus(host, options::CORE_PDUS, 8);
+    let enhanced = pdus(host, options::ENHANCED_PDUS, 1);
+    let format = format_asked(host);
     Job {
         ok: core.ok & enhanced.ok & (format != side_by_side::NO_FORMAT),
         core: core.value,

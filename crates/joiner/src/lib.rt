@@ -6,53 +6,54 @@ mod arguments;
 mod report;
 
 use arguments::Job;
+use host::Host;
 use joining::{Run, Task};
 use options::JOIN;
 
 // The program: answers its exit status. What went wrong is said.
-pub fn program() -> i32 {
-    if options::given(JOIN, options::HELP) {
-        return files::status(JOIN, report::usage());
+pub fn program(host: &Host) -> i32 {
+    if options::given(host, JOIN, options::HELP) {
+        return files::status(host, JOIN, report::usage(host));
     }
-    if !arguments::check() {
+    if !arguments::check(host) {
         return files::WRONG;
     }
-    let job = arguments::asked();
+    let job = arguments::asked(host);
     if !job.ok {
         return files::WRONG;
     }
-    files::status(JOIN, with_job(job))
+    files::status(host, JOIN, with_job(host, job))
 }
 
 // Opens the core's log.
-fn with_job(job: Job) -> bool {
+fn with_job(host: &Host, job: Job) -> bool {
     let mut label = files::label_buffer();
-    let core = files::opened(JOIN, options::IN, &mut label);
+    let core = files::opened(host, JOIN, options::IN, &mut label);
     if core.fd < 0 {
         return false;
     }
     let n = core.length;
-    with_core(job, &label[..n], core.fd)
+    with_core(host, job, &label[..n], core.fd)
 }
 
 // Opens the enhanced log, where one is given.
-fn with_core(job: Job, from: &[u8], core: i32) -> bool {
-    if !options::given(JOIN, options::ENHANCED) {
-        return with_logs(job, from, core, b"", frame_logs::NONE);
+fn with_core(host: &Host, job: Job, from: &[u8], core: i32) -> bool {
+    if !options::given(host, JOIN, options::ENHANCED) {
+        return with_logs(host, job, from, core, b"", frame_logs::NONE);
     }
     let mut label = files::label_buffer();
-    let enhanced = files::opened(JOIN, options::ENHANCED, &mut label);
+    let enhanced = files::opened(host, JOIN, options::ENHANCED, &mut label);
     if enhanced.fd < 0 {
         return false;
     }
     let n = enhanced.length;
-    with_logs(job, from, core, &label[..n], enhanced.fd)
+    with_logs(host, job, from, core, &label[..n], enhanced.fd)
 }
 
 // Opens the file of the result, and joins.
-fn with_logs(job: Job, from: &[u8], core: i32, beside: &[u8], enhanced: i32) -> bool {
+fn with_logs(host: &Host, job: Job, from: &[u8], core: i32, beside: &[u8], enhanced: i32) -> bool {
     let mut onto = files::label_buffer();
-    let output = files::opened(JOIN, options::OUT, &mut onto);
+    let output = files::opened(host, JOIN, options::OUT, &mut onto);
     if output.fd < 0 {
         return false;
     }
@@ -65,14 +66,14 @@ fn with_logs(job: Job, from: &[u8], core: i32, beside: &[u8], enhanced: i32) -> 
         output: output.fd,
         format: job.format,
     };
-    let run = joining::join_all(task);
-    report::ends(run, from, beside, &onto[..n]);
-    finish(run, output.fd, &onto[..n])
+    let run = joining::join_all(host, task);
+    report::ends(host, run, from, beside, &onto[..n]);
+    finish(host, run, output.fd, &onto[..n])
 }
 
 // Closes the file of the result, and says what was joined.
-fn finish(run: Run, output: i32, onto: &[u8]) -> bool {
-    let closed = files::close(output, onto);
-    report::summary(run);
+fn finish(host: &Host, run: Run, output: i32, onto: &[u8]) -> bool {
+    let closed = files::close(host, output, onto);
+    report::summary(host, run);
     (run.status == joining::DONE) & closed
 }

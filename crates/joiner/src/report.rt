@@ -1,63 +1,76 @@
 // What the program says on standard error, a line in one write.
+use host::Host;
 use joining::Run;
 use options::JOIN;
 
 // Why a log is not read on, after so many PDUs. PDUs are counted from 0.
-fn unread(reading: u8, label: &[u8], pdus: u64) {
+fn unread(host: &Host, reading: u8, label: &[u8], pdus: u64) {
     match reading {
-        records::CUT => files::say_number(label, b": ends inside the record of PDU ", pdus, b"\n"),
+        records::CUT => files::say_number(
+            host,
+            label,
+            b": ends inside the record of PDU ",
+            pdus,
+            b"\n",
+        ),
         frame_logs::NO_WORDS => files::say_number(
+            host,
             label,
             b": the record of PDU ",
             pdus,
             b" is no row of words: is this a file of log --format records?\n",
         ),
         frame_logs::TOO_LONG => files::say_number(
+            host,
             label,
             b": more than 25,000 words in a frame, at PDU ",
             pdus,
             b"\n",
         ),
-        _ => os::fail(label),
+        _ => host.fail(label),
     }
 }
 
 // Why no more frames are joined; nothing where all are.
-pub fn ends(run: Run, from: &[u8], beside: &[u8], onto: &[u8]) {
+pub fn ends(host: &Host, run: Run, from: &[u8], beside: &[u8], onto: &[u8]) {
     let status = run.status;
     match status {
         joining::DONE => {}
-        joining::CORE => unread(run.reading, from, run.core_pdus),
-        joining::ENHANCED => unread(run.reading, beside, run.enhanced_pdus),
-        _ => os::fail(onto),
+        joining::CORE => unread(host, run.reading, from, run.core_pdus),
+        joining::ENHANCED => unread(host, run.reading, beside, run.enhanced_pdus),
+        _ => host.fail(onto),
     }
 }
 
 // What was joined.
-pub fn summary(run: Run) {
+pub fn summary(host: &Host, run: Run) {
     options::say_numbers(
+        host,
         JOIN,
         b": frames @: refused with 23 @, with 24 @\n",
         &[run.frames, run.no_logs, run.no_order],
     );
     options::say_numbers(
+        host,
         JOIN,
         b": packets: core alone @, both @, enhanced dropped @\n",
         &[run.alone, run.both, run.dropped],
     );
-    doubts(run);
+    doubts(host, run);
 }
 
 // What the counts tell of files that cannot be joined frame by frame; nothing where there is no such sign.
-fn doubts(run: Run) {
+fn doubts(host: &Host, run: Run) {
     if (run.frames != 0) & (run.no_logs == run.frames) {
         options::say(
+            host,
             JOIN,
             b": no frame was joined: are these files of log --format records?\n",
         );
     }
     if run.unlike != 0 {
         options::say_numbers(
+            host,
             JOIN,
             b": frames without a loss whose packets yet are alone and dropped: @: do both files begin with the same frame, and do the same packets end in each frame of both?\n",
             &[run.unlike],
@@ -66,8 +79,9 @@ fn doubts(run: Run) {
 }
 
 // How the program is used, on standard output.
-pub fn usage() -> bool {
+pub fn usage(host: &Host) -> bool {
     files::print_usage(
+        host,
         JOIN,
         b"usage: barzhilup join [--in FILE] [--out FILE] [OPTION]...
 

@@ -4,11 +4,11 @@
 
 ghost use Rattle.io.specs.Counts.{IsPrefixLen};
 
+use host::{Host, STDERR};
 use join::Joined;
-use libc::STDERR_FILENO;
 
 // Where the logs come from, how many PDUs of each a frame has, where the result goes, and in which format.
-#[derive(Drop)]
+#[derive(Clone, Copy)]
 pub struct Task {
     pub core: i32,
     pub core_pdus: u32,
@@ -32,7 +32,7 @@ pub const UNWRITTEN: u8 = 4;
 // A run so far: how it stands; how the reading of a log stands that cannot be read on; how many PDUs of either log were read; how many frames there
 // were, and how many of them were refused with 23 and with 24; core packets alone, pairs, and enhanced packets dropped; and the frames without a note
 // that yet have packets alone and packets dropped.
-#[derive(Drop)]
+#[derive(Clone, Copy)]
 pub struct Run {
     pub status: u8,
     pub reading: u8,
@@ -71,16 +71,17 @@ fn stopped(run: Run, status: u8, reading: u8) -> Run {
 }
 
 // Joins all frames. What stopped it before the end, its status says, and errno with that.
-pub fn join_all(task: Task) -> Run {
+pub fn join_all(host: &Host, task: Task) -> Run {
     let mut core = frame_logs::log_buffer();
     let mut enhanced = frame_logs::log_buffer();
     let mut result = frame_logs::result_buffer();
     let mut block = side_by_side::block();
     let n = side_by_side::put_title(&mut block, task.format);
-    if !io::write_all(task.output, &block[..n]) {
+    if !host.write_all(task.output, &block[..n]) {
         return stopped(start(), UNWRITTEN, records::WHOLE);
     }
     let run = all_turns(
+        host,
         task,
         &mut core,
         &mut enhanced,
@@ -88,16 +89,16 @@ pub fn join_all(task: Task) -> Run {
         &mut block,
         start(),
     );
-    ended(task, &mut block, run)
+    ended(host, task, &mut block, run)
 }
 
 // Writes what stands after all frames, if all are read.
-fn ended(task: Task, block: &mut [u8], run: Run) -> Run {
+fn ended(host: &Host, task: Task, block: &mut [u8], run: Run) -> Run {
     if run.status != DONE {
         return run;
     }
     let n = side_by_side::put_end(block, task.format, run.frames);
-    if io::write_all(task.output, &block[..n]) {
+    if host.write_all(task.output, &block[..n]) {
         return run;
     }
     stopped(run, UNWRITTEN, records::WHOLE)
@@ -105,6 +106,7 @@ fn ended(task: Task, block: &mut [u8], run: Run) -> Run {
 
 // All turns. They are counted down from a number that no run uses up, since a proved loop has to end, and nothing says that a file does.
 fn all_turns(
+    host: &Host,
     task: Task,
     core: &mut [u32],
     enhanced: &mut [u32],
@@ -114,15 +116,15 @@ fn all_turns(
 ) -> Run {
     let mut run = begun;
     let mut buf = io::large_buffer();
-    let mut shown = files::second();
+    let mut shown = files::second(host);
     let mut turns = u64::MAX;
     while 0 < turns {
-        let next = turn(task, &mut buf, core, enhanced, res, block, run);
+        let next = turn(host, task, &mut buf, core, enhanced, res, block, run);
         run = next;
         if run.status != GOING {
             return run;
         }
-        shown = files::progress(options::JOIN, run.frames, shown);
+        shown = files::progress(host, options::JOIN, run.frames, shown);
         turns -= 1;
     }
     run
@@ -130,7 +132,7 @@ fn all_turns(
 
 // A frame of either log that was read: how the run stands then, and how the reading of a log that cannot be read on; how many words each has, and how many
 // PDUs of either log were read.
-#[derive(Drop)]
+#[derive(Clone, Copy)]
 struct Frames {
     status: u8,
     reading: u8,
@@ -169,6 +171,7 @@ fn reading_of(core: u8, enhanced: u8) -> u8 {
 
 // Reads a frame of either log, each to its buffer's start, after so many PDUs.
 fn read(
+    host: &Host,
     task: Task,
     core_pdus: u64,
     enhanced_pdus: u64,
@@ -179,8 +182,9 @@ fn read(
     ensures prefix_len { IsPrefixLen result.core core.new }
     ensures prefix_len_2 { IsPrefixLen result.enhanced enhanced.new }
 {
-    let c = frame_logs::read(task.core, task.core_pdus, core_pdus, buf, core);
+    let c = frame_logs::read(host, task.core, task.core_pdus, core_pdus, buf, core);
     let e = frame_logs::read(
+        host,
         task.enhanced,
         task.enhanced_pdus,
         enhanced_pdus,
@@ -200,6 +204,7 @@ fn read(
 
 // Reads a frame of either log and takes them.
 fn turn(
+    host: &Host,
     task: Task,
     buf: &mut [u8],
     core: &mut [u32],
@@ -208,10 +213,27 @@ fn turn(
     block: &mut [u8],
     run: Run,
 ) -> Run {
-    let frames = read(task, run.core_pdus, run.enhanced_pdus, buf, core, enhanced);
+    let frames = read(
+        host,
+        task,
+        run.core_pdus,
+        run.enhanced_pdus,
+        buf,
+        core,
+        enhanced,
+    );
     let n = frames.core;
     let k = frames.enhanced;
-    taken(task, frames, &core[..n], &enhanced[..k], res, block, run)
+    taken(
+        host,
+        task,
+        frames,
+        &core[..n],
+        &enhanced[..k],
+        res,
+        block,
+        run,
+    )
 }
 
 // The run with so many PDUs of either log read.
@@ -224,6 +246,7 @@ fn with_pdus(run: Run, core: u64, enhanced: u64) -> Run {
 
 // Joins a frame of either log; stops where one cannot be read on, or where both have no more PDUs.
 fn taken(
+    host: &Host,
     task: Task,
     frames: Frames,
     core: &[u32],
@@ -236,11 +259,12 @@ fn taken(
     if frames.status != GOING {
         return stopped(next, frames.status, frames.reading);
     }
-    joined(task, core, enhanced, res, block, next)
+    joined(host, task, core, enhanced, res, block, next)
 }
 
 // Joins a frame, and writes what comes of it; stops where that cannot be written.
 fn joined(
+    host: &Host,
     task: Task,
     core: &[u32],
     enhanced: &[u32],
@@ -250,10 +274,17 @@ fn joined(
 ) -> Run {
     let answer = join::join(core, enhanced, res);
     let n = put(task.format, core, enhanced, res, answer, block, run.frames);
-    if !io::write_all(task.output, &block[..n]) {
+    if !host.write_all(task.output, &block[..n]) {
         return stopped(run, UNWRITTEN, records::WHOLE);
     }
-    counted(run, answer, core, enhanced, words_of(res, answer.words))
+    counted(
+        host,
+        run,
+        answer,
+        core,
+        enhanced,
+        words_of(res, answer.words),
+    )
 }
 
 // The words that were written to a result, which are its first ones.
@@ -314,9 +345,21 @@ fn with_refused(run: Run, refusal: u32) -> Run {
 }
 
 // The run with one more frame, of its two logs and what was joined.
-fn counted(run: Run, answer: Joined, core: &[u32], enhanced: &[u32], res: &[u32]) -> Run {
+fn counted(
+    host: &Host,
+    run: Run,
+    answer: Joined,
+    core: &[u32],
+    enhanced: &[u32],
+    res: &[u32],
+) -> Run {
     if answer.refusal != 0 {
-        say_refused(run.frames, answer.refusal, more(run.no_logs, run.no_order));
+        say_refused(
+            host,
+            run.frames,
+            answer.refusal,
+            more(run.no_logs, run.no_order),
+        );
         return with_refused(run, answer.refusal);
     }
     let joined = side_by_side::packets_of(res);
@@ -345,12 +388,13 @@ fn unlike(noted: bool, alone: u64, dropped: u64) -> u64 {
 const SAID: u64 = 5;
 
 // A frame, counted from 0, is refused, after so many others that were.
-fn say_refused(frame: u64, refusal: u32, before: u64) {
+fn say_refused(host: &Host, frame: u64, refusal: u32, before: u64) {
     if SAID < before {
         return;
     }
     if before == SAID {
         options::say(
+            host,
             options::JOIN,
             b": further refused frames are counted only\n",
         );
@@ -368,5 +412,5 @@ fn say_refused(frame: u64, refusal: u32, before: u64) {
         (refusal == 24) as u32,
     );
     let end = text::put(&mut line, n, words);
-    io::write_all(STDERR_FILENO, &line[..end]);
+    host.write_all(STDERR, &line[..end]);
 }

@@ -7,7 +7,7 @@ use gaps::{Gaps, Row};
 use page::share;
 
 // What a legend stands in: where it begins, its width, and how many packets a bar of full height stands for.
-#[derive(Drop)]
+#[derive(Clone, Copy)]
 pub struct Ground {
     pub base: u64,
     pub width: u64,

@@ -85,7 +85,7 @@ pub const MANY_FIELDS: u8 = 13;
 // piece of a note, or in the last line how many PDUs there are; the cause of a note, or the copy of a received PDU, 0 for one that is not known; its loss
 // column, if the log has one: what the receiver's record has after the PDU; the length of the PDU, the packet or the PSD; the CRC-32 of the packet or the PSD, 0
 // where there is none; and where in the line the PSD's text stands.
-#[derive(Drop)]
+#[derive(Clone, Copy)]
 pub struct Entry {
     pub wrong: u8,
     pub kind: u32,
@@ -103,7 +103,7 @@ pub struct Entry {
 
 // The numbers of a line's fields: that of its number, of its length, of its cause or copy, and of delivered, after which missing stands. 15 for one that
 // there is none of.
-#[derive(Drop)]
+#[derive(Clone, Copy)]
 struct Layout {
     older: bool,
     number: usize,
@@ -113,7 +113,7 @@ struct Layout {
 }
 
 // The loss column of a line: whether it says what it has to, and both counts.
-#[derive(Drop)]
+#[derive(Clone, Copy)]
 struct Loss {
     right: bool,
     delivered: u32,

@@ -7,7 +7,7 @@ use crate::lines;
 pub const MOST: usize = 16;
 
 // How many fields a line has up to the last that is not empty, and the place after each of the first ones.
-#[derive(Drop)]
+#[derive(Clone, Copy)]
 pub struct Fields {
     pub count: usize,
     pub ends: [usize; MOST],
@@ -119,7 +119,7 @@ fn end(f: Fields, number: usize) -> usize {
 }
 
 // The place where the text of a field begins and the one where it ends: within its quotes, if it has some.
-#[derive(Drop)]
+#[derive(Clone, Copy)]
 pub struct Span {
     pub from: usize,
     pub to: usize,

@@ -1,6 +1,8 @@
 // The lines of a file, read through a lent buffer.
 ghost use Rattle.std.specs.Prelude.{◌≤◌};
 
+use host::Host;
+
 // The longest line, without its end.
 const MOST: usize = 600;
 
@@ -17,7 +19,7 @@ pub const LONG: u8 = 2;
 pub const FAILED: u8 = 3;
 
 // What of a file is read ahead: it stands in the buffer between two places. `open` where there may be more, `failed` where a read failed.
-#[derive(Drop)]
+#[derive(Clone, Copy)]
 pub struct Lines {
     pub fd: i32,
     pub from: usize,
@@ -27,7 +29,7 @@ pub struct Lines {
 }
 
 // What came of reading a line, whether its end is there, where it stands in the buffer, and what is read ahead after it.
-#[derive(Drop)]
+#[derive(Clone, Copy)]
 pub struct Line {
     pub status: u8,
     pub ended: bool,
@@ -77,14 +79,14 @@ fn on(from: usize, count: usize, last: usize) -> usize
 }
 
 // Reads ahead where less than a longest line is there: what is left moves to the buffer's start, and the rest of the buffer is filled.
-fn filled(s: Lines, buf: &mut [u8]) -> Lines {
+fn filled(host: &Host, s: Lines, buf: &mut [u8]) -> Lines {
     if !s.open | (AHEAD <= between(s.from, s.to)) {
         return s;
     }
     let mut kept = [0u8; AHEAD];
     let k = text::put(&mut kept, 0, part(buf, s.from, s.to));
     let n = text::put(buf, 0, &kept[..k]);
-    let r = records::fill(s.fd, &mut buf[n..]);
+    let r = records::fill(host, s.fd, &mut buf[n..]);
     Lines {
         fd: s.fd,
         from: 0,
@@ -98,7 +100,7 @@ fn filled(s: Lines, buf: &mut [u8]) -> Lines {
 fn line_end(buf: &[u8], from: usize, to: usize) -> usize {
     if to <= buf.len() {
         if from <= to {
-            return bytes::scan::find(buf, from, to, 10);
+            return text::find(buf, from, to, 10);
         }
     }
     to
@@ -135,8 +137,8 @@ fn found(status: u8, ended: bool, from: usize, to: usize, s: Lines, next: usize)
 }
 
 // The next line. The last one may lack its end.
-pub fn next(s: Lines, buf: &mut [u8]) -> Line {
-    let w = filled(s, buf);
+pub fn next(host: &Host, s: Lines, buf: &mut [u8]) -> Line {
+    let w = filled(host, s, buf);
     if w.failed {
         return found(FAILED, false, 0, 0, w, w.from);
     }

@@ -6,6 +6,7 @@ ghost use Rattle.io.specs.Counts.{IsPrefixLen};
 
 use ahead_logging::Live;
 use batch::Batch;
+use host::Host;
 use logging::{Onto, Run, Task, output};
 use outcome::Outcome;
 use receiver::Receiver;
@@ -68,7 +69,7 @@ fn put(list: &mut [usize], place: usize, number: usize) {
 }
 
 // A frame: what came of the last reading, how many records it has, and how many bytes.
-#[derive(Drop)]
+#[derive(Clone, Copy)]
 struct Frame {
     status: u8,
     count: usize,
@@ -77,7 +78,7 @@ struct Frame {
 
 // Reads records to the frame's start and their lengths to the list's, as many as the list has places for; not where the frame has less room than the longest
 // PDU has.
-fn read(input: i32, frame: &mut [u8], lengths: &mut [usize]) -> Frame
+fn read(host: &Host, input: i32, frame: &mut [u8], lengths: &mut [usize]) -> Frame
     ensures prefix_len { IsPrefixLen result.bytes frame.new }
     ensures prefix_len_2 { IsPrefixLen result.count lengths.new }
 {
@@ -88,7 +89,7 @@ fn read(input: i32, frame: &mut [u8], lengths: &mut [usize]) -> Frame
         if frame.len() - end < records::LONGEST {
             break;
         }
-        let r = records::read_pdu(input, &mut frame[end..]);
+        let r = records::read_pdu(host, input, &mut frame[end..]);
         status = r.status;
         if status != records::WHOLE {
             break;
@@ -120,6 +121,7 @@ fn call(
 
 // Writes what came of a PDU that a call took, with its log, and counts it; stops where it cannot be written.
 fn kept(
+    host: &Host,
     onto: Onto,
     run: Run,
     came: &[u8],
@@ -142,17 +144,18 @@ fn kept(
         receiver: loss::in_record(receiver, l),
     };
     let sink = onto.sink;
-    if !output::keep(sink, run.pdus, o, log, block) {
+    if !output::keep(host, sink, run.pdus, o, log, block) {
         return logging::run_of(logging::UNWRITTEN, receiver, run.pdus);
     }
     let word = layout::control_word(pdu);
     counts::add_received(counts, corrected, word.nop as u64, log, l);
     let beside = onto.beside;
-    logging::kept_beside(beside, receiver, log, block, counts, run.pdus)
+    logging::kept_beside(host, beside, receiver, log, block, counts, run.pdus)
 }
 
 // The record at a place of a frame: what came of it is written if it is one of so many that the call took, else it is received by a call of its own.
 fn one(
+    host: &Host,
     onto: Onto,
     run: Run,
     taken: usize,
@@ -169,15 +172,16 @@ fn one(
         return run;
     }
     if taken <= place {
-        return logging::received(onto, carry, pdu, b"", log, block, counts, run);
+        return logging::received(host, onto, carry, pdu, b"", log, block, counts, run);
     }
     let end = start_of(ends, std::num::wrapping_add_usize(place, 1));
     let words = between(log, start_of(ends, place), end);
-    kept(onto, run, came, pdu, words, block, counts)
+    kept(host, onto, run, came, pdu, words, block, counts)
 }
 
 // All records of a frame, of which a call took so many, until one cannot be written.
 fn each(
+    host: &Host,
     onto: Onto,
     start: Run,
     taken: usize,
@@ -196,6 +200,7 @@ fn each(
     while i < lengths.len() {
         let end = at + least(lengths[i], frame.len() - at);
         run = one(
+            host,
             onto,
             run,
             taken,
@@ -216,6 +221,7 @@ fn each(
 
 // Receives a frame, and writes what came of it.
 fn received(
+    host: &Host,
     onto: Onto,
     run: Run,
     carry: &mut [u8],
@@ -240,7 +246,7 @@ fn received(
     let next = b.receiver;
     let start = logging::run_of(records::WHOLE, next, run.pdus);
     each(
-        onto, start, b.taken, carry, came, frame, lengths, ends, log, block, counts,
+        host, onto, start, b.taken, carry, came, frame, lengths, ends, log, block, counts,
     )
 }
 
@@ -266,6 +272,7 @@ fn after(live: Live, run: Run, f: Frame) -> Live {
 
 // Reads a frame and receives it; stops where a record cannot be read. Nothing of the file is read ahead.
 fn turn(
+    host: &Host,
     task: Task,
     carry: &mut [u8],
     came: &mut [u8],
@@ -278,12 +285,13 @@ fn turn(
     live: Live,
 ) -> Live {
     let rest = live.ahead;
-    let f = read(rest.fd, frame, lengths);
+    let f = read(host, rest.fd, frame, lengths);
     let n = f.bytes;
     let k = f.count;
     let onto = task.onto;
     let run = live.run;
     let next = received(
+        host,
         onto,
         run,
         carry,
@@ -300,6 +308,7 @@ fn turn(
 
 // All turns, counted down as in a run without batches.
 fn all_turns(
+    host: &Host,
     task: Task,
     path: &[u8],
     carry: &mut [u8],
@@ -313,17 +322,17 @@ fn all_turns(
     start: Live,
 ) -> Live {
     let mut live = start;
-    let mut shown = files::second();
+    let mut shown = files::second(host);
     let mut turns = u64::MAX;
     while 0 < turns {
         let next = turn(
-            task, carry, came, frame, lengths, ends, log, block, counts, live,
+            host, task, carry, came, frame, lengths, ends, log, block, counts, live,
         );
-        live = ahead_logging::saved(task, path, carry, live, next);
+        live = ahead_logging::saved(host, task, path, carry, live, next);
         if !ahead_logging::is_going(live) {
             return live;
         }
-        shown = ahead_logging::progress(live, shown);
+        shown = ahead_logging::progress(host, live, shown);
         turns -= 1;
     }
     live
@@ -345,6 +354,7 @@ fn words() -> [u32; 50000]
 // Logs all PDUs by frames of so many records, and saves how the run stands in the file of a path after each, if there is one. What stopped it before the end, its
 // status says, and errno with that.
 fn log_frames(
+    host: &Host,
     task: Task,
     path: &[u8],
     many: usize,
@@ -359,10 +369,11 @@ fn log_frames(
     let mut ends = [0usize; 64];
     let mut log = words();
     let mut block = io::large_buffer();
-    if !logging::begin(task, &mut block) {
+    if !logging::begin(host, task, &mut block) {
         return ahead_logging::unwritten(start);
     }
     let last = all_turns(
+        host,
         task,
         path,
         carry,
@@ -375,12 +386,13 @@ fn log_frames(
         counts,
         start,
     );
-    ahead_logging::ended(task, &mut block, last)
+    ahead_logging::ended(host, task, &mut block, last)
 }
 
 // Logs all PDUs: each by a call of its own where no frames are asked for, as `ahead_logging::log_all` does; else by frames of so many records, at most 64, of a
 // file of which nothing is read ahead.
 pub fn log_all(
+    host: &Host,
     task: Task,
     resync: bool,
     many: usize,
@@ -392,7 +404,7 @@ pub fn log_all(
     start: Live,
 ) -> Live {
     if many == 0 {
-        return ahead_logging::log_all(task, resync, path, from, carry, buf, counts, start);
+        return ahead_logging::log_all(host, task, resync, path, from, carry, buf, counts, start);
     }
-    log_frames(task, path, many, carry, counts, start)
+    log_frames(host, task, path, many, carry, counts, start)
 }

@@ -8,6 +8,7 @@ mod two;
 ghost use Rattle.std.specs.Prelude.{◌≡◌, length};
 
 use beside_files::Opened;
+use host::Host;
 use job::Job;
 use logging::output::Sink;
 use logging::{Onto, Run};
@@ -26,81 +27,81 @@ fn no_counts() -> [u64; 163904]
 }
 
 // The exit status of a run that came to a status; where not all is done, the last line says so, and where packets were never sent, it is said already.
-fn exit_status(status: i32) -> i32 {
+fn exit_status(host: &Host, status: i32) -> i32 {
     if status == NEVER_SENT {
         return files::EARLY;
     }
-    files::status(LOG, status == files::DONE)
+    files::status(host, LOG, status == files::DONE)
 }
 
 // The program: answers its exit status. What went wrong is said.
-pub fn program() -> i32 {
-    if options::given(LOG, options::HELP) {
-        return files::status(LOG, remarks::help());
+pub fn program(host: &Host) -> i32 {
+    if options::given(host, LOG, options::HELP) {
+        return files::status(host, LOG, remarks::help(host));
     }
-    if !job::check() {
+    if !job::check(host) {
         return files::WRONG;
     }
-    if options::given(LOG, options::SUMMARY) {
-        return summarized();
+    if options::given(host, LOG, options::SUMMARY) {
+        return summarized(host);
     }
-    let job = job::asked();
+    let job = job::asked(host);
     if !job.ok {
         return files::WRONG;
     }
-    exit_status(with_job(job))
+    exit_status(host, with_job(host, job))
 }
 
 // Sums up a log that is there. Answers the exit status.
-fn summarized() -> i32 {
-    if !job::is_alone() {
+fn summarized(host: &Host) -> i32 {
+    if !job::is_alone(host) {
         return files::WRONG;
     }
     let mut label = files::label_buffer();
-    let log = files::opened(LOG, options::SUMMARY, &mut label);
+    let log = files::opened(host, LOG, options::SUMMARY, &mut label);
     if log.fd < 0 {
-        return exit_status(files::EARLY);
+        return exit_status(host, files::EARLY);
     }
     let n = log.length;
-    files::status(LOG, summary::of_file(log.fd, &label[..n]))
+    files::status(host, LOG, summary::of_file(host, log.fd, &label[..n]))
 }
 
 // Makes the log. Answers how it ended: DONE, EARLY or NEVER_SENT.
-fn with_job(job: Job) -> i32 {
+fn with_job(host: &Host, job: Job) -> i32 {
     if job.auto {
-        return live::with_job(job);
+        return live::with_job(host, job);
     }
     let mut carry = io::buffer();
-    let start = interruption::begin(job.mode, job.stream, job.register, &mut carry);
+    let start = interruption::begin(host, job.mode, job.stream, job.register, &mut carry);
     if !start.ok {
         return files::EARLY;
     }
     let state = start.state;
-    with_state(job, state, &mut carry)
+    with_state(host, job, state, &mut carry)
 }
 
 // Opens the file of PDUs, and a second one where it is given.
-fn with_state(job: Job, state: State, carry: &mut [u8]) -> i32 {
+fn with_state(host: &Host, job: Job, state: State, carry: &mut [u8]) -> i32 {
     let mut label = files::label_buffer();
-    let pdus = files::opened(LOG, options::IN, &mut label);
+    let pdus = files::opened(host, LOG, options::IN, &mut label);
     if pdus.fd < 0 {
         return files::EARLY;
     }
     let n = pdus.length;
-    if options::given(LOG, options::SECOND) {
+    if options::given(host, LOG, options::SECOND) {
         let receiver = state.receiver;
-        return two::with_first(job, receiver, &label[..n], pdus.fd);
+        return two::with_first(host, job, receiver, &label[..n], pdus.fd);
     }
-    live::with_state(job, state, carry, &label[..n], pdus.fd)
+    live::with_state(host, job, state, carry, &label[..n], pdus.fd)
 }
 
 // Makes the file of the log and those beside it.
-fn made() -> Opened {
+fn made(host: &Host) -> Opened {
     let mut onto = files::label_buffer();
-    let n = files::put_label(&mut onto, LOG, options::OUT);
+    let n = files::put_label(host, &mut onto, LOG, options::OUT);
     let mut labels = beside_files::label_buffer();
-    let k = beside_files::put_labels(&mut labels);
-    beside_files::open(&onto[..n], &labels[..k])
+    let k = beside_files::put_labels(host, &mut labels);
+    beside_files::open(host, &onto[..n], &labels[..k])
 }
 
 // Where a job's log goes, with these files.
@@ -116,39 +117,47 @@ fn onto_of(job: Job, o: Opened) -> Onto {
 }
 
 // Closes the files, and says what was received after so many PDUs.
-fn finish(run: Run, before: u64, o: Onto, onto: &[u8], labels: &[u8], counts: &[u64]) -> i32 {
+fn finish(
+    host: &Host,
+    run: Run,
+    before: u64,
+    o: Onto,
+    onto: &[u8],
+    labels: &[u8],
+    counts: &[u64],
+) -> i32 {
     let sink = o.sink;
-    let closed = files::close(sink.fd, onto);
-    remarks::summary(std::num::wrapping_sub_u64(run.pdus, before), counts);
+    let closed = files::close(host, sink.fd, onto);
+    remarks::summary(host, std::num::wrapping_sub_u64(run.pdus, before), counts);
     let b = o.beside;
     let whole = run.status == records::END;
-    let written = beside_files::finish(b, whole, counts, labels);
+    let written = beside_files::finish(host, b, whole, counts, labels);
     let receiver = run.receiver;
-    ask(receiver, counts);
-    how_ended(whole & closed & written, counts)
+    ask(host, receiver, counts);
+    how_ended(host, whole & closed & written, counts)
 }
 
 // How a run ended that did all or not, by its counts. Packets that were never sent are said once more.
-fn how_ended(done: bool, counts: &[u64]) -> i32 {
+fn how_ended(host: &Host, done: bool, counts: &[u64]) -> i32 {
     if !done {
         return files::EARLY;
     }
     if comparison::never_sent(counts) == 0 {
         return files::DONE;
     }
-    remarks::never_sent();
+    remarks::never_sent(host);
     NEVER_SENT
 }
 
 // Asks whether mode, stream and register are the file's, where what was received speaks against it.
-fn ask(receiver: Receiver, counts: &[u64]) {
+fn ask(host: &Host, receiver: Receiver, counts: &[u64]) {
     if counts::is_none_received(counts) {
-        remarks::none_received(receiver.mode, receiver.stream);
+        remarks::none_received(host, receiver.mode, receiver.stream);
     }
     if counts::is_every_crc_wrong(counts) {
-        remarks::crcs_wrong(b"all", receiver.register);
+        remarks::crcs_wrong(host, b"all", receiver.register);
     }
     if counts::is_nearly_every_crc_wrong(counts) {
-        remarks::crcs_wrong(b"nearly all", receiver.register);
+        remarks::crcs_wrong(host, b"nearly all", receiver.register);
     }
 }

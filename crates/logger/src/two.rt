@@ -1,4 +1,5 @@
 // The log of a drive that two receivers recorded (document 02, Ask 5).
+use host::Host;
 use job::Job;
 use logging::Onto;
 use options::LOG;
@@ -6,18 +7,19 @@ use receiver::Receiver;
 use recordings::{Run, Task};
 
 // Opens the second file, after the first with its label.
-pub fn with_first(job: Job, receiver: Receiver, from: &[u8], first: i32) -> i32 {
+pub fn with_first(host: &Host, job: Job, receiver: Receiver, from: &[u8], first: i32) -> i32 {
     let mut label = files::label_buffer();
-    let other = files::opened(LOG, options::SECOND, &mut label);
+    let other = files::opened(host, LOG, options::SECOND, &mut label);
     if other.fd < 0 {
         return files::EARLY;
     }
     let n = other.length;
-    with_both(job, receiver, from, first, &label[..n], other.fd)
+    with_both(host, job, receiver, from, first, &label[..n], other.fd)
 }
 
 // Makes the file of the log and those beside it, and logs.
 fn with_both(
+    host: &Host,
     job: Job,
     receiver: Receiver,
     from: &[u8],
@@ -25,7 +27,7 @@ fn with_both(
     other: &[u8],
     second: i32,
 ) -> i32 {
-    let o = crate::made();
+    let o = crate::made(host);
     if !o.ok {
         return files::EARLY;
     }
@@ -34,20 +36,21 @@ fn with_both(
         second: second,
         onto: crate::onto_of(job, o),
     };
-    with_task(task, receiver, from, other)
+    with_task(host, task, receiver, from, other)
 }
 
 // Puts the labels of the files that are written, before anything goes wrong: errno is that of what does.
-fn with_task(task: Task, receiver: Receiver, from: &[u8], other: &[u8]) -> i32 {
+fn with_task(host: &Host, task: Task, receiver: Receiver, from: &[u8], other: &[u8]) -> i32 {
     let mut onto = files::label_buffer();
-    let n = files::put_label(&mut onto, LOG, options::OUT);
+    let n = files::put_label(host, &mut onto, LOG, options::OUT);
     let mut labels = beside_files::label_buffer();
-    let k = beside_files::put_labels(&mut labels);
-    logged(task, receiver, from, other, &onto[..n], &labels[..k])
+    let k = beside_files::put_labels(host, &mut labels);
+    logged(host, task, receiver, from, other, &onto[..n], &labels[..k])
 }
 
 // Logs, and says why it ended and what was received.
 fn logged(
+    host: &Host,
     task: Task,
     receiver: Receiver,
     from: &[u8],
@@ -59,40 +62,56 @@ fn logged(
     let o = task.onto;
     let beside = o.beside;
     comparison::begin(&mut rows, beside.many);
-    let run = recordings::log_all(task, receiver, &mut rows);
-    ends(run, from, other, onto, labels, &rows);
-    finish(run, o, receiver, onto, labels, &rows)
+    let run = recordings::log_all(host, task, receiver, &mut rows);
+    ends(host, run, from, other, onto, labels, &rows);
+    finish(host, run, o, receiver, onto, labels, &rows)
 }
 
 // Closes the files, and says what was received.
-fn finish(run: Run, o: Onto, receiver: Receiver, onto: &[u8], labels: &[u8], rows: &[u64]) -> i32 {
+fn finish(
+    host: &Host,
+    run: Run,
+    o: Onto,
+    receiver: Receiver,
+    onto: &[u8],
+    labels: &[u8],
+    rows: &[u64],
+) -> i32 {
     let sink = o.sink;
-    let closed = files::close(sink.fd, onto);
-    remarks::summary(run.pdus, rows);
-    remarks::copies(rows);
+    let closed = files::close(host, sink.fd, onto);
+    remarks::summary(host, run.pdus, rows);
+    remarks::copies(host, rows);
     let b = o.beside;
     let whole = run.status == records::END;
-    let written = beside_files::finish(b, whole, rows, labels);
-    ask(receiver, rows);
-    crate::how_ended(whole & closed & written, rows)
+    let written = beside_files::finish(host, b, whole, rows, labels);
+    ask(host, receiver, rows);
+    crate::how_ended(host, whole & closed & written, rows)
 }
 
 // Why no more PDUs are logged, and what is wrong with either file.
-fn ends(run: Run, from: &[u8], other: &[u8], onto: &[u8], labels: &[u8], rows: &[u64]) {
-    beside_files::ends(run.status, labels);
+fn ends(
+    host: &Host,
+    run: Run,
+    from: &[u8],
+    other: &[u8],
+    onto: &[u8],
+    labels: &[u8],
+    rows: &[u64],
+) {
+    beside_files::ends(host, run.status, labels);
     if run.status == logging::UNWRITTEN {
-        os::fail(onto);
+        host.fail(onto);
     }
     let one = counts::at(rows, apart::FIRST_RECORDS);
     let two = counts::at(rows, apart::SECOND_RECORDS);
-    remarks::side_ends(run.first, from, one, run.pdus, run.first_at);
-    remarks::side_ends(run.second, other, two, run.pdus, run.second_at);
+    remarks::side_ends(host, run.first, from, one, run.pdus, run.first_at);
+    remarks::side_ends(host, run.second, other, two, run.pdus, run.second_at);
 }
 
 // What is asked of one file, and whether both have a record for each PDU, where the pairs speak against it.
-fn ask(receiver: Receiver, counts: &[u64]) {
-    crate::ask(receiver, counts);
+fn ask(host: &Host, receiver: Receiver, counts: &[u64]) {
+    crate::ask(host, receiver, counts);
     if counts::is_out_of_step(counts) {
-        remarks::out_of_step();
+        remarks::out_of_step(host);
     }
 }

@@ -1,6 +1,7 @@
 // The file of marks: for each PDU a record, whose bytes are the places of those header bytes that are marked doubtful (document 02, Ask 3).
 ghost use Rattle.io.specs.Counts.{IsPrefixLen};
 
+use host::Host;
 use records::Record;
 
 // In place of a file of marks where there is none.
@@ -26,7 +27,7 @@ fn status_of(status: u8) -> u8 {
 }
 
 // Reads the marks of the next PDU to the buffer's start; where there is no file of marks, it has none.
-pub fn next(fd: i32, buf: &mut [u8]) -> Record
+pub fn next(host: &Host, fd: i32, buf: &mut [u8]) -> Record
     ensures { IsPrefixLen result.length buf.new }
 {
     if fd < 0 {
@@ -35,7 +36,7 @@ pub fn next(fd: i32, buf: &mut [u8]) -> Record
             length: 0,
         };
     }
-    let r = records::read(fd, buf);
+    let r = records::read(host, fd, buf);
     Record {
         status: status_of(r.status),
         length: r.length,
@@ -52,13 +53,13 @@ fn last_status(status: u8) -> u8 {
 }
 
 // How a run stands after a record that is no PDU: where all PDUs are read, no marks may be left.
-pub fn last(fd: i32, buf: &mut [u8], status: u8) -> u8 {
+pub fn last(host: &Host, fd: i32, buf: &mut [u8], status: u8) -> u8 {
     if status != records::END {
         return status;
     }
     if fd < 0 {
         return status;
     }
-    let r = records::read(fd, buf);
+    let r = records::read(host, fd, buf);
     last_status(r.status)
 }

@@ -1,24 +1,25 @@
 // The file of the packet log. What comes of a PDU is made in a block, which is written before the next PDU is read.
 ghost use Rattle.io.specs.Counts.{IsPrefixLen};
 
+use host::Host;
 use outcome::Outcome;
 
 // Where the log goes, and in which format.
-#[derive(Drop)]
+#[derive(Clone, Copy)]
 pub struct Sink {
     pub fd: i32,
     pub format: u8,
 }
 
 // Whether all that was to be written is written, and how many bytes stand in the block.
-#[derive(Drop)]
+#[derive(Clone, Copy)]
 struct Kept {
     pub ok: bool,
     pub at: usize,
 }
 
 // Writes what stands in the block if it has no room for another entry, so that no line is cut.
-fn with_room(fd: i32, block: &[u8], at: usize) -> Kept
+fn with_room(host: &Host, fd: i32, block: &[u8], at: usize) -> Kept
     requires { IsPrefixLen at block.now }
     ensures { IsPrefixLen result.at block.now }
 {
@@ -26,23 +27,23 @@ fn with_room(fd: i32, block: &[u8], at: usize) -> Kept
         return Kept { ok: true, at: at };
     }
     Kept {
-        ok: io::write_all(fd, &block[..at]),
+        ok: host.write_all(fd, &block[..at]),
         at: 0,
     }
 }
 
 // Puts a word of a PDU's log.
-fn put_word(fd: i32, word: u32, block: &mut [u8], at: usize) -> Kept
+fn put_word(host: &Host, fd: i32, word: u32, block: &mut [u8], at: usize) -> Kept
     requires { IsPrefixLen at block.old }
     ensures { IsPrefixLen result.at block.new }
 {
-    let room = with_room(fd, block, at);
+    let room = with_room(host, fd, block, at);
     let n = formats::put_word(block, room.at, word);
     Kept { ok: room.ok, at: n }
 }
 
 // Puts the words of a PDU's log, until a write fails.
-fn put_words(fd: i32, log: &[u32], block: &mut [u8], start: usize) -> Kept
+fn put_words(host: &Host, fd: i32, log: &[u32], block: &mut [u8], start: usize) -> Kept
     requires { IsPrefixLen start block.old }
     ensures { IsPrefixLen result.at block.new }
 {
@@ -50,7 +51,7 @@ fn put_words(fd: i32, log: &[u32], block: &mut [u8], start: usize) -> Kept
     let mut at = start;
     let mut i: usize = 0;
     while i < log.len() {
-        let kept = put_word(fd, log[i], block, at);
+        let kept = put_word(host, fd, log[i], block, at);
         at = kept.at;
         ok = kept.ok;
         if !ok {
@@ -62,17 +63,24 @@ fn put_words(fd: i32, log: &[u32], block: &mut [u8], start: usize) -> Kept
 }
 
 // Puts an entry of a PDU's log, its first word with its data words.
-fn put_entry(sink: Sink, pdu: u64, entry: &[u32], block: &mut [u8], at: usize) -> Kept
+fn put_entry(host: &Host, sink: Sink, pdu: u64, entry: &[u32], block: &mut [u8], at: usize) -> Kept
     requires { IsPrefixLen at block.old }
     ensures { IsPrefixLen result.at block.new }
 {
-    let room = with_room(sink.fd, block, at);
+    let room = with_room(host, sink.fd, block, at);
     let n = formats::put_entry(block, room.at, sink.format, pdu, entry);
     Kept { ok: room.ok, at: n }
 }
 
 // Puts the entries of a PDU's log, until a write fails.
-fn put_entries(sink: Sink, pdu: u64, log: &[u32], block: &mut [u8], start: usize) -> Kept
+fn put_entries(
+    host: &Host,
+    sink: Sink,
+    pdu: u64,
+    log: &[u32],
+    block: &mut [u8],
+    start: usize,
+) -> Kept
     requires { IsPrefixLen start block.old }
     ensures { IsPrefixLen result.at block.new }
 {
@@ -81,7 +89,7 @@ fn put_entries(sink: Sink, pdu: u64, log: &[u32], block: &mut [u8], start: usize
     let mut i: usize = 0;
     while i < log.len() {
         let end = words::entry_end(log, i);
-        let kept = put_entry(sink, pdu, &log[i..end], block, at);
+        let kept = put_entry(host, sink, pdu, &log[i..end], block, at);
         at = kept.at;
         ok = kept.ok;
         if !ok {
@@ -93,35 +101,35 @@ fn put_entries(sink: Sink, pdu: u64, log: &[u32], block: &mut [u8], start: usize
 }
 
 // Puts a PDU's log in the format that is asked for, until a write fails.
-fn put_log(sink: Sink, pdu: u64, log: &[u32], block: &mut [u8], start: usize) -> Kept
+fn put_log(host: &Host, sink: Sink, pdu: u64, log: &[u32], block: &mut [u8], start: usize) -> Kept
     requires { IsPrefixLen start block.old }
     ensures { IsPrefixLen result.at block.new }
 {
     if formats::has_words(sink.format) {
-        return put_words(sink.fd, log, block, start);
+        return put_words(host, sink.fd, log, block, start);
     }
-    put_entries(sink, pdu, log, block, start)
+    put_entries(host, sink, pdu, log, block, start)
 }
 
 // Writes what stands before all PDUs. Answers whether it is written.
-pub fn begin(sink: Sink, block: &mut [u8]) -> bool {
+pub fn begin(host: &Host, sink: Sink, block: &mut [u8]) -> bool {
     let n = formats::put_title(block, sink.format);
-    io::write_all(sink.fd, &block[..n])
+    host.write_all(sink.fd, &block[..n])
 }
 
 // Writes what stands after all PDUs, of which there were so many. Answers whether it is written.
-pub fn end(sink: Sink, pdus: u64, block: &mut [u8]) -> bool {
+pub fn end(host: &Host, sink: Sink, pdus: u64, block: &mut [u8]) -> bool {
     let n = formats::put_end(block, sink.format, pdus);
-    io::write_all(sink.fd, &block[..n])
+    host.write_all(sink.fd, &block[..n])
 }
 
 // Writes what came of a PDU, counted from 0, with its log. Answers whether it is written.
-pub fn keep(sink: Sink, pdu: u64, o: Outcome, log: &[u32], block: &mut [u8]) -> bool {
+pub fn keep(host: &Host, sink: Sink, pdu: u64, o: Outcome, log: &[u32], block: &mut [u8]) -> bool {
     let n = formats::put_pdu(block, sink.format, pdu, o);
-    let kept = put_log(sink, pdu, log, block, n);
+    let kept = put_log(host, sink, pdu, log, block, n);
     if !kept.ok {
         return false;
     }
     let end = kept.at;
-    io::write_all(sink.fd, &block[..end])
+    host.write_all(sink.fd, &block[..end])
 }

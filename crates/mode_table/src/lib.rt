@@ -1,9 +1,12 @@
 // The mode table (document 01, "Modes") as text, for the help of subcommands; on `files` alone.
+
 #![tactic(auto)]
 
+use host::Host;
 // Prints the table on standard output. Answers whether all is printed; if not, says why.
-pub fn print(command: u8) -> bool {
+pub fn print(host: &Host, command: u8) -> bool {
     files::print_usage(
+        host,
         command,
         b"
 Modes, with the streams that each has:

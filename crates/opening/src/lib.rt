@@ -5,6 +5,7 @@
 
 ghost use Rattle.io.specs.Counts.{IsPrefixLen};
 
+use host::Host;
 use options::LOG;
 use receiver::Opened;
 
@@ -55,16 +56,17 @@ fn is_list(text: &[u8]) -> bool {
 }
 
 // Whether the option, if it is given, has a list or `none`; if not, says so.
-pub fn is_asked() -> bool {
-    if !options::given(LOG, options::ENTITLED) {
+pub fn is_asked(host: &Host) -> bool {
+    if !options::given(host, LOG, options::ENTITLED) {
         return true;
     }
     let mut value = io::buffer();
-    let n = options::value(LOG, options::ENTITLED, &mut value);
+    let n = options::value(host, LOG, options::ENTITLED, &mut value);
     if is_list(&value[..n]) {
         return true;
     }
     options::complain_of(
+        host,
         LOG,
         options::ENTITLED,
         b": not none, nor numbers with commas between them: ",
@@ -81,11 +83,11 @@ fn for_programs(mode: u8, stream: u8, register: u8, text: &[u8]) -> Opened {
 }
 
 // Opens a receiver for the programs that the option names, or for all; or refuses with 5, or 22.
-pub fn open(mode: u8, stream: u8, register: u8) -> Opened {
-    if !options::given(LOG, options::ENTITLED) {
+pub fn open(host: &Host, mode: u8, stream: u8, register: u8) -> Opened {
+    if !options::given(host, LOG, options::ENTITLED) {
         return receiver::open(mode, stream, register);
     }
     let mut value = io::buffer();
-    let n = options::value(LOG, options::ENTITLED, &mut value);
+    let n = options::value(host, LOG, options::ENTITLED, &mut value);
     for_programs(mode, stream, register, &value[..n])
 }

@@ -1,4 +1,4 @@
-// The command line of `barzhilup`, on `text` and the toolchain's `os`, `bytes` and `check`: its subcommands, and the options of each, `--name value` or
+// The command line of `barzhilup`, on `text`, `host` and the toolchain's `check`: its subcommands, and the options of each, `--name value` or
 // `--name=value`, and flags, `--name`; `-h` is `--help`. An option may be given once.
 //
 // A value has at most 4,096 bytes. What is wrong is said in a line on standard error that begins with the words of the subcommand.
@@ -7,6 +7,7 @@
 ghost use Rattle.std.specs.Prelude.{◌≡◌, ◌≤◌, ◌<◌, length};
 ghost use Rattle.io.specs.Counts.{IsPrefixLen};
 
+use host::Host;
 use text::Number;
 
 // The subcommands; 0 is the program by itself.
@@ -361,44 +362,44 @@ fn put_option(out: &mut [u8], command: u8, option: u8) -> usize
 }
 
 // A line on standard error: the words of a subcommand, and others.
-pub fn say(command: u8, words: &[u8]) {
+pub fn say(host: &Host, command: u8, words: &[u8]) {
     let mut line = [0u8; 512];
     let n = put_program(&mut line, command);
     let k = text::put(&mut line, n, words);
-    io::write_all(libc::STDERR_FILENO, &line[..k]);
+    host.write_all(host::STDERR, &line[..k]);
 }
 
 // A line on standard error: the words of a subcommand, and a template with its numbers.
-pub fn say_numbers(command: u8, template: &[u8], numbers: &[u64]) {
+pub fn say_numbers(host: &Host, command: u8, template: &[u8], numbers: &[u64]) {
     let mut line = [0u8; 512];
     let n = put_program(&mut line, command);
     let k = text::fill(&mut line, n, template, numbers);
-    io::write_all(libc::STDERR_FILENO, &line[..k]);
+    host.write_all(host::STDERR, &line[..k]);
 }
 
 // A line on standard error: the words of a subcommand, others, and an argument.
-pub fn say_argument(command: u8, words: &[u8], argument: &[u8]) {
+pub fn say_argument(host: &Host, command: u8, words: &[u8], argument: &[u8]) {
     let mut line = [0u8; 4800];
     let mut n = put_program(&mut line, command);
     n = text::put(&mut line, n, words);
     n = text::put(&mut line, n, argument);
     n = text::put(&mut line, n, b"\n");
-    io::write_all(libc::STDERR_FILENO, &line[..n]);
+    host.write_all(host::STDERR, &line[..n]);
 }
 
 // Says what is wrong with an option.
-pub fn complain(command: u8, option: u8, words: &[u8]) {
-    complain_of(command, option, words, b"");
+pub fn complain(host: &Host, command: u8, option: u8, words: &[u8]) {
+    complain_of(host, command, option, words, b"");
 }
 
 // Says what is wrong with the value of an option.
-pub fn complain_of(command: u8, option: u8, words: &[u8], value: &[u8]) {
+pub fn complain_of(host: &Host, command: u8, option: u8, words: &[u8], value: &[u8]) {
     let mut line = [0u8; 4800];
     let mut n = put_option(&mut line, command, option);
     n = text::put(&mut line, n, words);
     n = text::put(&mut line, n, value);
     n = text::put(&mut line, n, b"\n");
-    io::write_all(libc::STDERR_FILENO, &line[..n]);
+    host.write_all(host::STDERR, &line[..n]);
 }
 
 // Room for an option and its value in one argument.
@@ -409,11 +410,11 @@ fn argument() -> [u8; 4160]
 }
 
 // The first bytes of an argument into the buffer, all of it where it fits. Answers how many.
-fn head(i: usize, buf: &mut [u8]) -> usize
+fn head(host: &Host, i: usize, buf: &mut [u8]) -> usize
     ensures { IsPrefixLen result buf.new }
 {
-    let n = os::arg(i, buf);
-    if os::errno() == libc::ENAMETOOLONG {
+    let n = host.arg(i, buf);
+    if host.errno() == host::ENAMETOOLONG {
         return buf.len();
     }
     n
@@ -444,14 +445,14 @@ fn name_of(arg: &[u8]) -> &[u8] {
     if (arg[0] != b'-') | (arg[1] != b'-') {
         return &arg[0..0];
     }
-    let end = bytes::scan::find(arg, 2, arg.len(), b'=');
+    let end = text::find(arg, 2, arg.len(), b'=');
     &arg[2..end]
 }
 
 // The option at an argument, UNKNOWN where it is none that the subcommand knows. A name has fewer than 60 bytes.
-fn option_at(command: u8, i: usize) -> u8 {
+fn option_at(host: &Host, command: u8, i: usize) -> u8 {
     let mut arg = [0u8; 64];
-    let n = head(i, &mut arg);
+    let n = head(host, i, &mut arg);
     if check::same(&arg[..n], b"-h") {
         return HELP;
     }
@@ -459,18 +460,18 @@ fn option_at(command: u8, i: usize) -> u8 {
 }
 
 // Whether an argument has an equals sign, and so its option's value.
-fn has_value(i: usize) -> bool {
+fn has_value(host: &Host, i: usize) -> bool {
     let mut arg = [0u8; 64];
-    let n = head(i, &mut arg);
-    bytes::scan::find(&arg[..n], 0, n, b'=') < n
+    let n = head(host, i, &mut arg);
+    text::find(&arg[..n], 0, n, b'=') < n
 }
 
 // The argument after an option, which stands at one, and its value, at most the count of all.
-fn next(option: u8, i: usize, count: usize) -> usize
+fn next(host: &Host, option: u8, i: usize, count: usize) -> usize
     requires { i < count }
     ensures { (i < result) × (result ≤ count) }
 {
-    if (option == UNKNOWN) | !is_valued(option) | has_value(i) {
+    if (option == UNKNOWN) | !is_valued(option) | has_value(host, i) {
         return i + 1;
     }
     if count - i < 2 {
@@ -480,30 +481,30 @@ fn next(option: u8, i: usize, count: usize) -> usize
 }
 
 // The first argument that is an option, 0 if there is none.
-fn find(command: u8, option: u8) -> usize
+fn find(host: &Host, command: u8, option: u8) -> usize
     ensures { result < 18446744073709551615 }
 {
-    let count = os::arg_count();
+    let count = host.arg_count();
     let mut i: usize = FIRST;
     while i < count {
-        let own = option_at(command, i);
+        let own = option_at(host, command, i);
         if own == option {
             return i;
         }
-        i = next(own, i, count);
+        i = next(host, own, i, count);
     }
     0
 }
 
 // Whether an option is given. A flag that has a value is not: that is wrong usage.
-pub fn given(command: u8, option: u8) -> bool {
-    let at = find(command, option);
-    (at != 0) & (is_valued(option) | !has_value(at))
+pub fn given(host: &Host, command: u8, option: u8) -> bool {
+    let at = find(host, command, option);
+    (at != 0) & (is_valued(option) | !has_value(host, at))
 }
 
 // An argument's bytes after its first equals sign; nothing where it has none.
 fn value_of(arg: &[u8]) -> &[u8] {
-    let end = bytes::scan::find(arg, 0, arg.len(), b'=');
+    let end = text::find(arg, 0, arg.len(), b'=');
     if end == arg.len() {
         return &arg[0..0];
     }
@@ -511,11 +512,11 @@ fn value_of(arg: &[u8]) -> &[u8] {
 }
 
 // The value that stands in an argument after its equals sign into the buffer. Answers its length, 0 where it does not fit.
-fn put_own_value(i: usize, buf: &mut [u8]) -> usize
+fn put_own_value(host: &Host, i: usize, buf: &mut [u8]) -> usize
     ensures { IsPrefixLen result buf.new }
 {
     let mut arg = argument();
-    let n = head(i, &mut arg);
+    let n = head(host, i, &mut arg);
     let value = value_of(&arg[..n]);
     if buf.len() < value.len() {
         return 0;
@@ -524,17 +525,17 @@ fn put_own_value(i: usize, buf: &mut [u8]) -> usize
 }
 
 // The value of an option into the buffer. Answers its length, 0 where the option is not given or its value does not fit.
-pub fn value(command: u8, option: u8, buf: &mut [u8]) -> usize
+pub fn value(host: &Host, command: u8, option: u8, buf: &mut [u8]) -> usize
     ensures { IsPrefixLen result buf.new }
 {
-    let at = find(command, option);
+    let at = find(host, command, option);
     if at == 0 {
         return 0;
     }
-    if has_value(at) {
-        return put_own_value(at, buf);
+    if has_value(host, at) {
+        return put_own_value(host, at, buf);
     }
-    os::arg(at + 1, buf)
+    host.arg(at + 1, buf)
 }
 
 // What is wrong with a value of so many bytes.
@@ -549,62 +550,63 @@ fn length_wrong(option: u8, length: usize) -> u32 {
 }
 
 // What is wrong with the value that stands in an argument.
-fn own_value_wrong(option: u8, i: usize) -> u32 {
+fn own_value_wrong(host: &Host, option: u8, i: usize) -> u32 {
     let mut arg = argument();
-    let n = head(i, &mut arg);
+    let n = head(host, i, &mut arg);
     length_wrong(option, value_of(&arg[..n]).len())
 }
 
 // What is wrong with the value that is the argument after an option.
-fn value_wrong(option: u8, i: usize) -> u32
+fn value_wrong(host: &Host, option: u8, i: usize) -> u32
     requires { i < 18446744073709551615 }
 {
     let mut value = io::buffer();
-    let n = os::arg(i + 1, &mut value);
-    match os::errno() {
+    let n = host.arg(i + 1, &mut value);
+    match host.errno() {
         0 => length_wrong(option, n),
-        libc::EINVAL => MISSING,
+        host::EINVAL => MISSING,
         _ => TOO_LONG,
     }
 }
 
 // What is wrong with the option at an argument.
-fn wrong_at(command: u8, option: u8, i: usize) -> u32
+fn wrong_at(host: &Host, command: u8, option: u8, i: usize) -> u32
     requires { i < 18446744073709551615 }
 {
     if option == UNKNOWN {
         return STRANGE;
     }
-    if find(command, option) < i {
+    if find(host, command, option) < i {
         return TWICE_GIVEN;
     }
-    if !has_value(i) {
+    if !has_value(host, i) {
         if is_valued(option) {
-            return value_wrong(option, i);
+            return value_wrong(host, option, i);
         }
         return RIGHT;
     }
     if is_valued(option) {
-        return own_value_wrong(option, i);
+        return own_value_wrong(host, option, i);
     }
     NO_VALUE
 }
 
 // Whether the option at an argument is right; if not, says what is wrong.
-fn is_right(command: u8, option: u8, i: usize) -> bool
+fn is_right(host: &Host, command: u8, option: u8, i: usize) -> bool
     requires { i < 18446744073709551615 }
 {
-    let wrong = wrong_at(command, option, i);
+    let wrong = wrong_at(host, command, option, i);
     if wrong == RIGHT {
         return true;
     }
     if wrong == STRANGE {
         let mut arg = io::buffer();
-        let n = head(i, &mut arg);
-        say_argument(command, b": unknown option ", &arg[..n]);
+        let n = head(host, i, &mut arg);
+        say_argument(host, command, b": unknown option ", &arg[..n]);
         return false;
     }
     complain(
+        host,
         command,
         option,
         text::entry(
@@ -617,20 +619,20 @@ fn is_right(command: u8, option: u8, i: usize) -> bool
 
 // Whether every argument is an option that the subcommand knows, given once, with a value of at most 4,096 bytes where it takes one, or such a value; one that
 // names a file, `in`, `out`, `second`, `psd`, `marks`, `svg` or `enhanced`, is not empty. Says what is wrong with each that is not.
-pub fn check(command: u8) -> bool {
-    let count = os::arg_count();
+pub fn check(host: &Host, command: u8) -> bool {
+    let count = host.arg_count();
     let mut right = true;
     let mut i: usize = FIRST;
     while i < count {
-        let option = option_at(command, i);
-        right = is_right(command, option, i) & right;
-        i = next(option, i, count);
+        let option = option_at(host, command, i);
+        right = is_right(host, command, option, i) & right;
+        i = next(host, option, i, count);
     }
     right
 }
 
 // The number that a value is; where it is none, or not in its range, says so.
-fn in_range(command: u8, option: u8, value: &[u8], low: u32, high: u32) -> Number
+fn in_range(host: &Host, command: u8, option: u8, value: &[u8], low: u32, high: u32) -> Number
     ensures { result.value ≤ high }
 {
     let number = text::parse(value);
@@ -646,7 +648,7 @@ fn in_range(command: u8, option: u8, value: &[u8], low: u32, high: u32) -> Numbe
         b": not a number from @ to @: ",
         &[low as u64, high as u64],
     );
-    complain_of(command, option, &words[..n], value);
+    complain_of(host, command, option, &words[..n], value);
     Number {
         ok: false,
         value: 0,
@@ -655,18 +657,18 @@ fn in_range(command: u8, option: u8, value: &[u8], low: u32, high: u32) -> Numbe
 
 // The value of an option as a number from `low` to `high`; the default, or `high` if that is less, where the option is not given. Where it is
 // no such number, says so and answers that it is not ok.
-pub fn number(command: u8, option: u8, default: u32, low: u32, high: u32) -> Number
+pub fn number(host: &Host, command: u8, option: u8, default: u32, low: u32, high: u32) -> Number
     ensures { result.value ≤ high }
 {
-    if !given(command, option) {
+    if !given(host, command, option) {
         return Number {
             ok: true,
             value: least(default, high),
         };
     }
     let mut text = io::buffer();
-    let n = value(command, option, &mut text);
-    in_range(command, option, &text[..n], low, high)
+    let n = value(host, command, option, &mut text);
+    in_range(host, command, option, &text[..n], low, high)
 }
 
 fn least(a: u32, b: u32) -> u32

@@ -17,7 +17,7 @@ const GROUND: u64 = 70;
 
 // The stretches: how long each is, in seconds where times are known and else in PDUs; how many there are; and the share, in thousandths, that a bar of full
 // height stands for.
-#[derive(Drop)]
+#[derive(Clone, Copy)]
 pub struct Scale {
     pub clock: Clock,
     pub step: u32,
@@ -26,7 +26,7 @@ pub struct Scale {
 }
 
 // A stretch so far: its number, how many PDUs it has, and how many of them were lost and refused; and the greatest share, in thousandths, of a stretch before.
-#[derive(Drop)]
+#[derive(Clone, Copy)]
 pub struct Stretch {
     pub number: u32,
     pub pdus: u32,

@@ -1,5 +1,6 @@
 // The next packet of a file that is read ahead in a lent buffer, as a record or in an ADTS frame. Bytes at which no frame begins can be passed over.
 use ahead::Ahead;
+use host::Host;
 use sent_packets::Span;
 
 // What came of the next reading, besides those of records and NO_FRAME: bytes at which no frame begins are passed over.
@@ -13,7 +14,7 @@ const STRETCH: usize = 8192;
 
 // What came of the next reading; where the packet's bytes stand in the buffer, and how many they are, or how many bytes are passed over; and what is read
 // ahead after it.
-#[derive(Drop)]
+#[derive(Clone, Copy)]
 pub struct Next {
     pub status: u8,
     pub from: usize,
@@ -23,7 +24,7 @@ pub struct Next {
 
 // What stands at a place: how its reading stands, where its packet begins and where the next record or frame, counted from its first byte; and what is read
 // ahead.
-#[derive(Drop)]
+#[derive(Clone, Copy)]
 struct Place {
     status: u8,
     from: usize,
@@ -32,7 +33,7 @@ struct Place {
 }
 
 // Whether a frame is found, the last place that was looked at, and what is read ahead.
-#[derive(Drop)]
+#[derive(Clone, Copy)]
 struct Found {
     found: bool,
     at: usize,
@@ -66,14 +67,14 @@ fn no_packet(status: u8, ahead: Ahead) -> Place {
 }
 
 // A record or a frame at a place, by where its packet stands.
-fn packet_at(a: Ahead, buf: &mut [u8], at: usize, s: Span) -> Place {
+fn packet_at(host: &Host, a: Ahead, buf: &mut [u8], at: usize, s: Span) -> Place {
     if s.to == 0 {
         return no_packet(crate::NO_FRAME, a);
     }
     if MOST < minus(s.to, s.from) {
         return no_packet(records::LONG, a);
     }
-    let w = ahead::filled(a, buf, plus(at, s.to));
+    let w = ahead::filled(host, a, buf, plus(at, s.to));
     if ahead::size(w) < plus(at, s.to) {
         return no_packet(records::CUT, w);
     }
@@ -92,9 +93,9 @@ fn bytes_at(a: Ahead, buf: &[u8], at: usize, many: usize) -> &[u8] {
 }
 
 // What stands at a place, counted from the first byte that is read ahead.
-fn look_at(a: Ahead, buf: &mut [u8], at: usize, adts: bool) -> Place {
+fn look_at(host: &Host, a: Ahead, buf: &mut [u8], at: usize, adts: bool) -> Place {
     let head = head_length(adts);
-    let h = ahead::filled(a, buf, plus(at, head));
+    let h = ahead::filled(host, a, buf, plus(at, head));
     let size = ahead::size(h);
     if size <= at {
         return no_packet(records::END, h);
@@ -103,7 +104,7 @@ fn look_at(a: Ahead, buf: &mut [u8], at: usize, adts: bool) -> Place {
         return no_packet(records::CUT, h);
     }
     let s = sent_packets::span_of(bytes_at(h, buf, at, head), adts);
-    packet_at(h, buf, at, s)
+    packet_at(host, h, buf, at, s)
 }
 
 // Whether a packet stands at a place.
@@ -128,8 +129,8 @@ fn is_sync(bytes: &[u8]) -> bool {
 }
 
 // Whether a frame may end at a place: a syncword stands there, or the file ends.
-fn leads(a: Ahead, buf: &mut [u8], at: usize) -> Found {
-    let w = ahead::filled(a, buf, plus(at, 2));
+fn leads(host: &Host, a: Ahead, buf: &mut [u8], at: usize) -> Found {
+    let w = ahead::filled(host, a, buf, plus(at, 2));
     let size = ahead::size(w);
     if size < plus(at, 2) {
         return found_if((size == at) & !w.open, at, w);
@@ -138,21 +139,21 @@ fn leads(a: Ahead, buf: &mut [u8], at: usize) -> Found {
 }
 
 // Whether a frame begins at a place: it has a syncword, and a length behind which another one stands, or the file's end.
-fn begins(a: Ahead, buf: &mut [u8], at: usize) -> Found {
-    let p = look_at(a, buf, at, true);
+fn begins(host: &Host, a: Ahead, buf: &mut [u8], at: usize) -> Found {
+    let p = look_at(host, a, buf, at, true);
     let ahead = p.ahead;
     if !has_packet(p) {
         return found_if(false, at, ahead);
     }
-    leads(ahead, buf, plus(at, p.to))
+    leads(host, ahead, buf, plus(at, p.to))
 }
 
 // Looks for a frame that begins before a place, after the first byte that is read ahead.
-fn begun_inside(a: Ahead, buf: &mut [u8], end: usize) -> Found {
-    let mut now = ahead::filled(a, buf, plus(end, 7));
+fn begun_inside(host: &Host, a: Ahead, buf: &mut [u8], end: usize) -> Found {
+    let mut now = ahead::filled(host, a, buf, plus(end, 7));
     let mut at: usize = 1;
     while at < end {
-        let f = begins(now, buf, at);
+        let f = begins(host, now, buf, at);
         let ahead = f.ahead;
         now = ahead;
         if f.found {
@@ -210,9 +211,9 @@ fn reach_of(p: Place, stands: bool) -> usize {
 
 // What comes of a place at which a frame should begin, and none does, or one that leads to no other nor to the file's end. Where another begins inside it, it
 // was cut, or its length is wrong, and it is passed over up to there; else it stands, if it is a frame that does not follow on bytes that were passed over.
-fn settled(p: Place, a: Ahead, buf: &mut [u8], behind: bool) -> Next {
+fn settled(host: &Host, p: Place, a: Ahead, buf: &mut [u8], behind: bool) -> Next {
     let stands = has_packet(p) & !behind;
-    let f = begun_inside(a, buf, reach_of(p, stands));
+    let f = begun_inside(host, a, buf, reach_of(p, stands));
     let ahead = f.ahead;
     if f.found | !stands {
         return passed(ahead, f.at);
@@ -221,16 +222,16 @@ fn settled(p: Place, a: Ahead, buf: &mut [u8], behind: bool) -> Next {
 }
 
 // What comes of the place at which the next frame should begin, where bytes at which none does are passed over.
-fn resynced(p: Place, buf: &mut [u8], behind: bool) -> Next {
+fn resynced(host: &Host, p: Place, buf: &mut [u8], behind: bool) -> Next {
     if p.status == records::END {
         return taken(p);
     }
-    let f = leads(p.ahead, buf, p.to);
+    let f = leads(host, p.ahead, buf, p.to);
     let ahead = f.ahead;
     if has_packet(p) & f.found {
         return taken(with_ahead(p, ahead));
     }
-    settled(p, ahead, buf, behind)
+    settled(host, p, ahead, buf, behind)
 }
 
 // What came of a reading; a read that failed stops it.
@@ -248,10 +249,10 @@ fn unless_failed(n: Next) -> Next {
 }
 
 // Reads the next packet; where `resync` is set, bytes at which no ADTS frame begins are passed over, and `behind` says that such bytes stand before it.
-pub fn read(a: Ahead, buf: &mut [u8], adts: bool, resync: bool, behind: bool) -> Next {
-    let p = look_at(a, buf, 0, adts);
+pub fn read(host: &Host, a: Ahead, buf: &mut [u8], adts: bool, resync: bool, behind: bool) -> Next {
+    let p = look_at(host, a, buf, 0, adts);
     if resync {
-        return unless_failed(resynced(p, buf, behind));
+        return unless_failed(resynced(host, p, buf, behind));
     }
     unless_failed(taken(p))
 }

@@ -4,6 +4,7 @@ ghost use Rattle.std.specs.Prelude.{◌<◌};
 use crate::next::Next;
 use crate::{Source, next};
 use ahead::Ahead;
+use host::Host;
 
 // The longest packet.
 const MOST: usize = 4096;
@@ -15,7 +16,7 @@ const REST: usize = 49152;
 const LINES: u64 = 5;
 
 // Which packets wait: their lengths stand from `first` to before `end`, and their bytes from `from` to before `to`.
-#[derive(Drop)]
+#[derive(Clone, Copy)]
 pub struct Window {
     pub first: usize,
     pub end: usize,
@@ -124,7 +125,7 @@ fn is_enough(w: Window) -> bool {
 }
 
 // Says that bytes before a place of the file are passed over, after so many such places.
-fn say_passed(label: &[u8], bytes: u64, place: u64, places: u64) {
+fn say_passed(host: &Host, label: &[u8], bytes: u64, place: u64, places: u64) {
     if LINES < places {
         return;
     }
@@ -138,16 +139,16 @@ fn say_passed(label: &[u8], bytes: u64, place: u64, places: u64) {
         ),
         &[bytes, std::num::wrapping_sub_u64(place, bytes), place],
     );
-    files::say(label, &words[..n]);
+    files::say(host, label, &words[..n]);
 }
 
 // The same packets, where the bytes that were passed over before the next one are said.
-fn said(label: &[u8], w: Window) -> Window {
+fn said(host: &Host, label: &[u8], w: Window) -> Window {
     if w.skipped == 0 {
         return w;
     }
     let rest = w.ahead;
-    say_passed(label, w.skipped, rest.offset, w.places);
+    say_passed(host, label, w.skipped, rest.offset, w.places);
     let mut next = w;
     next.skipped = 0;
     next.places = std::num::wrapping_add_u64(w.places, 1);
@@ -155,10 +156,10 @@ fn said(label: &[u8], w: Window) -> Window {
 }
 
 // The same packets where no more can be read, which is said unless the file ends.
-fn closed(label: &[u8], w: Window, status: u8) -> Window {
+fn closed(host: &Host, label: &[u8], w: Window, status: u8) -> Window {
     let rest = w.ahead;
-    let mut next = said(label, w);
-    crate::say_end_at(label, status, w.read, rest.offset);
+    let mut next = said(host, label, w);
+    crate::say_end_at(host, label, status, w.read, rest.offset);
     next.open = false;
     next.broken = status != records::END;
     next
@@ -176,9 +177,9 @@ fn passed(w: Window, n: Next) -> Window {
 }
 
 // The same packets and one more, of so many bytes.
-fn with_packet(label: &[u8], w: Window, n: Next, size: usize) -> Window {
+fn with_packet(host: &Host, label: &[u8], w: Window, n: Next, size: usize) -> Window {
     let rest = n.ahead;
-    let mut next = said(label, w);
+    let mut next = said(host, label, w);
     next.end = std::num::wrapping_add_usize(w.end, 1);
     next.to = std::num::wrapping_add_usize(w.to, size);
     next.read = std::num::wrapping_add_u64(w.read, 1);
@@ -208,24 +209,32 @@ fn put_length(lengths: &mut [u16], at: usize, size: usize) {
 }
 
 // The same packets after a reading: one more, or more bytes that are passed over; where none can be read, says why and closes the window.
-fn with_next(label: &[u8], w: Window, n: Next, lengths: &mut [u16], bytes: &mut [u8]) -> Window {
+fn with_next(
+    host: &Host,
+    label: &[u8],
+    w: Window,
+    n: Next,
+    lengths: &mut [u16],
+    bytes: &mut [u8],
+) -> Window {
     if n.status == next::PASSED {
         return passed(w, n);
     }
     if (n.status != records::WHOLE) | (n.length == 0) {
-        return closed(label, w, n.status);
+        return closed(host, label, w, n.status);
     }
     let size = put_packet(w, n, bytes);
     put_length(lengths, w.end, size);
-    with_packet(label, w, n, size)
+    with_packet(host, label, w, n, size)
 }
 
 // Reads on, by the last part of the row of bytes.
-fn read_next(w: Window, bytes: &mut [u8]) -> Next {
+fn read_next(host: &Host, w: Window, bytes: &mut [u8]) -> Next {
     if bytes.len() < REST {
         return next::none(w.ahead);
     }
     next::read(
+        host,
         w.ahead,
         &mut bytes[REST..],
         w.adts,
@@ -235,12 +244,12 @@ fn read_next(w: Window, bytes: &mut [u8]) -> Next {
 }
 
 // The same packets after a reading, if there is room for one more.
-fn taken(label: &[u8], w: Window, lengths: &mut [u16], bytes: &mut [u8]) -> Window {
+fn taken(host: &Host, label: &[u8], w: Window, lengths: &mut [u16], bytes: &mut [u8]) -> Window {
     if (lengths.len() <= w.end) | (REST - MOST < w.to) {
         return w;
     }
-    let n = read_next(w, bytes);
-    with_next(label, w, n, lengths, bytes)
+    let n = read_next(host, w, bytes);
+    with_next(host, label, w, n, lengths, bytes)
 }
 
 // Whether one more packet is there, or more bytes are passed over.
@@ -249,14 +258,20 @@ fn is_more(before: Window, after: Window) -> bool {
 }
 
 // Reads ahead, if what waits may not fill a PDU, until the rows are full or the source ends.
-pub fn filled(label: &[u8], w: Window, lengths: &mut [u16], bytes: &mut [u8]) -> Window {
+pub fn filled(
+    host: &Host,
+    label: &[u8],
+    w: Window,
+    lengths: &mut [u16],
+    bytes: &mut [u8],
+) -> Window {
     if !w.open | is_enough(w) {
         return w;
     }
     let mut now = moved(w, lengths, bytes);
     let mut turns = u64::MAX;
     while 0 < turns {
-        let next = taken(label, now, lengths, bytes);
+        let next = taken(host, label, now, lengths, bytes);
         if !is_more(now, next) {
             return next;
         }
@@ -267,11 +282,12 @@ pub fn filled(label: &[u8], w: Window, lengths: &mut [u16], bytes: &mut [u8]) ->
 }
 
 // Says at how many places bytes were passed over, if at any, and how many bytes.
-pub fn say_places(command: u8, w: Window) {
+pub fn say_places(host: &Host, command: u8, w: Window) {
     if w.places == 0 {
         return;
     }
     options::say_numbers(
+        host,
         command,
         b": places passed over @ (bytes @)\n",
         &[w.places, w.passed],

@@ -2,7 +2,7 @@
 use crate::Shape;
 
 // How many PDUs stand in a row, how many there are in all, how many stand on a page, and how many packets a bar of full height stands for.
-#[derive(Drop)]
+#[derive(Clone, Copy)]
 pub struct Book {
     pub columns: u32,
     pub pdus: u32,

@@ -35,7 +35,7 @@ const LEGEND: u64 = 260;
 const LEAST: u64 = 736;
 
 // What decides the picture's shape: how many PDUs stand in a row, the first PDU, how many there are, and how many packets a bar of full height stands for.
-#[derive(Drop)]
+#[derive(Clone, Copy)]
 pub struct Shape {
     pub columns: u32,
     pub from: u32,
@@ -64,7 +64,7 @@ pub fn height_of_legend() -> u64 {
 }
 
 // Where a PDU's cell has its upper left corner.
-#[derive(Drop)]
+#[derive(Clone, Copy)]
 pub struct Place {
     pub x: u64,
     pub y: u64,

@@ -7,7 +7,7 @@ pub const MOST: usize = 200;
 pub const MOST_OF_NOTE: usize = 4000;
 
 // What a byte may be: how many bytes of a character are still to come, and between which values the next of them lies.
-#[derive(Drop)]
+#[derive(Clone, Copy)]
 struct Expected {
     left: u8,
     low: u8,

@@ -5,14 +5,15 @@
 mod list;
 
 use clock::Clock;
+use host::Host;
+use list::List;
 use log_csv::entry::Entry;
 use log_csv::lines::Lines;
 use log_csv::{entry, lines};
-use list::List;
 
 // A reading so far: whether it goes on, and whether all could be read; how many lines were read, whether the log has a loss column, and what is read ahead; the
 // least length of a received PDU and the greatest, 0 where there is none; and the list of texts.
-#[derive(Drop)]
+#[derive(Clone, Copy)]
 pub struct Particulars {
     pub going: bool,
     pub ok: bool,
@@ -125,9 +126,16 @@ fn taken(
 }
 
 // Reads a line and takes it; one that lacks its end may say less than it did, and is left out.
-fn turn(p: Particulars, c: Clock, buf: &mut [u8], out: &mut [u8], last: &mut [u8]) -> Particulars {
+fn turn(
+    host: &Host,
+    p: Particulars,
+    c: Clock,
+    buf: &mut [u8],
+    out: &mut [u8],
+    last: &mut [u8],
+) -> Particulars {
     let before = p.ahead;
-    let l = lines::next(before, buf);
+    let l = lines::next(host, before, buf);
     if (l.status != lines::GOT) | !l.ended {
         return ended(p, l.status != lines::FAILED);
     }
@@ -137,6 +145,7 @@ fn turn(p: Particulars, c: Clock, buf: &mut [u8], out: &mut [u8], last: &mut [u8
 
 // All lines. They are counted down from a number that no file uses up, since a proved loop has to end, and nothing says that a file does.
 fn all_lines(
+    host: &Host,
     start: Particulars,
     c: Clock,
     buf: &mut [u8],
@@ -146,7 +155,7 @@ fn all_lines(
     let mut p = start;
     let mut turns = u64::MAX;
     while 0 < turns {
-        let next = turn(p, c, buf, out, last);
+        let next = turn(host, p, c, buf, out, last);
         p = next;
         if !p.going {
             return p;
@@ -157,17 +166,25 @@ fn all_lines(
 }
 
 // Reads the CSV from its start, which a reading before this one found right. The list of texts goes to `out`, as far as it has room.
-pub fn read(input: i32, start: i64, c: Clock, buf: &mut [u8], out: &mut [u8]) -> Particulars {
+pub fn read(
+    host: &Host,
+    input: i32,
+    start: i64,
+    c: Clock,
+    buf: &mut [u8],
+    out: &mut [u8],
+) -> Particulars {
     let first = begin(input);
-    if !files::go_back(input, start) {
+    if !files::go_back(host, input, start) {
         return ended(first, false);
     }
     let mut last = [0u8; list::LONGEST];
-    with_list(first, c, buf, out, &mut last)
+    with_list(host, first, c, buf, out, &mut last)
 }
 
 // Reads all lines after the list's head, and puts its end.
 fn with_list(
+    host: &Host,
     first: Particulars,
     c: Clock,
     buf: &mut [u8],
@@ -178,7 +195,7 @@ fn with_list(
     empty.at = list::put_head(out, c);
     let mut start = first;
     start.list = empty;
-    let mut next = all_lines(start, c, buf, out, last);
+    let mut next = all_lines(host, start, c, buf, out, last);
     let mut full = next.list;
     let end = list::put_end(out, full.at, full);
     full.at = end;

@@ -12,7 +12,7 @@ const FULL: usize = 60000;
 pub const LONGEST: usize = 600;
 
 // A list so far: how many texts there are, how many of them are listed, how many bytes these take, and how long the last text is.
-#[derive(Drop)]
+#[derive(Clone, Copy)]
 pub struct List {
     pub texts: u32,
     pub listed: u32,

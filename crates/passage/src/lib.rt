@@ -5,12 +5,13 @@
 use damage::dice;
 use damage::dice::Dice;
 use disorder::{Outlet, Rates, Road};
+use host::Host;
 use noise::Noise;
 
 // How bad the channel is: how many PDUs in a thousand begin a burst of lost ones, the longest burst, how many PDUs in a thousand have a damaged
 // header, the most bytes that are altered in one, how many pieces in a thousand have bits flipped (document 02, Ask 12), and how many PDUs in a thousand come
 // twice, out of turn and cut.
-#[derive(Drop)]
+#[derive(Clone, Copy)]
 pub struct Channel {
     pub loss: u64,
     pub burst: u64,
@@ -21,7 +22,7 @@ pub struct Channel {
 }
 
 // Where PDUs come from, where they and the places of their altered bytes go, and the channel between.
-#[derive(Drop)]
+#[derive(Clone, Copy)]
 pub struct Task {
     pub input: i32,
     pub outlet: Outlet,
@@ -30,7 +31,7 @@ pub struct Task {
 
 // A run so far: what came of the last reading, with END where all PDUs are sent, or of writing; the dice,
 // those of the bits that are flipped, the road, how many more PDUs the burst takes, and the bytes of the records that were read.
-#[derive(Drop)]
+#[derive(Clone, Copy)]
 pub struct Run {
     pub status: u8,
     pub dice: Dice,
@@ -49,7 +50,7 @@ pub struct Run {
 
 // What becomes of a PDU: how many PDUs a burst takes from this one on, 0 where it is not lost; how many bytes of its header are to be altered
 // where it comes through; and the dice.
-#[derive(Drop)]
+#[derive(Clone, Copy)]
 struct Fate {
     burst: u64,
     bytes: u64,
@@ -57,7 +58,7 @@ struct Fate {
 }
 
 // What one PDU adds to the counts: 1 or 0 PDUs that were marked lost before, 1 or 0 lost, bytes altered, and pieces hit.
-#[derive(Drop)]
+#[derive(Clone, Copy)]
 struct Share {
     missing: u64,
     lost: u64,
@@ -86,36 +87,37 @@ fn begin(seed: u32) -> Run {
 }
 
 // Sends every PDU over the channel.
-pub fn send_all(task: Task, seed: u32) -> Run {
+pub fn send_all(host: &Host, task: Task, seed: u32) -> Run {
     let mut pdu = io::large_buffer();
     let mut held = disorder::room();
-    all_turns(task, &mut pdu, &mut held, begin(seed))
+    all_turns(host, task, &mut pdu, &mut held, begin(seed))
 }
 
 // All turns. They are counted down from a number that no run uses up, since a proved loop has to end, and nothing says that a file does.
-fn all_turns(task: Task, pdu: &mut [u8], held: &mut [u8], start: Run) -> Run {
+fn all_turns(host: &Host, task: Task, pdu: &mut [u8], held: &mut [u8], start: Run) -> Run {
     let mut run = start;
-    let mut shown = files::second();
+    let mut shown = files::second(host);
     let mut turns = u64::MAX;
     while 0 < turns {
-        let next = turn(task, pdu, held, run);
+        let next = turn(host, task, pdu, held, run);
         run = next;
         if run.status != records::WHOLE {
             return run;
         }
-        shown = files::progress(options::CHANNEL, run.pdus, shown);
+        shown = files::progress(host, options::CHANNEL, run.pdus, shown);
         turns -= 1;
     }
     run
 }
 
 // Reads a PDU and sends it; stops where none can be read, after the one that is held back.
-fn turn(task: Task, buf: &mut [u8], held: &mut [u8], run: Run) -> Run {
-    let r = records::read_pdu(task.input, buf);
+fn turn(host: &Host, task: Task, buf: &mut [u8], held: &mut [u8], run: Run) -> Run {
+    let r = records::read_pdu(host, task.input, buf);
     if r.status != records::WHOLE {
-        return ended(task, held, run, r.status);
+        return ended(host, task, held, run, r.status);
     }
     sent(
+        host,
         task,
         &mut buf[..r.length],
         held,
@@ -131,10 +133,10 @@ fn after_record(run: Run, length: usize) -> Run {
 }
 
 // The run where no more can be read: the record that is held back is written in its place.
-fn ended(task: Task, held: &[u8], run: Run, status: u8) -> Run {
+fn ended(host: &Host, task: Task, held: &[u8], run: Run, status: u8) -> Run {
     let outlet = task.outlet;
     let road = run.road;
-    let written = disorder::release(outlet, held, road);
+    let written = disorder::release(host, outlet, held, road);
     if written != disorder::WRITTEN {
         return stopped(run, written);
     }
@@ -142,7 +144,7 @@ fn ended(task: Task, held: &[u8], run: Run, status: u8) -> Run {
 }
 
 // Sends a PDU: it is lost, or comes through.
-fn sent(task: Task, pdu: &mut [u8], held: &mut [u8], run: Run) -> Run {
+fn sent(host: &Host, task: Task, pdu: &mut [u8], held: &mut [u8], run: Run) -> Run {
     let channel = task.channel;
     let before = run.dice;
     let noise = run.noise;
@@ -150,18 +152,19 @@ fn sent(task: Task, pdu: &mut [u8], held: &mut [u8], run: Run) -> Run {
     let dice = fate.dice;
     if pdu.len() == 0 {
         let next = after(run, fate.burst, dice, noise, came(1, 0));
-        return kept(task, b"", b"", held, run, next);
+        return kept(host, task, b"", b"", held, run, next);
     }
     if 0 < fate.burst {
         let next = after(run, fate.burst, dice, noise, came(0, 1));
-        return kept(task, b"", b"", held, run, next);
+        return kept(host, task, b"", b"", held, run, next);
     }
     let hits = noise::hit_pieces(&mut *pdu, channel.bursts, noise);
-    damaged(task, pdu, held, run, fate.bytes, dice, hits)
+    damaged(host, task, pdu, held, run, fate.bytes, dice, hits)
 }
 
 // Sends a PDU whose pieces are hit, or none of them: so many bytes of its header are altered.
 fn damaged(
+    host: &Host,
     task: Task,
     pdu: &mut [u8],
     held: &mut [u8],
@@ -175,11 +178,22 @@ fn damaged(
     let marks = done.marks;
     let places = marks.places;
     let n = marks.count;
-    through(task, pdu, &places[..n], held, run, last, done.altered, hits)
+    through(
+        host,
+        task,
+        pdu,
+        &places[..n],
+        held,
+        run,
+        last,
+        done.altered,
+        hits,
+    )
 }
 
 // A PDU that comes through, with the places of so many altered bytes.
 fn through(
+    host: &Host,
     task: Task,
     pdu: &[u8],
     marks: &[u8],
@@ -197,7 +211,7 @@ fn through(
         hit: hits.hit,
     };
     let next = after(run, 0, dice, noise, share);
-    kept(task, pdu, marks, held, run, next)
+    kept(host, task, pdu, marks, held, run, next)
 }
 
 // Draws a PDU's fate: four draws for each PDU, also where not all of them count.
@@ -281,12 +295,20 @@ fn after(run: Run, burst: u64, dice: Dice, noise: Dice, share: Share) -> Run {
 }
 
 // Hands what came of a PDU to the road, with the places of its altered bytes, and answers the run after it; where writing fails, the run stops before it.
-fn kept(task: Task, pdu: &[u8], marks: &[u8], held: &mut [u8], before: Run, next: Run) -> Run {
+fn kept(
+    host: &Host,
+    task: Task,
+    pdu: &[u8],
+    marks: &[u8],
+    held: &mut [u8],
+    before: Run,
+    next: Run,
+) -> Run {
     let outlet = task.outlet;
     let channel = task.channel;
     let rates = channel.rates;
     let road = before.road;
-    let passed = disorder::pass(outlet, rates, pdu, marks, held, road);
+    let passed = disorder::pass(host, outlet, rates, pdu, marks, held, road);
     if passed.status != disorder::WRITTEN {
         return stopped(before, passed.status);
     }

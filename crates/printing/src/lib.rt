@@ -1,9 +1,10 @@
 // A drive as it is handed on: a page of its rows as an SVG picture, or all of it as an HTML page; on `readings`, `legend` and `particulars`.
 #![tactic(auto)]
 
-use log_csv::lines;
 use drawing::Task;
+use host::Host;
 use legend::Ground;
+use log_csv::lines;
 use page::{Shape, leaf};
 use particulars::Particulars;
 use readings::Run;
@@ -16,8 +17,8 @@ fn drawing_of(task: Task, draws: u8) -> Task {
 }
 
 // The reading after its last bytes were written, or were not.
-fn written(run: Run, output: i32, block: &[u8], at: usize) -> Run {
-    let w = drawing::written(output, block, at);
+fn written(host: &Host, run: Run, output: i32, block: &[u8], at: usize) -> Run {
+    let w = drawing::written(host, output, block, at);
     let mut next = run;
     if !w.ok {
         next.state = readings::NOT_WRITTEN;
@@ -32,11 +33,11 @@ fn shape_of(task: Task) -> Shape {
 }
 
 // Draws a page of rows as SVG: what stands above the rows, each PDU in its turn, and what stands below them.
-pub fn svg(task: Task, buf: &mut [u8]) -> Run {
+pub fn svg(host: &Host, task: Task, buf: &mut [u8]) -> Run {
     let book = task.book;
     let c = task.clock;
     let mut title = io::buffer();
-    let k = sheet::title_of(&mut title);
+    let k = sheet::title_of(host, &mut title);
     let mut block = io::large_buffer();
     let n = picture::put_head(
         &mut block,
@@ -46,20 +47,20 @@ pub fn svg(task: Task, buf: &mut [u8]) -> Run {
         leaf::count(book),
         &title[..k],
     );
-    let run = readings::read_all(drawing_of(task, drawing::ROWS), buf, &mut block, n);
+    let run = readings::read_all(host, drawing_of(task, drawing::ROWS), buf, &mut block, n);
     if run.state != readings::READ {
         return run;
     }
-    with_rows(task, run, &mut block)
+    with_rows(host, task, run, &mut block)
 }
 
 // Writes what waits, and what stands below the rows.
-fn with_rows(task: Task, run: Run, block: &mut [u8]) -> Run {
+fn with_rows(host: &Host, task: Task, run: Run, block: &mut [u8]) -> Run {
     let d = run.drive;
     let g = run.gaps;
     let c = task.clock;
     let shape = shape_of(task);
-    let rows = written(run, task.output, block, run.waiting);
+    let rows = written(host, run, task.output, block, run.waiting);
     if rows.state != readings::READ {
         return rows;
     }
@@ -69,13 +70,13 @@ fn with_rows(task: Task, run: Run, block: &mut [u8]) -> Run {
         most: shape.most,
     };
     let n = legend::put(block, 0, ground, d, g, c);
-    written(run, task.output, block, n)
+    written(host, run, task.output, block, n)
 }
 
 // A reading of all that draws nothing.
-fn surveyed(task: Task, buf: &mut [u8]) -> Run {
+fn surveyed(host: &Host, task: Task, buf: &mut [u8]) -> Run {
     let mut block = [0u8; 1];
-    readings::read_all(task, buf, &mut block, 0)
+    readings::read_all(host, task, buf, &mut block, 0)
 }
 
 // The task of drawing the overview strip, after a survey.
@@ -89,19 +90,19 @@ fn with_scale(task: Task, survey: Run) -> Task {
 }
 
 // Writes the head and the overview strip.
-fn with_head(task: Task, p: Particulars, buf: &mut [u8]) -> Run {
+fn with_head(host: &Host, task: Task, p: Particulars, buf: &mut [u8]) -> Run {
     let c = task.clock;
     let book = task.book;
     let scale = task.scale;
     let mut block = io::large_buffer();
-    let mut n = sheet::put_head(&mut block, p.shortest, p.longest, c, book.pdus);
+    let mut n = sheet::put_head(host, &mut block, p.shortest, p.longest, c, book.pdus);
     n = overview::put_head(&mut block, n, scale);
-    let run = readings::read_all(task, buf, &mut block, n);
+    let run = readings::read_all(host, task, buf, &mut block, n);
     if run.state != readings::READ {
         return run;
     }
     let end = overview::put_end(&mut block, run.waiting);
-    written(run, task.output, &block, end)
+    written(host, run, task.output, &block, end)
 }
 
 // What the legend of an HTML page stands in.
@@ -114,7 +115,7 @@ fn ground_of(most: u32) -> Ground {
 }
 
 // Writes the totals of a survey, and what the marks mean.
-fn with_legend(task: Task, survey: Run) -> Run {
+fn with_legend(host: &Host, task: Task, survey: Run) -> Run {
     let c = task.clock;
     let book = task.book;
     let d = survey.drive;
@@ -122,61 +123,68 @@ fn with_legend(task: Task, survey: Run) -> Run {
     let mut block = [0u8; 8192];
     let n = sheet::put_legend_head(&mut block, 0);
     let end = legend::put(&mut block, n, ground_of(book.most), d, g, c);
-    written(survey, task.output, &block, end)
+    written(host, survey, task.output, &block, end)
 }
 
 // Writes the pages of rows, and the end.
-fn with_pages(task: Task, buf: &mut [u8]) -> Run {
+fn with_pages(host: &Host, task: Task, buf: &mut [u8]) -> Run {
     let mut block = io::large_buffer();
-    let run = readings::read_all(drawing_of(task, drawing::ROWS), buf, &mut block, 0);
+    let run = readings::read_all(host, drawing_of(task, drawing::ROWS), buf, &mut block, 0);
     if run.state != readings::READ {
         return run;
     }
     let end = sheet::put_end(&mut block, run.waiting);
-    written(run, task.output, &block, end)
+    written(host, run, task.output, &block, end)
 }
 
 // Writes the totals of a survey, the list of PSD texts, and then the pages.
-fn with_totals(task: Task, survey: Run, list: &[u8], buf: &mut [u8]) -> Run {
-    let totals = with_legend(task, survey);
+fn with_totals(host: &Host, task: Task, survey: Run, list: &[u8], buf: &mut [u8]) -> Run {
+    let totals = with_legend(host, task, survey);
     if totals.state != readings::READ {
         return totals;
     }
-    let texts = written(totals, task.output, list, list.len());
+    let texts = written(host, totals, task.output, list, list.len());
     if texts.state != readings::READ {
         return texts;
     }
-    with_pages(task, buf)
+    with_pages(host, task, buf)
 }
 
 // Writes all, after a survey, and after the lengths of PDUs and the list of PSD texts are read.
-fn with_particulars(task: Task, survey: Run, p: Particulars, list: &[u8], buf: &mut [u8]) -> Run {
-    let head = with_head(task, p, buf);
+fn with_particulars(
+    host: &Host,
+    task: Task,
+    survey: Run,
+    p: Particulars,
+    list: &[u8],
+    buf: &mut [u8],
+) -> Run {
+    let head = with_head(host, task, p, buf);
     if head.state != readings::READ {
         return head;
     }
-    with_totals(task, survey, list, buf)
+    with_totals(host, task, survey, list, buf)
 }
 
 // Reads the lengths of PDUs and the texts of PSD, and writes all.
-fn with_survey(task: Task, survey: Run, buf: &mut [u8]) -> Run {
+fn with_survey(host: &Host, task: Task, survey: Run, buf: &mut [u8]) -> Run {
     let c = task.clock;
     let mut list = io::large_buffer();
-    let p = particulars::read(task.input, task.start, c, buf, &mut list);
+    let p = particulars::read(host, task.input, task.start, c, buf, &mut list);
     if !p.ok {
         let mut stopped = survey;
         stopped.state = readings::NOT_READ;
         return stopped;
     }
     let texts = lines::part(&list, 0, particulars::length_of_list(p));
-    with_particulars(task, survey, p, texts, buf)
+    with_particulars(host, task, survey, p, texts, buf)
 }
 
 // Draws all as HTML. A survey comes first: the head has what is only known at the log's end.
-pub fn html(task: Task, buf: &mut [u8]) -> Run {
-    let survey = surveyed(task, buf);
+pub fn html(host: &Host, task: Task, buf: &mut [u8]) -> Run {
+    let survey = surveyed(host, task, buf);
     if survey.state != readings::READ {
         return survey;
     }
-    with_survey(with_scale(task, survey), survey, buf)
+    with_survey(host, with_scale(task, survey), survey, buf)
 }

@@ -1,8 +1,10 @@
 // The PSD of each PDU: the same bytes in every one, or the next bytes of a file; on `records` and `files`.
 //
 // The bytes stand in a lent buffer.
+
 #![tactic(auto)]
 
+use host::Host;
 // In place of a file where every PDU has the same PSD.
 const NO_FILE: i32 = -1;
 
@@ -11,7 +13,7 @@ pub const MOST: u32 = 128;
 
 // A supply of PSD: its file, the place where it began, whether it is read again from there at its end, and the most bytes in one PDU; what came of the
 // last reading; how many bytes the next PDU has; and how many are sent of the file.
-#[derive(Drop)]
+#[derive(Clone, Copy)]
 pub struct Supply {
     pub fd: i32,
     pub start: i64,
@@ -36,10 +38,10 @@ pub fn same(length: usize) -> Supply {
 }
 
 // The next bytes of a file for each PDU, at most so many.
-pub fn of(fd: i32, repeats: bool, most: usize) -> Supply {
+pub fn of(host: &Host, fd: i32, repeats: bool, most: usize) -> Supply {
     Supply {
         fd: fd,
-        start: files::place(fd),
+        start: files::place(host, fd),
         repeats: repeats,
         most: most,
         status: records::WHOLE,
@@ -77,8 +79,8 @@ pub fn part(buf: &[u8], length: usize) -> &[u8] {
 }
 
 // Reads so many bytes of the file, fewer at its end.
-fn read(supply: Supply, count: usize, buf: &mut [u8]) -> Supply {
-    let got = records::read_bytes(supply.fd, buf, count);
+fn read(host: &Host, supply: Supply, count: usize, buf: &mut [u8]) -> Supply {
+    let got = records::read_bytes(host, supply.fd, buf, count);
     after(supply, got.status, got.length)
 }
 
@@ -88,26 +90,26 @@ fn is_over(supply: Supply) -> bool {
 }
 
 // Reads so many bytes of the file; at its end from where it began, if that is asked for.
-fn filled(supply: Supply, count: usize, buf: &mut [u8]) -> Supply {
-    let first = read(supply, count, &mut *buf);
+fn filled(host: &Host, supply: Supply, count: usize, buf: &mut [u8]) -> Supply {
+    let first = read(host, supply, count, &mut *buf);
     if !is_over(first) | !supply.repeats {
         return first;
     }
-    if !files::go_back(supply.fd, supply.start) {
+    if !files::go_back(host, supply.fd, supply.start) {
         return after(supply, records::FAILED, 0);
     }
-    read(supply, count, buf)
+    read(host, supply, count, buf)
 }
 
 // The supply with the bytes of the next PDU, which has room for so many, in the buffer. A file that ended has none, unless it is read again.
-pub fn next(supply: Supply, room: usize, buf: &mut [u8]) -> Supply {
+pub fn next(host: &Host, supply: Supply, room: usize, buf: &mut [u8]) -> Supply {
     if supply.fd < 0 {
         return supply;
     }
     if (supply.status == records::CUT) & !supply.repeats {
         return after(supply, records::CUT, 0);
     }
-    filled(supply, least(supply.most, room), buf)
+    filled(host, supply, least(supply.most, room), buf)
 }
 
 // The supply once its bytes are sent.
@@ -137,11 +139,11 @@ pub fn tried(supply: Supply, room: usize) -> usize {
 }
 
 // Whether a file has bytes after those that are sent. Of a pipe that is not known, and not waited for.
-pub fn has_more(supply: Supply) -> bool {
+pub fn has_more(host: &Host, supply: Supply) -> bool {
     if (supply.fd < 0) | (supply.start < 0) | supply.repeats {
         return false;
     }
     let mut byte = [0u8; 1];
-    let got = records::fill(supply.fd, &mut byte);
+    let got = records::fill(host, supply.fd, &mut byte);
     got.length == 1
 }

@@ -1,12 +1,13 @@
 // The readings of a packet log's CSV, from its first line to its last: each goes over the PDUs, and draws what its task says; on `drawing` and `files`.
 #![tactic(auto)]
 
-use log_csv::entry::Entry;
-use log_csv::lines::Lines;
-use log_csv::{entry, lines};
 use drawing::Task;
 use drive::Drive;
 use gaps::Gaps;
+use host::Host;
+use log_csv::entry::Entry;
+use log_csv::lines::Lines;
+use log_csv::{entry, lines};
 use overview::Stretch;
 
 // How a reading stands: it goes on; all lines are read; a line is wrong; a line cannot be read, or the picture cannot be written, and errno
@@ -23,7 +24,7 @@ pub const NOT_WRITTEN: u8 = 4;
 
 // A reading so far: how it stands, what is wrong with the next line, how many lines were read, what is read ahead, the drive, its gaps, the stretch of the
 // overview, and how many bytes of the picture wait in the block.
-#[derive(Drop)]
+#[derive(Clone, Copy)]
 pub struct Run {
     pub state: u8,
     pub wrong: u8,
@@ -69,7 +70,7 @@ fn stretched(task: Task, s: Stretch, number: u32, kind: u32) -> Stretch {
 }
 
 // The reading after the drive's last PDU, if there is one: all of its lines are taken.
-fn passed(task: Task, block: &mut [u8], run: Run) -> Run {
+fn passed(host: &Host, task: Task, block: &mut [u8], run: Run) -> Run {
     let d = run.drive;
     let g = run.gaps;
     let s = run.stretch;
@@ -80,6 +81,7 @@ fn passed(task: Task, block: &mut [u8], run: Run) -> Run {
     let number = std::num::wrapping_sub_u32(d.count, 1);
     let pdu = drive::last(d);
     let w = drawing::put(
+        host,
         task,
         block,
         run.waiting,
@@ -113,7 +115,7 @@ fn onward(run: Run, ahead: Lines, drive: Drive) -> Run {
 }
 
 // Takes a line: a PDU is passed when the next one begins, since what it delivered is known then.
-fn taken(task: Task, block: &mut [u8], run: Run, ahead: Lines, e: Entry) -> Run {
+fn taken(host: &Host, task: Task, block: &mut [u8], run: Run, ahead: Lines, e: Entry) -> Run {
     let before = run.drive;
     let wrong = drive::fault(before, e);
     if wrong != 0 {
@@ -123,14 +125,14 @@ fn taken(task: Task, block: &mut [u8], run: Run, ahead: Lines, e: Entry) -> Run 
     if !entry::is_pdu(e.kind) {
         return onward(run, ahead, next);
     }
-    let after = passed(task, block, run);
+    let after = passed(host, task, block, run);
     onward(after, ahead, next)
 }
 
 // Draws the last stretch, and settles the totals.
-fn finished(task: Task, block: &mut [u8], run: Run) -> Run {
+fn finished(host: &Host, task: Task, block: &mut [u8], run: Run) -> Run {
     let s = run.stretch;
-    let w = drawing::stretch_drawn(task, block, s, run.waiting);
+    let w = drawing::stretch_drawn(host, task, block, s, run.waiting);
     let g = run.gaps;
     let mut d = run.drive;
     let totals = gaps::settled(d.totals, g);
@@ -143,7 +145,7 @@ fn finished(task: Task, block: &mut [u8], run: Run) -> Run {
 }
 
 // Where no line is read: passes the last PDU at the file's end, or says why the reading stops.
-fn ended(task: Task, block: &mut [u8], run: Run, status: u8) -> Run {
+fn ended(host: &Host, task: Task, block: &mut [u8], run: Run, status: u8) -> Run {
     if status == lines::LONG {
         return stopped(run, WRONG, entry::TOO_LONG);
     }
@@ -153,8 +155,8 @@ fn ended(task: Task, block: &mut [u8], run: Run, status: u8) -> Run {
     if run.count == 0 {
         return stopped(run, WRONG, entry::NO_FIRST);
     }
-    let last = passed(task, block, run);
-    finished(task, block, last)
+    let last = passed(host, task, block, run);
+    finished(host, task, block, last)
 }
 
 // Whether a line may say less than it did: it says nothing, or ends with a number. The last one is whole if that is the count of PDUs.
@@ -173,6 +175,7 @@ fn is_cut(run: Run, ended: bool, e: Entry) -> bool {
 
 // Takes a line, which may lack its end; one that is cut is left out.
 fn with_line(
+    host: &Host,
     task: Task,
     line: &[u8],
     whole: bool,
@@ -183,20 +186,21 @@ fn with_line(
     let d = run.drive;
     let e = entry::read(line, run.count, d.counted);
     if is_cut(run, whole, e) {
-        return ended(task, block, run, lines::END);
+        return ended(host, task, block, run, lines::END);
     }
-    taken(task, block, run, ahead, e)
+    taken(host, task, block, run, ahead, e)
 }
 
 // Reads a line and takes it.
-fn turn(task: Task, buf: &mut [u8], block: &mut [u8], run: Run) -> Run {
+fn turn(host: &Host, task: Task, buf: &mut [u8], block: &mut [u8], run: Run) -> Run {
     let before = run.ahead;
-    let l = lines::next(before, buf);
+    let l = lines::next(host, before, buf);
     if l.status != lines::GOT {
-        return ended(task, block, run, l.status);
+        return ended(host, task, block, run, l.status);
     }
     let ahead = l.rest;
     with_line(
+        host,
         task,
         lines::part(buf, l.from, l.to),
         l.ended,
@@ -207,32 +211,32 @@ fn turn(task: Task, buf: &mut [u8], block: &mut [u8], run: Run) -> Run {
 }
 
 // How far the work is, once a second where somebody looks on. Answers the second that it is.
-fn progress(count: u64, shown: i64) -> i64 {
-    files::progress(options::COVERAGE, count, shown)
+fn progress(host: &Host, count: u64, shown: i64) -> i64 {
+    files::progress(host, options::COVERAGE, count, shown)
 }
 
 // All lines. They are counted down from a number that no file uses up, since a proved loop has to end, and nothing says that a file does.
-fn all_lines(task: Task, buf: &mut [u8], block: &mut [u8], start: Run) -> Run {
+fn all_lines(host: &Host, task: Task, buf: &mut [u8], block: &mut [u8], start: Run) -> Run {
     let mut run = start;
-    let mut shown = files::second();
+    let mut shown = files::second(host);
     let mut turns = u64::MAX;
     while 0 < turns {
-        let next = turn(task, buf, block, run);
+        let next = turn(host, task, buf, block, run);
         run = next;
         if run.state != GOING {
             return run;
         }
-        shown = progress(run.count, shown);
+        shown = progress(host, run.count, shown);
         turns -= 1;
     }
     run
 }
 
 // Reads the CSV from its start, and draws what the task says, after so many bytes that wait in the block.
-pub fn read_all(task: Task, buf: &mut [u8], block: &mut [u8], waiting: usize) -> Run {
+pub fn read_all(host: &Host, task: Task, buf: &mut [u8], block: &mut [u8], waiting: usize) -> Run {
     let start = begin(task.input, waiting);
-    if !files::go_back(task.input, task.start) {
+    if !files::go_back(host, task.input, task.start) {
         return stopped(start, NOT_READ, 0);
     }
-    all_lines(task, buf, block, start)
+    all_lines(host, task, buf, block, start)
 }

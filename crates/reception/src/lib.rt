@@ -3,8 +3,8 @@
 
 ghost use Rattle.io.specs.Counts.{IsPrefixLen};
 
+use host::{Host, STDERR};
 use layout::ControlWord;
-use libc::STDERR_FILENO;
 use outcome::Outcome;
 use receiver::Receiver;
 
@@ -22,7 +22,7 @@ fn put_cause(out: &mut [u8], at: usize, o: Outcome, came: ControlWord) -> usize
 }
 
 // Says that a PDU, counted from 0, is refused.
-fn say_refused(pdu: u64, o: Outcome, came: ControlWord) {
+fn say_refused(host: &Host, pdu: u64, o: Outcome, came: ControlWord) {
     let mut line = [0u8; 192];
     let n = text::fill(
         &mut line,
@@ -31,7 +31,7 @@ fn say_refused(pdu: u64, o: Outcome, came: ControlWord) {
         &[pdu, o.number as u64],
     );
     let k = put_cause(&mut line, n, o, came);
-    io::write_all(STDERR_FILENO, &line[..k]);
+    host.write_all(STDERR, &line[..k]);
 }
 
 // Whether a refused PDU has a line, after so many that were refused, and so many of these with 6.
@@ -40,35 +40,52 @@ fn has_line(number: u32, refused: u64, others: u64) -> bool {
 }
 
 // Says that a PDU, counted from 0, is refused, if it has a line.
-fn say_line(pdu: u64, o: Outcome, bytes: &mut [u8], marks: &[u8], refused: u64, others: u64) {
+fn say_line(
+    host: &Host,
+    pdu: u64,
+    o: Outcome,
+    bytes: &mut [u8],
+    marks: &[u8],
+    refused: u64,
+    others: u64,
+) {
     if has_line(o.number, refused, others) {
-        say_refused(pdu, o, outcome::control_of(bytes, marks));
+        say_refused(host, pdu, o, outcome::control_of(bytes, marks));
         return;
     }
 }
 
 // Says, after as many refused PDUs as have a line each, that further ones have none.
-fn say_further(refused: u64) {
+fn say_further(host: &Host, refused: u64) {
     if refused == LINES {
-        io::write_all(
-            STDERR_FILENO,
+        host.write_all(
+            STDERR,
             b"barzhilup log: further refused PDUs are counted only\n",
         );
     }
 }
 
 // Says what is to be said of a PDU, counted from 0, after so many that were refused, and so many of these with 6.
-fn report(pdu: u64, o: Outcome, bytes: &mut [u8], marks: &[u8], refused: u64, others: u64) {
+fn report(
+    host: &Host,
+    pdu: u64,
+    o: Outcome,
+    bytes: &mut [u8],
+    marks: &[u8],
+    refused: u64,
+    others: u64,
+) {
     if o.kind != outcome::REFUSED {
         return;
     }
-    say_line(pdu, o, bytes, marks, refused, others);
-    say_further(refused);
+    say_line(host, pdu, o, bytes, marks, refused, others);
+    say_further(host, refused);
 }
 
 // Receives a PDU, counted from 0, with its marked places, as `outcome::of_record` does, after so many that were refused, and so many of these with
 // 6; where it is refused, says so.
 pub fn receive(
+    host: &Host,
     receiver: Receiver,
     carry: &mut [u8],
     bytes: &mut [u8],
@@ -79,15 +96,15 @@ pub fn receive(
     others: u64,
 ) -> Outcome {
     let o = outcome::of_record(receiver, carry, &mut *bytes, marks, log);
-    report(pdu, o, bytes, marks, refused, others);
+    report(host, pdu, o, bytes, marks, refused, others);
     o
 }
 
 // Says that a PDU, counted from 0, of which two copies may have come, is refused, after so many that were refused, and so many of these with 6; this is the
 // control word that came.
-pub fn say_copies(pdu: u64, o: Outcome, came: ControlWord, refused: u64, others: u64) {
+pub fn say_copies(host: &Host, pdu: u64, o: Outcome, came: ControlWord, refused: u64, others: u64) {
     if has_line(o.number, refused, others) {
-        say_refused(pdu, o, came);
+        say_refused(host, pdu, o, came);
     }
-    say_further(refused);
+    say_further(host, refused);
 }

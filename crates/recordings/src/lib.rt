@@ -6,6 +6,7 @@ ghost use Rattle.std.specs.Prelude.{◌≡◌, length};
 ghost use Rattle.io.specs.Counts.{IsPrefixLen};
 
 use copies::{Pieces, Taken};
+use host::Host;
 use logging::{Onto, output};
 use outcome::Outcome;
 use receiver::Receiver;
@@ -19,7 +20,7 @@ pub fn no_counts() -> [u64; 164023]
 }
 
 // Where the two copies come from, and where the log goes.
-#[derive(Drop)]
+#[derive(Clone, Copy)]
 pub struct Task {
     pub first: i32,
     pub second: i32,
@@ -29,7 +30,7 @@ pub struct Task {
 // A run so far. How it stands: END where all copies of both files are read and logged, CUT where all are but one file ends inside a record,
 // `logging::UNWRITTEN`, how it stands by the files beside the log, or FAILED. How many PDUs were logged, the pair's receiver, and for each file what came of its last reading: after an answer other than
 // WHOLE it is not read again, and its copies do not come; and how many bytes stand before its next record.
-#[derive(Drop)]
+#[derive(Clone, Copy)]
 pub struct Run {
     pub status: u8,
     pub pdus: u64,
@@ -95,7 +96,7 @@ fn status_of(first: u8, second: u8) -> u8 {
 
 // Reads the next copy of a file, by what came of its last reading, to the buffer's start; not where the reading of the other file failed just now, since errno
 // is of that one. Its length is 0 where it did not come.
-fn next(fd: i32, other: u8, status: u8, buf: &mut [u8]) -> Record
+fn next(host: &Host, fd: i32, other: u8, status: u8, buf: &mut [u8]) -> Record
     ensures { IsPrefixLen result.length buf.new }
 {
     if is_failed(other) | (status != records::WHOLE) {
@@ -104,7 +105,7 @@ fn next(fd: i32, other: u8, status: u8, buf: &mut [u8]) -> Record
             length: 0,
         };
     }
-    let r = records::read_pdu(fd, buf);
+    let r = records::read_pdu(host, fd, buf);
     if r.status != records::WHOLE {
         return Record {
             status: r.status,
@@ -115,7 +116,7 @@ fn next(fd: i32, other: u8, status: u8, buf: &mut [u8]) -> Record
 }
 
 // A run after a reading of both files, and how many bytes of each copy stand in its buffer.
-#[derive(Drop)]
+#[derive(Clone, Copy)]
 struct Both {
     run: Run,
     first: usize,
@@ -123,12 +124,12 @@ struct Both {
 }
 
 // Reads the next copy of each file.
-fn read(task: Task, first: &mut [u8], second: &mut [u8], run: Run) -> Both
+fn read(host: &Host, task: Task, first: &mut [u8], second: &mut [u8], run: Run) -> Both
     ensures prefix_len { IsPrefixLen result.first first.new }
     ensures prefix_len_2 { IsPrefixLen result.second second.new }
 {
-    let a = next(task.first, records::WHOLE, run.first, first);
-    let b = next(task.second, a.status, run.second, second);
+    let a = next(host, task.first, records::WHOLE, run.first, first);
+    let b = next(host, task.second, a.status, run.second, second);
     Both {
         run: with_reading(run, a, b),
         first: a.length,
@@ -138,6 +139,7 @@ fn read(task: Task, first: &mut [u8], second: &mut [u8], run: Run) -> Both
 
 // Says that a PDU is refused, if it is.
 fn report(
+    host: &Host,
     receiver: Receiver,
     first: &mut [u8],
     second: &mut [u8],
@@ -150,6 +152,7 @@ fn report(
     }
     let came = copies::control_of(receiver, first, second);
     reception::say_copies(
+        host,
         pdu,
         o,
         came,
@@ -160,6 +163,7 @@ fn report(
 
 // Receives two copies as a pair, with the first carry and the first row, and says where the PDU is refused.
 fn paired(
+    host: &Host,
     receiver: Receiver,
     carries: &mut [u8],
     first: &mut [u8],
@@ -170,7 +174,7 @@ fn paired(
 ) -> Taken {
     let t = copies::of_copies(receiver, carries, &mut *first, &mut *second, log);
     let o = t.outcome;
-    report(receiver, first, second, o, rows, pdu);
+    report(host, receiver, first, second, o, rows, pdu);
     t
 }
 
@@ -188,22 +192,38 @@ fn add_copies(rows: &mut [u64], first: u8, second: u8, p: Pieces) {
 }
 
 // Writes what came of a PDU and counts it in the first row. Answers how the run stands.
-fn kept(onto: Onto, o: Outcome, log: &[u32], block: &mut [u8], rows: &mut [u64], pdu: u64) -> u8 {
+fn kept(
+    host: &Host,
+    onto: Onto,
+    o: Outcome,
+    log: &[u32],
+    block: &mut [u8],
+    rows: &mut [u64],
+    pdu: u64,
+) -> u8 {
     let words = words::written(log, o.words);
     let sink = onto.sink;
-    if !output::keep(sink, pdu, o, words, block) {
+    if !output::keep(host, sink, pdu, o, words, block) {
         return logging::UNWRITTEN;
     }
     counts::add_outcome(rows, o);
     counts::add_log(rows, words);
     let b = onto.beside;
-    beside::keep(b, rows, pdu, words, block)
+    beside::keep(host, b, rows, pdu, words, block)
 }
 
 // Writes what came of two copies; stops where it cannot be written.
-fn stored(onto: Onto, t: Taken, log: &[u32], block: &mut [u8], rows: &mut [u64], run: Run) -> Run {
+fn stored(
+    host: &Host,
+    onto: Onto,
+    t: Taken,
+    log: &[u32],
+    block: &mut [u8],
+    rows: &mut [u64],
+    run: Run,
+) -> Run {
     let o = t.outcome;
-    let status = kept(onto, o, log, block, rows, run.pdus);
+    let status = kept(host, onto, o, log, block, rows, run.pdus);
     if status == logging::UNWRITTEN {
         return with_status(run, status);
     }
@@ -213,6 +233,7 @@ fn stored(onto: Onto, t: Taken, log: &[u32], block: &mut [u8], rows: &mut [u64],
 
 // Receives two copies as a pair, and writes what came of them.
 fn together(
+    host: &Host,
     onto: Onto,
     carries: &mut [u8],
     first: &mut [u8],
@@ -223,6 +244,7 @@ fn together(
     run: Run,
 ) -> Run {
     let t = paired(
+        host,
         run.receiver,
         carries,
         first,
@@ -231,11 +253,12 @@ fn together(
         rows,
         run.pdus,
     );
-    stored(onto, t, log, block, rows, run)
+    stored(host, onto, t, log, block, rows, run)
 }
 
 // Receives two copies, each alone and then as a pair.
 fn received(
+    host: &Host,
     onto: Onto,
     carries: &mut [u8],
     first: &mut [u8],
@@ -253,11 +276,12 @@ fn received(
         &mut *log,
         rows,
     );
-    together(onto, carries, first, second, log, block, rows, run)
+    together(host, onto, carries, first, second, log, block, rows, run)
 }
 
 // Reads two copies and takes them; stops where neither file gives another.
 fn turn(
+    host: &Host,
     task: Task,
     carries: &mut [u8],
     first: &mut [u8],
@@ -267,7 +291,7 @@ fn turn(
     rows: &mut [u64],
     run: Run,
 ) -> Run {
-    let r = read(task, first, second, run);
+    let r = read(host, task, first, second, run);
     let next = r.run;
     if next.status != records::WHOLE {
         return next;
@@ -276,6 +300,7 @@ fn turn(
     let m = r.second;
     let onto = task.onto;
     received(
+        host,
         onto,
         carries,
         &mut first[..n],
@@ -289,6 +314,7 @@ fn turn(
 
 // All turns. They are counted down from a number that no run uses up, since a proved loop has to end, and nothing says that a file does.
 fn all_turns(
+    host: &Host,
     task: Task,
     carries: &mut [u8],
     first: &mut [u8],
@@ -299,47 +325,47 @@ fn all_turns(
     start: Run,
 ) -> Run {
     let mut run = start;
-    let mut shown = files::second();
+    let mut shown = files::second(host);
     let mut turns = u64::MAX;
     while 0 < turns {
-        let next = turn(task, carries, first, second, log, block, rows, run);
+        let next = turn(host, task, carries, first, second, log, block, rows, run);
         run = next;
         if run.status != records::WHOLE {
             return run;
         }
-        shown = logging::progress(run.pdus, shown);
+        shown = logging::progress(host, run.pdus, shown);
         turns -= 1;
     }
     run
 }
 
 // Writes what stands after all PDUs, if all are logged.
-fn ended(onto: Onto, block: &mut [u8], run: Run) -> Run {
+fn ended(host: &Host, onto: Onto, block: &mut [u8], run: Run) -> Run {
     if run.status != records::END {
         return run;
     }
     let sink = onto.sink;
-    if output::end(sink, run.pdus, block) {
+    if output::end(host, sink, run.pdus, block) {
         return run;
     }
     with_status(run, logging::UNWRITTEN)
 }
 
 // The run before the first turn, from a receiver that is opened.
-fn start_of(task: Task, receiver: Receiver) -> Run {
+fn start_of(host: &Host, task: Task, receiver: Receiver) -> Run {
     Run {
         status: records::WHOLE,
         pdus: 0,
         first: records::WHOLE,
         second: records::WHOLE,
-        first_at: logging::offset(task.first),
-        second_at: logging::offset(task.second),
+        first_at: logging::offset(host, task.first),
+        second_at: logging::offset(host, task.second),
         receiver: receiver,
     }
 }
 
 // Logs all PDUs, from a receiver that is opened, and counts them. What stopped it before the end, its status says, and errno with that.
-pub fn log_all(task: Task, receiver: Receiver, rows: &mut [u64]) -> Run {
+pub fn log_all(host: &Host, task: Task, receiver: Receiver, rows: &mut [u64]) -> Run {
     let mut carries = [0u8; 12288];
     let mut first = [0u8; records::LONGEST];
     let mut second = [0u8; records::LONGEST];
@@ -347,11 +373,12 @@ pub fn log_all(task: Task, receiver: Receiver, rows: &mut [u64]) -> Run {
     let mut block = io::large_buffer();
     let onto = task.onto;
     let sink = onto.sink;
-    let start = start_of(task, receiver);
-    if !output::begin(sink, &mut block) {
+    let start = start_of(host, task, receiver);
+    if !output::begin(host, sink, &mut block) {
         return with_status(start, logging::UNWRITTEN);
     }
     let run = all_turns(
+        host,
         task,
         &mut carries,
         &mut first,
@@ -361,5 +388,5 @@ pub fn log_all(task: Task, receiver: Receiver, rows: &mut [u64]) -> Run {
         rows,
         start,
     );
-    ended(onto, &mut block, run)
+    ended(host, onto, &mut block, run)
 }

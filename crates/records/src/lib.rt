@@ -5,6 +5,8 @@
 ghost use Rattle.std.specs.Prelude.{◌≡◌, ◌+◌, ◌*◌, ◌<◌};
 ghost use Rattle.io.specs.Counts.{IsPrefixLen};
 
+use host::Host;
+
 // What came of reading: all of it, nothing since the file was at its end, an end of the file inside it, more than the buffer holds, or an error
 // that errno names.
 pub const WHOLE: u8 = 0;
@@ -21,7 +23,7 @@ pub const FAILED: u8 = 4;
 pub const LONGEST: usize = 20480;
 
 // What came of reading, and how many bytes stand in the buffer from its start on.
-#[derive(Drop)]
+#[derive(Clone, Copy)]
 pub struct Record {
     pub status: u8,
     pub length: usize,
@@ -39,13 +41,13 @@ fn status_of(got: isize, done: usize) -> u8 {
 }
 
 // Fills the buffer from a file. An empty buffer is full.
-pub fn fill(fd: i32, buf: &mut [u8]) -> Record
+pub fn fill(host: &Host, fd: i32, buf: &mut [u8]) -> Record
     ensures { IsPrefixLen result.length buf.new }
 {
     let mut done: usize = 0;
     while done < buf.len() {
         let rest = &mut buf[done..];
-        let got = libc::read(fd, &mut *rest);
+        let got = host.read(fd, &mut *rest);
         let count = io::count(got, rest);
         if count == 0 {
             return Record {
@@ -62,7 +64,7 @@ pub fn fill(fd: i32, buf: &mut [u8]) -> Record
 }
 
 // Reads so many bytes to the buffer's start: the part of a record after its head, so the file does not end before it.
-pub fn read_bytes(fd: i32, buf: &mut [u8], length: usize) -> Record
+pub fn read_bytes(host: &Host, fd: i32, buf: &mut [u8], length: usize) -> Record
     ensures { IsPrefixLen result.length buf.new }
 {
     if buf.len() < length {
@@ -71,7 +73,7 @@ pub fn read_bytes(fd: i32, buf: &mut [u8], length: usize) -> Record
             length: 0,
         };
     }
-    let got = fill(fd, &mut buf[..length]);
+    let got = fill(host, fd, &mut buf[..length]);
     if got.status == END {
         return Record {
             status: CUT,
@@ -95,11 +97,11 @@ pub fn two_bytes(low: u8, high: u8) -> usize
 }
 
 // Reads the next record to the buffer's start, of at most so many bytes. After an answer other than WHOLE, the file's place is not that of a record.
-fn read_limited(fd: i32, buf: &mut [u8], most: usize) -> Record
+fn read_limited(host: &Host, fd: i32, buf: &mut [u8], most: usize) -> Record
     ensures { IsPrefixLen result.length buf.new }
 {
     let mut head = [0u8; 2];
-    let got = fill(fd, &mut head);
+    let got = fill(host, fd, &mut head);
     if got.status != WHOLE {
         return Record {
             status: got.status,
@@ -113,37 +115,37 @@ fn read_limited(fd: i32, buf: &mut [u8], most: usize) -> Record
             length: 0,
         };
     }
-    read_bytes(fd, buf, length)
+    read_bytes(host, fd, buf, length)
 }
 
 // Reads the next record to the buffer's start.
-pub fn read(fd: i32, buf: &mut [u8]) -> Record
+pub fn read(host: &Host, fd: i32, buf: &mut [u8]) -> Record
     ensures { IsPrefixLen result.length buf.new }
 {
-    read_limited(fd, buf, 65535)
+    read_limited(host, fd, buf, 65535)
 }
 
 // The same of a file of PDUs: LONG where the record is longer than any PDU.
-pub fn read_pdu(fd: i32, buf: &mut [u8]) -> Record
+pub fn read_pdu(host: &Host, fd: i32, buf: &mut [u8]) -> Record
     ensures { IsPrefixLen result.length buf.new }
 {
-    read_limited(fd, buf, LONGEST)
+    read_limited(host, fd, buf, LONGEST)
 }
 
 // Writes a record of at most 65,535 bytes: in one write up to 4,096 bytes, else its length first. Answers whether all is written.
-pub fn write(fd: i32, bytes: &[u8]) -> bool {
+pub fn write(host: &Host, fd: i32, bytes: &[u8]) -> bool {
     if 65535 < bytes.len() {
         return false;
     }
     let head = [(bytes.len() % 256) as u8, (bytes.len() / 256) as u8];
     if 4096 < bytes.len() {
-        if !io::write_all(fd, &head) {
+        if !host.write_all(fd, &head) {
             return false;
         }
-        return io::write_all(fd, bytes);
+        return host.write_all(fd, bytes);
     }
     let mut block = [0u8; 4098];
     let at = text::put(&mut block, 0, &head);
     let end = text::put(&mut block, at, bytes);
-    io::write_all(fd, &block[..end])
+    host.write_all(fd, &block[..end])
 }

@@ -1,34 +1,42 @@
 // What `barzhilup log` says on standard error, a line or more in one write, and how it is used; on `logging`, `apart` and `mode_table`.
 #![tactic(auto)]
 
-use libc::STDERR_FILENO;
+use host::{Host, STDERR};
 use logging::marks;
 
-fn say(line: &[u8]) {
-    io::write_all(STDERR_FILENO, line);
+fn say(host: &Host, line: &[u8]) {
+    host.write_all(STDERR, line);
 }
 
 // Why no more PDUs are logged, after so many; nothing where all are, or where that is said already. PDUs are counted from 0; the next record is at a byte.
-pub fn ends(status: u8, from: &[u8], marking: &[u8], onto: &[u8], pdus: u64, place: u64) {
+pub fn ends(
+    host: &Host,
+    status: u8,
+    from: &[u8],
+    marking: &[u8],
+    onto: &[u8],
+    pdus: u64,
+    place: u64,
+) {
     match status {
         records::END | logging::UNSAVED => {}
         beside::PACKETS | beside::ADTS | beside::PSD | beside::LISTED | beside::SENT => {}
-        logging::UNWRITTEN => os::fail(onto),
+        logging::UNWRITTEN => host.fail(onto),
         marks::MISSING | marks::CUT | marks::UNREAD | marks::LEFT => {
-            marks_end(status, marking, pdus)
+            marks_end(host, status, marking, pdus)
         }
-        _ => record_ends(status, from, pdus, place),
+        _ => record_ends(host, status, from, pdus, place),
     }
 }
 
 // What is wrong with the record of a PDU at a byte of a file: the file ends inside it, it is longer than any PDU, or it cannot be read.
-pub fn record_ends(status: u8, from: &[u8], pdu: u64, place: u64) {
+pub fn record_ends(host: &Host, status: u8, from: &[u8], pdu: u64, place: u64) {
     if status == records::CUT {
-        files::say_number(from, b": ends inside the record of PDU ", pdu, b"\n");
+        files::say_number(host, from, b": ends inside the record of PDU ", pdu, b"\n");
         return;
     }
     if status != records::LONG {
-        os::fail(from);
+        host.fail(from);
         return;
     }
     let mut line = [0u8; 4800];
@@ -39,11 +47,11 @@ pub fn record_ends(status: u8, from: &[u8], pdu: u64, place: u64) {
         b": the record of PDU @, at byte @, has a length over 20480, which no PDU has\n",
         &[pdu, place],
     );
-    say(&line[..k]);
+    say(host, &line[..k]);
 }
 
 // At how many places bytes were passed over, and how many bytes, if there were any.
-pub fn passed(places: u64, bytes: u64) {
+pub fn passed(host: &Host, places: u64, bytes: u64) {
     if places == 0 {
         return;
     }
@@ -54,35 +62,53 @@ pub fn passed(places: u64, bytes: u64) {
         b"barzhilup log: places passed over @ (bytes @), each logged as a lost PDU\n",
         &[places, bytes],
     );
-    say(&line[..n]);
+    say(host, &line[..n]);
 }
 
 // What is wrong with the file of marks, after so many PDUs.
-fn marks_end(status: u8, marking: &[u8], pdus: u64) {
+fn marks_end(host: &Host, status: u8, marking: &[u8], pdus: u64) {
     match status {
         marks::MISSING => {
-            files::say_number(marking, b": ends before the marks of PDU ", pdus, b"\n")
+            files::say_number(
+                host,
+                marking,
+                b": ends before the marks of PDU ",
+                pdus,
+                b"\n",
+            )
         }
-        marks::CUT => files::say_number(marking, b": ends inside the marks of PDU ", pdus, b"\n"),
+        marks::CUT => files::say_number(
+            host,
+            marking,
+            b": ends inside the marks of PDU ",
+            pdus,
+            b"\n",
+        ),
         marks::LEFT => {
-            files::say_number(marking, b": has marks of more than the ", pdus, b" PDUs\n")
+            files::say_number(
+                host,
+                marking,
+                b": has marks of more than the ",
+                pdus,
+                b" PDUs\n",
+            )
         }
-        _ => os::fail(marking),
+        _ => host.fail(marking),
     }
 }
 
 // What is wrong with one of two files, of which so many records were read and so many PDUs logged, and whose next record is at a byte; nothing where it has a
 // record for each.
-pub fn side_ends(status: u8, from: &[u8], records: u64, pdus: u64, place: u64) {
+pub fn side_ends(host: &Host, status: u8, from: &[u8], records: u64, pdus: u64, place: u64) {
     match status {
         records::WHOLE => {}
-        records::END => shorter(from, records, pdus),
-        _ => record_ends(status, from, records, place),
+        records::END => shorter(host, from, records, pdus),
+        _ => record_ends(host, status, from, records, place),
     }
 }
 
 // A file that ends before the other one does.
-fn shorter(from: &[u8], records: u64, pdus: u64) {
+fn shorter(host: &Host, from: &[u8], records: u64, pdus: u64) {
     if records == pdus {
         return;
     }
@@ -94,11 +120,11 @@ fn shorter(from: &[u8], records: u64, pdus: u64) {
         b": has @ of @ PDUs: the others count as not come\n",
         &[records, pdus],
     );
-    say(&line[..k]);
+    say(host, &line[..k]);
 }
 
 // What each of two files gives alone, and where the pieces are taken from, by the counts of both.
-pub fn copies(rows: &[u64]) {
+pub fn copies(host: &Host, rows: &[u64]) {
     let mut lines = [0u8; 512];
     let n = counts::put_alone(
         &mut lines,
@@ -122,25 +148,26 @@ pub fn copies(rows: &[u64]) {
             counts::at(rows, apart::ALIKE),
         ],
     );
-    say(&lines[..k]);
+    say(host, &lines[..k]);
 }
 
 // More pairs were refused with 20 than PDUs were received: the two files may not have a record for each PDU.
-pub fn out_of_step() {
+pub fn out_of_step(host: &Host) {
     say(
+        host,
         b"barzhilup log: most pairs were refused with 20: does each file have a record for each PDU, also for those that did not come?\n",
     );
 }
 
 // What was received and logged.
-pub fn summary(pdus: u64, counts: &[u64]) {
+pub fn summary(host: &Host, pdus: u64, counts: &[u64]) {
     let mut lines = io::buffer();
     let n = counts::put_summary(&mut lines, pdus, counts);
-    say(&lines[..n]);
+    say(host, &lines[..n]);
 }
 
 // PDUs were refused, and none was received: the mode and the stream that are asked for may not be the file's.
-pub fn none_received(mode: u8, stream: u8) {
+pub fn none_received(host: &Host, mode: u8, stream: u8) {
     let mut line = [0u8; 128];
     let n = text::fill(
         &mut line,
@@ -148,11 +175,11 @@ pub fn none_received(mode: u8, stream: u8) {
         b"barzhilup log: no PDU was received: is this a file of PDUs of mode @, stream @?\n",
         &[mode as u64, stream as u64],
     );
-    say(&line[..n]);
+    say(host, &line[..n]);
 }
 
 // Every piece, or nearly every one, had a wrong CRC: the register that is asked for may not be the one that the file's CRCs start with.
-pub fn crcs_wrong(share: &[u8], register: u8) {
+pub fn crcs_wrong(host: &Host, share: &[u8], register: u8) {
     let mut line = [0u8; 128];
     let mut n = text::put(&mut line, 0, b"barzhilup log: ");
     n = text::put(&mut line, n, share);
@@ -162,27 +189,29 @@ pub fn crcs_wrong(share: &[u8], register: u8) {
         b" CRCs were wrong: is @ the start of this file's CRCs (--crc-start)?\n",
         &[register as u64],
     );
-    say(&line[..n]);
+    say(host, &line[..n]);
 }
 
 // All PDUs are logged, and packets among them were never sent: the last line.
-pub fn never_sent() {
+pub fn never_sent(host: &Host) {
     say(
+        host,
         b"barzhilup log: all PDUs are logged, but packets came that were never sent: is the file of --sent that of this drive?\n",
     );
 }
 
 // The help, on standard output: how the program is used, and the mode table.
-pub fn help() -> bool {
-    if !usage() {
+pub fn help(host: &Host) -> bool {
+    if !usage(host) {
         return false;
     }
-    mode_table::print(options::LOG)
+    mode_table::print(host, options::LOG)
 }
 
 // How the program is used, on standard output.
-fn usage() -> bool {
+fn usage(host: &Host) -> bool {
     files::print_usage(
+        host,
         options::LOG,
         b"usage: barzhilup log [--in FILE] [--out FILE] [OPTION]...
        barzhilup log --summary LOG

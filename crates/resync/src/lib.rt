@@ -3,6 +3,7 @@
 #![tactic(auto)]
 
 use ahead::Ahead;
+use host::Host;
 
 // What stands at a place: a record that is all there, the file's end, a record that the file ends inside of, a length that no PDU has, or more than the buffer
 // has room for. The first four are those of records.
@@ -15,14 +16,14 @@ pub const PASSED: u8 = 6;
 pub const ANY: u8 = 255;
 
 // What is asked of a PDU: a mode and a stream, or any.
-#[derive(Drop)]
+#[derive(Clone, Copy)]
 pub struct Wanted {
     pub mode: u8,
     pub stream: u8,
 }
 
 // What came of a look at a place, the length of the record there, and what is read ahead after it.
-#[derive(Drop)]
+#[derive(Clone, Copy)]
 struct Look {
     status: u8,
     length: usize,
@@ -31,7 +32,7 @@ struct Look {
 
 // What came of the next reading; where the record's bytes stand in the buffer, and how many they are; how many bytes are passed over; and what is read ahead
 // after it.
-#[derive(Drop)]
+#[derive(Clone, Copy)]
 pub struct Next {
     pub status: u8,
     pub from: usize,
@@ -41,7 +42,7 @@ pub struct Next {
 }
 
 // Whether records were found, the last place that was looked at, and what is read ahead.
-#[derive(Drop)]
+#[derive(Clone, Copy)]
 struct Found {
     found: bool,
     at: usize,
@@ -49,7 +50,7 @@ struct Found {
 }
 
 // Whether a PDU can be read, and the mode and the stream that it has.
-#[derive(Drop)]
+#[derive(Clone, Copy)]
 struct Pdu {
     right: bool,
     mode: u8,
@@ -82,11 +83,11 @@ fn short(a: Ahead) -> u8 {
 }
 
 // A record of so many bytes at a place, counted from the first byte that is read ahead.
-fn record_at(a: Ahead, buf: &mut [u8], at: usize, length: usize) -> Look {
+fn record_at(host: &Host, a: Ahead, buf: &mut [u8], at: usize, length: usize) -> Look {
     if records::LONGEST < length {
         return looked(records::LONG, length, a);
     }
-    let w = ahead::filled(a, buf, after(at, length));
+    let w = ahead::filled(host, a, buf, after(at, length));
     if ahead::size(w) < after(at, length) {
         return looked(short(w), length, w);
     }
@@ -94,7 +95,7 @@ fn record_at(a: Ahead, buf: &mut [u8], at: usize, length: usize) -> Look {
 }
 
 // What stands at such a place, where what is read ahead has the two bytes of a length, or all that there is.
-fn look_on(a: Ahead, buf: &mut [u8], at: usize) -> Look {
+fn look_on(host: &Host, a: Ahead, buf: &mut [u8], at: usize) -> Look {
     let size = ahead::size(a);
     if (size <= at) & !a.open {
         return looked(records::END, 0, a);
@@ -102,13 +103,13 @@ fn look_on(a: Ahead, buf: &mut [u8], at: usize) -> Look {
     if size < plus(at, 2) {
         return looked(short(a), 0, a);
     }
-    record_at(a, buf, at, ahead::length_at(buf, plus(a.from, at)))
+    record_at(host, a, buf, at, ahead::length_at(buf, plus(a.from, at)))
 }
 
 // What stands at such a place.
-fn look_at(a: Ahead, buf: &mut [u8], at: usize) -> Look {
-    let h = ahead::filled(a, buf, plus(at, 2));
-    look_on(h, buf, at)
+fn look_at(host: &Host, a: Ahead, buf: &mut [u8], at: usize) -> Look {
+    let h = ahead::filled(host, a, buf, plus(at, 2));
+    look_on(host, h, buf, at)
 }
 
 // What a PDU is to a reader without a receiver. It is left as it came.
@@ -167,7 +168,7 @@ fn found_if(found: bool, at: usize, ahead: Ahead) -> Found {
 }
 
 // A look at a place, and the PDU of the record there; one that is not there cannot be read.
-#[derive(Drop)]
+#[derive(Clone, Copy)]
 struct Seen {
     status: u8,
     length: usize,
@@ -195,8 +196,8 @@ fn with_pdu(l: Look, buf: &mut [u8], at: usize, wanted: Wanted) -> Seen {
     seen_with(l, p)
 }
 
-fn seen_at(a: Ahead, buf: &mut [u8], at: usize, wanted: Wanted) -> Seen {
-    let l = look_at(a, buf, at);
+fn seen_at(host: &Host, a: Ahead, buf: &mut [u8], at: usize, wanted: Wanted) -> Seen {
+    let l = look_at(host, a, buf, at);
     with_pdu(l, buf, at, wanted)
 }
 
@@ -207,12 +208,12 @@ fn goes_on(l: Seen) -> bool {
 }
 
 // Whether the records from a place on lead to a PDU that can be read, or to the file's end. As many as the buffer holds are looked at.
-fn leads(a: Ahead, buf: &mut [u8], start: usize, wanted: Wanted) -> Found {
+fn leads(host: &Host, a: Ahead, buf: &mut [u8], start: usize, wanted: Wanted) -> Found {
     let mut now = a;
     let mut at = start;
     let mut turns = u64::MAX;
     while 0 < turns {
-        let l = seen_at(now, buf, at, wanted);
+        let l = seen_at(host, now, buf, at, wanted);
         let ahead = l.ahead;
         now = ahead;
         if goes_on(l) | (l.status != records::WHOLE) {
@@ -225,14 +226,14 @@ fn leads(a: Ahead, buf: &mut [u8], start: usize, wanted: Wanted) -> Found {
 }
 
 // Whether a record begins at a place whose PDU can be read, and the records after it lead to another such or to the file's end.
-fn begins(a: Ahead, buf: &mut [u8], at: usize, wanted: Wanted) -> Found {
-    let l = seen_at(a, buf, at, wanted);
+fn begins(host: &Host, a: Ahead, buf: &mut [u8], at: usize, wanted: Wanted) -> Found {
+    let l = seen_at(host, a, buf, at, wanted);
     let ahead = l.ahead;
     let p = l.pdu;
     if !p.right {
         return found_if(false, at, ahead);
     }
-    leads(ahead, buf, after(at, l.length), wanted)
+    leads(host, ahead, buf, after(at, l.length), wanted)
 }
 
 fn answer(status: u8, from: usize, length: usize, passed: u64, ahead: Ahead) -> Next {
@@ -268,11 +269,11 @@ fn passed(a: Ahead, b: Ahead) -> Next {
 }
 
 // Passes over bytes up to the next place at which records begin, or to the file's end.
-fn search(a: Ahead, buf: &mut [u8], wanted: Wanted) -> Next {
+fn search(host: &Host, a: Ahead, buf: &mut [u8], wanted: Wanted) -> Next {
     let mut now = ahead::without(a, 1);
     let mut turns = u64::MAX;
     while 0 < turns {
-        let f = begins(now, buf, 0, wanted);
+        let f = begins(host, now, buf, 0, wanted);
         let ahead = f.ahead;
         now = ahead;
         if f.found | (ahead::size(now) == 0) {
@@ -286,18 +287,18 @@ fn search(a: Ahead, buf: &mut [u8], wanted: Wanted) -> Next {
 }
 
 // Where in the first record records begin, and what is read ahead; 0 where they do not.
-#[derive(Drop)]
+#[derive(Clone, Copy)]
 struct Inside {
     at: usize,
     ahead: Ahead,
 }
 
 // Looks for records that begin before a place, after the first byte that is read ahead: of a record that was cut, and then others written behind it.
-fn begun_inside(a: Ahead, buf: &mut [u8], end: usize, wanted: Wanted) -> Inside {
+fn begun_inside(host: &Host, a: Ahead, buf: &mut [u8], end: usize, wanted: Wanted) -> Inside {
     let mut now = a;
     let mut at: usize = 1;
     while at < end {
-        let f = begins(now, buf, at, wanted);
+        let f = begins(host, now, buf, at, wanted);
         let ahead = f.ahead;
         now = ahead;
         if f.found {
@@ -311,6 +312,7 @@ fn begun_inside(a: Ahead, buf: &mut [u8], end: usize, wanted: Wanted) -> Inside 
 // The first record, of so many bytes, where its PDU cannot be read or that of the next: where records begin before a place, it was cut or is none, and is passed
 // over up to these; else it stands if it may.
 fn settled(
+    host: &Host,
     a: Ahead,
     buf: &mut [u8],
     length: usize,
@@ -318,7 +320,7 @@ fn settled(
     stands: bool,
     wanted: Wanted,
 ) -> Next {
-    let i = begun_inside(a, buf, end, wanted);
+    let i = begun_inside(host, a, buf, end, wanted);
     let ahead = i.ahead;
     if i.at != 0 {
         return passed(ahead, ahead::without(ahead, i.at));
@@ -326,7 +328,7 @@ fn settled(
     if stands {
         return record(ahead, length);
     }
-    search(ahead, buf, wanted)
+    search(host, ahead, buf, wanted)
 }
 
 // Up to where records are looked for that begin after the first one does, of so many bytes: its end, or, where its PDU cannot be read, the place at which records
@@ -339,16 +341,24 @@ fn end_of(f: Found, length: usize, right: bool) -> usize {
 }
 
 // The first record, of so many bytes, which is taken at once where its PDU can be read and that of the next, or the file ends after it. An empty one is a lost PDU.
-fn checked(a: Ahead, buf: &mut [u8], length: usize, right: bool, wanted: Wanted) -> Next {
+fn checked(
+    host: &Host,
+    a: Ahead,
+    buf: &mut [u8],
+    length: usize,
+    right: bool,
+    wanted: Wanted,
+) -> Next {
     if length == 0 {
         return record(a, length);
     }
-    let f = leads(a, buf, after(0, length), wanted);
+    let f = leads(host, a, buf, after(0, length), wanted);
     let ahead = f.ahead;
     if f.found & right & (f.at == after(0, length)) {
         return record(ahead, length);
     }
     settled(
+        host,
         ahead,
         buf,
         length,
@@ -359,16 +369,16 @@ fn checked(a: Ahead, buf: &mut [u8], length: usize, right: bool, wanted: Wanted)
 }
 
 // The next record by a look at it and its PDU. Bytes at which no record begins are passed over.
-fn by_look(l: Seen, buf: &mut [u8], wanted: Wanted) -> Next {
+fn by_look(host: &Host, l: Seen, buf: &mut [u8], wanted: Wanted) -> Next {
     let ahead = l.ahead;
     let p = l.pdu;
     if l.status == records::END {
         return answer(records::END, 0, 0, 0, ahead);
     }
     if l.status == records::WHOLE {
-        return checked(ahead, buf, l.length, p.right, wanted);
+        return checked(host, ahead, buf, l.length, p.right, wanted);
     }
-    search(ahead, buf, wanted)
+    search(host, ahead, buf, wanted)
 }
 
 // What came of a reading; a read that failed stops it.
@@ -386,8 +396,8 @@ pub fn nothing(a: Ahead) -> Next {
 }
 
 // Reads the next record.
-pub fn read_next(a: Ahead, buf: &mut [u8]) -> Next {
-    let l = look_at(a, buf, 0);
+pub fn read_next(host: &Host, a: Ahead, buf: &mut [u8]) -> Next {
+    let l = look_at(host, a, buf, 0);
     let ahead = l.ahead;
     if l.status == records::WHOLE {
         return record(ahead, l.length);
@@ -396,14 +406,14 @@ pub fn read_next(a: Ahead, buf: &mut [u8]) -> Next {
 }
 
 // The same where bytes at which no record begins are passed over: PASSED, and then the records after them.
-pub fn resync_next(a: Ahead, buf: &mut [u8], wanted: Wanted) -> Next {
-    let l = seen_at(a, buf, 0, wanted);
-    unless_failed(by_look(l, buf, wanted))
+pub fn resync_next(host: &Host, a: Ahead, buf: &mut [u8], wanted: Wanted) -> Next {
+    let l = seen_at(host, a, buf, 0, wanted);
+    unless_failed(by_look(host, l, buf, wanted))
 }
 
 // The mode and the stream of the first PDU that can be read, if there is one; what came of the last look, how many records stand before its place, and how many
 // bytes.
-#[derive(Drop)]
+#[derive(Clone, Copy)]
 pub struct First {
     pub found: bool,
     pub mode: u8,
@@ -448,12 +458,18 @@ fn onward(at: usize, l: Seen, resync: bool) -> usize {
 }
 
 // Looks for the first PDU that can be read and is wanted, as far as the buffer holds all before it.
-pub fn first_readable(a: Ahead, buf: &mut [u8], resync: bool, wanted: Wanted) -> First {
+pub fn first_readable(
+    host: &Host,
+    a: Ahead,
+    buf: &mut [u8],
+    resync: bool,
+    wanted: Wanted,
+) -> First {
     let mut last = seen_with(looked(records::WHOLE, 0, a), none());
     let mut at: usize = 0;
     let mut count: u64 = 0;
     while count < u64::MAX {
-        let l = seen_at(last.ahead, buf, at, wanted);
+        let l = seen_at(host, last.ahead, buf, at, wanted);
         last = l;
         let next = onward(at, last, resync);
         if next == 0 {

@@ -37,7 +37,7 @@ pub const NEVER: u64 = 18446744073709551615;
 
 // A change: the PDU from which on it holds, and the row of settings from there on; the number of its line, from 1, and the place in the text where the next
 // one begins; and what is wrong with it, with the place of its line and of the wrong word in that.
-#[derive(Drop)]
+#[derive(Clone, Copy)]
 pub struct Change {
     pub pdu: u64,
     pub row: [u32; 22],
@@ -50,7 +50,7 @@ pub struct Change {
 }
 
 // A line so far: the row, and what is wrong with it, with the place of the word.
-#[derive(Drop)]
+#[derive(Clone, Copy)]
 struct Words {
     pdu: u64,
     row: [u32; 22],
@@ -177,7 +177,7 @@ fn taken(line: &[u8], from: usize, to: usize, read: Words) -> Words
     requires to_in_bounds { to ≤ length line.now }
 {
     let word = &line[from..to];
-    let equals = bytes::scan::find(word, 0, word.len(), b'=');
+    let equals = text::find(word, 0, word.len(), b'=');
     let name = named_settings::find(&word[0..equals]);
     let what = word_wrong(name, word, equals);
     if what != RIGHT {
@@ -251,7 +251,7 @@ fn read(line: &[u8], least: u64, row: [u32; 22]) -> Words {
 
 // A line up to its comment.
 fn content(line: &[u8]) -> &[u8] {
-    let end = bytes::scan::find(line, 0, line.len(), b'#');
+    let end = text::find(line, 0, line.len(), b'#');
     &line[0..end]
 }
 
@@ -290,7 +290,7 @@ fn found(text: &[u8], before: u64, place: usize, least: u64, row: [u32; 22]) -> 
     let mut at = place;
     while at < text.len() {
         line = std::num::wrapping_add_u64(line, 1);
-        let end = bytes::scan::find(text, at, text.len(), 10);
+        let end = text::find(text, at, text.len(), 10);
         let written = content(&text[at..end]);
         if word_from(written, 0) < written.len() {
             return changed(read(written, least, row), line, at, end + 1);

@@ -3,6 +3,7 @@
 
 pub mod trial;
 
+use host::Host;
 use packets::window;
 use packets::window::Window;
 use settings::Settings;
@@ -12,14 +13,14 @@ use writer::{Writer, Written};
 pub const NOWHERE: i32 = -1;
 
 // Where PDUs go, and the settings of each.
-#[derive(Drop)]
+#[derive(Clone, Copy)]
 pub struct Task {
     pub output: i32,
     pub settings: Settings,
 }
 
 // A run so far: whether it goes on, whether nothing went wrong, its writer, and the packets that wait.
-#[derive(Drop)]
+#[derive(Clone, Copy)]
 pub struct Run {
     pub going: bool,
     pub ok: bool,
@@ -51,6 +52,7 @@ pub fn begin(writer: Writer, window: Window) -> Run {
 
 // Reads ahead and sends a PDU; stops where no packet waits.
 pub fn turn(
+    host: &Host,
     task: Task,
     from: &[u8],
     onto: &[u8],
@@ -61,15 +63,16 @@ pub fn turn(
     run: Run,
 ) -> Run {
     let before = run.window;
-    let w = window::filled(from, before, lengths, bytes);
+    let w = window::filled(host, from, before, lengths, bytes);
     if w.end <= w.first {
         return ended(run, w);
     }
-    sent(task, onto, psd, w, lengths, bytes, pdu, run)
+    sent(host, task, onto, psd, w, lengths, bytes, pdu, run)
 }
 
 // Sends a PDU from the packets that wait, and drops those that ended; stops at a refusal, or where the PDU cannot be written.
 pub fn sent(
+    host: &Host,
     task: Task,
     onto: &[u8],
     psd: &[u8],
@@ -86,6 +89,7 @@ pub fn sent(
     let r = writer.write(settings, psd, offered, joined, pdu);
     if r.refusal != 0 {
         trial::say_refused(
+            host,
             onto,
             r.refusal,
             writer.mode,
@@ -95,7 +99,7 @@ pub fn sent(
         );
         return stopped(run, false);
     }
-    if !is_kept(task.output, onto, pdu) {
+    if !is_kept(host, task.output, onto, pdu) {
         return stopped(run, false);
     }
     let next = window::without(w, lengths, r.ended);
@@ -103,12 +107,12 @@ pub fn sent(
 }
 
 // Writes a PDU to its file, if it has one. Answers whether it is there; if not, says why.
-fn is_kept(output: i32, onto: &[u8], pdu: &[u8]) -> bool {
+fn is_kept(host: &Host, output: i32, onto: &[u8], pdu: &[u8]) -> bool {
     if output < 0 {
         return true;
     }
-    if !records::write(output, pdu) {
-        os::fail(onto);
+    if !records::write(host, output, pdu) {
+        host.fail(onto);
         return false;
     }
     true

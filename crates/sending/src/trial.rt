@@ -1,6 +1,7 @@
 // What the writer says to settings: whether it takes them, and which limit they are past where not.
 ghost use Rattle.std.specs.Prelude.{◌≤◌};
 
+use host::Host;
 use settings::Settings;
 use writer::Writer;
 
@@ -9,6 +10,7 @@ pub const OVER: usize = 20481;
 
 // Says which limit settings are past that the writer of a mode and stream refuses, on standard error after a label.
 pub fn say_refused(
+    host: &Host,
     label: &[u8],
     refusal: u32,
     mode: u8,
@@ -18,7 +20,7 @@ pub fn say_refused(
 ) {
     let mut words = [0u8; 256];
     let n = limits::put(&mut words, 0, refusal, mode, stream, length, settings);
-    files::say(label, &words[..n]);
+    files::say(host, label, &words[..n]);
 }
 
 // The size of a buffer for PDUs of a length.
@@ -33,6 +35,7 @@ pub fn size_for(length: usize) -> usize
 
 // Whether the writer takes the settings, the PSD and the length, tried on a packet of one byte; if not, says why.
 pub fn is_taken(
+    host: &Host,
     label: &[u8],
     settings: Settings,
     psd: &[u8],
@@ -46,6 +49,7 @@ pub fn is_taken(
         return true;
     }
     say_refused(
+        host,
         label,
         r.refusal,
         writer.mode,

@@ -9,7 +9,7 @@ ghost use Rattle.sent_packets.specs.Sent.{number_at, checksum_from};
 
 // Where a packet stands, counted from the first byte of its record or frame: from a byte to before another, at which the next record begins. Both are 0 where
 // no packet begins.
-#[derive(Drop)]
+#[derive(Clone, Copy)]
 pub struct Span {
     pub from: usize,
     pub to: usize,

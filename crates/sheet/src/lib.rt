@@ -4,40 +4,48 @@
 ghost use Rattle.io.specs.Counts.{IsPrefixLen};
 
 use clock::Clock;
+use host::Host;
 use options::COVERAGE;
 use page::title;
 
 // The value of an option as text of the page; nothing where it is not given.
-fn put_value(out: &mut [u8], at: usize, option: u8) -> usize {
+fn put_value(host: &Host, out: &mut [u8], at: usize, option: u8) -> usize {
     let mut value = io::buffer();
-    let n = options::value(COVERAGE, option, &mut value);
+    let n = options::value(host, COVERAGE, option, &mut value);
     title::put(out, at, &value[..n])
 }
 
 // The title into the buffer. Answers its length.
-pub fn title_of(buf: &mut [u8]) -> usize
+pub fn title_of(host: &Host, buf: &mut [u8]) -> usize
     ensures { IsPrefixLen result buf.new }
 {
-    if !options::given(COVERAGE, options::TITLE) {
+    if !options::given(host, COVERAGE, options::TITLE) {
         return text::put(buf, 0, b"Coverage");
     }
-    options::value(COVERAGE, options::TITLE, buf)
+    options::value(host, COVERAGE, options::TITLE, buf)
 }
 
 // The title as text of the page.
-fn put_title(out: &mut [u8], at: usize) -> usize {
+fn put_title(host: &Host, out: &mut [u8], at: usize) -> usize {
     let mut own = io::buffer();
-    let n = title_of(&mut own);
+    let n = title_of(host, &mut own);
     title::put(out, at, &own[..n])
 }
 
 // An option that is given, between two texts; nothing where it is not given.
-fn put_given(out: &mut [u8], at: usize, option: u8, before: &[u8], after: &[u8]) -> usize {
-    if !options::given(COVERAGE, option) {
+fn put_given(
+    host: &Host,
+    out: &mut [u8],
+    at: usize,
+    option: u8,
+    before: &[u8],
+    after: &[u8],
+) -> usize {
+    if !options::given(host, COVERAGE, option) {
         return at;
     }
     let mut n = text::put(out, at, before);
-    n = put_value(out, n, option);
+    n = put_value(host, out, n, option);
     text::put(out, n, after)
 }
 
@@ -77,8 +85,9 @@ section{break-before:page;break-inside:avoid}
 }
 
 // A line of the head, where its option is given.
-fn put_line(out: &mut [u8], at: usize, line: u8) -> usize {
+fn put_line(host: &Host, out: &mut [u8], at: usize, line: u8) -> usize {
     put_given(
+        host,
         out,
         at,
         std::num::wrapping_add_u8(options::STATION, line),
@@ -91,12 +100,12 @@ fn put_line(out: &mut [u8], at: usize, line: u8) -> usize {
 }
 
 // The lines of the head.
-fn put_lines(out: &mut [u8], at: usize) -> usize {
-    let mut n = put_line(out, at, 0);
-    n = put_line(out, n, 1);
-    n = put_line(out, n, 2);
-    n = put_line(out, n, 3);
-    put_line(out, n, 4)
+fn put_lines(host: &Host, out: &mut [u8], at: usize) -> usize {
+    let mut n = put_line(host, out, at, 0);
+    n = put_line(host, out, n, 1);
+    n = put_line(host, out, n, 2);
+    n = put_line(host, out, n, 3);
+    put_line(host, out, n, 4)
 }
 
 // How many bytes the PDUs have, from the least to the greatest, where that is known.
@@ -137,22 +146,36 @@ fn put_times(out: &mut [u8], at: usize, c: Clock, pdus: u32) -> usize {
 }
 
 // From the page's start to its heading.
-fn put_heading(out: &mut [u8]) -> usize {
+fn put_heading(host: &Host, out: &mut [u8]) -> usize {
     let mut n = put_start(out);
-    n = put_title(out, n);
+    n = put_title(host, out, n);
     n = put_style(out, n);
     n = text::put(out, n, b"</style>\n</head>\n<body>\n<h1>");
-    put_title(out, n)
+    put_title(host, out, n)
 }
 
 // All that stands above the overview, from the block's start on.
-pub fn put_head(out: &mut [u8], shortest: u32, longest: u32, c: Clock, pdus: u32) -> usize {
-    let mut n = put_heading(out);
+pub fn put_head(
+    host: &Host,
+    out: &mut [u8],
+    shortest: u32,
+    longest: u32,
+    c: Clock,
+    pdus: u32,
+) -> usize {
+    let mut n = put_heading(host, out);
     n = text::put(out, n, b"</h1>\n");
-    n = put_lines(out, n);
+    n = put_lines(host, out, n);
     n = put_lengths(out, n, shortest, longest);
     n = put_times(out, n, c, pdus);
-    put_given(out, n, options::NOTE, b"<p class=\"note\">", b"</p>\n")
+    put_given(
+        host,
+        out,
+        n,
+        options::NOTE,
+        b"<p class=\"note\">",
+        b"</p>\n",
+    )
 }
 
 // The beginning of the totals and what the picture's parts mean, which stand in a picture of their own.
@@ -166,9 +189,9 @@ pub fn put_legend_head(out: &mut [u8], at: usize) -> usize {
 }
 
 // The beginning of a page of rows, up to the title.
-pub fn put_page_start(out: &mut [u8], at: usize) -> usize {
+pub fn put_page_start(host: &Host, out: &mut [u8], at: usize) -> usize {
     let n = text::put(out, at, b"<section>\n<h2>");
-    put_title(out, n)
+    put_title(host, out, n)
 }
 
 // The end of a page of rows, and that of all.

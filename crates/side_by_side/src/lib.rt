@@ -25,7 +25,7 @@ pub fn block() -> [u8; 475000]
 const ENHANCED: u32 = 0x2000;
 
 // How many packets a row of words has, by their first words: those without bit 29 and those with it; and how many notes.
-#[derive(Drop)]
+#[derive(Clone, Copy)]
 pub struct Packets {
     pub plain: u64,
     pub marked: u64,
@@ -119,7 +119,7 @@ fn put_line(out: &mut [u8], at: usize, frame: u64, number: u32, core: u32, enhan
 
 // The lines of a result so far: how many bytes stand in the block, and the core packet whose line is still to come: its number and length, 0 if there
 // is none.
-#[derive(Drop)]
+#[derive(Clone, Copy)]
 struct Lines {
     at: usize,
     number: u32,

@@ -1,10 +1,11 @@
 // The summary of a drive again, from the CSV of its log, on `drive`, `counts` and `files`: each line is counted as what it tells of was counted in the run.
 #![tactic(auto)]
 
+use drive::Drive;
+use host::Host;
 use log_csv::entry::Entry;
 use log_csv::lines::Lines;
 use log_csv::{entry, lines};
-use drive::Drive;
 use outcome::Outcome;
 use receiver::Receiver;
 
@@ -21,7 +22,7 @@ const NOT_READ: u8 = 3;
 const UNCOUNTED: u8 = 4;
 
 // A reading so far: how it stands, how many lines were read, what is read ahead, and the drive.
-#[derive(Drop)]
+#[derive(Clone, Copy)]
 struct Run {
     state: u8,
     count: u64,
@@ -126,9 +127,9 @@ fn is_cut(d: Drive, ended: bool, e: Entry) -> bool {
 }
 
 // Reads a line and counts what it says; one that is cut is left out.
-fn turn(buf: &mut [u8], counts: &mut [u64], run: Run) -> Run {
+fn turn(host: &Host, buf: &mut [u8], counts: &mut [u64], run: Run) -> Run {
     let before = run.ahead;
-    let l = lines::next(before, buf);
+    let l = lines::next(host, before, buf);
     if l.status != lines::GOT {
         return ended(run, l.status);
     }
@@ -141,11 +142,11 @@ fn turn(buf: &mut [u8], counts: &mut [u64], run: Run) -> Run {
 }
 
 // All lines. They are counted down from a number that no file uses up, since a proved loop has to end, and nothing says that a file does.
-fn all_lines(buf: &mut [u8], counts: &mut [u64], start: Run) -> Run {
+fn all_lines(host: &Host, buf: &mut [u8], counts: &mut [u64], start: Run) -> Run {
     let mut run = start;
     let mut turns = u64::MAX;
     while 0 < turns {
-        let next = turn(buf, counts, run);
+        let next = turn(host, buf, counts, run);
         run = next;
         if run.state != GOING {
             return run;
@@ -156,48 +157,50 @@ fn all_lines(buf: &mut [u8], counts: &mut [u64], start: Run) -> Run {
 }
 
 // Says what is wrong with the file of a label, after so many lines; or that its log is not whole, unless it is.
-fn say(label: &[u8], state: u8, count: u64, whole: bool) {
+fn say(host: &Host, label: &[u8], state: u8, count: u64, whole: bool) {
     match state {
-        NOT_READ => os::fail(label),
+        NOT_READ => host.fail(label),
         WRONG => files::say_number(
+            host,
             label,
             b": line ",
             std::num::wrapping_add_u64(count, 1),
             b" is none of the CSV of barzhilup log, or not in its place\n",
         ),
         UNCOUNTED => files::say(
+            host,
             label,
             b": is an older log, without delivered and missing: they are not known\n",
         ),
-        _ => say_unless(whole, label),
+        _ => say_unless(host, whole, label),
     }
 }
 
 // Says that the log of a label is not whole, unless it is.
-fn say_unless(whole: bool, label: &[u8]) {
+fn say_unless(host: &Host, whole: bool, label: &[u8]) {
     if !whole {
-        files::say(label, b": has no last line: the log is not whole\n");
+        files::say(host, label, b": has no last line: the log is not whole\n");
     }
 }
 
 // Writes the lines of the summary to standard output. Answers whether they are written; if not, says why.
-fn written(pdus: u64, counts: &[u64]) -> bool {
+fn written(host: &Host, pdus: u64, counts: &[u64]) -> bool {
     let mut lines = io::buffer();
     let n = counts::put_summary(&mut lines, pdus, counts);
-    files::print_usage(options::LOG, &lines[..n])
+    files::print_usage(host, options::LOG, &lines[..n])
 }
 
 // The summary of the CSV in an open file, whose label this is, on standard output: of all that was logged, also where the CSV is cut, which is said. Answers
 // whether it is written; what went wrong is said.
-pub fn of_file(fd: i32, label: &[u8]) -> bool {
+pub fn of_file(host: &Host, fd: i32, label: &[u8]) -> bool {
     let mut buf = io::large_buffer();
     let mut counts = counts::none();
     let start = run_of(GOING, 0, lines::begin(fd), drive::begin());
-    let run = all_lines(&mut buf, &mut counts, start);
+    let run = all_lines(host, &mut buf, &mut counts, start);
     let d = run.drive;
-    say(label, run.state, run.count, d.whole);
+    say(host, label, run.state, run.count, d.whole);
     if run.state != READ {
         return false;
     }
-    written(d.count as u64, &counts)
+    written(host, d.count as u64, &counts)
 }

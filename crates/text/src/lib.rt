@@ -6,7 +6,7 @@ ghost use Rattle.io.specs.Counts.{IsPrefixLen};
 ghost use Rattle.text.specs.Text.{placed, with_digit, no_number, number_of};
 
 // A number that was read: whether the text is one, and its value, 0 where it is none.
-#[derive(Drop)]
+#[derive(Clone, Copy)]
 pub struct Number {
     pub ok: bool,
     pub value: u32,
@@ -158,4 +158,19 @@ pub fn parse(text: &[u8]) -> Number
         ok: true,
         value: value as u32,
     }
+}
+
+// The first place of a byte between two places, or the second one where it is not there.
+pub fn find(bytes: &[u8], from: usize, to: usize, byte: u8) -> usize
+    requires low { from ≤ to }
+    requires high { to ≤ length bytes.now }
+    ensures low { from ≤ result }
+    ensures high { result ≤ to }
+{
+    for i in from..to {
+        if bytes[i] == byte {
+            return i;
+        }
+    }
+    to
 }

@@ -4,10 +4,11 @@
 
 pub mod psd;
 
+use host::Host;
 use settings::Settings;
 
 // What is asked for; ok where every number is in its range.
-#[derive(Drop)]
+#[derive(Clone, Copy)]
 pub struct Transmission {
     pub ok: bool,
     pub mode: u8,
@@ -20,14 +21,14 @@ pub struct Transmission {
 }
 
 // A number of one byte: whether its option is right, and its value.
-#[derive(Drop)]
+#[derive(Clone, Copy)]
 struct Choice {
     ok: bool,
     value: u8,
 }
 
 // Settings by their names, and whether their options are right.
-#[derive(Drop)]
+#[derive(Clone, Copy)]
 struct Named {
     ok: bool,
     row: [u32; 22],
@@ -35,8 +36,9 @@ struct Named {
 
 // Whether every option is one that is known, with its value, packets and PSD are not both on standard input, and frames are not looked for among records; if
 // not, says what is wrong.
-pub fn check(command: u8) -> bool {
+pub fn check(host: &Host, command: u8) -> bool {
     if !files::check(
+        host,
         command,
         options::PSD,
         options::IN,
@@ -44,8 +46,11 @@ pub fn check(command: u8) -> bool {
     ) {
         return false;
     }
-    if options::given(command, options::RESYNC) & !options::given(command, options::ADTS) {
+    if options::given(host, command, options::RESYNC)
+        & !options::given(host, command, options::ADTS)
+    {
         options::complain(
+            host,
             command,
             options::RESYNC,
             b": nothing tells where a record of a packet begins (--adts)",
@@ -55,8 +60,8 @@ pub fn check(command: u8) -> bool {
     true
 }
 
-fn octet(command: u8, option: u8) -> Choice {
-    let n = options::number(command, option, 0, 0, 255);
+fn octet(host: &Host, command: u8, option: u8) -> Choice {
+    let n = options::number(host, command, option, 0, 0, 255);
     Choice {
         ok: n.ok,
         value: n.value as u8,
@@ -64,9 +69,9 @@ fn octet(command: u8, option: u8) -> Choice {
 }
 
 // The settings with that of one name, by its number, if its option is given.
-fn with_option(command: u8, number: u32, row: [u32; 22]) -> Named {
+fn with_option(host: &Host, command: u8, number: u32, row: [u32; 22]) -> Named {
     let option = std::num::wrapping_add_u8(options::BLEND, (number % 256) as u8);
-    if !options::given(command, option) {
+    if !options::given(host, command, option) {
         return Named { ok: true, row: row };
     }
     if number == named_settings::DISPLACEMENT {
@@ -75,7 +80,7 @@ fn with_option(command: u8, number: u32, row: [u32; 22]) -> Named {
             row: named_settings::with(row, number, 1),
         };
     }
-    let n = options::number(command, option, 0, 0, named_settings::most(number));
+    let n = options::number(host, command, option, 0, 0, named_settings::most(number));
     Named {
         ok: n.ok,
         row: named_settings::with(row, number, n.value),
@@ -83,12 +88,12 @@ fn with_option(command: u8, number: u32, row: [u32; 22]) -> Named {
 }
 
 // The settings of every PDU.
-fn settings_chosen(command: u8) -> Named {
+fn settings_chosen(host: &Host, command: u8) -> Named {
     let mut row = named_settings::none();
     let mut ok = true;
     let mut k: u32 = 0;
     while k < named_settings::COUNT {
-        let next = with_option(command, k, row);
+        let next = with_option(host, command, k, row);
         let with = next.row;
         row = with;
         ok = next.ok & ok;
@@ -98,12 +103,12 @@ fn settings_chosen(command: u8) -> Named {
 }
 
 // What a subcommand asks for, by the options that it knows.
-pub fn asked(command: u8) -> Transmission {
-    let mode = octet(command, options::MODE);
-    let stream = octet(command, options::STREAM);
-    let register = octet(command, options::CRC_START);
-    let length = options::number(command, options::LENGTH, 1024, 0, 65535);
-    let chosen = settings_chosen(command);
+pub fn asked(host: &Host, command: u8) -> Transmission {
+    let mode = octet(host, command, options::MODE);
+    let stream = octet(host, command, options::STREAM);
+    let register = octet(host, command, options::CRC_START);
+    let length = options::number(host, command, options::LENGTH, 1024, 0, 65535);
+    let chosen = settings_chosen(host, command);
     let row = chosen.row;
     Transmission {
         ok: mode.ok & stream.ok & register.ok & length.ok & chosen.ok,

@@ -1,31 +1,32 @@
 // The PSD of every PDU, from the file that an option names.
 ghost use Rattle.io.specs.Counts.{IsPrefixLen};
 
+use host::Host;
 use records::Record;
 
 // The PSD of every PDU: what its file holds, or as much of it as fills the buffer; none where no file is named.
-pub fn read(command: u8, buf: &mut [u8]) -> Record
+pub fn read(host: &Host, command: u8, buf: &mut [u8]) -> Record
     ensures { IsPrefixLen result.length buf.new }
 {
-    if !options::given(command, options::PSD) {
+    if !options::given(host, command, options::PSD) {
         return Record {
             status: records::WHOLE,
             length: 0,
         };
     }
     let mut label = files::label_buffer();
-    let file = files::opened(command, options::PSD, &mut label);
+    let file = files::opened(host, command, options::PSD, &mut label);
     if file.fd < 0 {
         return Record {
             status: records::FAILED,
             length: 0,
         };
     }
-    let read = records::fill(file.fd, buf);
+    let read = records::fill(host, file.fd, buf);
     if read.status == records::FAILED {
         let n = file.length;
-        os::fail(&label[..n]);
+        host.fail(&label[..n]);
     }
-    libc::close(file.fd);
+    host.close(file.fd);
     read
 }

@@ -6,6 +6,7 @@ mod report;
 
 use backlog::{columns, drawing};
 use count_source::{arguments, input};
+use host::Host;
 use latency::{Answer, Spacing};
 use options::LATENCY;
 use sending::trial;
@@ -15,7 +16,7 @@ use transmission::Transmission;
 const ROOM: usize = 4097;
 
 // The mode and stream that are tried, and the latency that is drawn.
-#[derive(Drop)]
+#[derive(Clone, Copy)]
 struct Job {
     mode: u8,
     stream: u8,
@@ -23,31 +24,32 @@ struct Job {
 }
 
 // The program: answers its exit status.
-pub fn program() -> i32 {
-    if options::given(LATENCY, options::HELP) {
-        return files::status(LATENCY, report::usage());
+pub fn program(host: &Host) -> i32 {
+    if options::given(host, LATENCY, options::HELP) {
+        return files::status(host, LATENCY, report::usage(host));
     }
-    if !arguments::check() {
+    if !arguments::check(host) {
         return files::WRONG;
     }
-    let asked = transmission::asked(LATENCY);
-    let draw = arguments::draw();
+    let asked = transmission::asked(host, LATENCY);
+    let draw = arguments::draw(host);
     let mut counts = [0u32; ROOM];
-    let listed = arguments::from_option(&mut counts);
+    let listed = arguments::from_option(host, &mut counts);
     if !asked.ok | !draw.ok | !listed.ok {
         return files::WRONG;
     }
-    let done = run(asked, draw.value as u8, listed.count, &mut counts);
-    files::status(LATENCY, done)
+    let done = run(host, asked, draw.value as u8, listed.count, &mut counts);
+    files::status(host, LATENCY, done)
 }
 
 // Whether the table has a mode and stream; if not, says so.
-fn is_listed(asked: Transmission) -> bool {
+fn is_listed(host: &Host, asked: Transmission) -> bool {
     match latency::spacing_for(asked.mode, asked.stream, &[0u32]) {
         Spacing::Every(_) => true,
         Spacing::Refused(n) => {
             let settings = asked.settings;
             trial::say_refused(
+                host,
                 b"barzhilup latency",
                 n,
                 asked.mode,
@@ -61,43 +63,43 @@ fn is_listed(asked: Transmission) -> bool {
 }
 
 // Reads the counts, unless an option has them. Answers whether all is done; what went wrong is said.
-fn run(asked: Transmission, draw: u8, count: usize, counts: &mut [u32]) -> bool {
-    if !is_listed(asked) {
+fn run(host: &Host, asked: Transmission, draw: u8, count: usize, counts: &mut [u32]) -> bool {
+    if !is_listed(host, asked) {
         return false;
     }
     let mut label = files::label_buffer();
-    let n = arguments::put_label(&mut label);
+    let n = arguments::put_label(host, &mut label);
     let job = Job {
         mode: asked.mode,
         stream: asked.stream,
         drawn: draw,
     };
-    if options::given(LATENCY, options::COUNTS) {
-        return tried(job, &label[..n], columns::part(counts, count));
+    if options::given(host, LATENCY, options::COUNTS) {
+        return tried(host, job, &label[..n], columns::part(counts, count));
     }
-    let read = input::read(&label[..n], asked, counts);
+    let read = input::read(host, &label[..n], asked, counts);
     if !read.ok {
         return false;
     }
-    tried(job, &label[..n], columns::part(counts, read.count))
+    tried(host, job, &label[..n], columns::part(counts, read.count))
 }
 
 // Tries the latencies.
-fn tried(job: Job, label: &[u8], counts: &[u32]) -> bool {
+fn tried(host: &Host, job: Job, label: &[u8], counts: &[u32]) -> bool {
     let answer = latency::smallest(job.mode, job.stream, counts);
     match answer {
         Answer::Refused(_) => {
-            report::refused(label, counts);
+            report::refused(host, label, counts);
             false
         }
-        Answer::Smallest(v) => with_answer(job, counts, answer, v),
-        Answer::AllDry => with_answer(job, counts, answer, 7),
+        Answer::Smallest(v) => with_answer(host, job, counts, answer, v),
+        Answer::AllDry => with_answer(host, job, counts, answer, 7),
     }
 }
 
 // The job with the latency that is drawn: the one asked for, or that of the answer.
-fn drawing_of(job: Job, v: u8) -> Job {
-    if options::given(LATENCY, options::DRAW) {
+fn drawing_of(host: &Host, job: Job, v: u8) -> Job {
+    if options::given(host, LATENCY, options::DRAW) {
         return job;
     }
     Job {
@@ -108,53 +110,67 @@ fn drawing_of(job: Job, v: u8) -> Job {
 }
 
 // Makes the picture's file, where one is asked for.
-fn with_answer(job: Job, counts: &[u32], answer: Answer, v: u8) -> bool {
-    let drawn = drawing_of(job, v);
-    if !options::given(LATENCY, options::SVG) {
-        return with_picture(drawn, counts, answer, b"", -1);
+fn with_answer(host: &Host, job: Job, counts: &[u32], answer: Answer, v: u8) -> bool {
+    let drawn = drawing_of(host, job, v);
+    if !options::given(host, LATENCY, options::SVG) {
+        return with_picture(host, drawn, counts, answer, b"", -1);
     }
     let mut label = files::label_buffer();
-    let picture = files::opened(LATENCY, options::SVG, &mut label);
+    let picture = files::opened(host, LATENCY, options::SVG, &mut label);
     if picture.fd < 0 {
         return false;
     }
     let n = picture.length;
-    with_picture(drawn, counts, answer, &label[..n], picture.fd)
+    with_picture(host, drawn, counts, answer, &label[..n], picture.fd)
 }
 
 // Makes the table's file, and writes both. Where that file is not made, the picture's goes, too.
-fn with_picture(job: Job, counts: &[u32], answer: Answer, shown: &[u8], picture: i32) -> bool {
+fn with_picture(
+    host: &Host,
+    job: Job,
+    counts: &[u32],
+    answer: Answer,
+    shown: &[u8],
+    picture: i32,
+) -> bool {
     let mut onto = files::label_buffer();
-    let output = files::opened(LATENCY, options::OUT, &mut onto);
+    let output = files::opened(host, LATENCY, options::OUT, &mut onto);
     if output.fd < 0 {
-        files::unmake(LATENCY, options::SVG);
+        files::unmake(host, LATENCY, options::SVG);
         return false;
     }
     let n = output.length;
-    let done = write_table(job, counts, answer, output.fd, &onto[..n]);
-    let drawn = draw(job, counts, picture, shown);
-    report::summary(counts, answer);
+    let done = write_table(host, job, counts, answer, output.fd, &onto[..n]);
+    let drawn = draw(host, job, counts, picture, shown);
+    report::summary(host, counts, answer);
     done & drawn
 }
 
 // Writes a file and closes it. Answers whether all is there; if not, says why.
-fn write(fd: i32, label: &[u8], block: &[u8]) -> bool {
-    if !io::write_all(fd, block) {
-        os::fail(label);
-        libc::close(fd);
+fn write(host: &Host, fd: i32, label: &[u8], block: &[u8]) -> bool {
+    if !host.write_all(fd, block) {
+        host.fail(label);
+        host.close(fd);
         return false;
     }
-    files::close(fd, label)
+    files::close(host, fd, label)
 }
 
-fn write_table(job: Job, counts: &[u32], answer: Answer, output: i32, onto: &[u8]) -> bool {
+fn write_table(
+    host: &Host,
+    job: Job,
+    counts: &[u32],
+    answer: Answer,
+    output: i32,
+    onto: &[u8],
+) -> bool {
     let mut block = io::buffer();
     let n = latency_table::put(&mut block, job.mode, job.stream, counts, answer);
-    write(output, onto, &block[..n])
+    write(host, output, onto, &block[..n])
 }
 
 // Draws the picture, if it has a file.
-fn draw(job: Job, counts: &[u32], picture: i32, shown: &[u8]) -> bool {
+fn draw(host: &Host, job: Job, counts: &[u32], picture: i32, shown: &[u8]) -> bool {
     if picture < 0 {
         return true;
     }
@@ -162,5 +178,5 @@ fn draw(job: Job, counts: &[u32], picture: i32, shown: &[u8]) -> bool {
     let trial = latency::try_latency(job.mode, job.stream, counts, job.drawn);
     let bench = columns::bench_of(job.mode, job.stream, job.drawn, trial.ticks as usize);
     let n = drawing::put(&mut block, bench, counts, trial);
-    write(picture, shown, &block[..n])
+    write(host, picture, shown, &block[..n])
 }

@@ -1,6 +1,6 @@
 // What the program says on standard error, a line in one write, and how it is used.
+use host::{Host, STDERR};
 use latency::Answer;
-use libc::STDERR_FILENO;
 use options::LATENCY;
 
 // The first count over 63; how many there are where none is.
@@ -16,16 +16,17 @@ fn first_over(counts: &[u32]) -> usize {
 }
 
 // Why counts are refused with 21.
-pub fn refused(label: &[u8], counts: &[u32]) {
+pub fn refused(host: &Host, label: &[u8], counts: &[u32]) {
     if counts.len() == 0 {
-        files::say(label, b": refused with 21: no counts\n");
+        files::say(host, label, b": refused with 21: no counts\n");
         return;
     }
     if 4096 < counts.len() {
-        files::say(label, b": refused with 21: more than 4,096 counts\n");
+        files::say(host, label, b": refused with 21: more than 4,096 counts\n");
         return;
     }
     files::say_number(
+        host,
         label,
         b": refused with 21: a count over 63, that of PDU ",
         first_over(counts) as u64,
@@ -34,7 +35,7 @@ pub fn refused(label: &[u8], counts: &[u32]) {
 }
 
 // What was tried, and what was found.
-pub fn summary(counts: &[u32], answer: Answer) {
+pub fn summary(host: &Host, counts: &[u32], answer: Answer) {
     let mut line = [0u8; 256];
     let mut n = options::put_program(&mut line, LATENCY);
     n = text::fill(
@@ -44,19 +45,20 @@ pub fn summary(counts: &[u32], answer: Answer) {
         &[counts.len() as u64, latency_table::packets_of(counts)],
     );
     n = latency_table::put_answer(&mut line, n, answer);
-    io::write_all(STDERR_FILENO, &line[..n]);
+    host.write_all(STDERR, &line[..n]);
 }
 
 // How the program is used, on standard output.
-pub fn usage() -> bool {
-    if !print_options() {
+pub fn usage(host: &Host) -> bool {
+    if !print_options(host) {
         return false;
     }
-    mode_table::print(LATENCY)
+    mode_table::print(host, LATENCY)
 }
 
-fn print_options() -> bool {
+fn print_options(host: &Host) -> bool {
     files::print_usage(
+        host,
         LATENCY,
         b"usage: barzhilup latency [--in FILE] [--out FILE] [OPTION]...
 
