@@ -5,11 +5,11 @@ use Rattle.snapshot.proofs.Counts.{counts-none, counts_some}
 use Rattle.snapshot.proofs.counts_length.Statement.{statement}
 use Rattle.snapshot.proofs.counts_length.Tie as tie
 
-returns : tie.Need-returns
-returns c = (sym (ap length (counts_some c.before.before.args.r c.if1.true)), omega arith)
+returns : tie.Need-returns-then-r-ne0
+returns c = (sym (ap length (counts_some c.before.before.args.r c.if-r-ne0.true)), omega arith)
 
-returns-2 : tie.Need-returns-2
-returns-2 c = (sym (ap length (counts-none c.before.before.args.r c.if1.false)), omega arith)
+returns-2 : tie.Need-returns
+returns-2 c = (sym (ap length (counts-none c.before.before.args.r c.if-r-ne0.false)), omega arith)
 
-pub counts-length-spec : {M : Type 1} → statement M
-counts-length-spec = tie.close (tie.spec returns returns-2)
+pub counts_length_spec : {M : Type 1} → statement M
+counts_length_spec = tie.close (tie.spec returns returns-2)

@@ -10,7 +10,7 @@ returns c =
     let a = c.before.before.before.before.before.args in
     (omega (arith, head-count (kinds a.register a.programs) a.r), omega arith)
 
-pub head-length-spec : {M : Type 1} → statement M
-head-length-spec =
+pub head_length_spec : {M : Type 1} → statement M
+head_length_spec =
     tie.close (tie.spec (λ c κs. search rules) (λ c. search rules) (λ c κs. search rules) (λ c. search rules) (λ c κs. search rules) (λ c. search rules)
     (λ c κs. search rules) (λ c. search rules) returns)

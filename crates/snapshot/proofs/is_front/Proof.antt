@@ -15,40 +15,40 @@ use Rattle.snapshot.proofs.is_front.Tie as tie
 abbrev head : tie.Start → List ℕ
 head s = head_words (kinds s.args.register s.args.programs) s.args.r
 
-abbrev begun : tie.After-put-head → tie.Start
+abbrev begun : tie.After-put_head-n → tie.Start
 begun p = p.before.before.before
 
-written : (p : tie.After-put-head) → take p.put-head.result p.put-head.new.0 ≡ head (begun p)
-written p = taken_back _ p.put-head.new.0 (head (begun p)) p.put-head.result p.put-head.ensures.0 p.put-head.ensures.1
+written : (p : tie.After-put_head-n) → take p.put_head-n.result p.put_head-n.new.words ≡ head (begun p)
+written p = taken_back _ p.put_head-n.new.words (head (begun p)) p.put_head-n.result p.put_head-n.ensures.0 p.put_head-n.ensures.1
 
-put-head-requires : tie.Need-put-head-requires
+put-head-requires : tie.Need-put_head-n-requires
 put-head-requires c κs = head_few (kinds c.before.before.args.register c.before.before.args.programs) c.before.before.args.r
 
-array-share-prefix-head : tie.Need-array-share-prefix-head
+array-share-prefix-head : tie.Need-slice_bounds-head-end
 array-share-prefix-head c =
     let s = begun c.before in
-    omega (arith, c.before.put-head.ensures.0, c.before.put-head.auto.0, head_few (kinds s.args.register s.args.programs) s.args.r)
+    omega (arith, c.before.put_head-n.ensures.0, c.before.put_head-n.auto.words, head_few (kinds s.args.register s.args.programs) s.args.r)
 
-slice-aggregate-begins : tie.Need-slice-aggregate-begins
+slice-aggregate-begins : tie.Need-slice_bounds-begins-end
 slice-aggregate-begins c =
     let p = c.before.before in
-    p.put-head.ensures.0 ∙ ap length (sym (written p))
+    p.put_head-n.ensures.0 ∙ ap length (sym (written p))
 
-returns : tie.Need-returns
+returns : tie.Need-returns-then-not-begins
 returns c =
     let g = c.before in
     let p = g.before.before.before in
     let a = (begun p).args in
-    front-not a.words.now (kinds a.register a.programs) a.r (take p.put-head.result p.put-head.new.0) (written p) g.begins.result g.begins.ensures (c.if1.true)
+    front-not a.words.now (kinds a.register a.programs) a.r (take p.put_head-n.result p.put_head-n.new.words) (written p) g.begins.result g.begins.ensures (c.if-not-begins.true)
 
-returns-2 : tie.Need-returns-2
+returns-2 : tie.Need-returns
 returns-2 c =
     let g = c.before.before.before in
     let p = g.before.before.before in
     let a = (begun p).args in
-    front-yes a.words.now (kinds a.register a.programs) a.r (take p.put-head.result p.put-head.new.0) (written p) g.begins.result g.begins.ensures p.put-head.result c.is-rest.result (c.before.before.if1.false) p.put-head.ensures.0 c.is-rest.ensures
+    front-yes a.words.now (kinds a.register a.programs) a.r (take p.put_head-n.result p.put_head-n.new.words) (written p) g.begins.result g.begins.ensures p.put_head-n.result c.is_rest.result (c.before.before.if-not-begins.false) p.put_head-n.ensures.0 c.is_rest.ensures
 
-pub is-front-spec : {M : Type 1} → statement M
-is-front-spec =
+pub is_front_spec : {M : Type 1} → statement M
+is_front_spec =
     tie.close (tie.spec (λ c. search rules) put-head-requires array-share-prefix-head slice-aggregate-begins (λ c κs. search rules) returns (λ c. search rules)
     (λ c κs. search rules) returns-2)

@@ -11,7 +11,7 @@ use Rattle.snapshot.proofs.receiver_in.Statement.{statement}
 use Rattle.snapshot.proofs.receiver_in.Tie as tie
 
 -- the words from the first of kind 6 on
-counts-from : (c : tie.After-place-of)
+counts-from : (c : tie.After-place_of)
     → take (length c.before.before.before.before.before.before.before.args.words.now - c.place_of.result) (drop c.place_of.result c.before.before.before.before.before.before.before.args.words.now)
     ≡ from_kind 6 c.before.before.before.before.before.before.before.args.words.now
 counts-from c =
@@ -26,26 +26,26 @@ returns c =
     let v = p.before in
     let f = counts-from p in
     let delivered = c.before.before.count_at.ensures ∙ ap (λ (l : List ℕ). get_or l 0 0 % 0x10000 * 0x10000 + get_or l 1 0 % 0x10000) f in
-    let missing = c.before.count-at2.ensures ∙ ap (λ (l : List ℕ). get_or l 2 0 % 0x10000 * 0x10000 + get_or l 3 0 % 0x10000) f in
+    let missing = c.before.count_at-2.ensures ∙ ap (λ (l : List ℕ). get_or l 2 0 % 0x10000 * 0x10000 + get_or l 3 0 % 0x10000) f in
     let last = ap (λ (n : ℕ). n % 0x100) (c.half_at.ensures.0 ∙ ap (λ (l : List ℕ). get_or l 4 0 % 0x10000) f) in
     λ i. record {
-      mode = v.before.before.before.before.value_of_lem.ensures i % 16;
-      stream = v.before.before.before.before.value_of_lem.ensures i / 16 % 4;
-      register = v.before.value-of4.ensures i % 0x100;
-      entitled = v.value-of5.ensures i % 0x100;
+      mode = v.before.before.before.before.value_of-state.ensures i % 16;
+      stream = v.before.before.before.before.value_of-state.ensures i / 16 % 4;
+      register = v.before.value_of-register.ensures i % 0x100;
+      entitled = v.value_of-programs.ensures i % 0x100;
       known = h.has.ensures i;
-      sequence = v.before.before.before.value-of2.ensures i % 8;
-      held = v.before.before.value-of3.ensures i % 0x10000;
-      number = v.before.before.value-of3.ensures i / 0x10000 % 64;
-      serviced = eqb (v.value-of5.ensures i / 0x800 % 2) 1;
-      services = v.value-of5.ensures i / 0x100 % 8;
+      sequence = v.before.before.before.value_of-sequence.ensures i % 8;
+      held = v.before.before.value_of-held.ensures i % 0x10000;
+      number = v.before.before.value_of-held.ensures i / 0x10000 % 64;
+      serviced = eqb (v.value_of-programs.ensures i / 0x800 % 2) 1;
+      services = v.value_of-programs.ensures i / 0x100 % 8;
       delivered = delivered i;
       missing = missing i;
       last = last i;
     }
 
-pub receiver-in-spec : {M : Type 1} → statement M
-receiver-in-spec =
+pub receiver_in_spec : {M : Type 1} → statement M
+receiver_in_spec =
     tie.close (tie.spec (λ c κs. search rules) (λ c κs. search rules) (λ c κs. search rules) (λ c κs. search rules) (λ c κs. search rules)
     (λ c κs. search rules) (λ c. search rules) (λ c. search rules) (λ c. search rules) (λ c. search rules) (λ c. search rules) (λ c. search rules)
     (λ c. search rules) (λ c. search rules) (λ c κs. search rules) (λ c. search rules) (λ c. search rules) (λ c. search rules) (λ c. search rules)
