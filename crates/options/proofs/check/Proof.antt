@@ -3,14 +3,14 @@ use Prim.Native.Nat.{◌-◌}
 use Rattle.options.proofs.check.Statement.{statement}
 use Rattle.options.proofs.check.Tie as tie
 
-abbrev invariant-loop : tie.invariant-loop
+abbrev invariant-loop : tie.invariant-loop-i
 invariant-loop command count right₀ i₀ right i = Unit {0}
 
-abbrev decreases-loop : tie.decreases-loop
+abbrev decreases-loop : tie.decreases-loop-i
 decreases-loop command count right₀ i₀ right i = count - i
 
-pub check-spec : {M : Type 1} → statement M
-check-spec =
+pub check_spec : {M : Type 1} → statement M
+check_spec =
     tie.close
     (tie.spec
     invariant-loop

@@ -3,10 +3,10 @@ use Prim.Native.Nat.{◌-◌}
 use Rattle.options.proofs.find.Statement.{statement}
 use Rattle.options.proofs.find.Tie as tie
 
-abbrev invariant-loop : tie.invariant-loop
+abbrev invariant-loop : tie.invariant-loop-i
 invariant-loop command option count i₀ i = Unit {0}
 
-abbrev decreases-loop : tie.decreases-loop
+abbrev decreases-loop : tie.decreases-loop-i
 decreases-loop command option count i₀ i = count - i
 
 pub find_spec : {M : Type 1} → statement M

@@ -5,7 +5,7 @@ use lib.Seq.{length-take-le}
 use Rattle.options.proofs.head.Statement.{statement}
 use Rattle.options.proofs.head.Tie as tie
 
-returns : tie.Need-returns
+returns : tie.Need-returns-then-errno-eq-ENAMETOOLONG
 returns c = (omega arith, sym (length-take-le _ _ (omega arith)))
 
 pub head_spec : {M : Type 1} → statement M
