@@ -7,7 +7,7 @@ returns : tie.Need-returns
 returns c =
     let b = c.before in
     let a = b.before in
-    choice-is _ _ a.count.result b.count2.result _ a.count.ensures b.count2.ensures c.better-of.ensures
+    choice-is _ _ a.count-a.result b.count-b.result _ a.count-a.ensures b.count-b.ensures c.better_of.ensures
 
-pub choice-spec : {M : Type 1} → statement M
-choice-spec = tie.close (tie.spec (λ c κs. search rules) (λ c κs. search rules) (λ c κs. search rules) returns)
+pub choice_spec : {M : Type 1} → statement M
+choice_spec = tie.close (tie.spec (λ c κs. search rules) (λ c κs. search rules) (λ c κs. search rules) returns)

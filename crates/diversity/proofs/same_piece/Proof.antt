@@ -11,10 +11,10 @@ returns c =
     let a = e.before in
     let s = a.before.before.before in
     c.same_bytes.ensures
-    ∙ ap₂ same_list (piece_of s.args.first.now s.args.t3 s.args.k a.place.result e.place2.result a.place.ensures.0 e.place2.ensures.0) (piece_of s.args.second.now s.args.t3 s.args.k a.place.result e.place2.result a.place.ensures.0 e.place2.ensures.0)
+    ∙ ap₂ same_list (piece_of s.args.first.now s.args.marks s.args.k a.place-a.result e.place-e.result a.place-a.ensures.0 e.place-e.ensures.0) (piece_of s.args.second.now s.args.marks s.args.k a.place-a.result e.place-e.result a.place-a.ensures.0 e.place-e.ensures.0)
 
-pub same-piece-spec : {M : Type 1} → statement M
-same-piece-spec =
+pub same_piece_spec : {M : Type 1} → statement M
+same_piece_spec =
     tie.close (tie.spec (λ c. search rules) (λ c. search rules) (λ c κs. search rules) (λ c. search rules) (λ c. search rules) (λ c. search rules)
     (λ c. search rules) (λ c κs. search rules) (λ c. search rules) (λ c. search rules) (λ c. search rules) (λ c. search rules) (λ c. search rules)
     (λ c. search rules) (λ c κs. search rules) returns)

@@ -4,25 +4,25 @@ use borrow.Author.Rules.{rules}
 use Rattle.outcome.proofs.of_record.Statement.{statement}
 use Rattle.outcome.proofs.of_record.Tie as tie
 
-returns : tie.Need-returns
+returns : tie.Need-returns-then-pdu-eq0
 returns c =
     let h = c.before.before in
     let e = h.before.before in
     let a = e.before.before.before.before.before.args in
-    empty-record a.marks.now a.carry.now a.pdu.now a.log.now a.receiver h.marked-lost.result _ e.if1.true h.marked-lost.ensures.0 h.marked-lost.ensures.1
+    empty-record a.marks.now a.carry.now a.pdu.now a.log.now a.receiver h.marked_lost.result _ e.if-pdu-eq0.true h.marked_lost.ensures.0 h.marked_lost.ensures.1
 
-returns-2 : tie.Need-returns-2
+returns-2 : tie.Need-returns-then-r-ne0
 returns-2 c =
     let p = c.before.before.before in
     let i = p.before.before in
     let f = i.before.before.before.before.before.before.before.before in
     let b = f.before.before.before.before in
     let e = b.before.before in
-    let a = e.before.before.before.before.before.args in
-    let h = f.receive-marked in
-    refused-record a.marks.now a.carry.now a.pdu.now a.log.now a.receiver e.if1.false h.result _ _ _ h.ensures.0 h.ensures.1.0 h.ensures.1.1.0 h.ensures.1.1.1 _ h.auto.1.1.0 c.outcome-of.result p.passed_over.result _ (λ q. omega (arith, q, i.if2.true)) c.outcome-of.ensures p.passed_over.ensures.0 p.passed_over.ensures.1
+    let a = e.before.before.before.before.args in
+    let h = f.receive_marked-r in
+    refused-record a.marks.now a.carry.now a.pdu.now a.log.now a.receiver c.before.before.before.before.before.before.before.before.before.before.before.before.before.before.before.before.before.before.if-pdu-eq0.false h.result _ _ _ h.ensures.0 h.ensures.1.0 h.ensures.1.1.0 h.ensures.1.1.1 _ h.auto.carry.1.0 c.outcome_of.result p.passed_over-lost.result _ (λ q. omega (arith, q, i.if-r-ne0.true)) c.outcome_of.ensures p.passed_over-lost.ensures.0 p.passed_over-lost.ensures.1
 
-returns-3 : tie.Need-returns-3
+returns-3 : tie.Need-returns
 returns-3 c =
     let d = c.before in
     let g = d.before.before.before in
@@ -30,12 +30,12 @@ returns-3 c =
     let f = i.before.before.before.before.before.before.before.before in
     let b = f.before.before.before.before in
     let e = b.before.before in
-    let a = e.before.before.before.before.before.args in
-    let h = f.receive-marked in
-    accepted-record a.marks.now a.carry.now a.pdu.now a.log.now a.receiver e.if1.false h.result _ _ _ h.ensures.0 h.ensures.1.0 h.ensures.1.1.0 h.ensures.1.1.1 _ h.auto.1.1.0 c.outcome-of2.result b.header_of.result g.header-of2.result d.difference.result (omega (arith, i.if2.false)) b.header_of.ensures g.header-of2.ensures d.difference.ensures c.outcome-of2.ensures
+    let a = e.before.before.before.args in
+    let h = c.before.before.before.before.before.before.before.before.before.before.before.before.before.receive_marked-r in
+    accepted-record a.marks.now a.carry.now a.pdu.now a.log.now a.receiver c.before.before.before.before.before.before.before.before.before.before.before.before.before.before.before.before.before.before.if-pdu-eq0.false h.result _ _ _ h.ensures.0 h.ensures.1.0 h.ensures.1.1.0 h.ensures.1.1.1 _ h.auto.carry.1.0 c.outcome_of-2.result c.before.before.before.before.before.before.before.before.before.before.before.before.before.before.before.before.before.header_of-before.result g.header_of-after.result d.difference-corrected.result (omega (arith, c.before.before.before.before.before.if-r-ne0.false)) c.before.before.before.before.before.before.before.before.before.before.before.before.before.before.before.before.before.header_of-before.ensures g.header_of-after.ensures d.difference-corrected.ensures c.outcome_of-2.ensures
 
-pub of-record-spec : {M : Type 1} → statement M
-of-record-spec =
+pub of_record_spec : {M : Type 1} → statement M
+of_record_spec =
     tie.close (tie.spec (λ c κs. search rules) (λ c. search rules) returns (λ c κs. search rules) (λ c κs. search rules) (λ c κs. search rules)
     (λ c κs. search rules) (λ c. search rules) (λ c. search rules) (λ c. search rules) returns-2 (λ c κs. search rules) (λ c κs. search rules)
     (λ c κs. search rules) (λ c. search rules) (λ c. search rules) (λ c. search rules) returns-3)
