@@ -51,7 +51,7 @@ choice_number the_second = 2
 abbrev pub Chosen : Choice → Bor (List ℕ) → Bor (List ℕ) → Bor (List ℕ) → Type 0
 Chosen the_first first second r = r ≡ first
 Chosen the_second first second r = r ≡ second
-Chosen neither first second r = (r.ref_ptr ≡ first.ptr) × (r.now ≡ [])
+Chosen neither first second r = (r.ref_ptr ≡ first.ref_ptr) × (r.now ≡ [])
 
 -- ---- what two copies say together, both corrected and alike in bytes 8 to La, by the register that CRCs start with
 

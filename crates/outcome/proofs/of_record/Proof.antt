@@ -20,7 +20,7 @@ returns-2 c =
     let e = b.before.before in
     let a = e.before.before.before.before.args in
     let h = f.receive_marked-r in
-    refused-record a.marks.now a.carry.now a.pdu.now a.log.now a.receiver c.before.before.before.before.before.before.before.before.before.before.before.before.before.before.before.before.before.before.if-pdu-eq0.false h.result _ _ _ h.ensures.0 h.ensures.1.0 h.ensures.1.1.0 h.ensures.1.1.1 _ h.auto.carry.1.0 c.outcome_of.result p.passed_over-lost.result _ (λ q. omega (arith, q, i.if-r-ne0.true)) c.outcome_of.ensures p.passed_over-lost.ensures.0 p.passed_over-lost.ensures.1
+    refused-record a.marks.now a.carry.now a.pdu.now a.log.now a.receiver c.before.before.before.before.before.before.before.before.before.before.before.before.before.before.before.before.before.before.if-pdu-eq0.false h.result _ _ _ h.ensures.0 h.ensures.1.0 h.ensures.1.1.0 h.ensures.1.1.1 _ h.auto.pdu c.outcome_of.result p.passed_over-lost.result _ (λ q. omega (arith, q, i.if-r-ne0.true)) c.outcome_of.ensures p.passed_over-lost.ensures.0 p.passed_over-lost.ensures.1
 
 returns-3 : tie.Need-returns
 returns-3 c =
@@ -32,7 +32,7 @@ returns-3 c =
     let e = b.before.before in
     let a = e.before.before.before.args in
     let h = c.before.before.before.before.before.before.before.before.before.before.before.before.before.receive_marked-r in
-    accepted-record a.marks.now a.carry.now a.pdu.now a.log.now a.receiver c.before.before.before.before.before.before.before.before.before.before.before.before.before.before.before.before.before.before.if-pdu-eq0.false h.result _ _ _ h.ensures.0 h.ensures.1.0 h.ensures.1.1.0 h.ensures.1.1.1 _ h.auto.carry.1.0 c.outcome_of-2.result c.before.before.before.before.before.before.before.before.before.before.before.before.before.before.before.before.before.header_of-before.result g.header_of-after.result d.difference-corrected.result (omega (arith, c.before.before.before.before.before.if-r-ne0.false)) c.before.before.before.before.before.before.before.before.before.before.before.before.before.before.before.before.before.header_of-before.ensures g.header_of-after.ensures d.difference-corrected.ensures c.outcome_of-2.ensures
+    accepted-record a.marks.now a.carry.now a.pdu.now a.log.now a.receiver c.before.before.before.before.before.before.before.before.before.before.before.before.before.before.before.before.before.before.if-pdu-eq0.false h.result _ _ _ h.ensures.0 h.ensures.1.0 h.ensures.1.1.0 h.ensures.1.1.1 _ h.auto.pdu c.outcome_of-2.result c.before.before.before.before.before.before.before.before.before.before.before.before.before.before.before.before.before.header_of-before.result g.header_of-after.result d.difference-corrected.result (omega (arith, c.before.before.before.before.before.if-r-ne0.false)) c.before.before.before.before.before.before.before.before.before.before.before.before.before.before.before.before.before.header_of-before.ensures g.header_of-after.ensures d.difference-corrected.ensures c.outcome_of-2.ensures
 
 pub of_record_spec : {M : Type 1} → statement M
 of_record_spec =
