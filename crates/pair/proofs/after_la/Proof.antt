@@ -9,8 +9,8 @@ use Rattle.pair.proofs.after_la.Tie as tie
 returns : tie.Need-returns
 returns c =
     let k = c.before in
-    let e = ap (λ (x : ControlWord). x.la + 1) k.control-word.ensures in
+    let e = ap (λ (x : ControlWord). x.la + 1) k.control_word-c.ensures in
     (e, omega arith)
 
-pub after-la-spec : {M : Type 1} → statement M
-after-la-spec = tie.close (tie.spec (λ c κs. search rules) (λ c. search rules) (λ c. search rules) returns)
+pub after_la_spec : {M : Type 1} → statement M
+after_la_spec = tie.close (tie.spec (λ c κs. search rules) (λ c. search rules) (λ c. search rules) returns)

@@ -4,18 +4,18 @@ use borrow.Author.Rules.{rules}
 use Rattle.pair.proofs.receive.Statement.{statement}
 use Rattle.pair.proofs.receive.Tie as tie
 
-receive-listed-requires : tie.Need-receive-listed-requires
+receive-listed-requires : tie.Need-receive_listed-requires
 receive-listed-requires c κs =
     let k = c.before.before.before.before.before in
-    sym k.before.before.look_up.ensures ∙ k.m.given.1
+    sym k.look_up.ensures ∙ c.before.before.before.before.in-Listed.is
 
-returns-2 : tie.Need-returns-2
+returns-2 : tie.Need-returns-in-Refused
 returns-2 c =
     let k = c.before.before.before in
-    let a = k.before.before.before.before.before.args in
-    unlisted-call a.carry.now a.first.now a.second.now a.log.now a.receiver _ _ c.refused.result k.look_up.ensures c.before.enum_told.given.1 c.refused.ensures
+    let a = k.before.before.before.before.args in
+    unlisted-call a.carry.now a.first.now a.second.now a.log.now a.receiver _ _ c.refused.result c.before.before.look_up.ensures c.before.in-Refused.is c.refused.ensures
 
-pub receive-spec : {M : Type 1} → statement M
-receive-spec =
+pub receive_spec : {M : Type 1} → statement M
+receive_spec =
     tie.close (tie.spec (λ c κs. search rules) (λ c. search rules) receive-listed-requires (λ c. search rules) (λ c κs. search rules) (λ c. search rules)
     (λ c. search rules) (λ c. search rules) (λ c. search rules) (λ c. search rules) returns-2)
