@@ -98,7 +98,7 @@ batches-through =
       f.0,
       omega (arith, n, l),
       third-refused,
-      subst (λ (ps : List (List ℕ)). Through defined (station_after defined fresh (call_of (stops two (0 ∷ []) [] long))) ps (batches others long ∷ [])) (sym f.1) (in_one defined _ others long (usable 2 3) (omega (arith, o, l))),
+      subst (λ (ps : List (List ℕ)). Through defined (station_after defined fresh (call_of (stops two (0 ∷ []) [] long))) ps (batches others long ∷ [])) (sym f.1) (in_one defined (station_after defined fresh (call_of (stops two (0 ∷ []) [] long))) others long (usable 2 3) (omega (arith, o, l))),
     )
 
 -- the two count as received: every packet is delivered
