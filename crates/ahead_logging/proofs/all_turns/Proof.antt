@@ -10,8 +10,8 @@ abbrev decreases-loop : tie.decreases-loop
 decreases-loop task resync path from carry₀ buf₀ places₀ log₀ block₀ counts₀ live₀ shown₀ turns₀ carry buf places log block counts live shown turns =
     turns
 
-pub all-turns-spec : {M : Type 1} → statement M
-all-turns-spec =
+pub all_turns_spec : {M : Type 1} → statement M
+all_turns_spec =
     tie.close
     (tie.spec
     invariant-loop

@@ -8,8 +8,8 @@ invariant-loop resync receiver many buf₀ last₀ left₀ buf last left = lengt
 abbrev decreases-loop : tie.decreases-loop
 decreases-loop resync receiver many buf₀ last₀ left₀ buf last left = left
 
-pub pass-over-spec : {M : Type 1} → statement M
-pass-over-spec =
+pub pass_over_spec : {M : Type 1} → statement M
+pass_over_spec =
     tie.close
     (tie.spec
     invariant-loop

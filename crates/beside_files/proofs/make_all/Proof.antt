@@ -8,8 +8,8 @@ invariant-loop labels list₀ k₀ list k = length list ≡ length list₀
 abbrev decreases-loop : tie.decreases-loop
 decreases-loop labels list₀ k₀ list k = 4 - k
 
-pub make-all-spec : {M : Type 1} → statement M
-make-all-spec =
+pub make_all_spec : {M : Type 1} → statement M
+make_all_spec =
     tie.close
     (tie.spec
     invariant-loop

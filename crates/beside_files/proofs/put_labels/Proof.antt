@@ -9,8 +9,8 @@ invariant-loop out₀ n₀ k₀ out n k = (IsPrefixLen n out) × (length out ≡
 abbrev decreases-loop : tie.decreases-loop
 decreases-loop out₀ n₀ k₀ out n k = 5 - k
 
-pub put-labels-spec : {M : Type 1} → statement M
-put-labels-spec =
+pub put_labels_spec : {M : Type 1} → statement M
+put_labels_spec =
     tie.close
     (tie.spec
     invariant-loop

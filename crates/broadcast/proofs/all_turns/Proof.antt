@@ -8,8 +8,8 @@ invariant-loop output from onto text psd₀ lengths₀ bytes₀ pdu₀ now₀ sh
 abbrev decreases-loop : tie.decreases-loop
 decreases-loop output from onto text psd₀ lengths₀ bytes₀ pdu₀ now₀ shown₀ turns₀ psd lengths bytes pdu now shown turns = turns
 
-pub all-turns-spec : {M : Type 1} → statement M
-all-turns-spec =
+pub all_turns_spec : {M : Type 1} → statement M
+all_turns_spec =
     tie.close
     (tie.spec
     invariant-loop

@@ -8,8 +8,8 @@ invariant-loop label text supply psd length writer change₀ left₀ change left
 abbrev decreases-loop : tie.decreases-loop
 decreases-loop label text supply psd length writer change₀ left₀ change left = left
 
-pub are-taken-spec : {M : Type 1} → statement M
-are-taken-spec =
+pub are_taken_spec : {M : Type 1} → statement M
+are_taken_spec =
     tie.close
     (tie.spec
     invariant-loop

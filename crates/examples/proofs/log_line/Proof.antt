@@ -17,8 +17,8 @@ decreases-loop words i₀ i = 3 - i
 put-packet-requires : tie.Need-put-packet-requires invariant-loop decreases-loop
 put-packet-requires c κs = (omega arith, rw of-packet-5 (omega arith))
 
-pub log-line-spec : {M : Type 1} → statement M
-log-line-spec =
+pub log_line_spec : {M : Type 1} → statement M
+log_line_spec =
     tie.close (tie.spec invariant-loop decreases-loop
     (λ c. search rules) (λ c. search rules) (λ c. search rules) put-packet-requires (λ c. search rules) (λ c κs. search rules) (λ c. search rules)
     (λ c. search rules) (λ c. search rules) (λ c κs. search rules) (λ c. search rules) (λ c. search rules) (λ c. search rules) (λ c κs. search rules)

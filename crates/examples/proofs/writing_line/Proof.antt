@@ -18,8 +18,8 @@ slice-aggregate-write-3 c = refl
 returns : tie.Need-returns
 returns c = tt
 
-pub writing-line-spec : {M : Type 1} → statement M
-writing-line-spec =
+pub writing_line_spec : {M : Type 1} → statement M
+writing_line_spec =
     tie.close (tie.spec (λ c κs. search rules) (λ c. search rules) slice-aggregate-write (λ c. search rules) slice-aggregate-write-2 slice-aggregate-write-3
     (λ c κs. search rules) (λ c κs. search rules) (λ c. search rules) (λ c. search rules) (λ c κs. search rules) (λ c. search rules) (λ c. search rules)
     (λ c κs. search rules) (λ c. search rules) (λ c. search rules) (λ c κs. search rules) (λ c. search rules) (λ c κs. search rules) (λ c κs. search rules)

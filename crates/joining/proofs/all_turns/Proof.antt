@@ -10,8 +10,8 @@ abbrev decreases-loop : tie.decreases-loop
 decreases-loop task core₀ enhanced₀ result₀ block₀ run₀ buf₀ shown₀ turns₀ core enhanced result block run buf shown turns =
     turns
 
-pub all-turns-spec : {M : Type 1} → statement M
-all-turns-spec =
+pub all_turns_spec : {M : Type 1} → statement M
+all_turns_spec =
     tie.close
     (tie.spec
     invariant-loop

@@ -8,8 +8,8 @@ invariant-loop c buf₀ out₀ last₀ p₀ turns₀ buf out last p turns = (len
 abbrev decreases-loop : tie.decreases-loop
 decreases-loop c buf₀ out₀ last₀ p₀ turns₀ buf out last p turns = turns
 
-pub all-lines-spec : {M : Type 1} → statement M
-all-lines-spec =
+pub all_lines_spec : {M : Type 1} → statement M
+all_lines_spec =
     tie.close
     (tie.spec
     invariant-loop

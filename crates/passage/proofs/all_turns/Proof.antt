@@ -8,8 +8,8 @@ invariant-loop task pdu₀ held₀ run₀ shown₀ turns₀ pdu held run shown t
 abbrev decreases-loop : tie.decreases-loop
 decreases-loop task pdu₀ held₀ run₀ shown₀ turns₀ pdu held run shown turns = turns
 
-pub all-turns-spec : {M : Type 1} → statement M
-all-turns-spec =
+pub all_turns_spec : {M : Type 1} → statement M
+all_turns_spec =
     tie.close
     (tie.spec
     invariant-loop

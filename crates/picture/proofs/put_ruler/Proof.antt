@@ -26,8 +26,8 @@ decreases-loop out₀ at columns c n₀ column₀ out n column = columns - colum
 -- src/frame.rt:58:5
 -- src/frame.rt:51:1
 -- src/frame.rt:51:1
-pub put-ruler-spec : {M : Type 1} → statement M
-put-ruler-spec =
+pub put_ruler_spec : {M : Type 1} → statement M
+put_ruler_spec =
     tie.close
     (tie.spec
     invariant-loop

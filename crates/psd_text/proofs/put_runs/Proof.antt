@@ -6,8 +6,8 @@ use lib.ListN.{length}
 use Rattle.psd_text.proofs.put_runs.Statement.{statement}
 use Rattle.psd_text.proofs.put_runs.Tie as tie
 
-pub put-runs-spec : {M : Type 1} → statement M
-put-runs-spec =
+pub put_runs_spec : {M : Type 1} → statement M
+put_runs_spec =
     tie.close (tie.spec (λ out₀ bytes n₀ i₀ out n i. (length out ≡ length out₀) × (IsPrefixLen n out)) (λ out₀ bytes n₀ i₀ out n i. length bytes - i)
     (λ c. search rules) (λ c κs. search rules) (λ c. search rules) (λ c κs. search rules) (λ c. search rules) (λ c. search rules) (λ c. search rules)
     (λ c κs. search rules) (λ c. search rules) (λ c. search rules) (λ c. search rules) (λ c. search rules) (λ c. search rules))

@@ -8,8 +8,8 @@ invariant-loop task buf₀ block₀ run₀ shown₀ turns₀ buf block run shown
 abbrev decreases-loop : tie.decreases-loop
 decreases-loop task buf₀ block₀ run₀ shown₀ turns₀ buf block run shown turns = turns
 
-pub all-lines-spec : {M : Type 1} → statement M
-all-lines-spec =
+pub all_lines_spec : {M : Type 1} → statement M
+all_lines_spec =
     tie.close
     (tie.spec
     invariant-loop

@@ -43,8 +43,8 @@ loop-again c =
       omega (arith, t.turn.auto.1.1.1.1.1.1.0, (head t).loop.invariant.5),
     )
 
-pub all-turns-spec : {M : Type 1} → statement M
-all-turns-spec =
+pub all_turns_spec : {M : Type 1} → statement M
+all_turns_spec =
     tie.close
     (tie.spec
     invariant-loop

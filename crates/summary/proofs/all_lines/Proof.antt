@@ -8,8 +8,8 @@ invariant-loop buf₀ counts₀ run₀ turns₀ buf counts run turns = (length b
 abbrev decreases-loop : tie.decreases-loop
 decreases-loop buf₀ counts₀ run₀ turns₀ buf counts run turns = turns
 
-pub all-lines-spec : {M : Type 1} → statement M
-all-lines-spec =
+pub all_lines_spec : {M : Type 1} → statement M
+all_lines_spec =
     tie.close
     (tie.spec
     invariant-loop

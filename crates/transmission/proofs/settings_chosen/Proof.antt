@@ -8,8 +8,8 @@ invariant-loop command row₀ ok₀ k₀ row ok k = Unit {0}
 abbrev decreases-loop : tie.decreases-loop
 decreases-loop command row₀ ok₀ k₀ row ok k = 11 - k
 
-pub settings-chosen-spec : {M : Type 1} → statement M
-settings-chosen-spec =
+pub settings_chosen_spec : {M : Type 1} → statement M
+settings_chosen_spec =
     tie.close
     (tie.spec
     invariant-loop

@@ -8,8 +8,8 @@ invariant-loop right₀ k₀ right k = Unit {0}
 abbrev decreases-loop : tie.decreases-loop
 decreases-loop right₀ k₀ right k = 5 - k
 
-pub is-asked-spec : {M : Type 1} → statement M
-is-asked-spec =
+pub is_asked_spec : {M : Type 1} → statement M
+is_asked_spec =
     tie.close
     (tie.spec
     invariant-loop

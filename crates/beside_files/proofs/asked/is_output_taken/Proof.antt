@@ -8,8 +8,8 @@ invariant-loop many taken₀ k₀ taken k = Unit {0}
 abbrev decreases-loop : tie.decreases-loop
 decreases-loop many taken₀ k₀ taken k = many - k
 
-pub is-output-taken-spec : {M : Type 1} → statement M
-is-output-taken-spec =
+pub is_output_taken_spec : {M : Type 1} → statement M
+is_output_taken_spec =
     tie.close
     (tie.spec
     invariant-loop

@@ -18,8 +18,8 @@ invariant-loop out₀ at json text n₀ i₀ out n i = (length out ≡ length ou
 abbrev decreases-loop : tie.decreases-loop
 decreases-loop out₀ at json text n₀ i₀ out n i = length text - i
 
-pub put-quoted-spec : {M : Type 1} → statement M
-put-quoted-spec =
+pub put_quoted_spec : {M : Type 1} → statement M
+put_quoted_spec =
     tie.close
     (tie.spec
     invariant-loop

@@ -14,8 +14,8 @@ use Rattle.log_csv.proofs.entry.is_named.Tie as tie
 -- src/entry.rt:367:5
 -- src/entry.rt:367:5
 -- src/entry.rt:362:1
-pub is-named-spec : {M : Type 1} → statement M
-is-named-spec =
+pub is_named_spec : {M : Type 1} → statement M
+is_named_spec =
     tie.close (tie.spec (λ line f table count k₀ k. Unit {0}) (λ line f table count k₀ k. k)
     (λ c κs. search rules) (λ c. search rules) (λ c. search rules) (λ c. search rules) (λ c κs. search rules) (λ c κs. search rules) (λ c κs. search rules)
     (λ c κs. search rules) (λ c. search rules) (λ c. search rules) (λ c. search rules) (λ c. search rules))

@@ -52,8 +52,8 @@ loop-again c =
     let t = turned c.before.before in
     (omega (arith, t.turn.kept.1.0, (head t).loop.inv.0), omega (arith, t.turn.kept.1.1.0, (head t).loop.inv.1), omega (arith, t.turn.kept.1.1.1.0, (head t).loop.inv.2), omega (arith, t.turn.kept.1.1.1.1.0, (head t).loop.inv.3), omega (arith, t.turn.kept.1.1.1.1.1.0, (head t).loop.inv.4), omega (arith, t.turn.kept.1.1.1.1.1.1.0, (head t).loop.inv.5), omega (arith, t.turn.kept.1.1.1.1.1.1.1.0, (head t).loop.inv.6), omega (arith, t.turn.kept.1.1.1.1.1.1.1.1.0, (head t).loop.inv.7))
 
-pub all-turns-spec : {M : Type 1} → statement M
-all-turns-spec =
+pub all_turns_spec : {M : Type 1} → statement M
+all_turns_spec =
     tie.close (tie.spec invariant-loop decreases-loop
     (λ c κs. search rules) (λ c. search rules) (λ c κs. search rules) (λ c κs. search rules) (λ c κs. search rules) same_length same-length-2 same-length-3
     same-length-4 same-length-5 same-length-6 same-length-7 same-length-8 (λ c. search rules) (λ c κs. search rules) sub-turns loop-less loop-again

@@ -13,8 +13,8 @@ invariant-loop sink pdu log block₀ start ok₀ at₀ i₀ block ok at i = (IsP
 abbrev decreases-loop : tie.decreases-loop
 decreases-loop sink pdu log block₀ start ok₀ at₀ i₀ block ok at i = length log - i
 
-pub put-entries-spec : {M : Type 1} → statement M
-put-entries-spec =
+pub put_entries_spec : {M : Type 1} → statement M
+put_entries_spec =
     tie.close
     (tie.spec
     invariant-loop

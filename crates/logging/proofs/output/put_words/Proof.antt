@@ -9,8 +9,8 @@ invariant-loop fd log block₀ start ok₀ at₀ i₀ block ok at i = (IsPrefixL
 abbrev decreases-loop : tie.decreases-loop
 decreases-loop fd log block₀ start ok₀ at₀ i₀ block ok at i = length log - i
 
-pub put-words-spec : {M : Type 1} → statement M
-put-words-spec =
+pub put_words_spec : {M : Type 1} → statement M
+put_words_spec =
     tie.close
     (tie.spec
     invariant-loop

@@ -8,8 +8,8 @@ invariant-loop out₀ text n₀ half₀ i₀ out n half i = length out ≡ lengt
 abbrev decreases-loop : tie.decreases-loop
 decreases-loop out₀ text n₀ half₀ i₀ out n half i = length text - i
 
-pub put-plain-spec : {M : Type 1} → statement M
-put-plain-spec =
+pub put_plain_spec : {M : Type 1} → statement M
+put_plain_spec =
     tie.close
     (tie.spec
     invariant-loop

@@ -14,8 +14,8 @@ invariant-loop counts i₀ i = Unit {0}
 abbrev decreases-loop : tie.decreases-loop
 decreases-loop counts i₀ i = length counts - i
 
-pub first-over-spec : {M : Type 1} → statement M
-first-over-spec =
+pub first_over_spec : {M : Type 1} → statement M
+first_over_spec =
     tie.close
     (tie.spec
     invariant-loop

@@ -1,0 +1,7 @@
+use Rattle.std.proofs.Common.{◌-◌, ◌≡◌, ◌≤◌, ◌<◌, length, ℕ, ◌+◌, ◌*◌}
+use Rattle.io.specs.Counts.{IsPrefixLen}
+use Rattle.options.proofs.check.Given as goal
+
+-- proposed from the loop's first test
+abbrev pub decreases-loop-i : goal.decreases-loop-i
+decreases-loop-i l = l.count - l.i
