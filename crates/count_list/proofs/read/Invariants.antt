@@ -2,9 +2,7 @@ use Rattle.std.proofs.Common.{◌≡◌, ◌<◌, ℕ, ◌+◌, ◌-◌, ◌*◌
 use Rattle.count_list.proofs.read.Given as goal
 
 abbrev pub invariant-loop-turns : goal.invariant-loop-turns
-invariant-loop-turns l = (length l.counts ≡ length l.initial.counts) × (65536 ≡ length l.buf))
-    (λ l.fd l.initial.counts l.initial.buf l.initial.list l.initial.turns l.counts l.buf l.list l.turns. l.turns)
-    (λ c κs. search rules
+invariant-loop-turns l = (length l.counts ≡ length l.initial.counts) × (65536 ≡ length l.buf)
 
 -- proposed from the loop's first test
 abbrev pub decreases-loop-turns : goal.decreases-loop-turns
