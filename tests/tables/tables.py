@@ -143,11 +143,11 @@ def crate_kind(crate, word):
         return word
     if "::" in word:
         crate, word = word.split("::")
-    used = re.search(r"^use (\w+)::{};".format(word), crate_texts[crate], flags=re.M)
+    used = re.search(r"^use (\w+)::(?:{0}|\{{(?:[^}}]*\W)?{0}(?:\W[^}}]*)?\}});".format(word), crate_texts[crate], flags=re.M)
     if used:
         crate = used.group(1)
     if (crate, word) not in crate_structs:
-        found = re.search(r"#\[repr\(C\)\]\s*pub struct {} \{{(.*?)\n\}}".format(word), crate_texts[crate], flags=re.S)
+        found = re.search(r"#\[repr\(C\)\]\s*(?:#\[[^\n]*\]\s*)*pub struct {} \{{(.*?)\n\}}".format(word), crate_texts[crate], flags=re.S)
         rows = []
         for name, array, kind, count in re.findall(r"pub (\w+): (?:(\[)?([\w:]+)(?:; (\d+)\])?),", found.group(1)):
             rows.append((OTHER_NAMES.get(name, name), crate_kind(crate, kind), int(count) if array else 1))
