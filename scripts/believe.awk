@@ -20,7 +20,7 @@ function mention(id, text,    k, n, w) {
         w = word[k]
         if (w == "" || w ~ /^\./) continue
         if (word[k + 1] == "=" && (word[k - 1] == "{" || word[k - 1] == ";")) continue
-        sub(/\.$/, "", w)
+        sub(/\..*/, "", w)
         note(id, w)
     }
 }
@@ -31,19 +31,18 @@ function note(id, name) {
     mentions[id] = mentions[id] " " name
 }
 
-# "use Rattle·CRATE.specs.FILE.{a, b as c}"; of its own crate "use Rattle·CRATE·specs.specs.FILE.{..}"; of a declared type "..declared.TYPE.{..}" and its cases
-# "..declared.TYPE.the-variants.{..}".
+# "use Rattle.CRATE.specs.FILE.{a, b as c}"; of a declared type "..declared.TYPE.{..}" and its cases "..declared.TYPE.TheVariants.{..}".
 function import(text,    path, names, n, k, part, from) {
     sub(/^(ghost )?use /, "", text)
-    if (text !~ /^Rattle·/) return
+    if (text !~ /^Rattle\./ || text ~ /^Rattle\.std\./) return
     names = text
     if (!sub(/^[^{]*[{]/, "", names)) stop("a use line without names: " text)
     sub(/[}].*/, "", names)
     path = text
     sub(/\.[{].*/, "", path)
-    sub(/^Rattle·/, "", path)
-    sub(/(·specs)?\.specs\./, ".", path)
-    sub(/\.the-variants$/, "", path)
+    sub(/^Rattle\./, "", path)
+    sub(/\.specs\./, ".", path)
+    sub(/\.TheVariants$/, "", path)
     n = split(names, part, /, */)
     for (k = 1; k <= n; k++) {
         from = part[k]
@@ -134,9 +133,9 @@ specs { add($0); next }
 # ---- crates/CRATE/src/lib.rt
 
 /^ghost use / { import($0); next }
-/^use [a-z_]+::[A-Z][A-Za-z]*;/ {
-    split($2, place, /[:;]+/)
-    types[file, place[2]] = place[1] ".declared." place[2]
+/^use [a-z_]+::/ {
+    n = split($0, part, /[^A-Za-z_0-9]+/)
+    for (k = 3; k <= n; k++) if (part[k] ~ /^[A-Z]/) types[file, part[k]] = part[2] ".declared." part[k]
     next
 }
 /^(pub )?(struct|enum) / {
@@ -152,7 +151,7 @@ kind == "type" {
     if (/}$/) kind = ""
     next
 }
-/^#\[no_mangle\]/ && library { exported = 1; next }
+/^#\[unsafe\(no_mangle\)\]/ && library { exported = 1; next }
 exported && / fn / {
     title = $0
     sub(/.* fn /, "", title)
@@ -162,8 +161,13 @@ exported && / fn / {
     contract[++contracts] = id
 }
 exported && /^ +ensures / {
-    sub(/^ +ensures /, "")
-    add($0)
+    clause = 1
+    sub(/^ +ensures [a-z_0-9]* *[{]/, "")
+}
+exported && clause {
+    text = $0
+    if (sub(/}$/, "", text)) clause = 0
+    if (text !~ /^ *$/ || !clause) add(text)
     next
 }
 exported && /^[{]/ { exported = 0 }

@@ -44,29 +44,23 @@ fn directory() -> PathBuf {
 /// Which archives the directory has not, and the command that makes them; none
 /// if it has both.
 fn missing(directory: &Path) -> Option<String> {
-    let missing = LIBRARIES.map(|(name, archive)| {
+    let missing = LIBRARIES.map(|(_, archive)| {
         let found = directory.join(archive).is_file();
-        (!found).then_some((name, archive))
+        (!found).then_some(archive)
     });
-    let missing: Vec<_> = missing.into_iter().flatten().collect();
-    if missing.is_empty() {
+    let archives: Vec<_> = missing.into_iter().flatten().collect();
+    if archives.is_empty() {
         return None;
     }
-    let archives: Vec<_> = missing.iter().map(|(_, archive)| *archive).collect();
-    let commands: Vec<_> = missing
-        .iter()
-        .map(|(name, _)| format!("rt staticlib {name}"))
-        .collect();
     let (by, unset) = match named() {
         Some(_) => (", which BARZHILUP_LIB names", " without BARZHILUP_LIB"),
         None => ("", ""),
     };
     Some(format!(
-        "no {} in {}{by}: run `{}` in the project's root and build again{unset}, \
-         or set BARZHILUP_LIB to a directory with {}",
+        "no {} in {}{by}: run `bash scripts/libraries` in the project's root and build \
+         again{unset}, or set BARZHILUP_LIB to a directory with {}",
         archives.join(" and no "),
         directory.display(),
-        commands.join(" && "),
         LIBRARIES.map(|(_, archive)| archive).join(" and "),
     ))
 }

@@ -48,7 +48,7 @@ check_house() {
     local wrong line
     wrong=$(drawn | awk '
         NR == FNR { if ($2 in layer) print $2 " stands twice in the drawing"; layer[$2] = $1; next }
-        { sub(/#.*/, "") }
+        { sub(/#.*/, ""); sub(/ +staticlib *:/, ":") }
         split($0, part, ":") == 2 { needs[part[1]] = part[2] }
         END {
             for (c in layer) if (!(c in needs)) print c " stands in the drawing and not in crates.txt"
@@ -67,7 +67,7 @@ check_house() {
 # The table under it names each crate, and each crate is a folder.
 check_crates() {
     local crate count=0
-    for crate in $(sed -n 's/^\([a-z_0-9]*\):.*/\1/p' crates.txt); do
+    for crate in $(sed -n 's/^\([a-z_0-9]*\)\( staticlib\)\?:.*/\1/p' crates.txt); do
         count=$((count + 1))
         grep -q "^|.*\`$crate\`" docs/ARCHITECTURE.md || fail "docs/ARCHITECTURE.md: no row names $crate"
         [ -d "crates/$crate" ] || fail "there is no folder crates/$crate"
@@ -88,7 +88,7 @@ sentences() {
 }
 
 # Each says what the crate may use: it names in backquotes crates of its line in crates.txt and no other, and among them all that no other of that line stands on;
-# of the toolchain's, os stands on io, and io on libc. A crate whose line has none stands on nothing.
+# a crate whose line has none stands on nothing. No crate uses the program's own, so `barzhilup` there is the program.
 check_uses() {
     local wrong line
     wrong=$(sentences | awk -F : '
@@ -97,9 +97,9 @@ check_uses() {
             for (k = 1; k <= n; k++) if (!(name[k] in seen)) { seen[name[k]]; reach(needs[name[k]], seen) }
         }
         function wrong(text) { print "the first sentence of crates/" $1 "/src " text }
-        BEGIN { needs["io"] = "libc"; needs["os"] = "io" }
         NR == FNR {
             sub(/#.*/, "")
+            sub(/ +staticlib *:/, ":")
             if (NF == 2) { needs[$1] = $2; reach($1 " " $2, known) }
             next
         }
@@ -108,7 +108,7 @@ check_uses() {
             split("", named)
             split("", below)
             n = split($0, part, "`")
-            for (k = 2; k <= n; k += 2) if (part[k] in known) {
+            for (k = 2; k <= n; k += 2) if (part[k] in known && part[k] != "barzhilup") {
                 named[part[k]]
                 if (!index(" " needs[$1] " ", " " part[k] " ")) wrong("names `" part[k] "`, which its line of crates.txt does not have")
             }
@@ -183,13 +183,13 @@ check_audit() {
 # The command that docs/AUDIT.md begins with proves as many crates as it says: those that it names, and all that these use.
 check_command() {
     local told
-    told=$(sed -n 's/^    rt check //p' docs/AUDIT.md | cat - crates.txt | awk '
+    told=$(sed -n 's/^    rt ci //p' docs/AUDIT.md | cat - crates.txt | awk '
         function reach(list, k, n, name) {
             n = split(list, name, " ")
             for (k = 1; k <= n; k++) if ((name[k] in needs) && !(name[k] in seen)) { seen[name[k]]; reached++; reach(needs[name[k]]) }
         }
         NR == 1 { asked = $0; next }
-        { sub(/#.*/, "") }
+        { sub(/#.*/, ""); sub(/ +staticlib *:/, ":") }
         split($0, part, ":") == 2 { needs[part[1]] = part[2]; all++ }
         END { reach(asked); print reached " of the " all " crates" }')
     grep -qF "$told" docs/AUDIT.md || fail "docs/AUDIT.md does not say that its command proves $told"

@@ -96,7 +96,7 @@
 //! # Linking
 //!
 //! The two libraries are looked for in `target/staticlib` under the project's
-//! root, where `rt staticlib capi` and `rt staticlib panel` make them, or in the
+//! root, where `bash scripts/libraries` makes them, or in the
 //! directory that the environment variable `BARZHILUP_LIB` names when the crate is
 //! built. Where one is missing, the build says so.
 

@@ -55,7 +55,7 @@ fn archives_that_are_missing() {
     let both = without_archives(&place);
     let wanted = format!(
         "no libcapi.a and no libpanel.a in {}, which BARZHILUP_LIB names: \
-         run `rt staticlib capi && rt staticlib panel` in the project's root",
+         run `bash scripts/libraries` in the project's root",
         place.canonicalize().unwrap().display()
     );
     assert!(both.contains(&wanted), "{both}");
@@ -67,7 +67,7 @@ fn archives_that_are_missing() {
     fs::write(place.join("libcapi.a"), b"").unwrap();
     let one = without_archives(&place);
     assert!(one.contains("no libpanel.a in "), "{one}");
-    assert!(one.contains("run `rt staticlib panel` in"), "{one}");
+    assert!(one.contains("run `bash scripts/libraries` in"), "{one}");
     assert!(!one.contains("no libcapi.a"), "{one}");
 }
 

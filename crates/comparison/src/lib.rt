@@ -1,5 +1,5 @@
 // The packets that a log delivers, held against the file of those that were sent: which were delivered, which are missing, and which were never sent; on
-// `sent_packets` and `packet_files`. A row of counts has room at its end for what a comparison keeps.
+// `sent_packets`, `packet_files` and `host`. A row of counts has room at its end for what a comparison keeps.
 #![tactic(auto)]
 
 pub mod list;

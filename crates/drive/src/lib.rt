@@ -1,4 +1,4 @@
-// A drive, as the lines of its log tell it; it stands on `csv` alone.
+// A drive, as the lines of its log tell it; it stands on `log_csv` alone.
 #![tactic(auto)]
 
 use log_csv::entry;

@@ -1,4 +1,4 @@
-// Runs the examples of document 01 on the proved code, `writer`, `log` and what these stand on, and writes through `host` what it answers.
+// Runs the examples of document 01 on the proved code, `writer`, `packet_log` and what these stand on, and writes through `host` what it answers.
 #![tactic(auto)]
 
 ghost use Rattle.std.specs.Prelude.{◌≡◌, ◌≤◌, length};

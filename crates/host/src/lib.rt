@@ -1,6 +1,8 @@
-// What the program has of the machine that it runs on, by the toolchain's `std`: its arguments, the clock, its files by number, and what went wrong last.
+// What the program has of the machine that it runs on, by the toolchain's `std` and `io`: its arguments, the clock, its files by number, and what went wrong
+// last.
 //
-// Standard input, output and error are the files 0, 1 and 2; a file that is opened has the next number that is free. What fails answers -1 or false, and why is kept until something else fails.
+// Standard input, output and error are the files 0, 1 and 2; a file that is opened has the next number that is free. What fails answers -1 or false, and why is
+// kept until something else fails.
 #![tactic(auto)]
 
 mod arguments;

@@ -1,4 +1,4 @@
-// Core and enhanced side by side (document 02, Ask 11): two logs of one frame joined by packet number; on `log` and `refusal`.
+// Core and enhanced side by side (document 02, Ask 11): two logs of one frame joined by packet number; on `packet_log` and `refusal`.
 #![tactic(auto)]
 
 ghost use Rattle.std.specs.Prelude.{◌≡◌, true, ◌+◌, ◌-◌, ◌/◌, ◌%◌, ◌<◌, ◌≤◌, leb, length, get_or, drop};

@@ -1,5 +1,5 @@
-// What a log tells of its PDUs besides what became of them, for an HTML page: their lengths, and the texts of PSD where they change; on `csv`, `page`, `clock`
-// and `files`.
+// What a log tells of its PDUs besides what became of them, for an HTML page: their lengths, and the texts of PSD where they change; on `log_csv`, `page`,
+// `clock` and `files`.
 #![tactic(auto)]
 
 mod list;

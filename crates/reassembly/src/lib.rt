@@ -1,5 +1,5 @@
 // Reassembly of packets from the pieces of PDUs (document 01, "Receiver"), withheld ones too (document 02, Ask 10), with delivered and missing counted
-// (Ask 14); on `layout` and `log`.
+// (Ask 14); on `layout` and `packet_log`.
 #![tactic(auto)]
 
 ghost use Rattle.std.specs.Prelude.{◌≡◌, true, false, cond, List, ◌++◌, ℕ, ◌+◌, ◌-◌, ◌*◌, ◌≤◌, ◌<◌, eqb, length, take, get_or};

@@ -1,4 +1,5 @@
-// The reception of the records of a file of PDUs: what comes of each, and a line on standard error for those that are refused; on `outcome` and `causes`.
+// The reception of the records of a file of PDUs: what comes of each, and a line on standard error for those that are refused; on `outcome`, `causes` and
+// `host`.
 #![tactic(auto)]
 
 ghost use Rattle.io.specs.Counts.{IsPrefixLen};

@@ -1,5 +1,5 @@
-// Files of records, on `text`: each record is its length in two bytes, low byte first, and then its bytes. A packet file has a packet of 1 to 4,096 bytes in
-// each record; a PDU file has a PDU in each, and an empty record stands for a PDU that is marked lost.
+// Files of records, on `text` and `host`: each record is its length in two bytes, low byte first, and then its bytes. A packet file has a packet of 1 to 4,096
+// bytes in each record; a PDU file has a PDU in each, and an empty record stands for a PDU that is marked lost.
 #![tactic(auto)]
 
 ghost use Rattle.std.specs.Prelude.{◌≡◌, ◌+◌, ◌*◌, ◌<◌};

@@ -1,4 +1,4 @@
-// Words of 32 bits in bytes, four for each, low byte first, and read again (document 02, Ask 13); on `log` and the toolchain's `io`.
+// Words of 32 bits in bytes, four for each, low byte first, and read again (document 02, Ask 13); on `packet_log` and the toolchain's `io`.
 #![tactic(auto)]
 
 ghost use Rattle.std.specs.Prelude.{◌≡◌, ◌+◌, ◌*◌, ◌/◌, ◌≤◌, ◌<◌, length, get_or};

@@ -1,4 +1,4 @@
-// Words of the packet log, taken apart (document 01, "Receiver"); they stand on `log` alone.
+// Words of the packet log, taken apart (document 01, "Receiver"); they stand on `packet_log` alone.
 #![tactic(auto)]
 
 ghost use Rattle.std.specs.Prelude.{◌≡◌, ◌+◌, ◌*◌, ◌<◌, ◌≤◌, length, get_or};
