@@ -23,8 +23,6 @@ pub const STDOUT: i32 = 1;
 pub const STDERR: i32 = 2;
 
 // Errors, by their numbers.
-pub const ENOENT: i32 = 2;
-
 pub const EIO: i32 = 5;
 
 pub const EBADF: i32 = 9;
@@ -38,6 +36,9 @@ pub const EINVAL: i32 = 22;
 pub const ESPIPE: i32 = 29;
 
 pub const ENAMETOOLONG: i32 = 36;
+
+// No text in UTF-8.
+pub const EILSEQ: i32 = 84;
 
 // A file that is open, and whether it was made here.
 #[derive(Drop)]

@@ -1,6 +1,6 @@
 // Files by name: opening, making, renaming and removing.
 //
-// A name is text in UTF-8; any other is refused, as one that no file has.
+// A name is text in UTF-8; any other is refused, with EILSEQ.
 use crate::Host;
 use std::fs;
 use std::fs::{File, OpenOptions};
@@ -10,7 +10,7 @@ use std::io::Error;
 fn text_of(path: &[u8]) -> std::io::Result<&str> {
     match std::str::from_utf8(path) {
         Ok(text) => Ok(text),
-        Err(_) => Err(Error::from_raw_os_error(crate::ENOENT)),
+        Err(_) => Err(Error::from_raw_os_error(crate::EILSEQ)),
     }
 }
 
