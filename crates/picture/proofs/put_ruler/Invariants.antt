@@ -5,4 +5,4 @@ abbrev pub invariant-loop-column : goal.invariant-loop-column
 invariant-loop-column l = (l.column < 4294967306) × (length l.out ≡ length l.initial.out)
 
 abbrev pub decreases-loop-column : goal.decreases-loop-column
-decreases-loop-column l = ?
+decreases-loop-column l = l.columns - l.column
