@@ -5,8 +5,8 @@ use lib.ListN.{length}
 use Rattle.examples.proofs.generator.Statement.{statement}
 use Rattle.examples.proofs.generator.Tie as tie
 
-pub generator-spec : {M : Type 1} → statement M
-generator-spec =
+pub generator_spec : {M : Type 1} → statement M
+generator_spec =
     tie.close (tie.spec (λ mask word₀ rest₀ i₀ word rest i. (i ≤ 9) × (length word ≡ 96)) (λ mask word₀ rest₀ i₀ word rest i. 9 - i) (λ c. search rules)
     (λ c. search rules) (λ c. search rules) (λ c κs. search rules) (λ c. search rules) (λ c. search rules) (λ c. search rules) (λ c. search rules)
     (λ c. search rules))
