@@ -19,6 +19,7 @@ pub mod Examples
 pub mod FaultyReceivers
 pub mod FaultySnapshots
 pub mod FourBytes
+pub mod FourBytesRuns
 pub mod Held
 pub mod Interrupted
 pub mod InterruptedDelivery
