@@ -8,10 +8,10 @@ use Rattle.trials.proofs.report.first_over.Tie as tie
 use Rattle.trials.proofs.report.first_over.Reads as reads
 use Rattle.trials.proofs.report.first_over.Lts as lts
 
-abbrev invariant-loop : tie.invariant-loop
+abbrev invariant-loop : tie.invariant-loop-i
 invariant-loop counts i₀ i = Unit {0}
 
-abbrev decreases-loop : tie.decreases-loop
+abbrev decreases-loop : tie.decreases-loop-i
 decreases-loop counts i₀ i = length counts - i
 
 pub first_over_spec : {M : Type 1} → statement M
