@@ -12,17 +12,14 @@ use Rattle.snapshot.proofs.Filling.{five-put}
 use Rattle.snapshot.proofs.put_counts.Statement.{statement}
 use Rattle.snapshot.proofs.put_counts.Tie as tie
 
-abbrev begun : tie.Else-r-eq0 → tie.Start
-begun e = e.before.before.before
-
-some : (e : tie.Else-r-eq0) → (begun e).args.r.delivered ≡ 0 → ⊥
+some : (e : tie.Else-r-eq0) → e.args.r.delivered ≡ 0 → ⊥
 some e z = omega (arith, e.if-r-eq0.false)
 
 -- there is room for five
-room : (e : tie.Else-r-eq0) → (begun e).args.at + 5 ≤ length (begun e).args.words.now
-room e = omega (arith, (begun e).requires, ap length (counts_some (begun e).args.r (some e)))
+room : (e : tie.Else-r-eq0) → e.args.at + 5 ≤ length e.args.words.now
+room e = omega (arith, e.requires, ap length (counts_some e.args.r (some e)))
 
-fit : (e : tie.Else-r-eq0) (k : ℕ) → k < 5 → (begun e).args.at + k < length (begun e).args.words.now
+fit : (e : tie.Else-r-eq0) (k : ℕ) → k < 5 → e.args.at + k < length e.args.words.now
 fit e k h = omega (arith, room e)
 
 returns : tie.Need-returns-then-r-eq0
@@ -55,7 +52,7 @@ returns-2 c =
     let b = u.before in
     let h = b.before in
     let e = h.before in
-    let a = (begun e).args in
+    let a = e.args in
     five-put a.words.now a.at h.high_word.result b.low_word.result u.high_word-2.result d.low_word-2.result c.last_word.result (room e)
     ∙ ap (put_at a.words.now a.at) (
     ap₂ ◌∷◌ h.high_word.ensures (ap₂ ◌∷◌ b.low_word.ensures (ap₂ ◌∷◌ u.high_word-2.ensures (ap₂ ◌∷◌ d.low_word-2.ensures (ap₂ ◌∷◌ c.last_word.ensures refl)))) ∙ sym (counts_some a.r (some e))
