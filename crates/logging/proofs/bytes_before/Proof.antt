@@ -9,8 +9,8 @@ positive : (z : ℤ) → lt_z (pos 0) z ≡ true → T (non_neg z)
 positive (pos n) e = tt
 positive (negsuc n) e = subst T (sym e) tt
 
-cast-result : tie.Need-overflow-cast-result
-cast-result c = (positive (to_z w64 (of_z w64 c.before.args.place)) c.if1.true, Fits-nat_abs {w = w64} {w' = w64} tt (sfits_to_z (Fits-of_z c.before.ranges.place)))
+cast-result : tie.Need-overflow_cast-result
+cast-result c = (positive (to_z w64 (of_z w64 c.before.args.place)) c.if-place-gt0.true, Fits-nat_abs {w = w64} {w' = w64} tt (sfits_to_z (Fits-of_z c.before.ranges.place)))
 
 pub bytes_before_spec : {M : Type 1} → statement M
 bytes_before_spec = tie.close (tie.spec cast-result (λ c. search rules) (λ c. search rules))
