@@ -26,21 +26,33 @@ crates_sum() {
     { echo crates.txt && find crates -name out -prune -o -type f -print; } | LC_ALL=C sort | tr '\n' '\0' | xargs -0 sha256sum | sha256sum | cut -d ' ' -f 1
 }
 
-# Notes that rt ci has passed on the crates as they stand.
-note_proved() {
+# Notes that rt ci begins, and that it has passed on the crates as they stand.
+note_begun() {
     mkdir -p target
-    crates_sum >target/proved
+    rm -f target/proved
+    touch target/begun
+}
+note_proved() { crates_sum >target/proved; }
+
+# Whether rt ci has passed on the crates as they stand.
+has_passed() { [ -f target/proved ] && [ "$(cat target/proved)" = "$(crates_sum)" ]; }
+
+# Whether it has, and the libraries below a crate are those that it proved: they were made since it began, and have no stamp, as those of other commands have.
+is_proved() { # CRATE
+    local name place
+    has_passed || return 1
+    while read -r name _; do
+        place=crates/$name/out/rlib
+        [ "$name" != "$1" ] || continue
+        [ "$place/$name.rlib" -nt target/begun ] && [ ! -e "$place/stamp" ] || return 1
+    done < <(crates_below "$1")
 }
 
-# Whether rt ci has passed on the crates as they stand, and has left the libraries of a crate's part of them: a library that rt ci proved has no stamp, and one
-# that another command made has one.
-is_proved() { # CRATE
-    local name
-    [ -f target/proved ] && [ "$(cat target/proved)" = "$(crates_sum)" ] || return 1
-    while read -r name _; do
-        [ "$name" != "$1" ] || continue
-        [ -f "crates/$name/out/rlib/$name.rlib/format" ] && [ ! -e "crates/$name/out/rlib/stamp" ] || return 1
-    done < <(crates_below "$1")
+# Removes the libraries that rt ci left: no other command takes them, and the next rt ci would put them back in place of its own.
+forget_proved() {
+    local place
+    rm -f target/proved
+    for place in crates/*/out/rlib; do [ -e "$place/stamp" ] || rm -rf "$place"; done
 }
 
 # Whether a file is there, and no crate is newer.

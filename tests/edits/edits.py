@@ -7,7 +7,7 @@ the second where a definition is edited. rt holds an edit to be refused where an
 says has to refuse each function that is named at its goal, or the lemma. It does not count where a function only rests on another that is not proved, nor where
 the proof of that goal names a thing that the edited program does not have.
 
-A check is over the libraries in crates/*/out/rlib, which rt ci and rt check leave there. What it said is in target/must-fail/CRATE/LABEL.log, and is kept on this
+A check is over the libraries in crates/*/out/rlib: those that rt ci has just left there, or else those that rt check makes where they are not current. What it said is in target/must-fail/CRATE/LABEL.log, and is kept on this
 machine, by the sum of all that was read, so that the same is not checked twice.
 """
 
@@ -118,9 +118,11 @@ def checked(crate, edit, names, log):
         os.utime(kept)
         shutil.copyfile(kept, log)
         return None
-    lacking = [it for it in below(crate) if not os.path.isdir(f"crates/{it}/out/rlib/{it}.rlib")]
-    if lacking:
-        return f"the library {lacking[0]} is not built: run rt check in crates/{crate} first"
+    if os.environ.get("BARZHILUP_OVER") != "ci":
+        # (it proves and builds what is not current below the crate, and looks at no function of it)
+        ran = subprocess.run(["rt", "check", "--only", ""], cwd=f"crates/{crate}", stdin=subprocess.DEVNULL, stdout=subprocess.PIPE, stderr=subprocess.STDOUT, text=True, errors="replace")
+        if ran.returncode:
+            return "\n".join(["the libraries below its crate are not proved", *ran.stdout.split("\n")[-6:]])
     with tempfile.TemporaryDirectory(prefix="barzhilup-edit-") as room:
         for part in PARTS:
             if os.path.isdir(f"crates/{crate}/{part}"):
