@@ -37,15 +37,15 @@ note_proved() { crates_sum >target/proved; }
 # Whether rt ci has passed on the crates as they stand.
 has_passed() { [ -f target/proved ] && [ "$(cat target/proved)" = "$(crates_sum)" ]; }
 
-# Whether it has, and the libraries below a crate are those that it proved: they were made since it began, and have no stamp, as those of other commands have.
-is_proved() { # CRATE
-    local name place
+# Whether it has, and the crates' libraries are those that it proved: they were made since it began, and have no stamp, as those of other commands have.
+is_proved() {
+    local place name
     has_passed || return 1
-    while read -r name _; do
-        place=crates/$name/out/rlib
-        [ "$name" != "$1" ] || continue
+    for place in crates/*/out/rlib; do
+        name=${place#crates/}
+        name=${name%%/*}
         [ "$place/$name.rlib" -nt target/begun ] && [ ! -e "$place/stamp" ] || return 1
-    done < <(crates_below "$1")
+    done
 }
 
 # Removes the libraries that rt ci left: no other command takes them, and the next rt ci would put them back in place of its own.

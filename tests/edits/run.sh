@@ -6,5 +6,5 @@ cd "$(dirname "$0")/../.."
 # shellcheck source=scripts/kit.sh
 . scripts/kit.sh
 over=
-for name in "${@:-barzhilup}"; do if is_proved "$name"; then over=ci; fi; done
+if is_proved; then over=ci; fi
 exec env BARZHILUP_OVER="$over" python3 -B tests/edits/edits.py "$@"
