@@ -105,6 +105,7 @@ pub struct Added {
 }
 
 // Refusal 14 for a place outside 8 to 95, else 0.
+#[tactic(auto, unfolding(crate::specs::Shares::share_refusal))]
 fn place_refusal(place: usize) -> u32
     ensures { result ≡ share_refusal place }
 {
