@@ -2,6 +2,9 @@ use Rattle.std.proofs.Common.{length, ◌-◌, ◌≡◌, ◌≤◌, ℕ, ◌+�
 use Rattle.io.specs.Counts.{IsPrefixLen}
 use Rattle.logger.proofs.batches.read.Given as goal
 
--- proposed from the loop's first test
+abbrev pub invariant-loop-i : goal.invariant-loop-i
+invariant-loop-i l =
+    (l.end ≤ length l.frame) × (l.i ≤ length l.lengths) × (length l.frame ≡ length l.initial.frame) × (length l.lengths ≡ length l.initial.lengths)
+
 abbrev pub decreases-loop-i : goal.decreases-loop-i
 decreases-loop-i l = length l.initial.lengths - l.i
