@@ -1,0 +1,6 @@
+-- The byte is none of those passed.
+use Rattle.std.proofs.Common.{◌≢◌, ◌<◌, ◌≤◌, ℕ, slice_index}
+use Rattle.text.proofs.find.Given as goal
+
+abbrev pub invariant-loop-i : goal.invariant-loop-i
+invariant-loop-i l = (k : ℕ) → l.from ≤ k → k < l.i → slice_index l.bytes k ≢ l.byte
