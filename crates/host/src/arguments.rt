@@ -1,39 +1,21 @@
 // The words of the command line.
-ghost use Rattle.std.specs.Prelude.{◌≡◌, ◌≤◌, length};
+ghost use Rattle.std.specs.Prelude.{◌≡◌, ◌≤◌, length, IfOk};
 ghost use Rattle.io.specs.Counts.{IsPrefixLen};
 
-use crate::Host;
-use std::env::FillError;
+use crate::{FillError, Host};
 use std::rt::Env;
 
 impl Host {
-    // Puts an argument at the buffer's start. Answers its length, 0 where it is missing or does not fit. The last error is then 0 where all of it is
-    // there, EINVAL where there is none, and ENAMETOOLONG where it does not fit; its first bytes fill the buffer then.
-    pub fn arg(&self, i: usize, buf: &mut [u8]) -> usize
-        ensures { IsPrefixLen result buf.new }
+    // Puts an argument at the buffer's start. Answers its length; where it does not fit, its first bytes fill the buffer.
+    pub fn arg(&self, i: usize, buf: &mut [u8]) -> Result<usize, FillError>
+        ensures { IfOk result (λ n. IsPrefixLen n buf.new) }
     {
-        match self.rt.arg(i, buf) {
-            Ok(n) => {
-                self.set(0);
-                n
-            }
-            Err(FillError::NotPresent) => {
-                self.set(crate::EINVAL);
-                0
-            }
-            Err(FillError::TooLong) => {
-                self.set(crate::ENAMETOOLONG);
-                0
-            }
-        }
+        self.rt.arg(i, buf)
     }
 
     fn is_given(&self, i: usize) -> bool {
         let mut first = [0u8; 1];
-        match self.rt.arg(i, &mut first) {
-            Err(FillError::NotPresent) => false,
-            _ => true,
-        }
+        !matches!(self.rt.arg(i, &mut first), Err(FillError::NotPresent))
     }
 
     // How many arguments there are, with the program's name.

@@ -1,4 +1,6 @@
 // What went wrong last.
+ghost use Rattle.std.specs.Prelude.{◌≡◌, IfOk, OnErr};
+
 use crate::Host;
 use std::io::Error;
 
@@ -12,20 +14,28 @@ impl Host {
         self.set(error.raw_os_error().unwrap_or(crate::EIO));
     }
 
-    // 0 where something went well, or else -1, and why is kept.
-    pub(crate) fn status(&self, done: std::io::Result<()>) -> i32 {
-        match done {
-            Ok(()) => 0,
+    // What was got; nothing where that failed, and why is kept.
+    pub(crate) fn kept<T: Drop>(&self, got: std::io::Result<T>) -> Option<T>
+        ensures ok { IfOk got (λ it. result ≡ Some it) }
+        ensures err { OnErr got (result ≡ None) }
+    {
+        match got {
+            Ok(it) => Some(it),
             Err(e) => {
                 self.note(e);
-                -1
+                None
             }
         }
     }
 
+    // Whether what failed last failed since a name is taken.
+    pub fn is_taken(&self) -> bool {
+        self.error.get() == crate::EEXIST
+    }
+
     // Writes a line to standard error: what failed, a colon and why.
     pub fn fail(&self, what: &[u8]) {
-        let error = Error::from_raw_os_error(self.errno());
+        let error = Error::from_raw_os_error(self.error.get());
         self.write_all(crate::STDERR, what);
         self.write_all(crate::STDERR, b": ");
         self.say(error);

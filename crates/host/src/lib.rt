@@ -1,8 +1,8 @@
 // What the program has of the machine that it runs on, by the toolchain's `std` and `io`: its arguments, the clock, its files by number, and what went wrong
 // last.
 //
-// Standard input, output and error are the files 0, 1 and 2; a file that is opened has the next number that is free. What fails answers -1 or false, and why is
-// kept until something else fails.
+// Standard input, output and error are the first three files; a file that is opened has the next number that is free. Of what fails, why is kept until something
+// else fails.
 #![tactic(auto)]
 
 mod arguments;
@@ -13,32 +13,36 @@ mod streams;
 mod table;
 
 use std::cell::{Cell, RefCell};
+pub use std::env::FillError;
 use std::fs::File;
+use std::time::{SystemTime, UNIX_EPOCH};
+
+// A file that is open, by its number.
+#[derive(Clone, Copy, Debug, PartialEq, Eq)]
+pub struct Fd {
+    number: usize,
+}
 
 // The standard streams.
-pub const STDIN: i32 = 0;
+pub const STDIN: Fd = Fd { number: 0 };
 
-pub const STDOUT: i32 = 1;
+pub const STDOUT: Fd = Fd { number: 1 };
 
-pub const STDERR: i32 = 2;
+pub const STDERR: Fd = Fd { number: 2 };
 
-// Errors, by their numbers.
-pub const EIO: i32 = 5;
+// Errors of the system, by their numbers.
+const EIO: i32 = 5;
 
-pub const EBADF: i32 = 9;
+const EBADF: i32 = 9;
 
-pub const ENOMEM: i32 = 12;
+const ENOMEM: i32 = 12;
 
-pub const EEXIST: i32 = 17;
+const EEXIST: i32 = 17;
 
-pub const EINVAL: i32 = 22;
-
-pub const ESPIPE: i32 = 29;
-
-pub const ENAMETOOLONG: i32 = 36;
+const ESPIPE: i32 = 29;
 
 // No text in UTF-8.
-pub const EILSEQ: i32 = 84;
+const EILSEQ: i32 = 84;
 
 // A file that is open, and whether it was made here.
 #[derive(Drop)]
@@ -64,26 +68,10 @@ impl Host {
         }
     }
 
-    // The number of the last error.
-    pub fn errno(&self) -> i32 {
-        self.error.get()
-    }
-
-    // The second that it is, by the clock; -1 where there is none.
-    pub fn time(&self) -> i64 {
-        match std::time::SystemTime::now(&self.rt) {
-            Ok(now) => seconds_of(now),
-            Err(e) => {
-                self.note(e);
-                -1
-            }
-        }
-    }
-}
-
-fn seconds_of(now: std::time::SystemTime) -> i64 {
-    match now.duration_since(std::time::UNIX_EPOCH) {
-        Ok(d) => d.as_secs().cast_signed(),
-        Err(_) => -1,
+    // The second that it is, by the clock; nothing where there is none.
+    pub fn time(&self) -> Option<u64> {
+        let now = self.kept(SystemTime::now(&self.rt))?;
+        let since = now.duration_since(UNIX_EPOCH).ok()?;
+        Some(since.as_secs())
     }
 }

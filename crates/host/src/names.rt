@@ -1,30 +1,17 @@
 // Files by name: opening, making, renaming and removing.
 //
 // A name is text in UTF-8; any other is refused, with EILSEQ.
-use crate::Host;
+use crate::{Fd, Host};
 use std::fs;
 use std::fs::{File, OpenOptions};
 use std::io::Error;
 
 // The name as text.
 fn text_of(path: &[u8]) -> std::io::Result<&str> {
-    match std::str::from_utf8(path) {
-        Ok(text) => Ok(text),
-        Err(_) => Err(Error::from_raw_os_error(crate::EILSEQ)),
-    }
+    std::str::from_utf8(path).map_err(|_| Error::from_raw_os_error(crate::EILSEQ))
 }
 
 impl Host {
-    fn kept(&self, opened: std::io::Result<File>, is_made: bool) -> i32 {
-        match opened {
-            Ok(file) => self.keep(file, is_made),
-            Err(e) => {
-                self.note(e);
-                -1
-            }
-        }
-    }
-
     fn opened(&self, path: &[u8]) -> std::io::Result<File> {
         File::open(&self.rt, text_of(path)?)
     }
@@ -36,32 +23,34 @@ impl Host {
             .open(&self.rt, text_of(path)?)
     }
 
-    // Opens a file that is read. Answers its number, or -1.
-    pub fn open_read(&self, path: &[u8]) -> i32 {
-        self.kept(self.opened(path), false)
+    // Opens a file that is read; nothing where it cannot be had.
+    pub fn open_read(&self, path: &[u8]) -> Option<Fd> {
+        let file = self.kept(self.opened(path))?;
+        self.keep(file, false)
     }
 
-    // Makes a file of a name that no file has, to be written. Answers its number, or -1.
-    pub fn create(&self, path: &[u8]) -> i32 {
-        self.kept(self.made(path), true)
+    // Makes a file of a name that no file has, to be written; nothing where it cannot be had.
+    pub fn create(&self, path: &[u8]) -> Option<Fd> {
+        let file = self.kept(self.made(path))?;
+        self.keep(file, true)
     }
 
     fn rename_names(&self, from: &[u8], to: &[u8]) -> std::io::Result<()> {
         fs::rename(&self.rt, text_of(from)?, text_of(to)?)
     }
 
-    // Renames a file. Answers 0, or -1.
-    pub fn rename(&self, from: &[u8], to: &[u8]) -> i32 {
-        self.status(self.rename_names(from, to))
+    // Renames a file. Answers whether that went well.
+    pub fn rename(&self, from: &[u8], to: &[u8]) -> bool {
+        self.kept(self.rename_names(from, to)).is_some()
     }
 
     fn remove(&self, path: &[u8]) -> std::io::Result<()> {
         fs::remove_file(&self.rt, text_of(path)?)
     }
 
-    // Removes a file. Answers 0, or -1.
-    pub fn unlink(&self, path: &[u8]) -> i32 {
-        self.status(self.remove(path))
+    // Removes a file. Answers whether that went well.
+    pub fn unlink(&self, path: &[u8]) -> bool {
+        self.kept(self.remove(path)).is_some()
     }
 
     fn link_of(&self, path: &[u8]) -> std::io::Result<bool> {

@@ -1,6 +1,6 @@
 // The standard streams. They stay open, and have no places of their own; where standard input is a file, it is opened once more to go back in it.
-use crate::Host;
 use crate::streams::seek_file;
+use crate::{Fd, Host};
 use std::fs;
 use std::fs::File;
 use std::io::{Error, IsTerminal, SeekFrom};
@@ -16,20 +16,13 @@ fn no_places() -> Error {
 
 // The place in the words that the system has of an open file.
 fn place_in(words: &str) -> std::io::Result<u64> {
-    match words.split_once("\n") {
-        Some((line, _)) => place_of_line(line),
-        None => Err(no_places()),
-    }
+    let (line, _) = words.split_once("\n").ok_or(no_places())?;
+    place_of_line(line)
 }
 
 fn place_of_line(line: &str) -> std::io::Result<u64> {
-    match line.strip_prefix("pos:") {
-        Some(digits) => match digits.trim().parse::<u64>() {
-            Ok(place) => Ok(place),
-            Err(_) => Err(no_places()),
-        },
-        None => Err(no_places()),
-    }
+    let digits = line.strip_prefix("pos:").ok_or(no_places())?;
+    digits.trim().parse::<u64>().map_err(|_| no_places())
 }
 
 // The file by a number that is none of the standard streams', which it may have where one of them is closed: what is written there is not for it.
@@ -67,7 +60,7 @@ impl Host {
     }
 
     // The place in standard input or output.
-    pub(crate) fn standard_place(&self, fd: i32) -> std::io::Result<u64> {
+    pub(crate) fn standard_place(&self, fd: Fd) -> std::io::Result<u64> {
         if fd == crate::STDIN {
             return self.input_place();
         }
@@ -76,12 +69,9 @@ impl Host {
 
     // Has standard input be read from its file, opened once more. Answers whether that went well.
     pub(crate) fn reopen(&self) -> bool {
-        match self.input_again() {
-            Ok(file) => self.keep_at(0, file),
-            Err(e) => {
-                self.note(e);
-                false
-            }
+        match self.kept(self.input_again()) {
+            Some(file) => self.keep_at(0, file),
+            None => false,
         }
     }
 
@@ -98,14 +88,9 @@ impl Host {
         self.rt.stderr().is_terminal()
     }
 
-    // 0 where standard output is open.
-    pub(crate) fn close_standard(&self) -> i32 {
-        match self.rt.stdout().as_fd().try_clone_to_owned() {
-            Ok(_) => 0,
-            Err(e) => {
-                self.note(e);
-                -1
-            }
-        }
+    // Whether standard output is open.
+    pub(crate) fn is_output_open(&self) -> bool {
+        self.kept(self.rt.stdout().as_fd().try_clone_to_owned())
+            .is_some()
     }
 }

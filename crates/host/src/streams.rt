@@ -1,9 +1,8 @@
 // Files that are open: reading, writing, places and closing.
-ghost use Rattle.std.specs.Prelude.{◌≡◌, ◌≤◌, length};
+ghost use Rattle.std.specs.Prelude.{◌≡◌, ◌≤◌, length, IfSome};
 ghost use Rattle.std.specs.Io.{ReadsAtMost, WritesAtMost};
 
-use crate::table::place_of;
-use crate::{Host, Opened};
+use crate::{Fd, Host, Opened};
 use std::fs::File;
 use std::io::{Error, Read, Seek, SeekFrom, Write};
 use std::os::unix::fs::FileExt;
@@ -32,11 +31,11 @@ pub(crate) fn seek_file(file: &File, to: SeekFrom) -> std::io::Result<u64> {
 }
 
 impl Host {
-    fn read_some(&self, fd: i32, buf: &mut [u8]) -> std::io::Result<usize>
+    fn read_some(&self, fd: Fd, buf: &mut [u8]) -> std::io::Result<usize>
         ensures { ReadsAtMost result buf.new }
     {
         if let Ok(files) = self.files.try_borrow() {
-            if let Some(Some(open)) = files.get(place_of(fd)) {
+            if let Some(Some(open)) = files.get(fd.number) {
                 return read_file(&open.file, buf);
             }
         }
@@ -46,7 +45,7 @@ impl Host {
         Err(closed())
     }
 
-    fn write_some(&self, fd: i32, bytes: &[u8]) -> std::io::Result<usize>
+    fn write_some(&self, fd: Fd, bytes: &[u8]) -> std::io::Result<usize>
         ensures { WritesAtMost result bytes.now }
     {
         if fd == crate::STDOUT {
@@ -56,86 +55,77 @@ impl Host {
             return self.rt.stderr().write(bytes);
         }
         if let Ok(files) = self.files.try_borrow() {
-            if let Some(Some(open)) = files.get(place_of(fd)) {
+            if let Some(Some(open)) = files.get(fd.number) {
                 return write_file(&open.file, bytes);
             }
         }
         Err(closed())
     }
 
-    fn read_some_at(&self, fd: i32, buf: &mut [u8], byte: u64) -> std::io::Result<usize>
+    fn read_some_at(&self, fd: Fd, buf: &mut [u8], byte: u64) -> std::io::Result<usize>
         ensures { ReadsAtMost result buf.new }
     {
         if let Ok(files) = self.files.try_borrow() {
-            if let Some(Some(open)) = files.get(place_of(fd)) {
+            if let Some(Some(open)) = files.get(fd.number) {
                 return open.file.read_at(buf, byte);
             }
         }
         Err(closed())
     }
 
-    // How many bytes were moved; -1 where that failed, and why is kept.
-    fn moved(&self, got: std::io::Result<usize>) -> isize {
-        match got {
-            Ok(n) => n.cast_signed(),
-            Err(e) => {
-                self.note(e);
-                -1
-            }
-        }
-    }
-
-    // Reads bytes to the buffer's start, and answers how many: 0 at the file's end, -1 where that failed.
-    pub fn read(&self, fd: i32, buf: &mut [u8]) -> isize {
+    // Reads bytes to the buffer's start, and answers how many: 0 at the file's end, nothing where that failed.
+    pub fn read(&self, fd: Fd, buf: &mut [u8]) -> Option<usize>
+        ensures { IfSome result (λ n. n ≤ length buf.new) }
+    {
         let got = self.read_some(fd, buf);
-        self.moved(got)
+        self.kept(got)
     }
 
     // The same from a byte of a file on. The place in the file stays.
-    pub fn read_at(&self, fd: i32, buf: &mut [u8], byte: u64) -> isize {
+    pub fn read_at(&self, fd: Fd, buf: &mut [u8], byte: u64) -> Option<usize>
+        ensures { IfSome result (λ n. n ≤ length buf.new) }
+    {
         let got = self.read_some_at(fd, buf, byte);
-        self.moved(got)
+        self.kept(got)
     }
 
     // Writes all bytes. Answers whether that went well.
-    pub fn write_all(&self, fd: i32, bytes: &[u8]) -> bool {
+    pub fn write_all(&self, fd: Fd, bytes: &[u8]) -> bool {
         let mut done: usize = 0;
         while done < bytes.len() {
-            let rest = &bytes[done..];
-            let got = self.write_some(fd, rest);
-            let count = io::count(self.moved(got), rest);
-            if count == 0 {
-                return false;
+            let got = self.write_some(fd, &bytes[done..]);
+            match self.kept(got) {
+                None | Some(0) => return false,
+                Some(count) => done += count,
             }
-            done += count;
         }
         true
     }
 
     // Writes a number's decimal digits, as `write_all` writes bytes.
-    pub fn print_decimal(&self, fd: i32, number: u64) -> bool {
+    pub fn print_decimal(&self, fd: Fd, number: u64) -> bool {
         let mut digits = [0u8; 20];
         let count = io::decimal(number, &mut digits);
         self.write_all(fd, &digits[..count])
     }
 
     // The same of its hexadecimal digits, with zeros before them up to so many.
-    pub fn print_hex(&self, fd: i32, number: u64, width: usize) -> bool {
+    pub fn print_hex(&self, fd: Fd, number: u64, width: usize) -> bool {
         let mut digits = [0u8; 16];
         let count = io::hex(number, width, &mut digits);
         self.write_all(fd, &digits[..count])
     }
 
-    fn seek_to(&self, fd: i32, to: SeekFrom) -> std::io::Result<u64> {
+    fn seek_to(&self, fd: Fd, to: SeekFrom) -> std::io::Result<u64> {
         if let Ok(files) = self.files.try_borrow() {
-            if let Some(Some(open)) = files.get(place_of(fd)) {
+            if let Some(Some(open)) = files.get(fd.number) {
                 return seek_file(&open.file, to);
             }
         }
         Err(closed())
     }
 
-    fn found_place(&self, fd: i32) -> std::io::Result<u64> {
+    fn found_place(&self, fd: Fd) -> std::io::Result<u64> {
         if (fd == crate::STDIN) | (fd == crate::STDOUT) {
             if !self.is_open(fd) {
                 return self.standard_place(fd);
@@ -144,50 +134,35 @@ impl Host {
         self.seek_to(fd, SeekFrom::Current(0))
     }
 
-    // The place from which the next byte is read or written; -1 where there are no places, as in a pipe.
-    pub fn place(&self, fd: i32) -> i64 {
-        match self.found_place(fd) {
-            Ok(at) => at.cast_signed(),
-            Err(e) => {
-                self.note(e);
-                -1
-            }
-        }
+    // The place from which the next byte is read or written; nothing where there are no places, as in a pipe.
+    pub fn place(&self, fd: Fd) -> Option<u64> {
+        self.kept(self.found_place(fd))
     }
 
     // Goes to a place in a file. Answers whether that went well.
-    pub fn go_to(&self, fd: i32, place: i64) -> bool {
-        if place < 0 {
-            self.set(crate::EINVAL);
-            return false;
-        }
+    pub fn go_to(&self, fd: Fd, place: u64) -> bool {
         if (fd == crate::STDIN) & !self.is_open(fd) {
             if !self.reopen() {
                 return false;
             }
         }
-        match self.seek_to(fd, SeekFrom::Start(place as u64)) {
-            Ok(_) => true,
-            Err(e) => {
-                self.note(e);
-                false
-            }
-        }
+        self.kept(self.seek_to(fd, SeekFrom::Start(place)))
+            .is_some()
     }
 
-    // Closes a file, after what was written of it is on its device. Answers 0, or -1 where that failed. The standard streams stay open.
-    pub fn close(&self, fd: i32) -> i32 {
+    // Closes a file, after what was written of it is on its device. Answers whether that went well. The standard streams stay open.
+    pub fn close(&self, fd: Fd) -> bool {
         if fd == crate::STDOUT {
-            return self.close_standard();
+            return self.is_output_open();
         }
-        if fd < 3 {
-            return 0;
+        if (fd == crate::STDIN) | (fd == crate::STDERR) {
+            return true;
         }
         match self.taken(fd) {
-            Some(open) => self.status(synced(&open)),
+            Some(open) => self.kept(synced(&open)).is_some(),
             None => {
                 self.set(crate::EBADF);
-                -1
+                false
             }
         }
     }

@@ -1,14 +1,9 @@
 // The files that are open, each at its number.
-use crate::{Host, Opened};
+use crate::{Fd, Host, Opened};
 use std::fs::File;
 
 // The number of the first file that is opened.
 const FIRST: usize = 3;
-
-// The place of a number in the table; past its end where it is none.
-pub(crate) fn place_of(fd: i32) -> usize {
-    usize::try_from(fd).unwrap_or(usize::MAX)
-}
 
 // The first free place after those of the standard streams; the table's length where there is none.
 fn free_place(files: &[Option<Opened>]) -> usize {
@@ -38,16 +33,11 @@ fn put_at(files: &mut Vec<Option<Opened>>, place: usize, open: Opened) -> bool {
     }
 }
 
-// The number of the file that was put at a place.
-fn number_of(place: usize) -> i32 {
-    i32::try_from(place).unwrap_or(-1)
-}
-
 impl Host {
     // Whether a number is that of a file that was opened.
-    pub(crate) fn is_open(&self, fd: i32) -> bool {
+    pub(crate) fn is_open(&self, fd: Fd) -> bool {
         if let Ok(files) = self.files.try_borrow() {
-            if let Some(Some(_)) = files.get(place_of(fd)) {
+            if let Some(Some(_)) = files.get(fd.number) {
                 return true;
             }
         }
@@ -55,9 +45,9 @@ impl Host {
     }
 
     // The file of a number, which has none after that.
-    pub(crate) fn taken(&self, fd: i32) -> Option<Opened> {
+    pub(crate) fn taken(&self, fd: Fd) -> Option<Opened> {
         if let Ok(mut files) = self.files.try_borrow_mut() {
-            if let Some(slot) = files.get_mut(place_of(fd)) {
+            if let Some(slot) = files.get_mut(fd.number) {
                 return slot.take();
             }
         }
@@ -79,15 +69,15 @@ impl Host {
         false
     }
 
-    // Keeps a file at the first free place. Answers its number, -1 where there was no room.
-    pub(crate) fn keep(&self, file: File, is_made: bool) -> i32 {
+    // Keeps a file at the first free place; nothing where there was no room.
+    pub(crate) fn keep(&self, file: File, is_made: bool) -> Option<Fd> {
         if let Ok(mut files) = self.files.try_borrow_mut() {
             let place = free_place(files.as_slice()).max(FIRST);
             if put_at(&mut *files, place, Opened { file, is_made }) {
-                return number_of(place);
+                return Some(Fd { number: place });
             }
         }
         self.set(crate::ENOMEM);
-        -1
+        None
     }
 }
