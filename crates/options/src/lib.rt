@@ -11,7 +11,7 @@ ghost use Rattle.std.specs.Prelude.{◌≡◌, ◌+◌, ◌≤◌, ◌<◌, leng
 ghost use Rattle.io.specs.Counts.{IsPrefixLen};
 
 pub use command::Command;
-use host::Host;
+use host::{FillError, Host};
 pub use opt::{Opt, SETTINGS};
 use text::Line;
 
@@ -97,11 +97,11 @@ fn argument() -> [u8; 4160]
 fn head(host: &Host, i: usize, buf: &mut [u8]) -> usize
     ensures { IsPrefixLen result buf.new }
 {
-    let n = host.arg(i, buf);
-    if host.errno() == host::ENAMETOOLONG {
-        return buf.len();
+    match host.arg(i, buf) {
+        Ok(n) => n,
+        Err(FillError::TooLong) => buf.len(),
+        Err(FillError::NotPresent) => 0,
     }
-    n
 }
 
 // An argument's bytes from its two dashes to an equals sign or its end; nothing where it has no dashes.
@@ -211,7 +211,7 @@ pub fn value(host: &Host, command: Command, option: Opt, buf: &mut [u8]) -> usiz
     if has_value(host, at) {
         return put_own_value(host, at, buf);
     }
-    host.arg(at + 1, buf)
+    host.arg(at + 1, buf).unwrap_or(0)
 }
 
 // Whether a value may have so many bytes.
@@ -237,11 +237,10 @@ fn check_value(host: &Host, option: Opt, i: usize) -> Result<(), Wrong>
     requires { i < 18446744073709551615 }
 {
     let mut value = io::buffer();
-    let n = host.arg(i + 1, &mut value);
-    match host.errno() {
-        0 => check_length(option, n),
-        host::EINVAL => Err(Wrong::ValueMissing),
-        _ => Err(Wrong::ValueTooLong),
+    match host.arg(i + 1, &mut value) {
+        Ok(n) => check_length(option, n),
+        Err(FillError::NotPresent) => Err(Wrong::ValueMissing),
+        Err(FillError::TooLong) => Err(Wrong::ValueTooLong),
     }
 }
 

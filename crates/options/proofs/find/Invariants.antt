@@ -1,5 +1,4 @@
-use Rattle.std.proofs.Common.{◌-◌, ◌≡◌, ◌≤◌, ◌<◌, length, ℕ, ◌+◌, ◌*◌}
-use Rattle.io.specs.Counts.{IsPrefixLen}
+use Rattle.std.proofs.Common.{◌-◌}
 use Rattle.options.proofs.find.Given as goal
 
 -- proposed from the loop's first test
