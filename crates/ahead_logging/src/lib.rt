@@ -7,6 +7,7 @@ ghost use Rattle.io.specs.Counts.{IsPrefixLen};
 use ahead::Ahead;
 use host::Host;
 use logging::{Onto, Run, Task, marks};
+use options::Command;
 use receiver::Receiver;
 use records::Record;
 use resync::{Next, Wanted};
@@ -87,7 +88,7 @@ fn say_passed(host: &Host, from: &[u8], bytes: u64, place: u64, places: u64) {
     if places == LINES {
         options::say(
             host,
-            options::LOG,
+            Command::Log,
             b": further places passed over are counted only\n",
         );
         return;

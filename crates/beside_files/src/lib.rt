@@ -9,7 +9,7 @@ ghost use Rattle.io.specs.Counts.{IsPrefixLen};
 use beside::Beside;
 use comparison::Sent;
 use host::Host;
-use options::LOG;
+use options::{Command, Opt};
 use packets::Source;
 
 // How many options there are; the first four name files that are written.
@@ -19,7 +19,7 @@ const WRITTEN: u8 = 4;
 
 // The option of a number, in the order of how a run stands where one of their files fails: `packets`, `adts`, `psd`, `compared` and `sent`.
 fn option_of(number: u8) -> u8 {
-    std::num::wrapping_add_u8(options::PACKETS_OUT, number)
+    std::num::wrapping_add_u8(Opt::PacketsOut, number)
 }
 
 // Room for the labels of all files.
@@ -34,7 +34,7 @@ fn put_label(host: &Host, out: &mut [u8], at: usize, number: u8) -> usize
     ensures { IsPrefixLen result out.new }
 {
     let mut label = files::label_buffer();
-    let n = files::put_label(host, &mut label, LOG, option_of(number));
+    let n = files::put_label(host, &mut label, Command::Log, option_of(number));
     let k = text::put(out, at, &label[..n]);
     text::put(out, k, b"\0")
 }
@@ -107,7 +107,7 @@ fn with_sent(host: &Host, fd: i32, label: &[u8]) -> Compared {
     let mut buf = io::buffer();
     let source = Source {
         fd: fd,
-        adts: options::given(host, LOG, options::SENT_ADTS),
+        adts: options::given(host, Command::Log, Opt::SentAdts),
     };
     let c = count(host, source, &mut buf);
     packets::say_end(host, label, c.status, c.many);
@@ -128,14 +128,14 @@ fn with_sent(host: &Host, fd: i32, label: &[u8]) -> Compared {
 
 // Opens the file of the packets that were sent, where one is given.
 fn open_sent(host: &Host, label: &[u8]) -> Compared {
-    if !options::given(host, LOG, options::SENT) {
+    if !options::given(host, Command::Log, Opt::Sent) {
         return Compared {
             ok: true,
             fd: -1,
             many: 0,
         };
     }
-    let fd = files::open(host, LOG, options::SENT, label);
+    let fd = files::open(host, Command::Log, Opt::Sent, label);
     if fd < 0 {
         return not_compared();
     }
@@ -152,10 +152,15 @@ struct Made {
 // Makes the file of an option, by its number.
 fn make(host: &Host, labels: &[u8], number: u8) -> Made {
     let option = option_of(number);
-    if !options::given(host, LOG, option) {
+    if !options::given(host, Command::Log, option) {
         return Made { fd: -1, ok: true };
     }
-    let fd = files::open(host, LOG, option, text::entry(labels, number as u32));
+    let fd = files::open(
+        host,
+        Command::Log,
+        option,
+        text::entry(labels, number as u32),
+    );
     Made {
         fd: fd,
         ok: 0 <= fd,
@@ -188,7 +193,7 @@ fn make_all(host: &Host, labels: &[u8], list: &mut [i32]) -> u8 {
 fn unmake(host: &Host, many: u8) {
     let mut k: u8 = 0;
     while k < many {
-        files::unmake(host, LOG, option_of(k));
+        files::unmake(host, Command::Log, option_of(k));
         k += 1;
     }
 }
@@ -215,7 +220,7 @@ fn with_output(host: &Host, labels: &[u8], output: i32, s: Compared) -> Opened {
     let many = make_all(host, labels, &mut list);
     if many != WRITTEN {
         unmake(host, many);
-        files::unmake(host, LOG, options::OUT);
+        files::unmake(host, Command::Log, Opt::Out);
         return not_opened();
     }
     let titled = comparison::list::begin(host, list[3]);
@@ -231,7 +236,7 @@ fn with_output(host: &Host, labels: &[u8], output: i32, s: Compared) -> Opened {
             psd: list[2],
             sent: Sent {
                 fd: s.fd,
-                adts: options::given(host, LOG, options::SENT_ADTS),
+                adts: options::given(host, Command::Log, Opt::SentAdts),
                 list: list[3],
             },
             many: s.many,
@@ -245,7 +250,7 @@ pub fn open(host: &Host, onto: &[u8], labels: &[u8]) -> Opened {
     if !s.ok {
         return not_opened();
     }
-    let output = files::open(host, LOG, options::OUT, onto);
+    let output = files::open(host, Command::Log, Opt::Out, onto);
     if output < 0 {
         return not_opened();
     }

@@ -2,6 +2,7 @@
 #![tactic(auto)]
 
 use host::Host;
+use options::Command;
 use packets::window;
 use packets::window::Window;
 use psd_stream::Supply;
@@ -104,7 +105,7 @@ fn is_going(b: Broadcast) -> bool {
 // How far the work is, where somebody looks on, as `files::progress` has it.
 fn progress(host: &Host, b: Broadcast, shown: i64) -> i64 {
     let run = b.run;
-    files::progress(host, options::GENERATE, run.pdus, shown)
+    files::progress(host, Command::Generate, run.pdus, shown)
 }
 
 // Reads ahead and sends a PDU; stops where no packet waits.

@@ -3,7 +3,7 @@ ghost use Rattle.std.specs.Prelude.{◌≤◌};
 
 use disorder::Rates;
 use host::Host;
-use options::CHANNEL;
+use options::{Command, Opt};
 use passage::Channel;
 use text::Number;
 
@@ -16,22 +16,22 @@ pub struct Job {
 }
 
 // How many in a thousand; none where the option is not given.
-fn in_a_thousand(host: &Host, option: u8) -> Number
+fn in_a_thousand(host: &Host, option: Opt) -> Number
     ensures { result.value ≤ 1000 }
 {
-    options::number(host, CHANNEL, option, 0, 0, 1000)
+    options::number(host, Command::Channel, option, 0, 0, 1000)
 }
 
 pub fn asked(host: &Host) -> Job {
-    let seed = options::number(host, CHANNEL, options::SEED, 1, 0, 4294967295);
-    let loss = options::number(host, CHANNEL, options::LOSS, 50, 0, 1000);
-    let burst = options::number(host, CHANNEL, options::BURST, 4, 1, 64);
-    let damage = options::number(host, CHANNEL, options::DAMAGE, 500, 0, 1000);
-    let bytes = options::number(host, CHANNEL, options::BYTES, 4, 0, 96);
-    let bursts = in_a_thousand(host, options::BURSTS);
-    let twice = in_a_thousand(host, options::TWICE);
-    let swap = in_a_thousand(host, options::SWAP);
-    let cut = in_a_thousand(host, options::CUT);
+    let seed = options::number(host, Command::Channel, Opt::Seed, 1, 0, 4294967295);
+    let loss = options::number(host, Command::Channel, Opt::Loss, 50, 0, 1000);
+    let burst = options::number(host, Command::Channel, Opt::Burst, 4, 1, 64);
+    let damage = options::number(host, Command::Channel, Opt::Damage, 500, 0, 1000);
+    let bytes = options::number(host, Command::Channel, Opt::Bytes, 4, 0, 96);
+    let bursts = in_a_thousand(host, Opt::Bursts);
+    let twice = in_a_thousand(host, Opt::Twice);
+    let swap = in_a_thousand(host, Opt::Swap);
+    let cut = in_a_thousand(host, Opt::Cut);
     Job {
         ok: (seed.ok & loss.ok & burst.ok & damage.ok & bytes.ok & bursts.ok)
             & (twice.ok & swap.ok & cut.ok),

@@ -8,19 +8,19 @@ mod report;
 use arguments::Job;
 use disorder::Outlet;
 use host::Host;
-use options::CHANNEL;
+use options::{Command, Opt};
 use passage::{Run, Task};
 
 // The subcommand `channel`: answers the exit status.
 pub fn program(host: &Host) -> i32 {
-    if options::given(host, CHANNEL, options::HELP) {
-        return files::status(host, CHANNEL, report::usage(host));
+    if options::given(host, Command::Channel, Opt::Help) {
+        return files::status(host, Command::Channel, report::usage(host));
     }
     if !files::check(
         host,
-        CHANNEL,
-        options::MARKS_OUT,
-        options::OUT,
+        Command::Channel,
+        Opt::MarksOut,
+        Opt::Out,
         b": standard output has the PDUs",
     ) {
         return files::WRONG;
@@ -29,13 +29,13 @@ pub fn program(host: &Host) -> i32 {
     if !job.ok {
         return files::WRONG;
     }
-    files::status(host, CHANNEL, run(host, job))
+    files::status(host, Command::Channel, run(host, job))
 }
 
 // Opens the file that is read, and sends its PDUs over the channel. Answers whether all is done; what went wrong is said.
 fn run(host: &Host, job: Job) -> bool {
     let mut from = files::label_buffer();
-    let input = files::opened(host, CHANNEL, options::IN, &mut from);
+    let input = files::opened(host, Command::Channel, Opt::In, &mut from);
     if input.fd < 0 {
         return false;
     }
@@ -45,11 +45,11 @@ fn run(host: &Host, job: Job) -> bool {
 
 // Makes the file of marks, where one is asked for.
 fn with_input(host: &Host, job: Job, from: &[u8], input: i32) -> bool {
-    if !options::given(host, CHANNEL, options::MARKS_OUT) {
+    if !options::given(host, Command::Channel, Opt::MarksOut) {
         return with_marks(host, job, from, input, b"", disorder::NO_MARKS);
     }
     let mut label = files::label_buffer();
-    let marks = files::opened(host, CHANNEL, options::MARKS_OUT, &mut label);
+    let marks = files::opened(host, Command::Channel, Opt::MarksOut, &mut label);
     if marks.fd < 0 {
         return false;
     }
@@ -60,9 +60,9 @@ fn with_input(host: &Host, job: Job, from: &[u8], input: i32) -> bool {
 // Makes the file that is written, and sends every PDU over the channel. Where that file is not made, that of marks goes, too.
 fn with_marks(host: &Host, job: Job, from: &[u8], input: i32, marking: &[u8], marks: i32) -> bool {
     let mut onto = files::label_buffer();
-    let pdus = files::opened(host, CHANNEL, options::OUT, &mut onto);
+    let pdus = files::opened(host, Command::Channel, Opt::Out, &mut onto);
     if pdus.fd < 0 {
-        files::unmake(host, CHANNEL, options::MARKS_OUT);
+        files::unmake(host, Command::Channel, Opt::MarksOut);
         return false;
     }
     let n = pdus.length;

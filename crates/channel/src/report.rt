@@ -1,6 +1,6 @@
 // What the program says on standard error, a line in one write.
 use host::Host;
-use options::CHANNEL;
+use options::Command;
 
 // A record has a length that no PDU has, after so many records of so many bytes.
 fn too_long(host: &Host, from: &[u8], pdus: u64, bytes: u64) {
@@ -44,7 +44,7 @@ pub fn ends(
 pub fn summary(host: &Host, pdus: u64, missing: u64, lost: u64, damaged: u64, altered: u64) {
     options::say_numbers(
         host,
-        CHANNEL,
+        Command::Channel,
         b": PDUs @ (lost before @), lost @, damaged @, bytes altered @\n",
         &[pdus, missing, lost, damaged, altered],
     );
@@ -66,7 +66,7 @@ pub fn asked_for(host: &Host, thing: u32, in_a_thousand: u64, count: u64) {
     }
     options::say_numbers(
         host,
-        CHANNEL,
+        Command::Channel,
         text::entry(
             b": pieces hit by bursts @\n\0: PDUs sent twice @\n\0: PDUs swapped with the next @\n\0: PDUs cut @\n\0",
             thing,
@@ -79,7 +79,7 @@ pub fn asked_for(host: &Host, thing: u32, in_a_thousand: u64, count: u64) {
 pub fn usage(host: &Host) -> bool {
     files::print_usage(
         host,
-        CHANNEL,
+        Command::Channel,
         b"usage: barzhilup channel [--in FILE] [--out FILE] [OPTION]...
 
 Damages a file of PDUs: PDUs are lost in bursts, and of those that come through

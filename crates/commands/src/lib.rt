@@ -3,6 +3,7 @@
 #![tactic(auto)]
 
 use host::{Host, STDERR};
+use options::Command;
 
 // 0 where all is done, 1 where the work stopped early, 2 where the usage is wrong.
 pub fn barzhilup_main(host: &Host) -> i32 {
@@ -14,22 +15,22 @@ pub fn barzhilup_main(host: &Host) -> i32 {
 // Runs a subcommand.
 fn run(host: &Host, word: &[u8]) -> i32 {
     if check::same(word, b"generate") {
-        return files::with_hint(host, options::GENERATE, generator::program(host));
+        return files::with_hint(host, Command::Generate, generator::program(host));
     }
     if check::same(word, b"channel") {
-        return files::with_hint(host, options::CHANNEL, channel::program(host));
+        return files::with_hint(host, Command::Channel, channel::program(host));
     }
     if check::same(word, b"log") {
-        return files::with_hint(host, options::LOG, logger::program(host));
+        return files::with_hint(host, Command::Log, logger::program(host));
     }
     if check::same(word, b"coverage") {
-        return files::with_hint(host, options::COVERAGE, coverage::program(host));
+        return files::with_hint(host, Command::Coverage, coverage::program(host));
     }
     if check::same(word, b"latency") {
-        return files::with_hint(host, options::LATENCY, trials::program(host));
+        return files::with_hint(host, Command::Latency, trials::program(host));
     }
     if check::same(word, b"join") {
-        return files::with_hint(host, options::JOIN, joiner::program(host));
+        return files::with_hint(host, Command::Join, joiner::program(host));
     }
     about(host, word)
 }
@@ -37,13 +38,13 @@ fn run(host: &Host, word: &[u8]) -> i32 {
 // Says what the program is, or that a subcommand is missing or not known.
 fn about(host: &Host, word: &[u8]) -> i32 {
     if is_help(word) {
-        return files::status(host, options::BARZHILUP, print_usage(host));
+        return files::status(host, Command::Barzhilup, print_usage(host));
     }
     if check::same(word, b"--version") {
-        return files::status(host, options::BARZHILUP, print_version(host));
+        return files::status(host, Command::Barzhilup, print_version(host));
     }
     unknown(host, word);
-    files::with_hint(host, options::BARZHILUP, files::WRONG)
+    files::with_hint(host, Command::Barzhilup, files::WRONG)
 }
 
 fn is_help(word: &[u8]) -> bool {
@@ -56,7 +57,7 @@ fn is_help(word: &[u8]) -> bool {
 fn print_usage(host: &Host) -> bool {
     files::print_usage(
         host,
-        options::BARZHILUP,
+        Command::Barzhilup,
         b"usage: barzhilup SUBCOMMAND [OPTION]...
 
 The audio transport layer of HD Radio (1017s Rev. H), for bench and car testers
@@ -79,15 +80,15 @@ last line on standard error says, 2 if the usage is wrong.
 }
 
 fn print_version(host: &Host) -> bool {
-    files::print_usage(host, options::BARZHILUP, b"barzhilup 0.1.0\n")
+    files::print_usage(host, Command::Barzhilup, b"barzhilup 0.1.0\n")
 }
 
 // Says that a subcommand is missing, or that there is none of this name; and which there are.
 fn unknown(host: &Host, word: &[u8]) {
     if host.arg_count() < 2 {
-        options::say(host, options::BARZHILUP, b": subcommand missing\n");
+        options::say(host, Command::Barzhilup, b": subcommand missing\n");
     } else {
-        options::say_argument(host, options::BARZHILUP, b": unknown subcommand ", word);
+        options::say_argument(host, Command::Barzhilup, b": unknown subcommand ", word);
     }
     host.write_all(
         STDERR,

@@ -3,19 +3,19 @@ ghost use Rattle.std.specs.Prelude.{◌≤◌};
 ghost use Rattle.io.specs.Counts.{IsPrefixLen};
 
 use host::Host;
-use options::LATENCY;
+use options::{Command, Opt};
 use text::Number;
 
 // Whether counts are given twice; says so.
 fn is_twofold(host: &Host) -> bool {
-    let twofold = options::given(host, LATENCY, options::COUNTS)
-        & (options::given(host, LATENCY, options::IN)
-            | options::given(host, LATENCY, options::PACKETS));
+    let twofold = options::given(host, Command::Latency, Opt::Counts)
+        & (options::given(host, Command::Latency, Opt::In)
+            | options::given(host, Command::Latency, Opt::Packets));
     if twofold {
         options::complain(
             host,
-            LATENCY,
-            options::COUNTS,
+            Command::Latency,
+            Opt::Counts,
             b": takes the place of --in and --packets",
         );
     }
@@ -24,14 +24,14 @@ fn is_twofold(host: &Host) -> bool {
 
 // Whether every option is one that is known, with its value, and they go together; if not, says what is wrong.
 pub fn check(host: &Host) -> bool {
-    if !transmission::check(host, LATENCY) {
+    if !transmission::check(host, Command::Latency) {
         return false;
     }
     if !files::is_apart(
         host,
-        LATENCY,
-        options::SVG,
-        options::OUT,
+        Command::Latency,
+        Opt::Svg,
+        Opt::Out,
         b": standard output has the table",
     ) {
         return false;
@@ -43,35 +43,35 @@ pub fn check(host: &Host) -> bool {
 pub fn draw(host: &Host) -> Number
     ensures { result.value ≤ 7 }
 {
-    options::number(host, LATENCY, options::DRAW, 0, 0, 7)
+    options::number(host, Command::Latency, Opt::Draw, 0, 0, 7)
 }
 
 // The label of what is read: the file, standard input or the option with the counts.
 pub fn put_label(host: &Host, out: &mut [u8]) -> usize
     ensures { IsPrefixLen result out.new }
 {
-    if options::given(host, LATENCY, options::COUNTS) {
-        let n = options::put_program(out, LATENCY);
+    if options::given(host, Command::Latency, Opt::Counts) {
+        let n = options::put_program(out, Command::Latency);
         return text::put(out, n, b": --counts");
     }
-    files::put_label(host, out, LATENCY, options::IN)
+    files::put_label(host, out, Command::Latency, Opt::In)
 }
 
 // The counts of the option that has them into a row. Answers how many; 0 where it is not given. Where it has other things, says so and answers
 // that it is not ok.
 pub fn from_option(host: &Host, counts: &mut [u32]) -> Listed {
-    if !options::given(host, LATENCY, options::COUNTS) {
+    if !options::given(host, Command::Latency, Opt::Counts) {
         return Listed { ok: true, count: 0 };
     }
     let mut value = io::buffer();
-    let n = options::value(host, LATENCY, options::COUNTS, &mut value);
+    let n = options::value(host, Command::Latency, Opt::Counts, &mut value);
     let list = count_list::from_text(&value[..n], counts);
     let ok = list.status == count_list::READ;
     if !ok {
         options::complain_of(
             host,
-            LATENCY,
-            options::COUNTS,
+            Command::Latency,
+            Opt::Counts,
             b": not numbers with commas between them: ",
             &value[..n],
         );

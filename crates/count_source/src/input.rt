@@ -1,7 +1,7 @@
 // Where the counts come from: a text, or packets that are packed as `generate` packs them.
 use crate::arguments::Listed;
 use host::Host;
-use options::LATENCY;
+use options::{Command, Opt};
 use packets::window::Window;
 use packets::{Source, window};
 use sending::{Run, Task, trial};
@@ -103,9 +103,9 @@ fn packed(
 fn window_of(host: &Host, input: i32) -> Window {
     let source = Source {
         fd: input,
-        adts: options::given(host, LATENCY, options::ADTS),
+        adts: options::given(host, Command::Latency, Opt::Adts),
     };
-    window::begin(source, options::given(host, LATENCY, options::RESYNC))
+    window::begin(source, options::given(host, Command::Latency, Opt::Resync))
 }
 
 // Packs packets into PDUs of a length.
@@ -139,7 +139,7 @@ fn from_packets(
         counts,
     );
     let run = done.run;
-    window::say_places(host, LATENCY, run.window);
+    window::say_places(host, Command::Latency, run.window);
     Listed {
         ok: run.ok,
         count: done.count,
@@ -155,7 +155,7 @@ fn with_writer(
     counts: &mut [u32],
 ) -> Listed {
     let mut psd = [0u8; 256];
-    let read = transmission::psd::read(host, LATENCY, &mut psd);
+    let read = transmission::psd::read(host, Command::Latency, &mut psd);
     if read.status == records::FAILED {
         return none();
     }
@@ -170,7 +170,7 @@ fn with_writer(
     ) {
         return none();
     }
-    let input = files::open(host, LATENCY, options::IN, label);
+    let input = files::open(host, Command::Latency, Opt::In, label);
     if input < 0 {
         return none();
     }
@@ -187,12 +187,12 @@ fn with_writer(
 
 // The counts that are asked for, where no option has them; what went wrong is said.
 pub fn read(host: &Host, label: &[u8], asked: Transmission, counts: &mut [u32]) -> Listed {
-    if options::given(host, LATENCY, options::PACKETS) {
+    if options::given(host, Command::Latency, Opt::Packets) {
         let opened = writer::open(asked.mode, asked.stream, asked.register);
         let writer = opened.writer;
         return with_writer(host, label, asked, writer, counts);
     }
-    let input = files::open(host, LATENCY, options::IN, label);
+    let input = files::open(host, Command::Latency, Opt::In, label);
     if input < 0 {
         return none();
     }

@@ -9,24 +9,24 @@ mod tally;
 use commission::Asked;
 use drawing::Task;
 use host::Host;
-use options::COVERAGE;
+use options::{Command, Opt};
 use page::leaf;
 use page::leaf::Book;
 use readings::Run;
 
 // The program: answers its exit status.
 pub fn program(host: &Host) -> i32 {
-    if options::given(host, COVERAGE, options::HELP) {
-        return files::status(host, COVERAGE, report::usage(host));
+    if options::given(host, Command::Coverage, Opt::Help) {
+        return files::status(host, Command::Coverage, report::usage(host));
     }
-    if !options::check(host, COVERAGE) {
+    if !options::check(host, Command::Coverage) {
         return files::WRONG;
     }
     let asked = commission::asked_for(host);
     if !asked.ok {
         return files::WRONG;
     }
-    files::status(host, COVERAGE, with_options(host, asked))
+    files::status(host, Command::Coverage, with_options(host, asked))
 }
 
 // Opens the CSV. Answers whether all is done; what went wrong is said.
@@ -36,7 +36,7 @@ fn with_options(host: &Host, asked: Asked) -> bool {
         return false;
     }
     let mut from = files::label_buffer();
-    let input = files::opened(host, COVERAGE, options::IN, &mut from);
+    let input = files::opened(host, Command::Coverage, Opt::In, &mut from);
     if input.fd < 0 {
         return false;
     }
@@ -127,7 +127,7 @@ fn said_of_rows(host: &Host, rows: u32, given: u32) {
 // Makes the picture's file.
 fn with_task(host: &Host, task: Task, from: &[u8], buf: &mut [u8]) -> bool {
     let mut onto = files::label_buffer();
-    let output = files::opened(host, COVERAGE, options::OUT, &mut onto);
+    let output = files::opened(host, Command::Coverage, Opt::Out, &mut onto);
     if output.fd < 0 {
         return false;
     }

@@ -1,6 +1,6 @@
 // What the program says on standard error, a line in one write.
 use host::{Host, STDERR};
-use options::COVERAGE;
+use options::Command;
 use readings::Run;
 
 fn say(host: &Host, line: &[u8]) {
@@ -11,7 +11,7 @@ fn say(host: &Host, line: &[u8]) {
 pub fn say_pages(host: &Host, pages: u32) {
     options::say_numbers(
         host,
-        COVERAGE,
+        Command::Coverage,
         b": --page: there are only so many pages: @\n",
         &[pages as u64],
     );
@@ -20,7 +20,7 @@ pub fn say_pages(host: &Host, pages: u32) {
 // That mode and stream are not in the table.
 pub fn say_unlisted(host: &Host) {
     let mut line = [0u8; 512];
-    let mut n = options::put_program(&mut line, COVERAGE);
+    let mut n = options::put_program(&mut line, Command::Coverage);
     n = limits::put_unlisted(&mut line, n);
     say(host, &line[..n]);
 }
@@ -29,7 +29,7 @@ pub fn say_unlisted(host: &Host) {
 pub fn say_rows(host: &Host, rows: u32) {
     options::say_numbers(
         host,
-        COVERAGE,
+        Command::Coverage,
         b": --rows: not given, so the picture has all rows: @; --rows N draws a page of N rows, --page K another one, --format html pages to print\n",
         &[rows as u64],
     );
@@ -72,7 +72,7 @@ pub fn is_read(host: &Host, run: Run, from: &[u8], onto: &[u8]) -> bool {
 pub fn usage(host: &Host) -> bool {
     files::print_usage(
         host,
-        COVERAGE,
+        Command::Coverage,
         b"usage: barzhilup coverage [--in FILE] [--out FILE] [OPTION]...
 
 Draws a drive as SVG or HTML from the CSV of barzhilup log: a cell for each PDU,

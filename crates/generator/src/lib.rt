@@ -5,7 +5,7 @@ mod report;
 
 use broadcast::Broadcast;
 use host::Host;
-use options::GENERATE;
+use options::{Command, Opt};
 use packets::window::Window;
 use packets::{Source, window};
 use psd_stream::Supply;
@@ -15,17 +15,17 @@ use writer::Writer;
 
 // The program: answers its exit status.
 pub fn program(host: &Host) -> i32 {
-    if options::given(host, GENERATE, options::HELP) {
-        return files::status(host, GENERATE, report::usage(host));
+    if options::given(host, Command::Generate, Opt::Help) {
+        return files::status(host, Command::Generate, report::usage(host));
     }
     if !inputs::check(host) {
         return files::WRONG;
     }
-    let asked = transmission::asked(host, GENERATE);
+    let asked = transmission::asked(host, Command::Generate);
     let most = options::number(
         host,
-        GENERATE,
-        options::PSD_BYTES,
+        Command::Generate,
+        Opt::PsdBytes,
         psd_stream::MOST,
         1,
         psd_stream::MOST,
@@ -33,7 +33,11 @@ pub fn program(host: &Host) -> i32 {
     if !asked.ok | !most.ok {
         return files::WRONG;
     }
-    files::status(host, GENERATE, run(host, asked, most.value as usize))
+    files::status(
+        host,
+        Command::Generate,
+        run(host, asked, most.value as usize),
+    )
 }
 
 // Makes the PDUs, each with at most so many bytes of PSD that runs across them. Answers whether all is done; what went wrong is said.
@@ -83,7 +87,7 @@ fn with_supply(
     }
     let mut text = io::large_buffer();
     let mut label = files::label_buffer();
-    let n = files::put_label(host, &mut label, GENERATE, options::SETTINGS);
+    let n = files::put_label(host, &mut label, Command::Generate, Opt::Settings);
     let read = inputs::settings(host, &mut text, &label[..n]);
     if read.status == records::FAILED {
         return false;
@@ -107,7 +111,7 @@ fn with_changes(
         return false;
     }
     let mut from = files::label_buffer();
-    let input = files::opened(host, GENERATE, options::IN, &mut from);
+    let input = files::opened(host, Command::Generate, Opt::In, &mut from);
     if input.fd < 0 {
         return false;
     }
@@ -120,9 +124,9 @@ fn with_changes(
 fn window_of(host: &Host, input: i32) -> Window {
     let source = Source {
         fd: input,
-        adts: options::given(host, GENERATE, options::ADTS),
+        adts: options::given(host, Command::Generate, Opt::Adts),
     };
-    window::begin(source, options::given(host, GENERATE, options::RESYNC))
+    window::begin(source, options::given(host, Command::Generate, Opt::Resync))
 }
 
 // Opens the file of PDUs.
@@ -136,7 +140,7 @@ fn with_input(
     start: Broadcast,
 ) -> bool {
     let mut onto = files::label_buffer();
-    let output = files::opened(host, GENERATE, options::OUT, &mut onto);
+    let output = files::opened(host, Command::Generate, Opt::Out, &mut onto);
     if output.fd < 0 {
         return false;
     }
@@ -176,7 +180,7 @@ fn with_output(
 fn finish(host: &Host, done: Broadcast, label: &[u8]) -> bool {
     let run = done.run;
     report::summary(host, run.packets, run.octets, run.pdus, run.size);
-    window::say_places(host, GENERATE, broadcast::window_of(done));
+    window::say_places(host, Command::Generate, broadcast::window_of(done));
     report::psd(host, done);
     report::changes(host, done, label);
     run.ok

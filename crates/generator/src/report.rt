@@ -1,13 +1,13 @@
 // What the program says of its work.
 use broadcast::Broadcast;
 use host::Host;
-use options::GENERATE;
+use options::{Command, Opt};
 
 // What is sent, on standard error.
 pub fn summary(host: &Host, packets: u64, octets: u64, pdus: u64, size: u64) {
     options::say_numbers(
         host,
-        GENERATE,
+        Command::Generate,
         b": packets @ (bytes @), PDUs @ (bytes @)\n",
         &[packets, octets, pdus, size],
     );
@@ -20,33 +20,38 @@ pub fn psd_ends(host: &Host, done: Broadcast) {
         return;
     }
     let mut label = files::label_buffer();
-    let n = files::put_label(host, &mut label, GENERATE, options::PSD_STREAM);
+    let n = files::put_label(host, &mut label, Command::Generate, Opt::PsdStream);
     files::say(host, &label[..n], b": cannot be read\n");
 }
 
 // How much is sent of PSD that runs across PDUs, and whether its file has more.
 pub fn psd(host: &Host, done: Broadcast) {
-    if !options::given(host, GENERATE, options::PSD_STREAM) {
+    if !options::given(host, Command::Generate, Opt::PsdStream) {
         return;
     }
     let supply = done.supply;
-    options::say_numbers(host, GENERATE, b": bytes of PSD @\n", &[supply.sent]);
+    options::say_numbers(
+        host,
+        Command::Generate,
+        b": bytes of PSD @\n",
+        &[supply.sent],
+    );
     if !psd_stream::has_more(host, supply) {
         return;
     }
     let mut label = files::label_buffer();
-    let n = files::put_label(host, &mut label, GENERATE, options::PSD_STREAM);
+    let n = files::put_label(host, &mut label, Command::Generate, Opt::PsdStream);
     files::say(host, &label[..n], b": has more PSD than was sent\n");
 }
 
 // How many changes of settings came, and which did not.
 pub fn changes(host: &Host, done: Broadcast, label: &[u8]) {
-    if !options::given(host, GENERATE, options::SETTINGS) {
+    if !options::given(host, Command::Generate, Opt::Settings) {
         return;
     }
     options::say_numbers(
         host,
-        GENERATE,
+        Command::Generate,
         b": changes of settings @\n",
         &[done.changes],
     );
@@ -68,13 +73,13 @@ pub fn usage(host: &Host) -> bool {
     if !print_options(host) {
         return false;
     }
-    mode_table::print(host, GENERATE)
+    mode_table::print(host, Command::Generate)
 }
 
 fn print_options(host: &Host) -> bool {
     files::print_usage(
         host,
-        GENERATE,
+        Command::Generate,
         b"usage: barzhilup generate [--in FILE] [--out FILE] [OPTION]...
 
 Makes a file of PDUs from a file of packets. A record of either file is its

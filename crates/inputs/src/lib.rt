@@ -4,85 +4,85 @@
 ghost use Rattle.io.specs.Counts.{IsPrefixLen};
 
 use host::Host;
-use options::GENERATE;
+use options::{Command, Opt};
 use psd_stream::Supply;
 use records::Record;
 
 // Whether an option is right; if not, says what is wrong.
-fn is_right(host: &Host, option: u8, wrong: bool, words: &[u8]) -> bool {
+fn is_right(host: &Host, option: Opt, wrong: bool, words: &[u8]) -> bool {
     if wrong {
-        options::complain(host, GENERATE, option, words);
+        options::complain(host, Command::Generate, option, words);
     }
     !wrong
 }
 
 // Whether an option is not given without the name of a file; if it is, says so.
-fn has_name(host: &Host, option: u8) -> bool {
+fn has_name(host: &Host, option: Opt) -> bool {
     is_right(
         host,
         option,
-        files::named(host, GENERATE, option) == files::EMPTY,
+        files::named(host, Command::Generate, option) == files::EMPTY,
         b": value missing",
     )
 }
 
 // Whether an option is given as a dash, which stands for standard input.
-fn is_dash(host: &Host, option: u8) -> bool {
-    files::named(host, GENERATE, option) == files::DASH
+fn is_dash(host: &Host, option: Opt) -> bool {
+    files::named(host, Command::Generate, option) == files::DASH
 }
 
 // Whether an option comes with PSD that runs across PDUs; if not, says so.
-fn has_stream(host: &Host, option: u8, streams: bool) -> bool {
+fn has_stream(host: &Host, option: Opt, streams: bool) -> bool {
     is_right(
         host,
         option,
-        !streams & options::given(host, GENERATE, option),
+        !streams & options::given(host, Command::Generate, option),
         b": no PSD runs across PDUs (--psd-stream)",
     )
 }
 
 // Whether the options that say what is read besides packets go together; if not, says what is wrong.
 fn go_together(host: &Host) -> bool {
-    let streams = options::given(host, GENERATE, options::PSD_STREAM);
+    let streams = options::given(host, Command::Generate, Opt::PsdStream);
     is_right(
         host,
-        options::PSD_STREAM,
-        streams & options::given(host, GENERATE, options::PSD),
+        Opt::PsdStream,
+        streams & options::given(host, Command::Generate, Opt::Psd),
         b": takes the place of --psd",
-    ) & has_stream(host, options::PSD_BYTES, streams)
-        & has_stream(host, options::PSD_REPEAT, streams)
+    ) & has_stream(host, Opt::PsdBytes, streams)
+        & has_stream(host, Opt::PsdRepeat, streams)
         & is_right(
             host,
-            options::SETTINGS,
-            is_dash(host, options::SETTINGS)
-                & (is_dash(host, options::PSD) | is_dash(host, options::PSD_STREAM)),
+            Opt::Settings,
+            is_dash(host, Opt::Settings)
+                & (is_dash(host, Opt::Psd) | is_dash(host, Opt::PsdStream)),
             b": standard input has the PSD",
         )
 }
 
 // Whether the file of an option and the packets are not both on standard input; if they are, says so.
-fn is_apart(host: &Host, option: u8) -> bool {
+fn is_apart(host: &Host, option: Opt) -> bool {
     files::is_apart(
         host,
-        GENERATE,
+        Command::Generate,
         option,
-        options::IN,
+        Opt::In,
         b": standard input has the packets",
     )
 }
 
 // Whether every option is one that is known, with its value, and they go together; if not, says what is wrong.
 pub fn check(host: &Host) -> bool {
-    if !transmission::check(host, GENERATE) {
+    if !transmission::check(host, Command::Generate) {
         return false;
     }
-    if !is_apart(host, options::PSD_STREAM) {
+    if !is_apart(host, Opt::PsdStream) {
         return false;
     }
-    if !is_apart(host, options::SETTINGS) {
+    if !is_apart(host, Opt::Settings) {
         return false;
     }
-    has_name(host, options::PSD_STREAM) & has_name(host, options::SETTINGS) & go_together(host)
+    has_name(host, Opt::PsdStream) & has_name(host, Opt::Settings) & go_together(host)
 }
 
 // A supply of PSD that cannot be had, which is said.
@@ -102,14 +102,14 @@ fn none(fd: i32) -> Supply {
 // The supply of a file whose bytes run across PDUs, at most so many in each; its status is FAILED where it cannot be had, which is said.
 fn stream(host: &Host, most: usize) -> Supply {
     let mut label = files::label_buffer();
-    let file = files::opened(host, GENERATE, options::PSD_STREAM, &mut label);
+    let file = files::opened(host, Command::Generate, Opt::PsdStream, &mut label);
     if file.fd < 0 {
         return none(file.fd);
     }
     let supply = psd_stream::of(
         host,
         file.fd,
-        options::given(host, GENERATE, options::PSD_REPEAT),
+        options::given(host, Command::Generate, Opt::PsdRepeat),
         most,
     );
     if supply.repeats & (supply.start < 0) {
@@ -126,10 +126,10 @@ fn stream(host: &Host, most: usize) -> Supply {
 
 // The supply of PSD that is asked for, in the buffer where it is the same for every PDU; its status is FAILED where it cannot be had, which is said.
 pub fn supply(host: &Host, most: usize, psd: &mut [u8]) -> Supply {
-    if options::given(host, GENERATE, options::PSD_STREAM) {
+    if options::given(host, Command::Generate, Opt::PsdStream) {
         return stream(host, most);
     }
-    let read = transmission::psd::read(host, GENERATE, psd);
+    let read = transmission::psd::read(host, Command::Generate, psd);
     if read.status == records::FAILED {
         return none(-1);
     }
@@ -140,13 +140,13 @@ pub fn supply(host: &Host, most: usize, psd: &mut [u8]) -> Supply {
 pub fn settings(host: &Host, text: &mut [u8], label: &[u8]) -> Record
     ensures { IsPrefixLen result.length text.new }
 {
-    if !options::given(host, GENERATE, options::SETTINGS) {
+    if !options::given(host, Command::Generate, Opt::Settings) {
         return Record {
             status: records::WHOLE,
             length: 0,
         };
     }
-    let fd = files::open(host, GENERATE, options::SETTINGS, label);
+    let fd = files::open(host, Command::Generate, Opt::Settings, label);
     if fd < 0 {
         return Record {
             status: records::FAILED,

@@ -5,78 +5,73 @@
 ghost use Rattle.io.specs.Counts.{IsPrefixLen};
 
 use host::Host;
-use options::LOG;
+use options::{Command, Opt};
 use saved_state::State;
 
 // Whether an option is right; if not, says what is wrong.
-fn is_right(host: &Host, option: u8, wrong: bool, words: &[u8]) -> bool {
+fn is_right(host: &Host, option: Opt, wrong: bool, words: &[u8]) -> bool {
     if wrong {
-        options::complain(host, LOG, option, words);
+        options::complain(host, Command::Log, option, words);
     }
     !wrong
 }
 
 // Whether an option names a file.
-fn is_file(host: &Host, option: u8) -> bool {
-    files::named(host, LOG, option) == files::PATH
+fn is_file(host: &Host, option: Opt) -> bool {
+    files::named(host, Command::Log, option) == files::PATH
 }
 
 // Whether the files of both options can be had as they are asked for; if not, says why.
 fn are_files(host: &Host, saves: bool, resumes: bool) -> bool {
     is_right(
         host,
-        options::SAVE,
-        saves & !is_file(host, options::SAVE),
+        Opt::Save,
+        saves & !is_file(host, Opt::Save),
         b": names no file",
     ) & is_right(
         host,
-        options::SAVE,
-        saves & !is_file(host, options::OUT),
+        Opt::Save,
+        saves & !is_file(host, Opt::Out),
         b": the log goes to no file (--out)",
     ) & is_right(
         host,
-        options::RESUME,
-        resumes & !is_file(host, options::RESUME),
+        Opt::Resume,
+        resumes & !is_file(host, Opt::Resume),
         b": names no file",
     )
 }
 
 // Whether the receiver is opened by an option, which a saved one is not.
 fn is_opened(host: &Host) -> bool {
-    options::given(host, LOG, options::MODE)
-        | options::given(host, LOG, options::STREAM)
-        | options::given(host, LOG, options::CRC_START)
-        | options::given(host, LOG, options::ENTITLED)
+    options::given(host, Command::Log, Opt::Mode)
+        | options::given(host, Command::Log, Opt::Stream)
+        | options::given(host, Command::Log, Opt::CrcStart)
+        | options::given(host, Command::Log, Opt::Entitled)
 }
 
 // Whether the options go together; if not, says why.
 pub fn is_asked(host: &Host) -> bool {
-    let saves = options::given(host, LOG, options::SAVE);
-    let resumes = options::given(host, LOG, options::RESUME);
-    let pairs = options::given(host, LOG, options::SECOND);
+    let saves = options::given(host, Command::Log, Opt::Save);
+    let resumes = options::given(host, Command::Log, Opt::Resume);
+    let pairs = options::given(host, Command::Log, Opt::Second);
     are_files(host, saves, resumes)
+        & is_right(host, Opt::Save, saves & pairs, b": not with two recordings")
         & is_right(
             host,
-            options::SAVE,
-            saves & pairs,
-            b": not with two recordings",
-        )
-        & is_right(
-            host,
-            options::RESUME,
+            Opt::Resume,
             resumes & pairs,
             b": not with two recordings",
         )
         & is_right(
             host,
-            options::RESUME,
+            Opt::Resume,
             resumes & is_opened(host),
             b": its file has mode, stream, start of CRCs and programs",
         )
         & is_right(
             host,
-            options::SKIP,
-            options::given(host, LOG, options::SKIP) & !resumes,
+            Opt::Skip,
+            options::given(host, Command::Log, Opt::Skip) & !resumes,
             b": nothing is resumed (--resume)",
         )
 }
@@ -104,7 +99,7 @@ fn not_opened(host: &Host, refusal: u32, mode: u8, stream: u8) {
         return;
     }
     let mut line = [0u8; 256];
-    let n = options::put_program(&mut line, LOG);
+    let n = options::put_program(&mut line, Command::Log);
     let settings = named_settings::of(named_settings::none());
     let k = limits::put(&mut line, n, refusal, mode, stream, 0, settings);
     host.write_all(host::STDERR, &line[..k]);
@@ -177,11 +172,11 @@ fn resumed(host: &Host, fd: i32, label: &[u8], carry: &mut [u8]) -> Start {
 
 // How a run begins: as the file of `--resume` has it, or with a receiver that is opened. If it cannot begin, says why.
 pub fn begin(host: &Host, mode: u8, stream: u8, register: u8, carry: &mut [u8]) -> Start {
-    if !options::given(host, LOG, options::RESUME) {
+    if !options::given(host, Command::Log, Opt::Resume) {
         return opened(host, mode, stream, register);
     }
     let mut label = files::label_buffer();
-    let file = files::opened(host, LOG, options::RESUME, &mut label);
+    let file = files::opened(host, Command::Log, Opt::Resume, &mut label);
     if file.fd < 0 {
         return none();
     }
@@ -204,7 +199,7 @@ fn passed(host: &Host, fd: i32, many: u64, buf: &mut [u8]) -> u8 {
 
 // Passes over the records of so many PDUs in a file, where `--skip` is given and there is one. Answers whether they are there; if not, says so with its label.
 pub fn pass_over(host: &Host, fd: i32, label: &[u8], many: u64) -> bool {
-    if !options::given(host, LOG, options::SKIP) | (fd < 0) {
+    if !options::given(host, Command::Log, Opt::Skip) | (fd < 0) {
         return true;
     }
     let mut buf = [0u8; 65535];
@@ -231,7 +226,7 @@ pub fn pass_over(host: &Host, fd: i32, label: &[u8], many: u64) -> bool {
 pub fn put_path(host: &Host, path: &mut [u8]) -> usize
     ensures { IsPrefixLen result path.new }
 {
-    options::value(host, LOG, options::SAVE, path)
+    options::value(host, Command::Log, Opt::Save, path)
 }
 
 // Puts how the drive stands into the file of a name that is taken for it. Answers whether that went well; if not, the file goes.
@@ -241,17 +236,17 @@ fn first_state(host: &Host, state: State, carry: &[u8]) -> bool {
     if saved_state::save(host, &path[..n], state, carry) {
         return true;
     }
-    files::unmake(host, LOG, options::SAVE);
+    files::unmake(host, Command::Log, Opt::Save);
     false
 }
 
 // Makes the file of `--save`, where one is asked for, with how the drive stands. Answers whether that went well; if not, says why, and there is none.
 pub fn make(host: &Host, state: State, carry: &[u8]) -> bool {
-    if !options::given(host, LOG, options::SAVE) {
+    if !options::given(host, Command::Log, Opt::Save) {
         return true;
     }
     let mut label = files::label_buffer();
-    let file = files::opened(host, LOG, options::SAVE, &mut label);
+    let file = files::opened(host, Command::Log, Opt::Save, &mut label);
     if file.fd < 0 {
         return false;
     }

@@ -4,7 +4,7 @@
 ghost use Rattle.std.specs.Prelude.{◌≤◌};
 
 use host::Host;
-use options::LOG;
+use options::{Command, Opt};
 use text::Number;
 
 // What is asked for; ok where mode, stream, the register that CRCs start with, the entitled programs, format and the records of a frame are given as they can
@@ -25,16 +25,16 @@ pub struct Job {
 }
 
 // A number of one byte, 0 where its option is not given.
-fn number(host: &Host, option: u8) -> Number
+fn number(host: &Host, option: Opt) -> Number
     ensures { result.value ≤ 255 }
 {
-    options::number(host, LOG, option, 0, 0, 255)
+    options::number(host, Command::Log, option, 0, 0, 255)
 }
 
 // Whether mode and stream are to be those of the first PDU that can be read.
 fn is_auto(host: &Host) -> bool {
     let mut value = [0u8; 8];
-    let n = options::value(host, LOG, options::MODE, &mut value);
+    let n = options::value(host, Command::Log, Opt::Mode, &mut value);
     check::same(&value[..n], b"auto")
 }
 
@@ -45,14 +45,14 @@ fn mode_asked(host: &Host, auto: bool) -> Number
     if auto {
         return Number { ok: true, value: 0 };
     }
-    number(host, options::MODE)
+    number(host, Opt::Mode)
 }
 
 // Whether an option by which PDUs are not read one by one from one file is given.
 fn is_otherwise(host: &Host) -> bool {
-    options::given(host, LOG, options::BATCH)
-        | options::given(host, LOG, options::MARKS)
-        | options::given(host, LOG, options::SECOND)
+    options::given(host, Command::Log, Opt::Batch)
+        | options::given(host, Command::Log, Opt::Marks)
+        | options::given(host, Command::Log, Opt::Second)
 }
 
 fn format_named(name: &[u8]) -> u8 {
@@ -76,17 +76,17 @@ fn format_named(name: &[u8]) -> u8 {
 
 // The format that is asked for; where there is no such format, says so.
 fn format_asked(host: &Host) -> u8 {
-    if !options::given(host, LOG, options::FORMAT) {
+    if !options::given(host, Command::Log, Opt::Format) {
         return formats::TEXT;
     }
     let mut name = io::buffer();
-    let n = options::value(host, LOG, options::FORMAT, &mut name);
+    let n = options::value(host, Command::Log, Opt::Format, &mut name);
     let format = format_named(&name[..n]);
     if format == formats::NO_FORMAT {
         options::complain_of(
             host,
-            LOG,
-            options::FORMAT,
+            Command::Log,
+            Opt::Format,
             b": not words, text, csv, json or records: ",
             &name[..n],
         );
@@ -95,9 +95,9 @@ fn format_asked(host: &Host) -> u8 {
 }
 
 // Whether an option is right; if not, says what is wrong.
-fn is_right(host: &Host, option: u8, wrong: bool, words: &[u8]) -> bool {
+fn is_right(host: &Host, option: Opt, wrong: bool, words: &[u8]) -> bool {
     if wrong {
-        options::complain(host, LOG, option, words);
+        options::complain(host, Command::Log, option, words);
     }
     !wrong
 }
@@ -105,29 +105,29 @@ fn is_right(host: &Host, option: u8, wrong: bool, words: &[u8]) -> bool {
 // Whether frames can be received in one call with what else is asked for (document 02, Ask 3: only mending and the single receive call take marks;
 // Ask 5: a pair is received by a call of its own); if not, says so.
 fn can_batch(host: &Host) -> bool {
-    let batches = options::given(host, LOG, options::BATCH);
-    let marks = options::given(host, LOG, options::MARKS);
-    let pairs = options::given(host, LOG, options::SECOND);
+    let batches = options::given(host, Command::Log, Opt::Batch);
+    let marks = options::given(host, Command::Log, Opt::Marks);
+    let pairs = options::given(host, Command::Log, Opt::Second);
     is_right(
         host,
-        options::BATCH,
+        Opt::Batch,
         batches & marks,
         b": a batch takes no marks",
     ) & is_right(
         host,
-        options::BATCH,
+        Opt::Batch,
         batches & !marks & pairs,
         b": a batch takes no pairs",
     )
 }
 
 // Whether the file of an option and the PDUs are not both on standard input; if they are, says so.
-fn is_apart(host: &Host, option: u8) -> bool {
+fn is_apart(host: &Host, option: Opt) -> bool {
     files::is_apart(
         host,
-        LOG,
+        Command::Log,
         option,
-        options::IN,
+        Opt::In,
         b": standard input has the PDUs",
     )
 }
@@ -136,21 +136,22 @@ fn is_apart(host: &Host, option: u8) -> bool {
 fn can_pair(host: &Host) -> bool {
     is_right(
         host,
-        options::SECOND,
-        options::given(host, LOG, options::SECOND) & options::given(host, LOG, options::MARKS),
+        Opt::Second,
+        options::given(host, Command::Log, Opt::Second)
+            & options::given(host, Command::Log, Opt::Marks),
         b": a pair takes no marks",
     )
 }
 
 // Whether every option is one that is known, with its value, and the files go together; if not, says what is wrong.
 pub fn check(host: &Host) -> bool {
-    if !options::check(host, LOG) {
+    if !options::check(host, Command::Log) {
         return false;
     }
-    if !is_apart(host, options::MARKS) {
+    if !is_apart(host, Opt::Marks) {
         return false;
     }
-    if !is_apart(host, options::SECOND) {
+    if !is_apart(host, Opt::Second) {
         return false;
     }
     can_pair(host)
@@ -159,10 +160,10 @@ pub fn check(host: &Host) -> bool {
 // Whether the log that is summed up has a name; if not, says so.
 fn has_name(host: &Host) -> bool {
     let mut name = io::buffer();
-    if options::value(host, LOG, options::SUMMARY, &mut name) != 0 {
+    if options::value(host, Command::Log, Opt::Summary, &mut name) != 0 {
         return true;
     }
-    options::complain(host, LOG, options::SUMMARY, b": value missing");
+    options::complain(host, Command::Log, Opt::Summary, b": value missing");
     false
 }
 
@@ -174,19 +175,24 @@ pub fn is_alone(host: &Host) -> bool {
     if (count == 3) | ((count == 4) & check::same(&first[..n], b"--summary")) {
         return has_name(host);
     }
-    options::complain(host, LOG, options::SUMMARY, b": goes with no other option");
+    options::complain(
+        host,
+        Command::Log,
+        Opt::Summary,
+        b": goes with no other option",
+    );
     false
 }
 
 pub fn asked(host: &Host) -> Job {
     let auto = is_auto(host);
-    let resync = options::given(host, LOG, options::RESYNC);
+    let resync = options::given(host, Command::Log, Opt::Resync);
     let mode = mode_asked(host, auto);
-    let stream = number(host, options::STREAM);
-    let register = number(host, options::CRC_START);
+    let stream = number(host, Opt::Stream);
+    let register = number(host, Opt::CrcStart);
     let programs = opening::is_asked(host);
     let format = format_asked(host);
-    let batch = options::number(host, LOG, options::BATCH, 0, 1, 64);
+    let batch = options::number(host, Command::Log, Opt::Batch, 0, 1, 64);
     Job {
         ok: mode.ok
             & stream.ok
@@ -197,13 +203,13 @@ pub fn asked(host: &Host) -> Job {
             & can_batch(host)
             & is_right(
                 host,
-                options::RESYNC,
+                Opt::Resync,
                 resync & is_otherwise(host),
                 b": not with --batch, --marks or --second",
             )
             & is_right(
                 host,
-                options::MODE,
+                Opt::Mode,
                 auto & is_otherwise(host),
                 b" auto: not with --batch, --marks or --second",
             )

@@ -1,6 +1,6 @@
 // What the command line asks for.
 use host::Host;
-use options::JOIN;
+use options::{Command, Opt};
 use text::Number;
 
 // The most PDUs of a frame.
@@ -19,16 +19,16 @@ pub struct Job {
 pub fn check(host: &Host) -> bool {
     files::check(
         host,
-        JOIN,
-        options::ENHANCED,
-        options::IN,
+        Command::Join,
+        Opt::Enhanced,
+        Opt::In,
         b": standard input has the core's log",
     )
 }
 
 // How many PDUs of a stream a frame has.
-fn pdus(host: &Host, option: u8, default: u32) -> Number {
-    options::number(host, JOIN, option, default, 1, MOST)
+fn pdus(host: &Host, option: Opt, default: u32) -> Number {
+    options::number(host, Command::Join, option, default, 1, MOST)
 }
 
 fn format_named(name: &[u8]) -> u8 {
@@ -43,17 +43,17 @@ fn format_named(name: &[u8]) -> u8 {
 
 // The format that is asked for; where there is no such format, says so.
 fn format_asked(host: &Host) -> u8 {
-    if !options::given(host, JOIN, options::FORMAT) {
+    if !options::given(host, Command::Join, Opt::Format) {
         return side_by_side::CSV;
     }
     let mut name = io::buffer();
-    let n = options::value(host, JOIN, options::FORMAT, &mut name);
+    let n = options::value(host, Command::Join, Opt::Format, &mut name);
     let format = format_named(&name[..n]);
     if format == side_by_side::NO_FORMAT {
         options::complain_of(
             host,
-            JOIN,
-            options::FORMAT,
+            Command::Join,
+            Opt::Format,
             b": not words or csv: ",
             &name[..n],
         );
@@ -62,8 +62,8 @@ fn format_asked(host: &Host) -> u8 {
 }
 
 pub fn asked(host: &Host) -> Job {
-    let core = pdus(host, options::CORE_PDUS, 8);
-    let enhanced = pdus(host, options::ENHANCED_PDUS, 1);
+    let core = pdus(host, Opt::CorePdus, 8);
+    let enhanced = pdus(host, Opt::EnhancedPdus, 1);
     let format = format_asked(host);
     Job {
         ok: core.ok & enhanced.ok & (format != side_by_side::NO_FORMAT),

@@ -8,12 +8,12 @@ mod report;
 use arguments::Job;
 use host::Host;
 use joining::{Run, Task};
-use options::JOIN;
+use options::{Command, Opt};
 
 // The program: answers its exit status. What went wrong is said.
 pub fn program(host: &Host) -> i32 {
-    if options::given(host, JOIN, options::HELP) {
-        return files::status(host, JOIN, report::usage(host));
+    if options::given(host, Command::Join, Opt::Help) {
+        return files::status(host, Command::Join, report::usage(host));
     }
     if !arguments::check(host) {
         return files::WRONG;
@@ -22,13 +22,13 @@ pub fn program(host: &Host) -> i32 {
     if !job.ok {
         return files::WRONG;
     }
-    files::status(host, JOIN, with_job(host, job))
+    files::status(host, Command::Join, with_job(host, job))
 }
 
 // Opens the core's log.
 fn with_job(host: &Host, job: Job) -> bool {
     let mut label = files::label_buffer();
-    let core = files::opened(host, JOIN, options::IN, &mut label);
+    let core = files::opened(host, Command::Join, Opt::In, &mut label);
     if core.fd < 0 {
         return false;
     }
@@ -38,11 +38,11 @@ fn with_job(host: &Host, job: Job) -> bool {
 
 // Opens the enhanced log, where one is given.
 fn with_core(host: &Host, job: Job, from: &[u8], core: i32) -> bool {
-    if !options::given(host, JOIN, options::ENHANCED) {
+    if !options::given(host, Command::Join, Opt::Enhanced) {
         return with_logs(host, job, from, core, b"", frame_logs::NONE);
     }
     let mut label = files::label_buffer();
-    let enhanced = files::opened(host, JOIN, options::ENHANCED, &mut label);
+    let enhanced = files::opened(host, Command::Join, Opt::Enhanced, &mut label);
     if enhanced.fd < 0 {
         return false;
     }
@@ -53,7 +53,7 @@ fn with_core(host: &Host, job: Job, from: &[u8], core: i32) -> bool {
 // Opens the file of the result, and joins.
 fn with_logs(host: &Host, job: Job, from: &[u8], core: i32, beside: &[u8], enhanced: i32) -> bool {
     let mut onto = files::label_buffer();
-    let output = files::opened(host, JOIN, options::OUT, &mut onto);
+    let output = files::opened(host, Command::Join, Opt::Out, &mut onto);
     if output.fd < 0 {
         return false;
     }

@@ -1,7 +1,7 @@
 // What the program says on standard error, a line in one write.
 use host::Host;
 use joining::Run;
-use options::JOIN;
+use options::Command;
 
 // Why a log is not read on, after so many PDUs. PDUs are counted from 0.
 fn unread(host: &Host, reading: u8, label: &[u8], pdus: u64) {
@@ -46,13 +46,13 @@ pub fn ends(host: &Host, run: Run, from: &[u8], beside: &[u8], onto: &[u8]) {
 pub fn summary(host: &Host, run: Run) {
     options::say_numbers(
         host,
-        JOIN,
+        Command::Join,
         b": frames @: refused with 23 @, with 24 @\n",
         &[run.frames, run.no_logs, run.no_order],
     );
     options::say_numbers(
         host,
-        JOIN,
+        Command::Join,
         b": packets: core alone @, both @, enhanced dropped @\n",
         &[run.alone, run.both, run.dropped],
     );
@@ -64,14 +64,14 @@ fn doubts(host: &Host, run: Run) {
     if (run.frames != 0) & (run.no_logs == run.frames) {
         options::say(
             host,
-            JOIN,
+            Command::Join,
             b": no frame was joined: are these files of log --format records?\n",
         );
     }
     if run.unlike != 0 {
         options::say_numbers(
             host,
-            JOIN,
+            Command::Join,
             b": frames without a loss whose packets yet are alone and dropped: @: do both files begin with the same frame, and do the same packets end in each frame of both?\n",
             &[run.unlike],
         );
@@ -82,7 +82,7 @@ fn doubts(host: &Host, run: Run) {
 pub fn usage(host: &Host) -> bool {
     files::print_usage(
         host,
-        JOIN,
+        Command::Join,
         b"usage: barzhilup join [--in FILE] [--out FILE] [OPTION]...
 
 Joins the logs of the core and of the enhanced stream of a drive, frame by

@@ -6,6 +6,7 @@ ghost use Rattle.io.specs.Counts.{IsPrefixLen};
 
 use host::{Host, STDERR};
 use join::Joined;
+use options::Command;
 
 // Where the logs come from, how many PDUs of each a frame has, where the result goes, and in which format.
 #[derive(Clone, Copy)]
@@ -124,7 +125,7 @@ fn all_turns(
         if run.status != GOING {
             return run;
         }
-        shown = files::progress(host, options::JOIN, run.frames, shown);
+        shown = files::progress(host, Command::Join, run.frames, shown);
         turns -= 1;
     }
     run
@@ -395,7 +396,7 @@ fn say_refused(host: &Host, frame: u64, refusal: u32, before: u64) {
     if before == SAID {
         options::say(
             host,
-            options::JOIN,
+            Command::Join,
             b": further refused frames are counted only\n",
         );
         return;

@@ -12,7 +12,7 @@ use host::Host;
 use job::Job;
 use logging::output::Sink;
 use logging::{Onto, Run};
-use options::LOG;
+use options::{Command, Opt};
 use receiver::Receiver;
 use saved_state::State;
 
@@ -31,18 +31,18 @@ fn exit_status(host: &Host, status: i32) -> i32 {
     if status == NEVER_SENT {
         return files::EARLY;
     }
-    files::status(host, LOG, status == files::DONE)
+    files::status(host, Command::Log, status == files::DONE)
 }
 
 // The program: answers its exit status. What went wrong is said.
 pub fn program(host: &Host) -> i32 {
-    if options::given(host, LOG, options::HELP) {
-        return files::status(host, LOG, remarks::help(host));
+    if options::given(host, Command::Log, Opt::Help) {
+        return files::status(host, Command::Log, remarks::help(host));
     }
     if !job::check(host) {
         return files::WRONG;
     }
-    if options::given(host, LOG, options::SUMMARY) {
+    if options::given(host, Command::Log, Opt::Summary) {
         return summarized(host);
     }
     let job = job::asked(host);
@@ -58,12 +58,16 @@ fn summarized(host: &Host) -> i32 {
         return files::WRONG;
     }
     let mut label = files::label_buffer();
-    let log = files::opened(host, LOG, options::SUMMARY, &mut label);
+    let log = files::opened(host, Command::Log, Opt::Summary, &mut label);
     if log.fd < 0 {
         return exit_status(host, files::EARLY);
     }
     let n = log.length;
-    files::status(host, LOG, summary::of_file(host, log.fd, &label[..n]))
+    files::status(
+        host,
+        Command::Log,
+        summary::of_file(host, log.fd, &label[..n]),
+    )
 }
 
 // Makes the log. Answers how it ended: DONE, EARLY or NEVER_SENT.
@@ -83,12 +87,12 @@ fn with_job(host: &Host, job: Job) -> i32 {
 // Opens the file of PDUs, and a second one where it is given.
 fn with_state(host: &Host, job: Job, state: State, carry: &mut [u8]) -> i32 {
     let mut label = files::label_buffer();
-    let pdus = files::opened(host, LOG, options::IN, &mut label);
+    let pdus = files::opened(host, Command::Log, Opt::In, &mut label);
     if pdus.fd < 0 {
         return files::EARLY;
     }
     let n = pdus.length;
-    if options::given(host, LOG, options::SECOND) {
+    if options::given(host, Command::Log, Opt::Second) {
         let receiver = state.receiver;
         return two::with_first(host, job, receiver, &label[..n], pdus.fd);
     }
@@ -98,7 +102,7 @@ fn with_state(host: &Host, job: Job, state: State, carry: &mut [u8]) -> i32 {
 // Makes the file of the log and those beside it.
 fn made(host: &Host) -> Opened {
     let mut onto = files::label_buffer();
-    let n = files::put_label(host, &mut onto, LOG, options::OUT);
+    let n = files::put_label(host, &mut onto, Command::Log, Opt::Out);
     let mut labels = beside_files::label_buffer();
     let k = beside_files::put_labels(host, &mut labels);
     beside_files::open(host, &onto[..n], &labels[..k])

@@ -6,7 +6,7 @@ use ahead_logging::Live;
 use host::Host;
 use job::Job;
 use logging::{Task, marks};
-use options::LOG;
+use options::{Command, Opt};
 use resync::{First, Wanted};
 use saved_state::State;
 
@@ -25,7 +25,7 @@ fn begin(host: &Host, fd: i32) -> Ahead {
 // Opens the file of PDUs, whose mode and stream are not known.
 pub fn with_job(host: &Host, job: Job) -> i32 {
     let mut label = files::label_buffer();
-    let pdus = files::opened(host, LOG, options::IN, &mut label);
+    let pdus = files::opened(host, Command::Log, Opt::In, &mut label);
     if pdus.fd < 0 {
         return files::EARLY;
     }
@@ -46,7 +46,7 @@ pub fn with_job(host: &Host, job: Job) -> i32 {
 
 // The PDUs that the mode is taken from: of the stream that is asked for, or any.
 fn wanted(host: &Host, stream: u8) -> Wanted {
-    if !options::given(host, LOG, options::STREAM) {
+    if !options::given(host, Command::Log, Opt::Stream) {
         return Wanted {
             mode: resync::ANY,
             stream: resync::ANY,
@@ -139,7 +139,7 @@ pub fn with_state(
     fd: i32,
 ) -> i32 {
     let mut buf = buffer();
-    if !options::given(host, LOG, options::SKIP) {
+    if !options::given(host, Command::Log, Opt::Skip) {
         return with_ahead(host, job, state, carry, from, begin(host, fd), &mut buf);
     }
     let receiver = state.receiver;
@@ -186,11 +186,11 @@ fn with_ahead(
     rest: Ahead,
     buf: &mut [u8],
 ) -> i32 {
-    if !options::given(host, LOG, options::MARKS) {
+    if !options::given(host, Command::Log, Opt::Marks) {
         return with_marks(host, job, state, carry, from, b"", marks::NONE, rest, buf);
     }
     let mut label = files::label_buffer();
-    let places = files::opened(host, LOG, options::MARKS, &mut label);
+    let places = files::opened(host, Command::Log, Opt::Marks, &mut label);
     if places.fd < 0 {
         return files::EARLY;
     }
@@ -228,7 +228,7 @@ fn with_marks(
         return files::EARLY;
     }
     if !interruption::make(host, state, carry) {
-        files::unmake(host, LOG, options::OUT);
+        files::unmake(host, Command::Log, Opt::Out);
         return files::EARLY;
     }
     let task = Task {
@@ -252,7 +252,7 @@ fn with_task(
     buf: &mut [u8],
 ) -> i32 {
     let mut onto = files::label_buffer();
-    let n = files::put_label(host, &mut onto, LOG, options::OUT);
+    let n = files::put_label(host, &mut onto, Command::Log, Opt::Out);
     let mut labels = beside_files::label_buffer();
     let k = beside_files::put_labels(host, &mut labels);
     logged(

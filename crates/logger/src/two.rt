@@ -2,14 +2,14 @@
 use host::Host;
 use job::Job;
 use logging::Onto;
-use options::LOG;
+use options::{Command, Opt};
 use receiver::Receiver;
 use recordings::{Run, Task};
 
 // Opens the second file, after the first with its label.
 pub fn with_first(host: &Host, job: Job, receiver: Receiver, from: &[u8], first: i32) -> i32 {
     let mut label = files::label_buffer();
-    let other = files::opened(host, LOG, options::SECOND, &mut label);
+    let other = files::opened(host, Command::Log, Opt::Second, &mut label);
     if other.fd < 0 {
         return files::EARLY;
     }
@@ -42,7 +42,7 @@ fn with_both(
 // Puts the labels of the files that are written, before anything goes wrong: errno is that of what does.
 fn with_task(host: &Host, task: Task, receiver: Receiver, from: &[u8], other: &[u8]) -> i32 {
     let mut onto = files::label_buffer();
-    let n = files::put_label(host, &mut onto, LOG, options::OUT);
+    let n = files::put_label(host, &mut onto, Command::Log, Opt::Out);
     let mut labels = beside_files::label_buffer();
     let k = beside_files::put_labels(host, &mut labels);
     logged(host, task, receiver, from, other, &onto[..n], &labels[..k])

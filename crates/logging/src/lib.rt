@@ -7,6 +7,7 @@ pub mod output;
 
 use beside::Beside;
 use host::Host;
+use options::Command;
 use outcome::Outcome;
 use output::Sink;
 use receiver::Receiver;
@@ -112,7 +113,7 @@ pub fn ended(host: &Host, onto: Onto, block: &mut [u8], run: Run) -> Run {
 
 // How far the work is, once a second, where somebody looks on, as `files::progress` has it.
 pub fn progress(host: &Host, pdus: u64, shown: i64) -> i64 {
-    files::progress(host, options::LOG, pdus, shown)
+    files::progress(host, Command::Log, pdus, shown)
 }
 
 // Receives a PDU with its marked places, and writes what came of it.

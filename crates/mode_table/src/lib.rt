@@ -3,8 +3,9 @@
 #![tactic(auto)]
 
 use host::Host;
+use options::Command;
 // Prints the table on standard output. Answers whether all is printed; if not, says why.
-pub fn print(host: &Host, command: u8) -> bool {
+pub fn print(host: &Host, command: Command) -> bool {
     files::print_usage(
         host,
         command,

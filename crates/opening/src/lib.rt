@@ -6,7 +6,7 @@
 ghost use Rattle.io.specs.Counts.{IsPrefixLen};
 
 use host::Host;
-use options::LOG;
+use options::{Command, Opt};
 use receiver::Opened;
 
 // A number as a byte; one that is more counts as 255, which no program has.
@@ -57,18 +57,18 @@ fn is_list(text: &[u8]) -> bool {
 
 // Whether the option, if it is given, has a list or `none`; if not, says so.
 pub fn is_asked(host: &Host) -> bool {
-    if !options::given(host, LOG, options::ENTITLED) {
+    if !options::given(host, Command::Log, Opt::Entitled) {
         return true;
     }
     let mut value = io::buffer();
-    let n = options::value(host, LOG, options::ENTITLED, &mut value);
+    let n = options::value(host, Command::Log, Opt::Entitled, &mut value);
     if is_list(&value[..n]) {
         return true;
     }
     options::complain_of(
         host,
-        LOG,
-        options::ENTITLED,
+        Command::Log,
+        Opt::Entitled,
         b": not none, nor numbers with commas between them: ",
         &value[..n],
     );
@@ -84,10 +84,10 @@ fn for_programs(mode: u8, stream: u8, register: u8, text: &[u8]) -> Opened {
 
 // Opens a receiver for the programs that the option names, or for all; or refuses with 5, or 22.
 pub fn open(host: &Host, mode: u8, stream: u8, register: u8) -> Opened {
-    if !options::given(host, LOG, options::ENTITLED) {
+    if !options::given(host, Command::Log, Opt::Entitled) {
         return receiver::open(mode, stream, register);
     }
     let mut value = io::buffer();
-    let n = options::value(host, LOG, options::ENTITLED, &mut value);
+    let n = options::value(host, Command::Log, Opt::Entitled, &mut value);
     for_programs(mode, stream, register, &value[..n])
 }

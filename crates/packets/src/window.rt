@@ -5,6 +5,7 @@ use crate::next::Next;
 use crate::{Source, next};
 use ahead::Ahead;
 use host::Host;
+use options::Command;
 
 // The longest packet.
 const MOST: usize = 4096;
@@ -282,7 +283,7 @@ pub fn filled(
 }
 
 // Says at how many places bytes were passed over, if at any, and how many bytes.
-pub fn say_places(host: &Host, command: u8, w: Window) {
+pub fn say_places(host: &Host, command: Command, w: Window) {
     if w.places == 0 {
         return;
     }

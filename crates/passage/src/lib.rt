@@ -7,6 +7,7 @@ use damage::dice::Dice;
 use disorder::{Outlet, Rates, Road};
 use host::Host;
 use noise::Noise;
+use options::Command;
 
 // How bad the channel is: how many PDUs in a thousand begin a burst of lost ones, the longest burst, how many PDUs in a thousand have a damaged
 // header, the most bytes that are altered in one, how many pieces in a thousand have bits flipped (document 02, Ask 12), and how many PDUs in a thousand come
@@ -104,7 +105,7 @@ fn all_turns(host: &Host, task: Task, pdu: &mut [u8], held: &mut [u8], start: Ru
         if run.status != records::WHOLE {
             return run;
         }
-        shown = files::progress(host, options::CHANNEL, run.pdus, shown);
+        shown = files::progress(host, Command::Channel, run.pdus, shown);
         turns -= 1;
     }
     run

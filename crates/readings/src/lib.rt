@@ -8,6 +8,7 @@ use host::Host;
 use log_csv::entry::Entry;
 use log_csv::lines::Lines;
 use log_csv::{entry, lines};
+use options::Command;
 use overview::Stretch;
 
 // How a reading stands: it goes on; all lines are read; a line is wrong; a line cannot be read, or the picture cannot be written, and errno
@@ -212,7 +213,7 @@ fn turn(host: &Host, task: Task, buf: &mut [u8], block: &mut [u8], run: Run) -> 
 
 // How far the work is, once a second where somebody looks on. Answers the second that it is.
 fn progress(host: &Host, count: u64, shown: i64) -> i64 {
-    files::progress(host, options::COVERAGE, count, shown)
+    files::progress(host, Command::Coverage, count, shown)
 }
 
 // All lines. They are counted down from a number that no file uses up, since a proved loop has to end, and nothing says that a file does.

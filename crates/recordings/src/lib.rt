@@ -8,6 +8,7 @@ ghost use Rattle.io.specs.Counts.{IsPrefixLen};
 use copies::{Pieces, Taken};
 use host::Host;
 use logging::{Onto, output};
+use options::Opt;
 use outcome::Outcome;
 use receiver::Receiver;
 use records::Record;
@@ -96,7 +97,7 @@ fn status_of(first: u8, second: u8) -> u8 {
 
 // Reads the next copy of a file, by what came of its last reading, to the buffer's start; not where the reading of the other file failed just now, since errno
 // is of that one. Its length is 0 where it did not come.
-fn next(host: &Host, fd: i32, other: u8, status: u8, buf: &mut [u8]) -> Record
+fn next(host: &Host, fd: i32, other: Opt, status: u8, buf: &mut [u8]) -> Record
     ensures { IsPrefixLen result.length buf.new }
 {
     if is_failed(other) | (status != records::WHOLE) {

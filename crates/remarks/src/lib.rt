@@ -3,6 +3,7 @@
 
 use host::{Host, STDERR};
 use logging::marks;
+use options::Command;
 
 fn say(host: &Host, line: &[u8]) {
     host.write_all(STDERR, line);
@@ -205,14 +206,14 @@ pub fn help(host: &Host) -> bool {
     if !usage(host) {
         return false;
     }
-    mode_table::print(host, options::LOG)
+    mode_table::print(host, Command::Log)
 }
 
 // How the program is used, on standard output.
 fn usage(host: &Host) -> bool {
     files::print_usage(
         host,
-        options::LOG,
+        Command::Log,
         b"usage: barzhilup log [--in FILE] [--out FILE] [OPTION]...
        barzhilup log --summary LOG
 

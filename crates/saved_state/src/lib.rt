@@ -7,6 +7,7 @@ ghost use Rattle.std.specs.Prelude.{◌≡◌, length};
 ghost use Rattle.io.specs.Counts.{IsPrefixLen};
 
 use host::Host;
+use options::Command;
 use receiver::Receiver;
 
 // How a drive stands: its receiver, how many PDUs are logged, and how many bytes their log has.
@@ -129,7 +130,7 @@ pub fn save(host: &Host, path: &[u8], state: State, carry: &[u8]) -> bool {
     if s.refusal != 0 {
         options::say_numbers(
             host,
-            options::LOG,
+            Command::Log,
             b": --save: refused with @\n",
             &[s.refusal as u64],
         );

@@ -5,13 +5,13 @@ ghost use Rattle.io.specs.Counts.{IsPrefixLen};
 
 use clock::Clock;
 use host::Host;
-use options::COVERAGE;
+use options::{Command, Opt};
 use page::title;
 
 // The value of an option as text of the page; nothing where it is not given.
-fn put_value(host: &Host, out: &mut [u8], at: usize, option: u8) -> usize {
+fn put_value(host: &Host, out: &mut [u8], at: usize, option: Opt) -> usize {
     let mut value = io::buffer();
-    let n = options::value(host, COVERAGE, option, &mut value);
+    let n = options::value(host, Command::Coverage, option, &mut value);
     title::put(out, at, &value[..n])
 }
 
@@ -19,10 +19,10 @@ fn put_value(host: &Host, out: &mut [u8], at: usize, option: u8) -> usize {
 pub fn title_of(host: &Host, buf: &mut [u8]) -> usize
     ensures { IsPrefixLen result buf.new }
 {
-    if !options::given(host, COVERAGE, options::TITLE) {
+    if !options::given(host, Command::Coverage, Opt::Title) {
         return text::put(buf, 0, b"Coverage");
     }
-    options::value(host, COVERAGE, options::TITLE, buf)
+    options::value(host, Command::Coverage, Opt::Title, buf)
 }
 
 // The title as text of the page.
@@ -37,11 +37,11 @@ fn put_given(
     host: &Host,
     out: &mut [u8],
     at: usize,
-    option: u8,
+    option: Opt,
     before: &[u8],
     after: &[u8],
 ) -> usize {
-    if !options::given(host, COVERAGE, option) {
+    if !options::given(host, Command::Coverage, option) {
         return at;
     }
     let mut n = text::put(out, at, before);
@@ -90,7 +90,7 @@ fn put_line(host: &Host, out: &mut [u8], at: usize, line: u8) -> usize {
         host,
         out,
         at,
-        std::num::wrapping_add_u8(options::STATION, line),
+        std::num::wrapping_add_u8(Opt::Station, line),
         text::entry(
             b"<p><b>Station</b>\0<p><b>Date</b>\0<p><b>Source</b>\0<p><b>Mode</b>\0<p><b>Stream</b>\0",
             line as u32,
@@ -168,14 +168,7 @@ pub fn put_head(
     n = put_lines(host, out, n);
     n = put_lengths(out, n, shortest, longest);
     n = put_times(out, n, c, pdus);
-    put_given(
-        host,
-        out,
-        n,
-        options::NOTE,
-        b"<p class=\"note\">",
-        b"</p>\n",
-    )
+    put_given(host, out, n, Opt::Note, b"<p class=\"note\">", b"</p>\n")
 }
 
 // The beginning of the totals and what the picture's parts mean, which stand in a picture of their own.

@@ -6,6 +6,7 @@ use host::Host;
 use log_csv::entry::Entry;
 use log_csv::lines::Lines;
 use log_csv::{entry, lines};
+use options::Command;
 use outcome::Outcome;
 use receiver::Receiver;
 
@@ -187,7 +188,7 @@ fn say_unless(host: &Host, whole: bool, label: &[u8]) {
 fn written(host: &Host, pdus: u64, counts: &[u64]) -> bool {
     let mut lines = io::buffer();
     let n = counts::put_summary(&mut lines, pdus, counts);
-    files::print_usage(host, options::LOG, &lines[..n])
+    files::print_usage(host, Command::Log, &lines[..n])
 }
 
 // The summary of the CSV in an open file, whose label this is, on standard output: of all that was logged, also where the CSV is cut, which is said. Answers

@@ -5,6 +5,7 @@
 pub mod psd;
 
 use host::Host;
+use options::{Command, Opt};
 use settings::Settings;
 
 // What is asked for; ok where every number is in its range.
@@ -36,23 +37,21 @@ struct Named {
 
 // Whether every option is one that is known, with its value, packets and PSD are not both on standard input, and frames are not looked for among records; if
 // not, says what is wrong.
-pub fn check(host: &Host, command: u8) -> bool {
+pub fn check(host: &Host, command: Command) -> bool {
     if !files::check(
         host,
         command,
-        options::PSD,
-        options::IN,
+        Opt::Psd,
+        Opt::In,
         b": standard input has the packets",
     ) {
         return false;
     }
-    if options::given(host, command, options::RESYNC)
-        & !options::given(host, command, options::ADTS)
-    {
+    if options::given(host, command, Opt::Resync) & !options::given(host, command, Opt::Adts) {
         options::complain(
             host,
             command,
-            options::RESYNC,
+            Opt::Resync,
             b": nothing tells where a record of a packet begins (--adts)",
         );
         return false;
@@ -60,7 +59,7 @@ pub fn check(host: &Host, command: u8) -> bool {
     true
 }
 
-fn octet(host: &Host, command: u8, option: u8) -> Choice {
+fn octet(host: &Host, command: Command, option: Opt) -> Choice {
     let n = options::number(host, command, option, 0, 0, 255);
     Choice {
         ok: n.ok,
@@ -69,8 +68,8 @@ fn octet(host: &Host, command: u8, option: u8) -> Choice {
 }
 
 // The settings with that of one name, by its number, if its option is given.
-fn with_option(host: &Host, command: u8, number: u32, row: [u32; 22]) -> Named {
-    let option = std::num::wrapping_add_u8(options::BLEND, (number % 256) as u8);
+fn with_option(host: &Host, command: Command, number: u32, row: [u32; 22]) -> Named {
+    let option = std::num::wrapping_add_u8(Opt::Blend, (number % 256) as u8);
     if !options::given(host, command, option) {
         return Named { ok: true, row: row };
     }
@@ -88,7 +87,7 @@ fn with_option(host: &Host, command: u8, number: u32, row: [u32; 22]) -> Named {
 }
 
 // The settings of every PDU.
-fn settings_chosen(host: &Host, command: u8) -> Named {
+fn settings_chosen(host: &Host, command: Command) -> Named {
     let mut row = named_settings::none();
     let mut ok = true;
     let mut k: u32 = 0;
@@ -103,11 +102,11 @@ fn settings_chosen(host: &Host, command: u8) -> Named {
 }
 
 // What a subcommand asks for, by the options that it knows.
-pub fn asked(host: &Host, command: u8) -> Transmission {
-    let mode = octet(host, command, options::MODE);
-    let stream = octet(host, command, options::STREAM);
-    let register = octet(host, command, options::CRC_START);
-    let length = options::number(host, command, options::LENGTH, 1024, 0, 65535);
+pub fn asked(host: &Host, command: Command) -> Transmission {
+    let mode = octet(host, command, Opt::Mode);
+    let stream = octet(host, command, Opt::Stream);
+    let register = octet(host, command, Opt::CrcStart);
+    let length = options::number(host, command, Opt::Length, 1024, 0, 65535);
     let chosen = settings_chosen(host, command);
     let row = chosen.row;
     Transmission {

@@ -2,20 +2,21 @@
 ghost use Rattle.io.specs.Counts.{IsPrefixLen};
 
 use host::Host;
+use options::{Command, Opt};
 use records::Record;
 
 // The PSD of every PDU: what its file holds, or as much of it as fills the buffer; none where no file is named.
-pub fn read(host: &Host, command: u8, buf: &mut [u8]) -> Record
+pub fn read(host: &Host, command: Command, buf: &mut [u8]) -> Record
     ensures { IsPrefixLen result.length buf.new }
 {
-    if !options::given(host, command, options::PSD) {
+    if !options::given(host, command, Opt::Psd) {
         return Record {
             status: records::WHOLE,
             length: 0,
         };
     }
     let mut label = files::label_buffer();
-    let file = files::opened(host, command, options::PSD, &mut label);
+    let file = files::opened(host, command, Opt::Psd, &mut label);
     if file.fd < 0 {
         return Record {
             status: records::FAILED,

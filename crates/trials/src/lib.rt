@@ -8,7 +8,7 @@ use backlog::{columns, drawing};
 use count_source::{arguments, input};
 use host::Host;
 use latency::{Answer, Spacing};
-use options::LATENCY;
+use options::{Command, Opt};
 use sending::trial;
 use transmission::Transmission;
 
@@ -25,13 +25,13 @@ struct Job {
 
 // The program: answers its exit status.
 pub fn program(host: &Host) -> i32 {
-    if options::given(host, LATENCY, options::HELP) {
-        return files::status(host, LATENCY, report::usage(host));
+    if options::given(host, Command::Latency, Opt::Help) {
+        return files::status(host, Command::Latency, report::usage(host));
     }
     if !arguments::check(host) {
         return files::WRONG;
     }
-    let asked = transmission::asked(host, LATENCY);
+    let asked = transmission::asked(host, Command::Latency);
     let draw = arguments::draw(host);
     let mut counts = [0u32; ROOM];
     let listed = arguments::from_option(host, &mut counts);
@@ -39,7 +39,7 @@ pub fn program(host: &Host) -> i32 {
         return files::WRONG;
     }
     let done = run(host, asked, draw.value as u8, listed.count, &mut counts);
-    files::status(host, LATENCY, done)
+    files::status(host, Command::Latency, done)
 }
 
 // Whether the table has a mode and stream; if not, says so.
@@ -74,7 +74,7 @@ fn run(host: &Host, asked: Transmission, draw: u8, count: usize, counts: &mut [u
         stream: asked.stream,
         drawn: draw,
     };
-    if options::given(host, LATENCY, options::COUNTS) {
+    if options::given(host, Command::Latency, Opt::Counts) {
         return tried(host, job, &label[..n], columns::part(counts, count));
     }
     let read = input::read(host, &label[..n], asked, counts);
@@ -99,7 +99,7 @@ fn tried(host: &Host, job: Job, label: &[u8], counts: &[u32]) -> bool {
 
 // The job with the latency that is drawn: the one asked for, or that of the answer.
 fn drawing_of(host: &Host, job: Job, v: u8) -> Job {
-    if options::given(host, LATENCY, options::DRAW) {
+    if options::given(host, Command::Latency, Opt::Draw) {
         return job;
     }
     Job {
@@ -112,11 +112,11 @@ fn drawing_of(host: &Host, job: Job, v: u8) -> Job {
 // Makes the picture's file, where one is asked for.
 fn with_answer(host: &Host, job: Job, counts: &[u32], answer: Answer, v: u8) -> bool {
     let drawn = drawing_of(host, job, v);
-    if !options::given(host, LATENCY, options::SVG) {
+    if !options::given(host, Command::Latency, Opt::Svg) {
         return with_picture(host, drawn, counts, answer, b"", -1);
     }
     let mut label = files::label_buffer();
-    let picture = files::opened(host, LATENCY, options::SVG, &mut label);
+    let picture = files::opened(host, Command::Latency, Opt::Svg, &mut label);
     if picture.fd < 0 {
         return false;
     }
@@ -134,9 +134,9 @@ fn with_picture(
     picture: i32,
 ) -> bool {
     let mut onto = files::label_buffer();
-    let output = files::opened(host, LATENCY, options::OUT, &mut onto);
+    let output = files::opened(host, Command::Latency, Opt::Out, &mut onto);
     if output.fd < 0 {
-        files::unmake(host, LATENCY, options::SVG);
+        files::unmake(host, Command::Latency, Opt::Svg);
         return false;
     }
     let n = output.length;

@@ -1,7 +1,7 @@
 // What the program says on standard error, a line in one write, and how it is used.
 use host::{Host, STDERR};
 use latency::Answer;
-use options::LATENCY;
+use options::Command;
 
 // The first count over 63; how many there are where none is.
 fn first_over(counts: &[u32]) -> usize {
@@ -37,7 +37,7 @@ pub fn refused(host: &Host, label: &[u8], counts: &[u32]) {
 // What was tried, and what was found.
 pub fn summary(host: &Host, counts: &[u32], answer: Answer) {
     let mut line = [0u8; 256];
-    let mut n = options::put_program(&mut line, LATENCY);
+    let mut n = options::put_program(&mut line, Command::Latency);
     n = text::fill(
         &mut line,
         n,
@@ -53,13 +53,13 @@ pub fn usage(host: &Host) -> bool {
     if !print_options(host) {
         return false;
     }
-    mode_table::print(host, LATENCY)
+    mode_table::print(host, Command::Latency)
 }
 
 fn print_options(host: &Host) -> bool {
     files::print_usage(
         host,
-        LATENCY,
+        Command::Latency,
         b"usage: barzhilup latency [--in FILE] [--out FILE] [OPTION]...
 
 Tries the latencies 0 to 7 before going on air. Its input is how many packets
