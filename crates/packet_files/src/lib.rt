@@ -2,16 +2,47 @@
 // frames; the PSD joined.
 #![tactic(auto)]
 
-ghost use Rattle.io.specs.Counts.{IsPrefixLen};
-
+use text::Line;
 use words::Word;
 
 // What a file has: packets as records, packets in ADTS frames, or PSD.
-pub const RECORDS: u8 = 0;
+#[derive(Clone, Copy, Debug, PartialEq, Eq)]
+pub enum Form {
+    Records,
+    Frames,
+    Psd,
+}
 
-pub const FRAMES: u8 = 1;
+impl Form {
+    // Puts what stands before a packet of so many bytes.
+    fn put_head<const N: usize>(self, out: &mut Line<N>, length: u32) {
+        match self {
+            Form::Records => out.put(&[(length % 256) as u8, (length / 256 % 256) as u8]),
+            Form::Frames => out.put(&frame_header(length)),
+            Form::Psd => {}
+        }
+    }
 
-pub const PSD: u8 = 2;
+    // Whether a file has the bytes of an entry whose first word is of a kind.
+    fn has(self, kind: u32) -> bool {
+        match self {
+            Form::Records | Form::Frames => kind == words::PACKET,
+            Form::Psd => kind == words::PSD,
+        }
+    }
+
+    // Puts what a file has of a word, in an entry whose first word is of a kind.
+    fn put_word<const N: usize>(self, out: &mut Line<N>, kind: u32, w: Word) {
+        if !self.has(kind) {
+            return;
+        }
+        if w.kind == words::DATA {
+            put_data(out, w);
+        } else {
+            self.put_head(out, w.low);
+        }
+    }
+}
 
 // The header of an ADTS frame without a check, for a packet of so many bytes: MPEG-4, AAC LC, 22,050 Hz, two channels, a buffer fullness of all ones (variable
 // rate), one block of 1,024 samples. The length counts the header.
@@ -28,95 +59,38 @@ fn frame_header(length: u32) -> [u8; 7] {
     ]
 }
 
-// What stands before a packet of so many bytes.
-fn put_head(out: &mut [u8], at: usize, form: u8, length: u32) -> usize
-    ensures { IsPrefixLen result out.new }
-{
-    match form {
-        RECORDS => text::put(out, at, &[(length % 256) as u8, (length / 256 % 256) as u8]),
-        FRAMES => text::put(out, at, &frame_header(length)),
-        _ => text::put(out, at, b""),
-    }
-}
-
-// The first bytes of some, so many, or all.
-fn first(bytes: &[u8], many: usize) -> &[u8] {
-    if many < bytes.len() {
-        return &bytes[0..many];
-    }
-    bytes
-}
-
-// The bytes of a data word.
-fn put_data(out: &mut [u8], at: usize, w: Word) -> usize
-    ensures { IsPrefixLen result out.new }
-{
+// Puts the bytes of a data word.
+fn put_data<const N: usize>(out: &mut Line<N>, w: Word) {
     let bytes = [
         (w.high % 256) as u8,
         (w.low / 256 % 256) as u8,
         (w.low % 256) as u8,
     ];
-    text::put(out, at, first(&bytes, (w.high / 256 % 4) as usize))
-}
-
-// Whether a file of a form has the bytes of an entry whose first word is of a kind.
-fn is_wanted(form: u8, kind: u32) -> bool {
-    if form == PSD {
-        return kind == words::PSD;
-    }
-    kind == words::PACKET
-}
-
-// What a file of a form has of a word, in an entry whose first word is of a kind.
-fn put_word(out: &mut [u8], at: usize, form: u8, kind: u32, w: Word) -> usize
-    ensures { IsPrefixLen result out.new }
-{
-    if !is_wanted(form, kind) {
-        return text::put(out, at, b"");
-    }
-    if w.kind == words::DATA {
-        return put_data(out, at, w);
-    }
-    put_head(out, at, form, w.low)
+    out.put(&bytes[..(w.high / 256 % 4) as usize]);
 }
 
 // The kind of an entry's first word, after one more word.
 fn kind_after(kind: u32, next: u32) -> u32 {
-    if next == words::DATA {
-        return kind;
-    }
-    next
+    if next == words::DATA { kind } else { next }
 }
 
-// What a file of a form has of a PDU's log, from the buffer's start on.
-pub fn put(out: &mut [u8], form: u8, log: &[u32]) -> usize
-    ensures { IsPrefixLen result out.new }
-{
-    let mut n = text::put(out, 0, b"");
+// Puts what a file of a form has of a PDU's log.
+pub fn put<const N: usize>(out: &mut Line<N>, form: Form, log: &[u32]) {
     let mut kind = words::NOTE;
-    let mut i: usize = 0;
-    while i < log.len() {
-        let w = words::split(log[i]);
+    for &word in log {
+        let w = words::split(word);
         kind = kind_after(kind, w.kind);
-        n = put_word(out, n, form, kind, w);
-        i += 1;
+        form.put_word(out, kind, w);
     }
-    n
 }
 
-// The bytes of the entry whose first word stands before a place of a log, from the buffer's start on.
-pub fn put_entry(out: &mut [u8], log: &[u32], place: usize) -> usize
-    ensures { IsPrefixLen result out.new }
-{
-    let mut n = text::put(out, 0, b"");
-    let mut i = place;
-    while i < log.len() {
-        let w = words::split(log[i]);
+// Puts the bytes of the entry whose first word stands before a place of a log.
+pub fn put_entry<const N: usize>(out: &mut Line<N>, log: &[u32], place: usize) {
+    for &word in &log[place.min(log.len())..] {
+        let w = words::split(word);
         if w.kind != words::DATA {
-            return n;
+            return;
         }
-        n = put_data(out, n, w);
-        i += 1;
+        put_data(out, w);
     }
-    n
 }
