@@ -1,4 +1,4 @@
-// The program `barzhilup`: what it does is in the crate `commands`, which answers the exit status.
+// The program `barzhilup`: what it does is in the crate `commands`, which answers how it ended.
 #![tactic(auto)]
 
 use host::Host;
@@ -6,10 +6,5 @@ use std::process::ExitCode;
 
 fn main(rt: HostRuntime) -> ExitCode {
     let host = Host::new(rt);
-    ExitCode::from(code_of(commands::barzhilup_main(&host)))
-}
-
-// An exit status as the system takes it.
-fn code_of(status: i32) -> u8 {
-    u8::try_from(status).unwrap_or(1)
+    ExitCode::from(commands::barzhilup_main(&host).code())
 }

@@ -2,56 +2,33 @@
 // crate `barzhilup` hands on its answer as the exit status.
 #![tactic(auto)]
 
+use files::Exit;
 use host::{Host, STDERR};
 use options::Command;
 
-// 0 where all is done, 1 where the work stopped early, 2 where the usage is wrong.
-pub fn barzhilup_main(host: &Host) -> i32 {
+// Answers how the work ended: all is done, it stopped early, or the usage is wrong.
+pub fn barzhilup_main(host: &Host) -> Exit {
     let mut word = io::buffer();
-    let n = host.arg(1, &mut word);
+    let n = host.arg(1, &mut word).unwrap_or(0);
     run(host, &word[..n])
 }
 
-// Runs a subcommand.
-fn run(host: &Host, word: &[u8]) -> i32 {
-    if check::same(word, b"generate") {
-        return files::with_hint(host, Command::Generate, generator::program(host));
+// Runs the subcommand of a word, or says what the program is.
+fn run(host: &Host, word: &[u8]) -> Exit {
+    match word {
+        b"generate" => files::with_hint(host, Command::Generate, generator::program(host)),
+        b"channel" => files::with_hint(host, Command::Channel, channel::program(host)),
+        b"log" => files::with_hint(host, Command::Log, logger::program(host)),
+        b"coverage" => files::with_hint(host, Command::Coverage, coverage::program(host)),
+        b"latency" => files::with_hint(host, Command::Latency, trials::program(host)),
+        b"join" => files::with_hint(host, Command::Join, joiner::program(host)),
+        b"--help" | b"-h" => files::status(host, Command::Barzhilup, print_usage(host)),
+        b"--version" => files::status(host, Command::Barzhilup, print_version(host)),
+        _ => {
+            unknown(host, word);
+            files::with_hint(host, Command::Barzhilup, Exit::Wrong)
+        }
     }
-    if check::same(word, b"channel") {
-        return files::with_hint(host, Command::Channel, channel::program(host));
-    }
-    if check::same(word, b"log") {
-        return files::with_hint(host, Command::Log, logger::program(host));
-    }
-    if check::same(word, b"coverage") {
-        return files::with_hint(host, Command::Coverage, coverage::program(host));
-    }
-    if check::same(word, b"latency") {
-        return files::with_hint(host, Command::Latency, trials::program(host));
-    }
-    if check::same(word, b"join") {
-        return files::with_hint(host, Command::Join, joiner::program(host));
-    }
-    about(host, word)
-}
-
-// Says what the program is, or that a subcommand is missing or not known.
-fn about(host: &Host, word: &[u8]) -> i32 {
-    if is_help(word) {
-        return files::status(host, Command::Barzhilup, print_usage(host));
-    }
-    if check::same(word, b"--version") {
-        return files::status(host, Command::Barzhilup, print_version(host));
-    }
-    unknown(host, word);
-    files::with_hint(host, Command::Barzhilup, files::WRONG)
-}
-
-fn is_help(word: &[u8]) -> bool {
-    if check::same(word, b"--help") {
-        return true;
-    }
-    check::same(word, b"-h")
 }
 
 fn print_usage(host: &Host) -> bool {
