@@ -30,12 +30,12 @@ pub const STRIP: u64 = 17;
 pub const BAR: u64 = 20;
 
 // The legend's height, and the width that it takes at the least.
-const LEGEND: u64 = 260;
+pub const LEGEND: u64 = 260;
 
 const LEAST: u64 = 736;
 
 // What decides the picture's shape: how many PDUs stand in a row, the first PDU, how many there are, and how many packets a bar of full height stands for.
-#[derive(Clone, Copy)]
+#[derive(Clone, Copy, Debug)]
 pub struct Shape {
     pub columns: u32,
     pub from: u32,
@@ -43,104 +43,86 @@ pub struct Shape {
     pub most: u32,
 }
 
-// The height of a picture with a legend under its rows, and of the rows alone.
-pub fn height(s: Shape) -> u64 {
-    top_of(rows(s)) + LEGEND
-}
-
-pub fn height_of_rows(s: Shape) -> u64
-    ensures { 76 ≤ result }
-{
-    top_of(rows(s))
-}
-
-// The number of the last PDU.
-pub fn last(s: Shape) -> u64 {
-    std::num::wrapping_sub_u32(std::num::wrapping_add_u32(s.from, s.pdus), 1) as u64
-}
-
-pub fn height_of_legend() -> u64 {
-    LEGEND
-}
-
 // Where a PDU's cell has its upper left corner.
-#[derive(Clone, Copy)]
+#[derive(Clone, Copy, Debug)]
 pub struct Place {
     pub x: u64,
     pub y: u64,
 }
 
-// The picture's width.
-pub fn width(s: Shape) -> u64
-    ensures { 736 ≤ result }
-{
-    let w = LEFT + (s.columns as u64) * PITCH + RIGHT;
-    if w < LEAST {
-        return LEAST;
+impl Shape {
+    // The height of a picture with a legend under its rows, and of the rows alone.
+    pub fn height(self) -> u64 {
+        self.height_of_rows() + LEGEND
     }
-    w
-}
 
-// A quotient, 0 where the divisor is.
-fn quotient(a: u32, b: u32) -> u32 {
-    if b == 0 {
-        return 0;
+    pub fn height_of_rows(self) -> u64
+        ensures { (76 ≤ result) × (result < 300000000000) }
+    {
+        top_of(self.rows())
     }
-    a / b
-}
 
-fn remainder(a: u32, b: u32) -> u32 {
-    if b == 0 {
-        return 0;
+    // The picture's width.
+    pub fn width(self) -> u64
+        ensures { 736 ≤ result }
+    {
+        (LEFT + u64::from(self.columns) * PITCH + RIGHT).max(LEAST)
     }
-    a % b
-}
 
-// How many rows there are.
-pub fn rows(s: Shape) -> u32 {
-    if s.pdus == 0 {
-        return 0;
+    // The number of the last PDU.
+    pub fn last(self) -> u32 {
+        self.from.wrapping_add(self.pdus).wrapping_sub(1)
     }
-    std::num::wrapping_add_u32(quotient(s.pdus - 1, s.columns), 1)
+
+    // How many rows there are.
+    pub fn rows(self) -> u32 {
+        match self.pdus.checked_sub(1) {
+            Some(last) => self.row_of(last).wrapping_add(1),
+            None => 0,
+        }
+    }
+
+    // The row of a PDU before which so many stand in the picture, and its column.
+    fn row_of(self, place: u32) -> u32 {
+        place.checked_div(self.columns).unwrap_or(0)
+    }
+
+    fn column_of(self, place: u32) -> u32 {
+        place.checked_rem(self.columns).unwrap_or(0)
+    }
+
+    // How many PDUs of the picture stand before one.
+    fn place_in(self, number: u32) -> u32 {
+        number.wrapping_sub(self.from)
+    }
+
+    pub fn place_of(self, number: u32) -> Place
+        ensures { (result.x < 100000000000) × (result.y < 300000000000) }
+    {
+        let place = self.place_in(number);
+        Place {
+            x: LEFT + u64::from(self.column_of(place)) * PITCH,
+            y: top_of(self.row_of(place)),
+        }
+    }
+
+    // Whether a PDU is its row's first.
+    pub fn is_first(self, number: u32) -> bool {
+        self.column_of(self.place_in(number)) == 0
+    }
+
+    // How many PDUs stand in the row that a PDU begins.
+    pub fn in_row(self, number: u32) -> u32 {
+        let left = self.pdus.saturating_sub(self.place_in(number));
+        left.min(self.columns)
+    }
 }
 
 // Where a row's top lies, or after the last row where the legend begins.
-pub fn top_of(row: u32) -> u64
+fn top_of(row: u32) -> u64
     ensures { (76 ≤ result) × (result < 300000000000) }
 {
-    TOP + (row as u64) * ROW
-}
-
-// How many PDUs of the picture stand before one.
-fn place_in(s: Shape, number: u32) -> u32 {
-    std::num::wrapping_sub_u32(number, s.from)
-}
-
-pub fn place_of(s: Shape, number: u32) -> Place
-    ensures { (result.x < 100000000000) × (result.y < 300000000000) }
-{
-    let place = place_in(s, number);
-    Place {
-        x: LEFT + (remainder(place, s.columns) as u64) * PITCH,
-        y: top_of(quotient(place, s.columns)),
-    }
-}
-
-// Whether a PDU is its row's first.
-pub fn is_first(s: Shape, number: u32) -> bool {
-    remainder(place_in(s, number), s.columns) == 0
-}
-
-// How many PDUs stand in the row that a PDU begins.
-pub fn in_row(s: Shape, number: u32) -> u32 {
-    let place = place_in(s, number);
-    if s.pdus < place {
-        return 0;
-    }
-    if s.pdus - place < s.columns {
-        return s.pdus - place;
-    }
-    s.columns
+    TOP + u64::from(row) * ROW
 }
 
 // The height of the bar for so many packets: at least 1 where there are any.
@@ -153,12 +135,5 @@ pub fn bar(packets: u32, most: u32) -> u64
     if most <= packets {
         return BAR;
     }
-    let h = (packets as u64) * BAR / (most as u64);
-    if h == 0 {
-        return 1;
-    }
-    if BAR < h {
-        return BAR;
-    }
-    h
+    (u64::from(packets) * BAR / u64::from(most)).clamp(1, BAR)
 }
