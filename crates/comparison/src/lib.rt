@@ -5,26 +5,26 @@
 pub mod list;
 mod search;
 
-ghost use Rattle.std.specs.Prelude.{◌≡◌, length};
-ghost use Rattle.io.specs.Counts.{IsPrefixLen};
+use host::{Fd, Host};
+use list::State;
+use search::{Found, Looked, Packet};
+use text::Line;
 
-use host::Host;
-use search::Found;
-
-// The file of the packets that were sent, as records or in ADTS frames, and the file in which each has a line; either is -1 where there is none.
-#[derive(Clone, Copy)]
+// The file of the packets that were sent, as records or in ADTS frames, how many it has, and the file in which each has a line, if that is asked for.
+#[derive(Clone, Copy, Debug)]
 pub struct Sent {
-    pub fd: i32,
+    pub fd: Fd,
     pub adts: bool,
-    pub list: i32,
+    pub many: u64,
+    pub list: Option<Fd>,
 }
 
-// What came of the packets of a PDU: all are compared, the sent ones cannot be read, or the lines not be written.
-pub const COMPARED: u8 = 0;
-
-pub const UNREAD: u8 = 1;
-
-pub const UNLISTED: u8 = 2;
+// Why the packets of a PDU are not all compared: the sent ones cannot be read, or the lines not be written.
+#[derive(Clone, Copy, Debug, PartialEq, Eq)]
+pub enum Fault {
+    Unread,
+    Unlisted,
+}
 
 // The most packets that can be compared with.
 pub const MOST: u64 = 1048576;
@@ -66,45 +66,41 @@ const ALIKE: usize = 163849;
 
 // The place in a row of a word that a comparison keeps.
 fn place(row: &[u64], word: usize) -> usize {
-    std::num::wrapping_add_usize(std::num::wrapping_sub_usize(row.len(), WORDS), word)
+    row.len().wrapping_sub(WORDS).wrapping_add(word)
 }
 
 // A word that a comparison keeps, 0 where the row is too short.
 fn at(row: &[u64], word: usize) -> u64 {
-    let k = place(row, word);
-    if row.len() <= k {
-        return 0;
-    }
-    row[k]
+    row.get(place(row, word)).copied().unwrap_or(0)
 }
 
 // Keeps a word, if there is room.
 fn set(row: &mut [u64], word: usize, value: u64) {
     let k = place(row, word);
-    if row.len() <= k {
-        return;
+    if let Some(kept) = row.get_mut(k) {
+        *kept = value;
     }
-    row[k] = value;
 }
 
 // Counts one more.
 fn add(row: &mut [u64], word: usize) {
     let n = at(row, word);
-    set(row, word, std::num::wrapping_add_u64(n, 1));
+    set(row, word, n.wrapping_add(1));
 }
 
 // The bitmap of the packets that were delivered.
 fn bitmap(row: &[u64]) -> &[u64] {
-    if row.len() < WORDS {
-        return &row[0..0];
+    match row.len().checked_sub(WORDS) {
+        Some(start) => &row[start..start + BITMAP],
+        None => &[],
     }
-    let start = row.len() - WORDS;
-    &row[start..start + BITMAP]
 }
 
-// Begins a comparison with so many packets that were sent.
-pub fn begin(row: &mut [u64], sent: u64) {
-    set(row, SENT, sent);
+// Sets the bit of a packet that is delivered.
+fn deliver(row: &mut [u64], index: u64) {
+    if let Some(start) = row.len().checked_sub(WORDS) {
+        sent_packets::bitmap::set(&mut row[start..start + BITMAP], index);
+    }
 }
 
 // How many packets were delivered that were never sent.
@@ -112,165 +108,142 @@ pub fn never_sent(row: &[u64]) -> u64 {
     at(row, NEVER)
 }
 
-// Sets the bit of a packet that is delivered.
-fn deliver(row: &mut [u64], index: u64) {
-    if row.len() < WORDS {
-        return;
-    }
-    let start = row.len() - WORDS;
-    sent_packets::bitmap::set(&mut row[start..start + BITMAP], index)
-}
-
 // Keeps the index of the first of the packets that were delivered; none was where their end is 0.
 fn keep_first(row: &mut [u64], index: u64) {
-    if (at(row, END) != 0) & (at(row, FIRST) <= index) {
-        return;
+    if (at(row, END) == 0) | (index < at(row, FIRST)) {
+        set(row, FIRST, index);
     }
-    set(row, FIRST, index);
 }
 
 // Keeps the end of the packets that were delivered; one before it comes out of turn.
 fn keep_end(row: &mut [u64], index: u64) {
     if index < at(row, END) {
         add(row, LATE);
-        return;
+    } else {
+        set(row, END, index.wrapping_add(1));
     }
-    set(row, END, std::num::wrapping_add_u64(index, 1));
 }
 
 // Goes on after a packet that is found.
-fn go_on(row: &mut [u64], f: Found) {
-    set(row, NEXT, std::num::wrapping_add_u64(f.index, 1));
-    set(row, NEXT_BYTE, f.next);
+fn go_on(row: &mut [u64], found: Found) {
+    set(row, NEXT, found.index.wrapping_add(1));
+    set(row, NEXT_BYTE, found.next);
 }
 
-// Takes a packet that is delivered.
-fn delivered(host: &Host, sent: Sent, row: &mut [u64], f: Found, pdu: u64) -> u8 {
-    deliver(row, f.index);
-    keep_first(row, f.index);
-    keep_end(row, f.index);
-    go_on(row, f);
-    list::came(host, sent, list::DELIVERED, f.index, f.length, pdu)
-}
-
-// Counts a packet that came again.
-fn again(host: &Host, sent: Sent, row: &mut [u64], f: Found, pdu: u64) -> u8 {
-    add(row, AGAIN);
-    go_on(row, f);
-    list::came(host, sent, list::AGAIN, f.index, f.length, pdu)
-}
-
-// Counts a packet that was never sent, and says so.
-fn never(host: &Host, sent: Sent, row: &mut [u64], number: u64, length: usize, pdu: u64) -> u8 {
-    list::say_never(host, at(row, NEVER), pdu, number, length as u64);
-    add(row, NEVER);
-    list::never(host, sent, number, length, pdu)
-}
-
-// Looks for a packet that a PDU delivers, and counts what came of it.
-fn packet_came(
-    host: &Host,
-    sent: Sent,
-    row: &mut [u64],
-    pdu: u64,
-    number: u64,
-    packet: &[u8],
-) -> u8 {
-    let f = search::looked_for(host, sent, row, number, packet);
-    let how = f.how;
-    match how {
-        search::NEW => delivered(host, sent, row, f, pdu),
-        search::OLD => again(host, sent, row, f, pdu),
-        search::NOWHERE => never(host, sent, row, number, packet.len(), pdu),
-        _ => UNREAD,
+impl Sent {
+    // Begins a comparison with the packets that were sent.
+    pub fn begin(self, row: &mut [u64]) {
+        set(row, SENT, self.many);
     }
-}
 
-// What comes of the word at a place of a PDU's log: the first one of a packet is looked for.
-fn word_came(
-    host: &Host,
-    sent: Sent,
-    row: &mut [u64],
-    pdu: u64,
-    log: &[u32],
-    i: usize,
-    word: u32,
-) -> u8 {
-    let w = words::split(word);
-    if w.kind != words::PACKET {
-        return COMPARED;
+    // Takes a packet that is delivered.
+    fn delivered(self, host: &Host, row: &mut [u64], found: Found, pdu: u64) -> Result<(), Fault> {
+        deliver(row, found.index);
+        keep_first(row, found.index);
+        keep_end(row, found.index);
+        go_on(row, found);
+        self.list_sent(host, State::Delivered, found.index, found.length, pdu)
     }
-    let mut packet = io::buffer();
-    let n = packet_files::put_entry(&mut packet, log, std::num::wrapping_add_usize(i, 1));
-    packet_came(host, sent, row, pdu, w.high as u64, &packet[..n])
-}
 
-// Compares the packets of a PDU's log, the PDU counted from 0.
-pub fn compare(host: &Host, sent: Sent, row: &mut [u64], pdu: u64, log: &[u32]) -> u8 {
-    if !search::is_ready(host, sent, row) {
-        return UNREAD;
+    // Counts a packet that came again.
+    fn again(self, host: &Host, row: &mut [u64], found: Found, pdu: u64) -> Result<(), Fault> {
+        add(row, AGAIN);
+        go_on(row, found);
+        self.list_sent(host, State::Again, found.index, found.length, pdu)
     }
-    let mut i: usize = 0;
-    while i < log.len() {
-        let status = word_came(host, sent, row, pdu, log, i, log[i]);
-        if status != COMPARED {
-            return status;
+
+    // Counts a packet that was never sent, and says so.
+    fn never(self, host: &Host, row: &mut [u64], packet: Packet, pdu: u64) -> Result<(), Fault> {
+        list::say_never(host, at(row, NEVER), pdu, packet);
+        add(row, NEVER);
+        self.list_never(host, packet, pdu)
+    }
+
+    // Looks for a packet that a PDU delivers, and counts what came of it.
+    fn packet_came(
+        self,
+        host: &Host,
+        row: &mut [u64],
+        pdu: u64,
+        packet: Packet,
+    ) -> Result<(), Fault> {
+        match self.looked_for(host, row, packet)? {
+            Looked::New(found) => self.delivered(host, row, found, pdu),
+            Looked::Old(found) => self.again(host, row, found, pdu),
+            Looked::Nowhere => self.never(host, row, packet, pdu),
         }
-        i += 1;
     }
-    COMPARED
+
+    // What comes of the word at a place of a PDU's log: the first one of a packet is looked for.
+    fn word_came(
+        self,
+        host: &Host,
+        row: &mut [u64],
+        pdu: u64,
+        log: &[u32],
+        i: usize,
+        word: u32,
+    ) -> Result<(), Fault> {
+        let w = words::split(word);
+        if w.kind != words::PACKET {
+            return Ok(());
+        }
+        let mut packet = Line::<4096>::new();
+        packet_files::put_entry(&mut packet, log, i.wrapping_add(1));
+        self.packet_came(
+            host,
+            row,
+            pdu,
+            Packet::new(u64::from(w.high), packet.bytes()),
+        )
+    }
+
+    // Compares the packets of a PDU's log, the PDU counted from 0.
+    pub fn compare(self, host: &Host, row: &mut [u64], pdu: u64, log: &[u32]) -> Result<(), Fault> {
+        self.make_ready(host, row)?;
+        for (i, &word) in log.iter().enumerate() {
+            self.word_came(host, row, pdu, log, i, word)?;
+        }
+        Ok(())
+    }
+
+    // Writes the lines of the packets that are missing, and the last line, where all PDUs are logged.
+    pub fn end(self, host: &Host, row: &[u64]) -> Result<(), Fault> {
+        self.list_missing(host, row)?;
+        self.list_end(host, at(row, SENT))
+    }
 }
 
-// Writes the lines of the packets that are missing, and the last line, where all PDUs are logged.
-pub fn end(host: &Host, sent: Sent, row: &[u64]) -> u8 {
-    let status = list::missing(host, sent, row);
-    if status != COMPARED {
-        return status;
-    }
-    list::end(host, sent, at(row, SENT))
-}
-
-// The line for packets that are alike, if there are any.
-fn put_alike(out: &mut [u8], place: usize, row: &[u64]) -> usize
-    ensures { IsPrefixLen result out.new }
-{
+// Puts the line for packets that are alike, if there are any.
+fn put_alike<const N: usize>(lines: &mut Line<N>, row: &[u64]) {
     let alike = at(row, ALIKE);
-    if alike == 0 {
-        return text::put(out, place, b"");
+    if alike != 0 {
+        lines.fill(
+            b"barzhilup log: packets sent that cannot be told apart from the one 64 before @\n",
+            &[alike],
+        );
     }
-    text::fill(
-        out,
-        place,
-        b"barzhilup log: packets sent that cannot be told apart from the one 64 before @\n",
-        &[alike],
-    )
 }
 
-// The counts, as lines.
-pub fn put_summary(out: &mut [u8], row: &[u64]) -> usize
-    ensures { IsPrefixLen result out.new }
-{
+// Puts the counts, as lines.
+pub fn put_summary<const N: usize>(lines: &mut Line<N>, row: &[u64]) {
     let all = at(row, SENT);
     let missing = sent_packets::bitmap::zeros(bitmap(row), all);
-    let n = text::fill(
-        out,
-        0,
+    lines.fill(
         b"barzhilup log: packets sent @: delivered @, missing @",
-        &[all, std::num::wrapping_sub_u64(all, missing), missing],
+        &[all, all.wrapping_sub(missing), missing],
     );
-    let k = list::put_share(out, n, missing, all);
-    let end = text::fill(
-        out,
-        k,
+    list::put_share(lines, missing, all);
+    lines.fill(
         b", of these before the first delivered @, after the last @
 barzhilup log: packets delivered out of turn @, delivered again @, never sent @\n",
         &[
             at(row, FIRST),
-            std::num::wrapping_sub_u64(all, at(row, END)),
+            all.wrapping_sub(at(row, END)),
             at(row, LATE),
             at(row, AGAIN),
             at(row, NEVER),
         ],
     );
-    put_alike(out, end, row)
+    put_alike(lines, row);
 }
