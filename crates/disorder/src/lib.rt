@@ -4,7 +4,8 @@
 
 use damage::dice;
 use damage::dice::Dice;
-use host::Host;
+use host::{Fd, Host};
+use text::Line;
 
 // How many PDUs in a thousand come twice, change places with the next record, and are cut.
 #[derive(Clone, Copy)]
@@ -14,46 +15,76 @@ pub struct Rates {
     pub cut: u64,
 }
 
-// Where records go: PDUs, and the places of their altered bytes, if these are asked for.
+// A PDU, empty where it is lost, and the places of its altered bytes.
+#[derive(Clone, Copy)]
+pub struct Record<'a> {
+    pub pdu: &'a [u8],
+    pub marks: &'a [u8],
+}
+
+// What of a record is not written: the PDU, or its marks.
+#[derive(Clone, Copy, Debug, PartialEq, Eq)]
+pub enum Unwritten {
+    Pdu,
+    Marks,
+}
+
+// Where records go: PDUs, and their marks, if these are asked for.
 #[derive(Clone, Copy)]
 pub struct Outlet {
-    pub pdus: i32,
-    pub marks: i32,
+    pub pdus: Fd,
+    pub marks: Option<Fd>,
 }
 
-// In place of a file of marks where none is asked for.
-pub const NO_MARKS: i32 = -1;
+impl Outlet {
+    fn write_once(self, host: &Host, record: Record<'_>) -> Result<(), Unwritten> {
+        if !records::write(host, self.pdus, record.pdu) {
+            return Err(Unwritten::Pdu);
+        }
+        if let Some(fd) = self.marks {
+            if !records::write(host, fd, record.marks) {
+                return Err(Unwritten::Marks);
+            }
+        }
+        Ok(())
+    }
 
-// What came of writing: all is there, or a PDU is not, or its marks are not. The two follow the statuses of records.
-pub const WRITTEN: u8 = 0;
-
-pub const UNWRITTEN: u8 = 5;
-
-pub const UNMARKED: u8 = 6;
-
-// Room for a record that is held back, and its marks after it.
-pub fn room() -> [u8; 65632] {
-    [0; 65632]
+    // Writes a record once or twice.
+    fn write(self, host: &Host, record: Record<'_>, twice: bool) -> Result<(), Unwritten> {
+        self.write_once(host, record)?;
+        if twice {
+            self.write_once(host, record)?;
+        }
+        Ok(())
+    }
 }
 
-// A road so far: its dice; of the record that is held back how often it is to be written, 0 where none is held, where it ends in a lent buffer and
-// where its marks do; and how many PDUs came twice, changed places and were cut.
+// Room for the bytes of a record that is held back: those of the PDU, and its marks.
+pub type Room = Line<65632>;
+
+// A record that is held back: whether it is to be written twice, and how many bytes the PDU has.
+#[derive(Clone, Copy)]
+pub struct Held {
+    twice: bool,
+    length: usize,
+}
+
+impl Held {
+    // The record, of its bytes.
+    fn record(self, bytes: &[u8]) -> Record<'_> {
+        let (pdu, marks) = bytes.split_at(self.length.min(bytes.len()));
+        Record { pdu, marks }
+    }
+}
+
+// A road so far: its dice; the record that is held back, if one is; and how many PDUs came twice, changed places and were cut.
 #[derive(Clone, Copy)]
 pub struct Road {
-    pub dice: Dice,
-    pub times: u64,
-    pub length: usize,
-    pub end: usize,
+    dice: Dice,
+    held: Option<Held>,
     pub twice: u64,
     pub swapped: u64,
     pub cut: u64,
-}
-
-// A road after a record, and what came of writing.
-#[derive(Clone, Copy)]
-pub struct Passed {
-    pub status: u8,
-    pub road: Road,
 }
 
 // What becomes of a PDU: whether it comes twice, whether it is held back, whether it is cut and how many bytes are left of it, and the dice.
@@ -68,32 +99,21 @@ struct Fate {
 
 // The road of a seed. Its dice are others than those of losses, headers and bursts, so what these do is the same with a road or without.
 pub fn begin(seed: u32) -> Road {
-    let dice = dice::seeded(seed ^ 1431655765);
     Road {
-        dice: dice,
-        times: 0,
-        length: 0,
-        end: 0,
+        dice: dice::seeded(seed ^ 1431655765),
+        held: None,
         twice: 0,
         swapped: 0,
         cut: 0,
     }
 }
 
-// How many bytes are left of so many: at least one, and fewer than there are.
-fn left(length: usize, draw: Dice) -> usize {
-    if length < 2 {
+// How many bytes are left of so many: all, or of those that are cut at least one, and fewer than there are.
+fn left(length: usize, cut: bool, draw: Dice) -> usize {
+    if !cut || length < 2 {
         return length;
     }
     draw.below((length - 1) as u64) as usize + 1
-}
-
-// How many bytes are left of a PDU that is cut, or not.
-fn length_of(cut: bool, length: usize, draw: Dice) -> usize {
-    if cut {
-        return left(length, draw);
-    }
-    length
 }
 
 // Draws a PDU's fate: four draws for each record, also where not all of them count. A PDU marked lost stays as it is, and one of one byte is not cut.
@@ -106,138 +126,63 @@ fn fate_of(rates: Rates, length: usize, dice: Dice) -> Fate {
     Fate {
         twice: first.happens(rates.twice) & (0 < length),
         swap: second.happens(rates.swap) & (0 < length),
-        cut: cut,
-        length: length_of(cut, length, fourth),
+        cut,
+        length: left(length, cut, fourth),
         dice: fourth,
     }
 }
 
-fn more(count: u64, one: bool) -> u64 {
-    if one {
-        return std::num::wrapping_add_u64(count, 1);
-    }
-    count
-}
-
-// How often a record is written.
-fn times_of(twice: bool) -> u64 {
-    if twice {
-        return 2;
-    }
-    1
-}
-
-// Writes a record and its marks.
-fn write_once(host: &Host, outlet: Outlet, pdu: &[u8], marks: &[u8]) -> u8 {
-    if !records::write(host, outlet.pdus, pdu) {
-        return UNWRITTEN;
-    }
-    if outlet.marks < 0 {
-        return WRITTEN;
-    }
-    if !records::write(host, outlet.marks, marks) {
-        return UNMARKED;
-    }
-    WRITTEN
-}
-
-// Writes a record and its marks once, twice, or not at all.
-fn write(host: &Host, outlet: Outlet, pdu: &[u8], marks: &[u8], times: u64) -> u8 {
-    if times == 0 {
-        return WRITTEN;
-    }
-    let first = write_once(host, outlet, pdu, marks);
-    if (first != WRITTEN) | (times == 1) {
-        return first;
-    }
-    write_once(host, outlet, pdu, marks)
-}
-
-// The part of a buffer between two places; nothing where there is no such part.
-fn part(buf: &[u8], from: usize, to: usize) -> &[u8] {
-    if to <= buf.len() {
-        if from <= to {
-            return &buf[from..to];
+impl Road {
+    // The road with a PDU of this fate, and the record that is held back after it.
+    fn with(self, fate: Fate, held: Option<Held>) -> Road {
+        Road {
+            dice: fate.dice,
+            held,
+            twice: self.twice.wrapping_add(u64::from(fate.twice)),
+            swapped: self.swapped.wrapping_add(u64::from(self.held.is_some())),
+            cut: self.cut.wrapping_add(u64::from(fate.cut)),
         }
     }
-    &buf[0..0]
-}
 
-// Writes the record that is held back, if one is.
-pub fn release(host: &Host, outlet: Outlet, held: &[u8], road: Road) -> u8 {
-    let length = road.length;
-    let end = road.end;
-    write(
-        host,
-        outlet,
-        part(held, 0, length),
-        part(held, length, end),
-        road.times,
-    )
-}
-
-// The road with a PDU of this fate; it is held back so many times, up to these places.
-fn with(road: Road, fate: Fate, times: u64, length: usize, end: usize) -> Road {
-    let dice = fate.dice;
-    Road {
-        dice: dice,
-        times: times,
-        length: length,
-        end: end,
-        twice: more(road.twice, fate.twice),
-        swapped: more(road.swapped, 0 < road.times),
-        cut: more(road.cut, fate.cut),
+    // Writes the record that is held back, if one is.
+    pub fn release(self, host: &Host, outlet: Outlet, room: &Room) -> Result<(), Unwritten> {
+        match self.held {
+            Some(held) => outlet.write(host, held.record(room.bytes()), held.twice),
+            None => Ok(()),
+        }
     }
-}
 
-// Holds a PDU back, until the next record is written.
-fn hold(pdu: &[u8], marks: &[u8], held: &mut [u8], road: Road, fate: Fate) -> Passed {
-    let length = text::put(held, 0, pdu);
-    let end = text::put(held, length, marks);
-    Passed {
-        status: WRITTEN,
-        road: with(road, fate, times_of(fate.twice), length, end),
-    }
-}
-
-// Writes a record, and after it the one that is held back.
-fn write_both(
-    host: &Host,
-    outlet: Outlet,
-    pdu: &[u8],
-    marks: &[u8],
-    held: &[u8],
-    road: Road,
-    fate: Fate,
-) -> Passed {
-    let first = write(host, outlet, pdu, marks, times_of(fate.twice));
-    if first != WRITTEN {
-        return Passed {
-            status: first,
-            road: road,
+    // Holds a record back, until the next one is written.
+    fn hold(self, record: Record<'_>, room: &mut Room, fate: Fate) -> Road {
+        room.clear();
+        room.put(record.pdu);
+        room.put(record.marks);
+        let held = Held {
+            twice: fate.twice,
+            length: record.pdu.len(),
         };
+        self.with(fate, Some(held))
     }
-    Passed {
-        status: release(host, outlet, held, road),
-        road: with(road, fate, 0, 0, 0),
-    }
-}
 
-// A record comes along the road, an empty one for a PDU marked lost: it is held back, or written with the one that is.
-pub fn pass(
-    host: &Host,
-    outlet: Outlet,
-    rates: Rates,
-    pdu: &[u8],
-    marks: &[u8],
-    held: &mut [u8],
-    road: Road,
-) -> Passed {
-    let dice = road.dice;
-    let fate = fate_of(rates, pdu.len(), dice);
-    let n = fate.length;
-    if fate.swap & (road.times == 0) {
-        return hold(part(pdu, 0, n), marks, held, road, fate);
+    // The road after a record, whose PDU is empty where it is lost: it is held back, or written, and after it the one that is held back.
+    pub fn pass(
+        self,
+        host: &Host,
+        outlet: Outlet,
+        rates: Rates,
+        record: Record<'_>,
+        room: &mut Room,
+    ) -> Result<Road, Unwritten> {
+        let fate = fate_of(rates, record.pdu.len(), self.dice);
+        let rest = Record {
+            pdu: &record.pdu[..fate.length.min(record.pdu.len())],
+            marks: record.marks,
+        };
+        if fate.swap & self.held.is_none() {
+            return Ok(self.hold(rest, room, fate));
+        }
+        outlet.write(host, rest, fate.twice)?;
+        self.release(host, outlet, room)?;
+        Ok(self.with(fate, None))
     }
-    write_both(host, outlet, part(pdu, 0, n), marks, held, road, fate)
 }
