@@ -1,28 +1,27 @@
 // What the command line asks for.
-ghost use Rattle.std.specs.Prelude.{◌≤◌};
+ghost use Rattle.std.specs.Prelude.{◌≤◌, IfSome};
 
 use disorder::Rates;
 use host::Host;
 use options::{Command, Opt};
 use passage::Channel;
-use text::Number;
 
-// What is asked for; ok where every option has a value in its range.
+// What is asked for.
 #[derive(Clone, Copy)]
 pub struct Job {
-    pub ok: bool,
     pub seed: u32,
     pub channel: Channel,
 }
 
 // How many in a thousand; none where the option is not given.
-fn in_a_thousand(host: &Host, option: Opt) -> Number
-    ensures { result.value ≤ 1000 }
+fn in_a_thousand(host: &Host, option: Opt) -> Option<u32>
+    ensures { IfSome result (λ number. number ≤ 1000) }
 {
     options::number(host, Command::Channel, option, 0, 0, 1000)
 }
 
-pub fn asked(host: &Host) -> Job {
+// What is asked for; nothing where an option has no value in its range. Each that has none is said.
+pub fn asked(host: &Host) -> Option<Job> {
     let seed = options::number(host, Command::Channel, Opt::Seed, 1, 0, 4294967295);
     let loss = options::number(host, Command::Channel, Opt::Loss, 50, 0, 1000);
     let burst = options::number(host, Command::Channel, Opt::Burst, 4, 1, 64);
@@ -32,21 +31,19 @@ pub fn asked(host: &Host) -> Job {
     let twice = in_a_thousand(host, Opt::Twice);
     let swap = in_a_thousand(host, Opt::Swap);
     let cut = in_a_thousand(host, Opt::Cut);
-    Job {
-        ok: (seed.ok & loss.ok & burst.ok & damage.ok & bytes.ok & bursts.ok)
-            & (twice.ok & swap.ok & cut.ok),
-        seed: seed.value,
+    Some(Job {
+        seed: seed?,
         channel: Channel {
-            loss: loss.value as u64,
-            burst: burst.value as u64,
-            damage: damage.value as u64,
-            bytes: bytes.value as u64,
-            bursts: bursts.value as u64,
+            loss: u64::from(loss?),
+            burst: u64::from(burst?),
+            damage: u64::from(damage?),
+            bytes: u64::from(bytes?),
+            bursts: u64::from(bursts?),
             rates: Rates {
-                twice: twice.value as u64,
-                swap: swap.value as u64,
-                cut: cut.value as u64,
+                twice: u64::from(twice?),
+                swap: u64::from(swap?),
+                cut: u64::from(cut?),
             },
         },
-    }
+    })
 }

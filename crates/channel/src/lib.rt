@@ -7,12 +7,15 @@ mod report;
 
 use arguments::Job;
 use disorder::Outlet;
+use files::{Exit, File};
 use host::Host;
 use options::{Command, Opt};
-use passage::{Run, Task};
+use passage::{Ending, Run, Task};
+use records::Stop;
+use report::{Counted, Labels};
 
-// The subcommand `channel`: answers the exit status.
-pub fn program(host: &Host) -> i32 {
+// The subcommand `channel`: answers how it ends.
+pub fn program(host: &Host) -> Exit {
     if options::given(host, Command::Channel, Opt::Help) {
         return files::status(host, Command::Channel, report::usage(host));
     }
@@ -23,97 +26,77 @@ pub fn program(host: &Host) -> i32 {
         Opt::Out,
         b": standard output has the PDUs",
     ) {
-        return files::WRONG;
+        return Exit::Wrong;
     }
-    let job = arguments::asked(host);
-    if !job.ok {
-        return files::WRONG;
+    match arguments::asked(host) {
+        Some(job) => files::status(host, Command::Channel, run(host, job)),
+        None => Exit::Wrong,
     }
-    files::status(host, Command::Channel, run(host, job))
 }
 
 // Opens the file that is read, and sends its PDUs over the channel. Answers whether all is done; what went wrong is said.
 fn run(host: &Host, job: Job) -> bool {
-    let mut from = files::label_buffer();
-    let input = files::opened(host, Command::Channel, Opt::In, &mut from);
-    if input.fd < 0 {
-        return false;
+    match files::opened(host, Command::Channel, Opt::In) {
+        Some(input) => with_input(host, job, &input),
+        None => false,
     }
-    let n = input.length;
-    with_input(host, job, &from[..n], input.fd)
 }
 
 // Makes the file of marks, where one is asked for.
-fn with_input(host: &Host, job: Job, from: &[u8], input: i32) -> bool {
+fn with_input(host: &Host, job: Job, input: &File) -> bool {
     if !options::given(host, Command::Channel, Opt::MarksOut) {
-        return with_marks(host, job, from, input, b"", disorder::NO_MARKS);
+        return with_marks(host, job, input, None);
     }
-    let mut label = files::label_buffer();
-    let marks = files::opened(host, Command::Channel, Opt::MarksOut, &mut label);
-    if marks.fd < 0 {
-        return false;
+    match files::opened(host, Command::Channel, Opt::MarksOut) {
+        Some(marks) => with_marks(host, job, input, Some(&marks)),
+        None => false,
     }
-    let n = marks.length;
-    with_marks(host, job, from, input, &label[..n], marks.fd)
 }
 
 // Makes the file that is written, and sends every PDU over the channel. Where that file is not made, that of marks goes, too.
-fn with_marks(host: &Host, job: Job, from: &[u8], input: i32, marking: &[u8], marks: i32) -> bool {
-    let mut onto = files::label_buffer();
-    let pdus = files::opened(host, Command::Channel, Opt::Out, &mut onto);
-    if pdus.fd < 0 {
+fn with_marks(host: &Host, job: Job, input: &File, marks: Option<&File>) -> bool {
+    let Some(pdus) = files::opened(host, Command::Channel, Opt::Out) else {
         files::unmake(host, Command::Channel, Opt::MarksOut);
         return false;
-    }
-    let n = pdus.length;
-    let channel = job.channel;
+    };
     let task = Task {
-        input: input,
+        input: input.fd,
         outlet: Outlet {
             pdus: pdus.fd,
-            marks: marks,
+            marks: marks.map(|file| file.fd),
         },
-        channel: channel,
+        channel: job.channel,
     };
     let run = passage::send_all(host, task, job.seed);
-    report::ends(
-        host,
-        run.status,
-        from,
-        &onto[..n],
-        marking,
-        run.pdus,
-        run.bytes,
-    );
-    finish(host, run, task, &onto[..n], marking)
+    let labels = Labels {
+        from: input.label.bytes(),
+        onto: pdus.label.bytes(),
+        marking: label_of(marks),
+    };
+    labels.ends(host, run);
+    finish(host, run, task, labels)
+}
+
+// The label of a file; nothing where there is none.
+fn label_of(file: Option<&File>) -> &[u8] {
+    match file {
+        Some(file) => file.label.bytes(),
+        None => b"",
+    }
 }
 
 // Closes the files that are written, and says what the channel did.
-fn finish(host: &Host, run: Run, task: Task, onto: &[u8], marking: &[u8]) -> bool {
-    let outlet = task.outlet;
-    let closed = files::close(host, outlet.pdus, onto);
-    let kept = close_marks(host, outlet.marks, marking);
-    report::summary(
-        host,
-        run.pdus,
-        run.missing,
-        run.lost,
-        run.damaged,
-        run.altered,
-    );
-    let channel = task.channel;
-    let rates = channel.rates;
-    let road = run.road;
-    report::asked_for(host, report::BURSTS, channel.bursts, run.hit);
-    report::asked_for(host, report::TWICE, rates.twice, road.twice);
-    report::asked_for(host, report::SWAPPED, rates.swap, road.swapped);
-    report::asked_for(host, report::CUT, rates.cut, road.cut);
-    (run.status == records::END) & closed & kept
-}
-
-fn close_marks(host: &Host, marks: i32, marking: &[u8]) -> bool {
-    if marks < 0 {
-        return true;
-    }
-    files::close(host, marks, marking)
+fn finish(host: &Host, run: Run, task: Task, labels: Labels<'_>) -> bool {
+    let closed = files::close(host, task.outlet.pdus, labels.onto);
+    let kept = match task.outlet.marks {
+        Some(marks) => files::close(host, marks, labels.marking),
+        None => true,
+    };
+    report::summary(host, run);
+    let rates = task.channel.rates;
+    report::asked_for(host, Counted::Bursts, task.channel.bursts, run.hit);
+    report::asked_for(host, Counted::Twice, rates.twice, run.road.twice);
+    report::asked_for(host, Counted::Swapped, rates.swap, run.road.swapped);
+    report::asked_for(host, Counted::Cut, rates.cut, run.road.cut);
+    (run.ending == Some(Ending::Reading(Stop::End))) & closed & kept
 }

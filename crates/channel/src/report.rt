@@ -1,78 +1,85 @@
 // What the program says on standard error, a line in one write.
+use disorder::Unwritten;
 use host::Host;
 use options::Command;
+use passage::{Ending, Run};
+use records::Stop;
+use text::Line;
 
-// A record has a length that no PDU has, after so many records of so many bytes.
-fn too_long(host: &Host, from: &[u8], pdus: u64, bytes: u64) {
-    let mut words = [0u8; 128];
-    let n = text::fill(
-        &mut words,
-        0,
-        b": the record of PDU @, at byte @, has a length over 20480, which no PDU has\n",
-        &[pdus, bytes],
-    );
-    files::say(host, from, &words[..n]);
+// The labels of the files: the one that is read, and those of PDUs and marks, which are written.
+#[derive(Clone, Copy)]
+pub struct Labels<'a> {
+    pub from: &'a [u8],
+    pub onto: &'a [u8],
+    pub marking: &'a [u8],
 }
 
-// Why no more PDUs are sent, after so many, of so many bytes with their lengths; nothing where all are. PDUs and bytes are counted from 0.
-pub fn ends(
-    host: &Host,
-    status: u8,
-    from: &[u8],
-    onto: &[u8],
-    marking: &[u8],
-    pdus: u64,
-    bytes: u64,
-) {
-    match status {
-        records::END => {}
-        records::CUT => files::say_number(
-            host,
-            from,
-            b": ends inside the record of PDU ",
-            pdus,
-            b"\n",
-        ),
-        records::LONG => too_long(host, from, pdus, bytes),
-        disorder::UNWRITTEN => host.fail(onto),
-        disorder::UNMARKED => host.fail(marking),
-        _ => host.fail(from),
+impl Labels<'_> {
+    // A record has a length that no PDU has, after so many records of so many bytes.
+    fn too_long(self, host: &Host, run: Run) {
+        let mut words = Line::<128>::new();
+        words.fill(
+            b": the record of PDU @, at byte @, has a length over 20480, which no PDU has\n",
+            &[run.pdus, run.bytes],
+        );
+        files::say(host, self.from, words.bytes());
+    }
+
+    // Why no more PDUs are sent; nothing where all are. PDUs and bytes are counted from 0.
+    pub fn ends(self, host: &Host, run: Run) {
+        match run.ending {
+            Some(Ending::Reading(Stop::End)) => {}
+            Some(Ending::Reading(Stop::Cut)) => files::say_number(
+                host,
+                self.from,
+                b": ends inside the record of PDU ",
+                run.pdus,
+                b"\n",
+            ),
+            Some(Ending::Reading(Stop::Long)) => self.too_long(host, run),
+            Some(Ending::Writing(Unwritten::Pdu)) => host.fail(self.onto),
+            Some(Ending::Writing(Unwritten::Marks)) => host.fail(self.marking),
+            Some(Ending::Reading(Stop::Failed)) | None => host.fail(self.from),
+        }
     }
 }
 
 // What the channel did. PDUs that were marked lost before are counted apart.
-pub fn summary(host: &Host, pdus: u64, missing: u64, lost: u64, damaged: u64, altered: u64) {
+pub fn summary(host: &Host, run: Run) {
     options::say_numbers(
         host,
         Command::Channel,
         b": PDUs @ (lost before @), lost @, damaged @, bytes altered @\n",
-        &[pdus, missing, lost, damaged, altered],
+        &[run.pdus, run.missing, run.lost, run.damaged, run.altered],
     );
 }
 
-// What else is counted where it is asked for, as numbers of the texts that say it.
-pub const BURSTS: u32 = 0;
+// What else is counted where it is asked for.
+#[derive(Clone, Copy, Debug, PartialEq, Eq)]
+pub enum Counted {
+    Bursts,
+    Twice,
+    Swapped,
+    Cut,
+}
 
-pub const TWICE: u32 = 1;
-
-pub const SWAPPED: u32 = 2;
-
-pub const CUT: u32 = 3;
+impl Counted {
+    // The words that say how often it happened.
+    fn words(self) -> &'static [u8] {
+        match self {
+            Counted::Bursts => b": pieces hit by bursts @\n",
+            Counted::Twice => b": PDUs sent twice @\n",
+            Counted::Swapped => b": PDUs swapped with the next @\n",
+            Counted::Cut => b": PDUs cut @\n",
+        }
+    }
+}
 
 // How often a thing happened that was asked for so many times in a thousand; nothing where it was for none.
-pub fn asked_for(host: &Host, thing: u32, in_a_thousand: u64, count: u64) {
-    if in_a_thousand == 0 {
-        return;
+pub fn asked_for(host: &Host, thing: Counted, in_a_thousand: u64, count: u64) {
+    if in_a_thousand != 0 {
+        options::say_numbers(host, Command::Channel, thing.words(), &[count]);
     }
-    options::say_numbers(
-        host,
-        Command::Channel,
-        text::entry(
-            b": pieces hit by bursts @\n\0: PDUs sent twice @\n\0: PDUs swapped with the next @\n\0: PDUs cut @\n\0",
-            thing,
-        ),
-        &[count],
-    );
 }
 
 // How the program is used, on standard output.
