@@ -5,109 +5,120 @@
 pub mod next;
 pub mod window;
 
-ghost use Rattle.std.specs.Prelude.{◌≡◌};
+ghost use Rattle.std.specs.Prelude.{IfOk};
 ghost use Rattle.io.specs.Counts.{IsPrefixLen};
 
-use host::Host;
-use records::Record;
+use host::{Fd, Host};
+use records::Stop;
+use sent_packets::Span;
+use text::Line;
 
-// The status where no frame begins: no syncword, or a length below that of the header. It follows those of records.
-pub const NO_FRAME: u8 = 5;
+// Why no more packets are read: no whole record or frame is there; no frame begins, since there is no syncword, or a length below that of the header; or the
+// packet has no bytes.
+#[derive(Clone, Copy, Debug, PartialEq, Eq)]
+pub enum Ending {
+    Records(Stop),
+    NoFrame,
+    Empty,
+}
+
+impl From<Stop> for Ending {
+    fn from(stop: Stop) -> Ending {
+        Ending::Records(stop)
+    }
+}
+
+impl Ending {
+    // The words that say it, with an at sign for how many packets came before; none at the file's end, and none for an error, for which the system has words.
+    fn words(self) -> &'static [u8] {
+        match self {
+            Ending::Records(Stop::End | Stop::Failed) => b"",
+            Ending::Records(Stop::Cut) => b": ends inside packet @\n",
+            Ending::Records(Stop::Long) => b": refused with 15: packet @ has over 4,096 bytes\n",
+            Ending::NoFrame => b": no ADTS frame at packet @\n",
+            Ending::Empty => b": refused with 15: packet @ has no bytes\n",
+        }
+    }
+}
 
 // Where packets come from: a file of records, or an ADTS dump.
-#[derive(Clone, Copy)]
+#[derive(Clone, Copy, Debug)]
 pub struct Source {
-    pub fd: i32,
+    pub fd: Fd,
     pub adts: bool,
 }
 
-fn without(status: u8) -> Record
-    ensures { result.length ≡ 0 }
-{
-    Record {
-        status: status,
-        length: 0,
-    }
+// The bytes that tell how long a record is, or a frame.
+fn head_length(adts: bool) -> usize {
+    if adts { 7 } else { 2 }
 }
 
-// Passes over the check of a header of 9 bytes.
-fn pass_check(host: &Host, fd: i32, header: usize) -> u8 {
-    if header == 7 {
-        return records::WHOLE;
+// Where the packet of a record or a frame stands, by its first bytes.
+fn span_of(head: &[u8], adts: bool) -> Result<Span, Ending> {
+    let span = sent_packets::span_of(head, adts);
+    if span.to == 0 {
+        return Err(Ending::NoFrame);
     }
-    let mut check = [0u8; 2];
-    let got = records::fill(host, fd, &mut check);
-    if got.status == records::END {
-        return records::CUT;
-    }
-    got.status
+    Ok(span)
+}
+
+// How many bytes the packet of a span has.
+fn size(span: Span) -> usize {
+    span.to.wrapping_sub(span.from)
 }
 
 // Reads the next frame's packet to the buffer's start.
-fn read_frame(host: &Host, fd: i32, buf: &mut [u8]) -> Record
-    ensures { IsPrefixLen result.length buf.new }
+fn read_frame(host: &Host, fd: Fd, buf: &mut [u8]) -> Result<usize, Ending>
+    ensures { IfOk result (λ n. IsPrefixLen n buf.new) }
 {
     let mut head = [0u8; 7];
-    let got = records::fill(host, fd, &mut head);
-    if got.status != records::WHOLE {
-        return without(got.status);
+    if let Some(stop) = records::fill(host, fd, &mut head).stop {
+        return Err(Ending::Records(stop));
     }
-    let header = frames::header_length(head[1]);
-    let length = frames::frame_length(head[3], head[4], head[5]);
-    if !frames::is_sync(head[0], head[1]) {
-        return without(NO_FRAME);
+    let span = span_of(&head, true)?;
+    if span.from != head.len() {
+        let mut check = [0u8; 2];
+        records::read_bytes(host, fd, &mut check, 2)?;
     }
-    if length < header {
-        return without(NO_FRAME);
-    }
-    let check = pass_check(host, fd, header);
-    if check != records::WHOLE {
-        return without(check);
-    }
-    records::read_bytes(host, fd, buf, length - header)
+    Ok(records::read_bytes(host, fd, buf, size(span))?)
 }
 
-// Reads the next packet to the buffer's start.
-pub fn read(host: &Host, source: Source, buf: &mut [u8]) -> Record
-    ensures { IsPrefixLen result.length buf.new }
+// Reads the next packet to the buffer's start. Answers its length, which is not 0.
+pub fn read(host: &Host, source: Source, buf: &mut [u8]) -> Result<usize, Ending>
+    ensures { IfOk result (λ n. IsPrefixLen n buf.new) }
 {
-    if source.adts {
-        return read_frame(host, source.fd, buf);
+    let length = if source.adts {
+        read_frame(host, source.fd, buf)?
+    } else {
+        records::read(host, source.fd, buf)?
+    };
+    if length == 0 {
+        return Err(Ending::Empty);
     }
-    records::read(host, source.fd, buf)
+    Ok(length)
 }
 
-// Says why no more packets are read, after so many, which are counted from 0; nothing where the file ends after one. The words stand by status:
-// a packet that is read whole is one of no bytes, and errno has the words for an error.
-pub fn say_end(host: &Host, label: &[u8], status: u8, read: u64) {
-    if status == records::END {
-        return;
+// Says why no more packets are read, after so many, which are counted from 0; nothing where the file ends after one.
+pub fn say_end(host: &Host, label: &[u8], ending: Ending, read: u64) {
+    match ending {
+        Ending::Records(Stop::End) => {}
+        Ending::Records(Stop::Failed) => host.fail(label),
+        _ => {
+            let mut words = Line::<80>::new();
+            words.fill(ending.words(), &[read]);
+            files::say(host, label, words.bytes());
+        }
     }
-    if status == records::FAILED {
-        host.fail(label);
-        return;
-    }
-    let mut words = [0u8; 80];
-    let n = text::fill(
-        &mut words,
-        0,
-        text::entry(
-            b": refused with 15: packet @ has no bytes\n\0\0: ends inside packet @\n\0: refused with 15: packet @ has over 4,096 bytes\n\0\0: no ADTS frame at packet @\n\0",
-            status as u32,
-        ),
-        &[read],
-    );
-    files::say(host, label, &words[..n]);
 }
 
 // The same of a packet whose record or frame is to begin at a byte of the file, which is said too.
-pub fn say_end_at(host: &Host, label: &[u8], status: u8, read: u64, byte: u64) {
-    if (status == records::END) | (status == records::FAILED) {
-        say_end(host, label, status, read);
+pub fn say_end_at(host: &Host, label: &[u8], ending: Ending, read: u64, byte: u64) {
+    if let Ending::Records(Stop::End | Stop::Failed) = ending {
+        say_end(host, label, ending, read);
         return;
     }
-    let mut line = [0u8; 4800];
-    let n = text::put(&mut line, 0, label);
-    let k = text::fill(&mut line, n, b": at byte @", &[byte]);
-    say_end(host, &line[..k], status, read);
+    let mut line = Line::<4800>::new();
+    line.put(label);
+    line.fill(b": at byte @", &[byte]);
+    say_end(host, line.bytes(), ending, read);
 }

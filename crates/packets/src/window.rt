@@ -1,11 +1,11 @@
 // The packets that are read ahead: a row of their lengths, and a row of their bytes joined, in whose last part stands what is read ahead of the file.
-ghost use Rattle.std.specs.Prelude.{◌<◌};
-
-use crate::next::Next;
-use crate::{Source, next};
+use crate::next::{Next, Reader};
+use crate::{Ending, Source};
 use ahead::Ahead;
 use host::Host;
 use options::Command;
+use records::Stop;
+use text::Line;
 
 // The longest packet.
 const MOST: usize = 4096;
@@ -16,16 +16,22 @@ const REST: usize = 49152;
 // How many places at which bytes are passed over have a line each.
 const LINES: u64 = 5;
 
+// The rows.
+#[derive(Drop)]
+pub struct Rows {
+    lengths: [u16; 256],
+    bytes: [u8; 65536],
+}
+
 // Which packets wait: their lengths stand from `first` to before `end`, and their bytes from `from` to before `to`.
-#[derive(Clone, Copy)]
+#[derive(Clone, Copy, Debug)]
 pub struct Window {
     pub first: usize,
     pub end: usize,
     pub from: usize,
     pub to: usize,
-    // Whether there may be more to read, whether the source ended inside a packet or at a fault, and how many packets have been read.
-    pub open: bool,
-    pub broken: bool,
+    // Why no more are read, once that is so, and how many packets have been read.
+    pub ending: Option<Ending>,
     pub read: u64,
     // Whether packets stand in ADTS frames, whether bytes at which no frame begins are passed over, and what is read ahead of the file.
     pub adts: bool,
@@ -37,92 +43,66 @@ pub struct Window {
     pub places: u64,
 }
 
-// No packet of a file is read yet. Where `resync` is set, bytes at which no ADTS frame begins will be passed over.
-pub fn begin(source: Source, resync: bool) -> Window {
-    Window {
-        first: 0,
-        end: 0,
-        from: 0,
-        to: 0,
-        open: true,
-        broken: false,
-        read: 0,
-        adts: source.adts,
-        resync: resync,
-        ahead: ahead::begin(source.fd, 0),
-        skipped: 0,
-        passed: 0,
-        places: 0,
-    }
-}
-
 // The part of a row between two places; nothing where there is no such part.
-pub fn lengths_of(row: &[u16], from: usize, to: usize) -> &[u16] {
-    if to <= row.len() {
-        if from <= to {
-            return &row[from..to];
+fn part<T>(row: &[T], from: usize, to: usize) -> &[T] {
+    row.get(from..to).unwrap_or(&[])
+}
+
+// Moves what stands between two places of a row to its start, as far as the row has it. Answers how much it is.
+fn move_down<T: Copy>(row: &mut [T], from: usize, to: usize) -> usize {
+    let end = to.min(row.len());
+    if end < from {
+        return 0;
+    }
+    row.copy_within(from..end, 0);
+    end - from
+}
+
+impl Rows {
+    pub fn new() -> Rows {
+        Rows {
+            lengths: [0; 256],
+            bytes: [0; 65536],
         }
     }
-    &row[0..0]
-}
 
-pub fn bytes_of(row: &[u8], from: usize, to: usize) -> &[u8] {
-    if to <= row.len() {
-        if from <= to {
-            return &row[from..to];
+    // The lengths of the packets that wait.
+    pub fn offered(&self, window: Window) -> &[u16] {
+        part(&self.lengths, window.first, window.end)
+    }
+
+    // Their bytes.
+    pub fn joined(&self, window: Window) -> &[u8] {
+        part(&self.bytes, window.from, window.to)
+    }
+
+    // Moves a packet that stands in the last part of the row of bytes to a place before it. Answers how many bytes it has.
+    fn put_bytes(&mut self, to: usize, from: usize, length: usize) -> usize {
+        if self.bytes.len() < to {
+            return 0;
+        }
+        let start = REST.wrapping_add(from).wrapping_sub(to);
+        move_down(&mut self.bytes[to..], start, start.wrapping_add(length))
+    }
+
+    // Puts the length of a packet into the row of lengths, if it has that place.
+    fn put_length(&mut self, at: usize, size: usize) {
+        if let Some(length) = self.lengths.get_mut(at) {
+            *length = (size % 65536) as u16;
         }
     }
-    &row[0..0]
 }
 
-// Moves what stands between two places to the row's start. Answers how much it is.
-fn move_lengths(row: &mut [u16], from: usize, to: usize) -> usize {
-    let mut n: usize = 0;
-    let mut at = from;
-    while at < to {
-        if row.len() <= at {
-            return n;
-        }
-        row[n] = row[at];
-        n += 1;
-        at += 1;
+// The words for bytes that are passed over, after so many such places, with at signs for how many they are and for the places of the file between which they
+// stand; none after some places.
+fn passed_words(places: u64) -> &'static [u8] {
+    if places < LINES {
+        return b": passed over @ bytes, from byte @ to byte @: no frame begins there\n";
     }
-    n
-}
-
-fn move_bytes(row: &mut [u8], from: usize, to: usize) -> usize {
-    let mut n: usize = 0;
-    let mut at = from;
-    while at < to {
-        if row.len() <= at {
-            return n;
-        }
-        row[n] = row[at];
-        n += 1;
-        at += 1;
+    if places == LINES {
+        return b": further places passed over are counted only\n";
     }
-    n
-}
-
-// The same packets at the start of both rows.
-fn moved(w: Window, lengths: &mut [u16], bytes: &mut [u8]) -> Window {
-    let mut next = w;
-    next.first = 0;
-    next.end = move_lengths(lengths, w.first, w.end);
-    next.from = 0;
-    next.to = move_bytes(bytes, w.from, w.to);
-    next
-}
-
-// Whether what waits fills any PDU: over 63 packets, or more bytes than a PDU of 20,480 and the part of a packet that is sent.
-fn is_enough(w: Window) -> bool {
-    if w.end < w.first {
-        return true;
-    }
-    if w.to < w.from {
-        return true;
-    }
-    (63 < w.end - w.first) | (24576 < w.to - w.from)
+    b""
 }
 
 // Says that bytes before a place of the file are passed over, after so many such places.
@@ -130,203 +110,173 @@ fn say_passed(host: &Host, label: &[u8], bytes: u64, place: u64, places: u64) {
     if LINES < places {
         return;
     }
-    let mut words = [0u8; 128];
-    let n = text::fill(
-        &mut words,
-        0,
-        text::entry(
-            b": passed over @ bytes, from byte @ to byte @: no frame begins there\n\0: further places passed over are counted only\n\0",
-            (places == LINES) as u32,
-        ),
-        &[bytes, std::num::wrapping_sub_u64(place, bytes), place],
+    let mut words = Line::<128>::new();
+    words.fill(
+        passed_words(places),
+        &[bytes, place.wrapping_sub(bytes), place],
     );
-    files::say(host, label, &words[..n]);
+    files::say(host, label, words.bytes());
 }
 
-// The same packets, where the bytes that were passed over before the next one are said.
-fn said(host: &Host, label: &[u8], w: Window) -> Window {
-    if w.skipped == 0 {
-        return w;
-    }
-    let rest = w.ahead;
-    say_passed(host, label, w.skipped, rest.offset, w.places);
-    let mut next = w;
-    next.skipped = 0;
-    next.places = std::num::wrapping_add_u64(w.places, 1);
-    next
-}
-
-// The same packets where no more can be read, which is said unless the file ends.
-fn closed(host: &Host, label: &[u8], w: Window, status: u8) -> Window {
-    let rest = w.ahead;
-    let mut next = said(host, label, w);
-    crate::say_end_at(host, label, status, w.read, rest.offset);
-    next.open = false;
-    next.broken = status != records::END;
-    next
-}
-
-// The same packets where more bytes are passed over.
-fn passed(w: Window, n: Next) -> Window {
-    let many = n.length as u64;
-    let rest = n.ahead;
-    let mut next = w;
-    next.ahead = rest;
-    next.skipped = std::num::wrapping_add_u64(w.skipped, many);
-    next.passed = std::num::wrapping_add_u64(w.passed, many);
-    next
-}
-
-// The same packets and one more, of so many bytes.
-fn with_packet(host: &Host, label: &[u8], w: Window, n: Next, size: usize) -> Window {
-    let rest = n.ahead;
-    let mut next = said(host, label, w);
-    next.end = std::num::wrapping_add_usize(w.end, 1);
-    next.to = std::num::wrapping_add_usize(w.to, size);
-    next.read = std::num::wrapping_add_u64(w.read, 1);
-    next.ahead = rest;
-    next
-}
-
-// Moves a packet to those that wait, in the row of bytes. Answers how many bytes it has.
-fn put_packet(w: Window, n: Next, bytes: &mut [u8]) -> usize {
-    let to = w.to;
-    if bytes.len() < to {
-        return 0;
-    }
-    let from = std::num::wrapping_sub_usize(std::num::wrapping_add_usize(REST, n.from), to);
-    move_bytes(
-        &mut bytes[to..],
-        from,
-        std::num::wrapping_add_usize(from, n.length),
-    )
-}
-
-// Puts the length of a packet into the row of lengths, if it has that place.
-fn put_length(lengths: &mut [u16], at: usize, size: usize) {
-    if at < lengths.len() {
-        lengths[at] = (size % 65536) as u16;
-    }
-}
-
-// The same packets after a reading: one more, or more bytes that are passed over; where none can be read, says why and closes the window.
-fn with_next(
-    host: &Host,
-    label: &[u8],
-    w: Window,
-    n: Next,
-    lengths: &mut [u16],
-    bytes: &mut [u8],
-) -> Window {
-    if n.status == next::PASSED {
-        return passed(w, n);
-    }
-    if (n.status != records::WHOLE) | (n.length == 0) {
-        return closed(host, label, w, n.status);
-    }
-    let size = put_packet(w, n, bytes);
-    put_length(lengths, w.end, size);
-    with_packet(host, label, w, n, size)
-}
-
-// Reads on, by the last part of the row of bytes.
-fn read_next(host: &Host, w: Window, bytes: &mut [u8]) -> Next {
-    if bytes.len() < REST {
-        return next::none(w.ahead);
-    }
-    next::read(
-        host,
-        w.ahead,
-        &mut bytes[REST..],
-        w.adts,
-        w.resync,
-        w.skipped != 0,
-    )
-}
-
-// The same packets after a reading, if there is room for one more.
-fn taken(host: &Host, label: &[u8], w: Window, lengths: &mut [u16], bytes: &mut [u8]) -> Window {
-    if (lengths.len() <= w.end) | (REST - MOST < w.to) {
-        return w;
-    }
-    let n = read_next(host, w, bytes);
-    with_next(host, label, w, n, lengths, bytes)
-}
-
-// Whether one more packet is there, or more bytes are passed over.
-fn is_more(before: Window, after: Window) -> bool {
-    (before.end != after.end) | (before.passed != after.passed)
-}
-
-// Reads ahead, if what waits may not fill a PDU, until the rows are full or the source ends.
-pub fn filled(
-    host: &Host,
-    label: &[u8],
-    w: Window,
-    lengths: &mut [u16],
-    bytes: &mut [u8],
-) -> Window {
-    if !w.open | is_enough(w) {
-        return w;
-    }
-    let mut now = moved(w, lengths, bytes);
-    let mut turns = u64::MAX;
-    while 0 < turns {
-        let next = taken(host, label, now, lengths, bytes);
-        if !is_more(now, next) {
-            return next;
+impl Window {
+    // No packet of a file is read yet. Where `resync` is set, bytes at which no ADTS frame begins will be passed over.
+    pub fn new(source: Source, resync: bool) -> Window {
+        Window {
+            first: 0,
+            end: 0,
+            from: 0,
+            to: 0,
+            ending: None,
+            read: 0,
+            adts: source.adts,
+            resync,
+            ahead: Ahead::new(source.fd, 0),
+            skipped: 0,
+            passed: 0,
+            places: 0,
         }
-        now = next;
-        turns -= 1;
     }
-    now
-}
 
-// Says at how many places bytes were passed over, if at any, and how many bytes.
-pub fn say_places(host: &Host, command: Command, w: Window) {
-    if w.places == 0 {
-        return;
+    // Whether no packet waits.
+    pub fn is_empty(self) -> bool {
+        self.end <= self.first
     }
-    options::say_numbers(
-        host,
-        command,
-        b": places passed over @ (bytes @)\n",
-        &[w.places, w.passed],
-    );
-}
 
-fn wide(n: u16) -> usize
-    ensures { result < 65536 }
-{
-    n as usize
-}
-
-// The place after so many bytes, at most the last one.
-fn after(from: usize, size: usize, last: usize) -> usize {
-    if last < from {
-        return last;
-    }
-    if last - from < size {
-        return last;
-    }
-    from + size
-}
-
-// The packets that wait once so many have ended.
-pub fn without(w: Window, lengths: &[u16], ended: u32) -> Window {
-    let mut first = w.first;
-    let mut from = w.from;
-    let mut left = ended;
-    while 0 < left {
-        if lengths.len() <= first {
-            break;
+    // Whether the source ended inside a packet or at a fault.
+    pub fn is_broken(self) -> bool {
+        match self.ending {
+            None | Some(Ending::Records(Stop::End)) => false,
+            Some(_) => true,
         }
-        from = after(from, wide(lengths[first]), w.to);
-        first += 1;
-        left -= 1;
     }
-    let mut next = w;
-    next.first = first;
-    next.from = from;
-    next
+
+    // Whether what waits fills any PDU: over 63 packets, or more bytes than a PDU of 20,480 and the part of a packet that is sent.
+    fn is_enough(self) -> bool {
+        if (self.end < self.first) | (self.to < self.from) {
+            return true;
+        }
+        (63 < self.end.wrapping_sub(self.first)) | (24576 < self.to.wrapping_sub(self.from))
+    }
+
+    // The same packets at the start of both rows.
+    fn moved(self, rows: &mut Rows) -> Window {
+        Window {
+            first: 0,
+            end: move_down(&mut rows.lengths, self.first, self.end),
+            from: 0,
+            to: move_down(&mut rows.bytes, self.from, self.to),
+            ..self
+        }
+    }
+
+    // The same packets, where the bytes that were passed over before the next one are said.
+    fn said(self, host: &Host, label: &[u8]) -> Window {
+        if self.skipped == 0 {
+            return self;
+        }
+        say_passed(host, label, self.skipped, self.ahead.offset, self.places);
+        Window {
+            skipped: 0,
+            places: self.places.wrapping_add(1),
+            ..self
+        }
+    }
+
+    // The same packets where no more can be read, which is said unless the file ends.
+    fn closed(self, host: &Host, label: &[u8], ending: Ending) -> Window {
+        let next = self.said(host, label);
+        crate::say_end_at(host, label, ending, self.read, self.ahead.offset);
+        Window {
+            ending: Some(ending),
+            ..next
+        }
+    }
+
+    // The same packets where more bytes are passed over.
+    fn passed(self, many: usize, ahead: Ahead) -> Window {
+        Window {
+            ahead,
+            skipped: self.skipped.wrapping_add(many as u64),
+            passed: self.passed.wrapping_add(many as u64),
+            ..self
+        }
+    }
+
+    // The same packets and one more, of so many bytes.
+    fn with_packet(self, host: &Host, label: &[u8], size: usize, ahead: Ahead) -> Window {
+        Window {
+            end: self.end.wrapping_add(1),
+            to: self.to.wrapping_add(size),
+            read: self.read.wrapping_add(1),
+            ahead,
+            ..self.said(host, label)
+        }
+    }
+
+    // The same packets after a reading, if there is room for one more: with that, or more bytes that are passed over; where none can be read, says why and closes
+    // the window.
+    fn taken(self, host: &Host, label: &[u8], rows: &mut Rows) -> Window {
+        if (rows.lengths.len() <= self.end) | (REST - MOST < self.to) {
+            return self;
+        }
+        let mut reader = Reader {
+            ahead: self.ahead,
+            buf: &mut rows.bytes[REST..],
+        };
+        let next = reader.read(host, self.adts, self.resync, self.skipped != 0);
+        let ahead = reader.ahead;
+        match next {
+            Err(ending) => self.closed(host, label, ending),
+            Ok(Next::Passed(many)) => self.passed(many, ahead),
+            Ok(Next::Packet { from, length }) => {
+                let size = rows.put_bytes(self.to, from, length);
+                rows.put_length(self.end, size);
+                self.with_packet(host, label, size, ahead)
+            }
+        }
+    }
+
+    // Reads ahead, if what waits may not fill a PDU, until the rows are full or the source ends.
+    pub fn filled(self, host: &Host, label: &[u8], rows: &mut Rows) -> Window {
+        if self.ending.is_some() | self.is_enough() {
+            return self;
+        }
+        let mut now = self.moved(rows);
+        for _ in 0..u64::MAX {
+            let next = now.taken(host, label, rows);
+            if (now.end == next.end) & (now.passed == next.passed) {
+                return next;
+            }
+            now = next;
+        }
+        now
+    }
+
+    // Says at how many places bytes were passed over, if at any, and how many bytes.
+    pub fn say_places(self, host: &Host, command: Command) {
+        if self.places == 0 {
+            return;
+        }
+        options::say_numbers(
+            host,
+            command,
+            b": places passed over @ (bytes @)\n",
+            &[self.places, self.passed],
+        );
+    }
+
+    // The packets that wait once so many have ended.
+    pub fn without(self, rows: &Rows, ended: u32) -> Window {
+        let rest = rows.lengths.get(self.first..).unwrap_or(&[]);
+        let gone = &rest[..rest.len().min(ended as usize)];
+        let mut from = self.from;
+        for &length in gone {
+            from = from.saturating_add(usize::from(length)).min(self.to);
+        }
+        Window {
+            first: self.first.wrapping_add(gone.len()),
+            from,
+            ..self
+        }
+    }
 }

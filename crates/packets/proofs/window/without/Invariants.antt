@@ -1,6 +1,0 @@
-use Rattle.std.proofs.Common.{◌<◌, ◌≡◌, ℕ, ◌+◌, ◌-◌, ◌*◌, ◌≤◌, length}
-use Rattle.packets.proofs.window.without.Given as goal
-
--- proposed from the loop's first test
-abbrev pub decreases-loop-left : goal.decreases-loop-left
-decreases-loop-left l = l.left
