@@ -3,90 +3,76 @@
 #![tactic(auto)]
 
 use comparison::Sent;
-use host::Host;
+use host::{Fd, Host};
+use packet_files::Form;
+use text::Line;
 
-// The files that are written, -1 for those that are not asked for; what the packets are compared with, and how many were sent.
-#[derive(Clone, Copy)]
+// The files that are written, as far as they are asked for, and what the packets are compared with.
+#[derive(Clone, Copy, Debug)]
 pub struct Beside {
-    pub packets: i32,
-    pub adts: i32,
-    pub psd: i32,
-    pub sent: Sent,
-    pub many: u64,
+    pub packets: Option<Fd>,
+    pub adts: Option<Fd>,
+    pub psd: Option<Fd>,
+    pub sent: Option<Sent>,
 }
 
-// How a run stands after a PDU: all is written, or which file is not, in the order of the options, or the packets that were sent cannot be read.
-pub const KEPT: u8 = 0;
+// What went wrong after a PDU: which file is not written, in the order of the options, or that the packets that were sent cannot be read.
+#[derive(Clone, Copy, Debug, PartialEq, Eq)]
+pub enum Fault {
+    Packets,
+    Adts,
+    Psd,
+    List,
+    Sent,
+}
 
-pub const PACKETS: u8 = 11;
-
-pub const ADTS: u8 = 12;
-
-pub const PSD: u8 = 13;
-
-pub const LISTED: u8 = 14;
-
-pub const SENT: u8 = 15;
-
-// Nothing beside the log.
-pub fn none() -> Beside {
-    Beside {
-        packets: -1,
-        adts: -1,
-        psd: -1,
-        sent: Sent {
-            fd: -1,
-            adts: false,
-            list: -1,
-        },
-        many: 0,
+impl From<comparison::Fault> for Fault {
+    fn from(fault: comparison::Fault) -> Fault {
+        match fault {
+            comparison::Fault::Unlisted => Fault::List,
+            comparison::Fault::Unread => Fault::Sent,
+        }
     }
 }
 
 // Writes what a file of a form has of a PDU's log, by a block, if there is such a file. Answers whether all is written.
-fn write(host: &Host, fd: i32, form: u8, log: &[u32], block: &mut [u8]) -> bool {
-    if fd < 0 {
-        return true;
-    }
-    let n = packet_files::put(block, form, log);
-    host.write_all(fd, &block[..n])
-}
-
-// How a run stands by what came of comparing.
-pub fn status_of(compared: u8) -> u8 {
-    match compared {
-        comparison::COMPARED => KEPT,
-        comparison::UNLISTED => LISTED,
-        _ => SENT,
-    }
-}
-
-// Compares the packets of a PDU's log with those that were sent, if that is asked for.
-fn compare(host: &Host, sent: Sent, row: &mut [u64], pdu: u64, log: &[u32]) -> u8 {
-    if sent.fd < 0 {
-        return KEPT;
-    }
-    status_of(comparison::compare(host, sent, row, pdu, log))
-}
-
-// Writes what the files have of the log of a PDU, counted from 0, by a block, and compares its packets; a row of counts keeps how the comparison stands.
-pub fn keep(
+fn write<const N: usize>(
     host: &Host,
-    b: Beside,
-    row: &mut [u64],
-    pdu: u64,
+    file: Option<Fd>,
+    form: Form,
     log: &[u32],
-    block: &mut [u8],
-) -> u8 {
-    if !write(host, b.packets, packet_files::RECORDS, log, block) {
-        return PACKETS;
+    block: &mut Line<N>,
+) -> bool {
+    let Some(fd) = file else {
+        return true;
+    };
+    block.clear();
+    packet_files::put(block, form, log);
+    host.write_all(fd, block.bytes())
+}
+
+impl Beside {
+    // Writes what the files have of the log of a PDU, counted from 0, by a block, and compares its packets; a row of counts keeps how the comparison stands.
+    pub fn keep<const N: usize>(
+        self,
+        host: &Host,
+        row: &mut [u64],
+        pdu: u64,
+        log: &[u32],
+        block: &mut Line<N>,
+    ) -> Result<(), Fault> {
+        if !write(host, self.packets, Form::Records, log, block) {
+            return Err(Fault::Packets);
+        }
+        if !write(host, self.adts, Form::Frames, log, block) {
+            return Err(Fault::Adts);
+        }
+        if !write(host, self.psd, Form::Psd, log, block) {
+            return Err(Fault::Psd);
+        }
+        if let Some(sent) = self.sent {
+            sent.compare(host, row, pdu, log)?;
+        }
+        Ok(())
     }
-    if !write(host, b.adts, packet_files::FRAMES, log, block) {
-        return ADTS;
-    }
-    if !write(host, b.psd, packet_files::PSD, log, block) {
-        return PSD;
-    }
-    let sent = b.sent;
-    compare(host, sent, row, pdu, log)
 }
