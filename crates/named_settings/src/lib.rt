@@ -1,123 +1,188 @@
-// A writer's settings by the names of their options: a row of numbers, with the value of each name and after these whether it is given; on `settings`, `text`
-// and the toolchain's `check`.
+// A writer's settings by the names of their options: the value of each name that is given; on `settings` and the toolchain's `check`.
 #![tactic(auto)]
 
 use settings::Settings;
 
-// How many names there are.
-pub const COUNT: u32 = 11;
-
-// The names, in the order of the row.
-pub const NAMES: [u8; 87] =
-    *b"blend\0gain\0common-delay\0latency\0class\0program\0displacement\0access\0type\0services\0marker\0";
-
-// The first name of an expansion field; those before it are sent in each PDU.
-pub const EXPANSION: u32 = 4;
-
-// The name that takes no value.
-pub const DISPLACEMENT: u32 = 6;
-
-// The names of the two fields that have two values each.
-const ACCESS: u32 = 7;
-
-const TYPE: u32 = 8;
-
-const SERVICES: u32 = 9;
-
-const MARKER: u32 = 10;
-
-// The row where nothing is given.
-pub fn none() -> [u32; 22] {
-    [0; 22]
+// The names.
+#[derive(Clone, Copy, Debug, PartialEq, Eq)]
+pub enum Name {
+    Blend,
+    Gain,
+    CommonDelay,
+    Latency,
+    Class,
+    Program,
+    Displacement,
+    Access,
+    Type,
+    Services,
+    Marker,
 }
 
-// Whether a text is the name of a number.
-fn is_name(number: u32, name: &[u8]) -> bool {
-    check::same(text::entry(&NAMES, number), name)
-}
+// All of them, in the order of `options::SETTINGS`.
+pub const NAMES: [Name; 11] = [
+    Name::Blend,
+    Name::Gain,
+    Name::CommonDelay,
+    Name::Latency,
+    Name::Class,
+    Name::Program,
+    Name::Displacement,
+    Name::Access,
+    Name::Type,
+    Name::Services,
+    Name::Marker,
+];
 
-// The number of a name, COUNT where it is none.
-pub fn find(name: &[u8]) -> u32 {
-    let mut k: u32 = 0;
-    while k < COUNT {
-        if is_name(k, name) {
-            return k;
+impl Name {
+    fn words(self) -> &'static [u8] {
+        match self {
+            Name::Blend => b"blend",
+            Name::Gain => b"gain",
+            Name::CommonDelay => b"common-delay",
+            Name::Latency => b"latency",
+            Name::Class => b"class",
+            Name::Program => b"program",
+            Name::Displacement => b"displacement",
+            Name::Access => b"access",
+            Name::Type => b"type",
+            Name::Services => b"services",
+            Name::Marker => b"marker",
         }
-        k += 1;
     }
-    COUNT
-}
 
-// The greatest number that is read for a name: whether it may be sent is for the writer to say.
-pub fn most(name: u32) -> u32 {
-    if name == MARKER {
-        return 4294967295;
+    // The name that a text is; nothing where it is none.
+    pub fn find(text: &[u8]) -> Option<Name> {
+        for name in NAMES {
+            if check::same(name.words(), text) {
+                return Some(name);
+            }
+        }
+        None
     }
-    255
-}
 
-// The row with a value of a name.
-pub fn with(row: [u32; 22], name: u32, value: u32) -> [u32; 22] {
-    let mut next = row;
-    let at = name as usize;
-    if 10 < at {
-        return next;
+    // The greatest number that is read for a name: whether it may be sent is for the writer to say.
+    pub fn most(self) -> u32 {
+        match self {
+            Name::Marker => 4294967295,
+            _ => 255,
+        }
     }
-    next[at] = value;
-    next[at + 11] = 1;
-    next
-}
 
-// The row where a name is not given.
-fn cleared(row: [u32; 22], name: u32) -> [u32; 22] {
-    let mut next = row;
-    let at = name as usize;
-    if 10 < at {
-        return next;
+    // Whether the name takes no value.
+    pub fn is_flag(self) -> bool {
+        self == Name::Displacement
     }
-    next[at] = 0;
-    next[at + 11] = 0;
-    next
-}
 
-// The other name of a name's field, or the name itself.
-fn partner(name: u32) -> u32 {
-    match name {
-        ACCESS => TYPE,
-        TYPE => ACCESS,
-        SERVICES => MARKER,
-        MARKER => SERVICES,
-        _ => name,
+    // Whether the name is sent in each PDU; the others are of expansion fields.
+    pub fn is_always_sent(self) -> bool {
+        matches!(
+            self,
+            Name::Blend | Name::Gain | Name::CommonDelay | Name::Latency
+        )
+    }
+
+    // The other name of the name's field, where it has two, or the name itself.
+    fn partner(self) -> Name {
+        match self {
+            Name::Access => Name::Type,
+            Name::Type => Name::Access,
+            Name::Services => Name::Marker,
+            Name::Marker => Name::Services,
+            _ => self,
+        }
     }
 }
 
-// The row without the field of a name.
-pub fn without(row: [u32; 22], name: u32) -> [u32; 22] {
-    let next = cleared(row, name);
-    cleared(next, partner(name))
+// The value of each name that is given.
+#[derive(Clone, Copy, Debug, PartialEq, Eq)]
+pub struct Given {
+    blend: Option<u32>,
+    gain: Option<u32>,
+    common: Option<u32>,
+    latency: Option<u32>,
+    class: Option<u32>,
+    program: Option<u32>,
+    displacement: Option<u32>,
+    access: Option<u32>,
+    ptype: Option<u32>,
+    services: Option<u32>,
+    marker: Option<u32>,
 }
 
-fn low(value: u32) -> u8 {
-    (value % 256) as u8
-}
-
-// The settings of a row: an expansion field is asked for where a name of it is given.
-pub fn of(row: [u32; 22]) -> Settings {
-    Settings {
-        blend: low(row[0]),
-        gain: low(row[1]),
-        common: low(row[2]),
-        latency: low(row[3]),
-        classed: row[15] == 1,
-        class: low(row[4]),
-        programmed: row[16] == 1,
-        program: low(row[5]),
-        displaced: row[17] == 1,
-        typed: (row[18] == 1) | (row[19] == 1),
-        access: low(row[7]),
-        ptype: low(row[8]),
-        serviced: (row[20] == 1) | (row[21] == 1),
-        services: low(row[9]),
-        marker: row[10],
+impl Given {
+    // Nothing is given.
+    pub fn none() -> Given {
+        Given {
+            blend: None,
+            gain: None,
+            common: None,
+            latency: None,
+            class: None,
+            program: None,
+            displacement: None,
+            access: None,
+            ptype: None,
+            services: None,
+            marker: None,
+        }
     }
+
+    // What is given of a name.
+    fn value(&mut self, name: Name) -> &mut Option<u32> {
+        match name {
+            Name::Blend => &mut self.blend,
+            Name::Gain => &mut self.gain,
+            Name::CommonDelay => &mut self.common,
+            Name::Latency => &mut self.latency,
+            Name::Class => &mut self.class,
+            Name::Program => &mut self.program,
+            Name::Displacement => &mut self.displacement,
+            Name::Access => &mut self.access,
+            Name::Type => &mut self.ptype,
+            Name::Services => &mut self.services,
+            Name::Marker => &mut self.marker,
+        }
+    }
+
+    // The same with a value of a name.
+    pub fn with(self, name: Name, value: u32) -> Given {
+        let mut next = self;
+        *next.value(name) = Some(value);
+        next
+    }
+
+    // The same without the field of a name.
+    pub fn without(self, name: Name) -> Given {
+        let mut next = self;
+        *next.value(name) = None;
+        *next.value(name.partner()) = None;
+        next
+    }
+
+    // The settings: an expansion field is asked for where a name of it is given.
+    pub fn settings(self) -> Settings {
+        Settings {
+            blend: low(self.blend),
+            gain: low(self.gain),
+            common: low(self.common),
+            latency: low(self.latency),
+            classed: self.class.is_some(),
+            class: low(self.class),
+            programmed: self.program.is_some(),
+            program: low(self.program),
+            displaced: self.displacement.is_some(),
+            typed: self.access.is_some() | self.ptype.is_some(),
+            access: low(self.access),
+            ptype: low(self.ptype),
+            serviced: self.services.is_some() | self.marker.is_some(),
+            services: low(self.services),
+            marker: self.marker.unwrap_or(0),
+        }
+    }
+}
+
+// A value of one byte, 0 where it is not given.
+fn low(value: Option<u32>) -> u8 {
+    (value.unwrap_or(0) % 256) as u8
 }
