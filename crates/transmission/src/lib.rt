@@ -5,34 +5,25 @@
 pub mod psd;
 
 use host::Host;
-use options::{Command, Opt};
+use named_settings::{Given, NAMES, Name};
+use options::{Command, Opt, SETTINGS};
 use settings::Settings;
 
-// What is asked for; ok where every number is in its range.
-#[derive(Clone, Copy)]
+// What is asked for.
+#[derive(Clone, Copy, Debug)]
 pub struct Transmission {
-    pub ok: bool,
     pub mode: u8,
     pub stream: u8,
     pub register: u8,
     pub length: usize,
-    pub settings: Settings,
-    // The same settings, by their names.
-    pub row: [u32; 22],
+    pub given: Given,
 }
 
-// A number of one byte: whether its option is right, and its value.
-#[derive(Clone, Copy)]
-struct Choice {
-    ok: bool,
-    value: u8,
-}
-
-// Settings by their names, and whether their options are right.
-#[derive(Clone, Copy)]
-struct Named {
-    ok: bool,
-    row: [u32; 22],
+impl Transmission {
+    // The settings of every PDU.
+    pub fn settings(self) -> Settings {
+        self.given.settings()
+    }
 }
 
 // Whether every option is one that is known, with its value, packets and PSD are not both on standard input, and frames are not looked for among records; if
@@ -59,63 +50,55 @@ pub fn check(host: &Host, command: Command) -> bool {
     true
 }
 
-fn octet(host: &Host, command: Command, option: Opt) -> Choice {
-    let n = options::number(host, command, option, 0, 0, 255);
-    Choice {
-        ok: n.ok,
-        value: n.value as u8,
-    }
+// A number of one byte.
+fn octet(host: &Host, command: Command, option: Opt) -> Option<u8> {
+    let number = options::number(host, command, option, 0, 0, 255)?;
+    Some(number as u8)
 }
 
-// The settings with that of one name, by its number, if its option is given.
-fn with_option(host: &Host, command: Command, number: u32, row: [u32; 22]) -> Named {
-    let option = std::num::wrapping_add_u8(Opt::Blend, (number % 256) as u8);
+// What is given, with the value of one name, if its option is given, too.
+fn with_option(
+    host: &Host,
+    command: Command,
+    option: Opt,
+    name: Name,
+    given: Given,
+) -> Option<Given> {
     if !options::given(host, command, option) {
-        return Named { ok: true, row: row };
+        return Some(given);
     }
-    if number == named_settings::DISPLACEMENT {
-        return Named {
-            ok: true,
-            row: named_settings::with(row, number, 1),
-        };
+    if name.is_flag() {
+        return Some(given.with(name, 1));
     }
-    let n = options::number(host, command, option, 0, 0, named_settings::most(number));
-    Named {
-        ok: n.ok,
-        row: named_settings::with(row, number, n.value),
-    }
+    let value = options::number(host, command, option, 0, 0, name.most())?;
+    Some(given.with(name, value))
 }
 
-// The settings of every PDU.
-fn settings_chosen(host: &Host, command: Command) -> Named {
-    let mut row = named_settings::none();
-    let mut ok = true;
-    let mut k: u32 = 0;
-    while k < named_settings::COUNT {
-        let next = with_option(host, command, k, row);
-        let with = next.row;
-        row = with;
-        ok = next.ok & ok;
-        k += 1;
+// What is given of the settings of every PDU.
+fn settings_given(host: &Host, command: Command) -> Option<Given> {
+    let mut given = Given::none();
+    let mut right = true;
+    for (&name, &option) in NAMES.iter().zip(SETTINGS.iter()) {
+        match with_option(host, command, option, name, given) {
+            Some(next) => given = next,
+            None => right = false,
+        }
     }
-    Named { ok: ok, row: row }
+    right.then_some(given)
 }
 
-// What a subcommand asks for, by the options that it knows.
-pub fn asked(host: &Host, command: Command) -> Transmission {
+// What a subcommand asks for, by the options that it knows; nothing where one is no number in its range, which is said.
+pub fn asked(host: &Host, command: Command) -> Option<Transmission> {
     let mode = octet(host, command, Opt::Mode);
     let stream = octet(host, command, Opt::Stream);
     let register = octet(host, command, Opt::CrcStart);
     let length = options::number(host, command, Opt::Length, 1024, 0, 65535);
-    let chosen = settings_chosen(host, command);
-    let row = chosen.row;
-    Transmission {
-        ok: mode.ok & stream.ok & register.ok & length.ok & chosen.ok,
-        mode: mode.value,
-        stream: stream.value,
-        register: register.value,
-        length: length.value as usize,
-        settings: named_settings::of(row),
-        row: row,
-    }
+    let given = settings_given(host, command);
+    Some(Transmission {
+        mode: mode?,
+        stream: stream?,
+        register: register?,
+        length: length? as usize,
+        given: given?,
+    })
 }
