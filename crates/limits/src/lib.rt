@@ -1,61 +1,85 @@
 // How much PSD a mode and settings leave room for, and which limit is passed by settings that the writer refuses, in words; on `modes`, `settings` and `text`.
 #![tactic(auto)]
 
-ghost use Rattle.io.specs.Counts.{IsPrefixLen};
-
 use modes::{Listing, Mode};
 use settings::Settings;
+use text::Line;
 
-// The limits that a refusal may stand for, as numbers of the texts that say it.
-const LENGTH: u32 = 0;
+// The limits that a refusal may stand for.
+#[derive(Clone, Copy, Debug, PartialEq, Eq)]
+enum Limit {
+    Length,
+    Width,
+    Table,
+    Class,
+    ClassProgram,
+    ClassAccess,
+    Services,
+    ServicesClass,
+    AccessClass,
+    Displacement,
+    Blend,
+    BlendProgram,
+    CoreGain,
+    Gain,
+    Common,
+    Latency,
+    Program,
+    Access,
+    Marker,
+    NoPsd,
+    Psd,
+    Room,
+    Other,
+}
 
-const WIDTH: u32 = 1;
+impl Limit {
+    // The words that say it. An at sign stands for the bytes of PSD that there is room for.
+    fn words(self) -> &'static [u8] {
+        match self {
+            Limit::Length => b"--length: not 96 to 20480\n",
+            Limit::Width => {
+                b"--length: over 4096, the most with locators of 12 bits (--help has the modes)\n"
+            }
+            Limit::Table => {
+                b"--mode, --stream: not in the table: stream 0 has modes 0, 1, 2, 3, 10 and 13, stream 1 has modes 1, 2, 3 and 10\n"
+            }
+            Limit::Class => b"--class: not 1\n",
+            Limit::ClassProgram => b"--class 1: --program is not 1 to 7\n",
+            Limit::ClassAccess => b"--class 1: --access is not 1\n",
+            Limit::Services => b"--services: not 0 or 1\n",
+            Limit::ServicesClass => b"--services 1: --class is not 1\n",
+            Limit::AccessClass => b"--access 1: --class is not 1\n",
+            Limit::Displacement => b"--displacement: the PDU has over 16384 bytes\n",
+            Limit::Blend => b"--blend: not 0 to 2\n",
+            Limit::BlendProgram => b"--blend: not 0, and nor is --program\n",
+            Limit::CoreGain => b"--gain: not 0 to 6 or 24 to 31 (stream 0)\n",
+            Limit::Gain => b"--gain: not 0 to 31\n",
+            Limit::Common => b"--common-delay: not 0 to 63\n",
+            Limit::Latency => b"--latency: not 0 to 7\n",
+            Limit::Program => b"--program: not 0 to 7\n",
+            Limit::Access => b"--access: not 0 or 1\n",
+            Limit::Marker => b"--marker: not 0 to 2097151\n",
+            Limit::NoPsd => b"--psd: stream 1 has no PSD (--help has the modes)\n",
+            Limit::Psd => {
+                b"--psd: over @ bytes, the most that the mode has beside expansion fields\n"
+            }
+            Limit::Room => {
+                b"--length: no room beside PSD and expansion fields for a piece of one byte\n"
+            }
+            Limit::Other => b"the writer's state or its packets are wrong\n",
+        }
+    }
+}
 
-const TABLE: u32 = 2;
-
-const CLASS: u32 = 3;
-
-const CLASS_PROGRAM: u32 = 4;
-
-const CLASS_ACCESS: u32 = 5;
-
-const SERVICES: u32 = 6;
-
-const SERVICES_CLASS: u32 = 7;
-
-const ACCESS_CLASS: u32 = 8;
-
-const DISPLACEMENT: u32 = 9;
-
-const BLEND: u32 = 10;
-
-const BLEND_PROGRAM: u32 = 11;
-
-const CORE_GAIN: u32 = 12;
-
-const GAIN: u32 = 13;
-
-const COMMON: u32 = 14;
-
-const LATENCY: u32 = 15;
-
-const PROGRAM: u32 = 16;
-
-const ACCESS: u32 = 17;
-
-const MARKER: u32 = 18;
-
-const NO_PSD: u32 = 19;
-
-const PSD: u32 = 20;
-
-const ROOM: u32 = 21;
-
-const OTHER: u32 = 22;
-
-// The texts, by these numbers. An at sign stands for the bytes of PSD that there is room for.
-const TEXTS: [u8; 925] =
-    *b"--length: not 96 to 20480\n\0--length: over 4096, the most with locators of 12 bits (--help has the modes)\n\0--mode, --stream: not in the table: stream 0 has modes 0, 1, 2, 3, 10 and 13, stream 1 has modes 1, 2, 3 and 10\n\0--class: not 1\n\0--class 1: --program is not 1 to 7\n\0--class 1: --access is not 1\n\0--services: not 0 or 1\n\0--services 1: --class is not 1\n\0--access 1: --class is not 1\n\0--displacement: the PDU has over 16384 bytes\n\0--blend: not 0 to 2\n\0--blend: not 0, and nor is --program\n\0--gain: not 0 to 6 or 24 to 31 (stream 0)\n\0--gain: not 0 to 31\n\0--common-delay: not 0 to 63\n\0--latency: not 0 to 7\n\0--program: not 0 to 7\n\0--access: not 0 or 1\n\0--marker: not 0 to 2097151\n\0--psd: stream 1 has no PSD (--help has the modes)\n\0--psd: over @ bytes, the most that the mode has beside expansion fields\n\0--length: no room beside PSD and expansion fields for a piece of one byte\n\0the writer's state or its packets are wrong\n\0";
+// What a writer is asked for: PDUs of a mode, a stream and a length, with settings.
+#[derive(Clone, Copy)]
+pub struct Request {
+    pub mode: u8,
+    pub stream: u8,
+    pub length: usize,
+    pub settings: Settings,
+}
 
 // The bytes of PSD that a mode of the table has beside the expansion fields of settings.
 fn room_in(mode: Mode, s: Settings) -> usize {
@@ -63,11 +87,7 @@ fn room_in(mode: Mode, s: Settings) -> usize {
         return 0;
     }
     let x = expansion::expansion_bytes(settings::fields_for(s, 1));
-    let limit = mode.limit as usize;
-    if limit < x.length {
-        return 0;
-    }
-    limit - x.length
+    usize::from(mode.limit).saturating_sub(x.length)
 }
 
 // The bytes of PSD that a mode and stream have beside the expansion fields of settings.
@@ -79,119 +99,110 @@ pub fn room_for(mode: u8, stream: u8, s: Settings) -> usize {
 }
 
 // Which limit a length is past.
-fn of_length(length: usize) -> u32 {
+fn of_length(length: usize) -> Limit {
     if (length < 96) | (20480 < length) {
-        return LENGTH;
+        return Limit::Length;
     }
-    WIDTH
+    Limit::Width
 }
 
 // Which rule of the expansion fields is broken.
-fn of_fields(s: Settings) -> u32 {
+fn of_fields(s: Settings) -> Limit {
     if s.classed & (s.class != 1) {
-        return CLASS;
+        return Limit::Class;
     }
     if s.classed & (!s.programmed | (s.program == 0)) {
-        return CLASS_PROGRAM;
+        return Limit::ClassProgram;
     }
     if s.classed & (!s.typed | (s.access != 1)) {
-        return CLASS_ACCESS;
+        return Limit::ClassAccess;
     }
     if s.serviced & (1 < s.services) {
-        return SERVICES;
+        return Limit::Services;
     }
     if s.serviced & (s.services == 1) & !s.classed {
-        return SERVICES_CLASS;
+        return Limit::ServicesClass;
     }
     if s.typed & (s.access == 1) & !s.classed {
-        return ACCESS_CLASS;
+        return Limit::AccessClass;
     }
-    DISPLACEMENT
+    Limit::Displacement
 }
 
-// Which value of each PDU is past its limit, OTHER where none is.
-fn of_control(stream: u8, s: Settings) -> u32 {
+// Which value of each PDU is past its limit, if one is.
+fn of_control(stream: u8, s: Settings) -> Option<Limit> {
     if 2 < s.blend {
-        return BLEND;
+        return Some(Limit::Blend);
     }
     if (s.blend != 0) & s.programmed & (s.program != 0) {
-        return BLEND_PROGRAM;
+        return Some(Limit::BlendProgram);
     }
     if 31 < s.gain {
-        return GAIN;
+        return Some(Limit::Gain);
     }
     if (stream == 0) & (6 < s.gain) & (s.gain < 24) {
-        return CORE_GAIN;
+        return Some(Limit::CoreGain);
     }
     if 63 < s.common {
-        return COMMON;
+        return Some(Limit::Common);
     }
     if 7 < s.latency {
-        return LATENCY;
+        return Some(Limit::Latency);
     }
-    OTHER
+    None
+}
+
+// Which value of the expansion fields is past its limit.
+fn of_field_values(s: Settings) -> Limit {
+    if s.programmed & (7 < s.program) {
+        return Limit::Program;
+    }
+    if s.typed & (1 < s.access) {
+        return Limit::Access;
+    }
+    Limit::Marker
 }
 
 // Which value is past its limit.
-fn of_values(stream: u8, s: Settings) -> u32 {
-    let first = of_control(stream, s);
-    if first != OTHER {
-        return first;
-    }
-    if s.programmed & (7 < s.program) {
-        return PROGRAM;
-    }
-    if s.typed & (1 < s.access) {
-        return ACCESS;
-    }
-    MARKER
+fn of_values(stream: u8, s: Settings) -> Limit {
+    of_control(stream, s).unwrap_or(of_field_values(s))
 }
 
-fn of_psd(stream: u8) -> u32 {
+fn of_psd(stream: u8) -> Limit {
     if stream == 0 {
-        return PSD;
+        return Limit::Psd;
     }
-    NO_PSD
+    Limit::NoPsd
 }
 
-// Which limit settings are past that the writer refuses with a number, for PDUs of a length.
-fn limit_of(refusal: u32, stream: u8, length: usize, s: Settings) -> u32 {
-    match refusal {
-        3 => of_length(length),
-        5 => TABLE,
-        10 => of_fields(s),
-        14 => of_values(stream, s),
-        16 => of_psd(stream),
-        17 => ROOM,
-        _ => OTHER,
+impl Request {
+    // Which limit is passed, where the writer refuses with a number.
+    fn limit(self, refusal: u32) -> Limit {
+        match refusal {
+            3 => of_length(self.length),
+            5 => Limit::Table,
+            10 => of_fields(self.settings),
+            14 => of_values(self.stream, self.settings),
+            16 => of_psd(self.stream),
+            17 => Limit::Room,
+            _ => Limit::Other,
+        }
+    }
+
+    // The bytes of PSD that there is room for.
+    fn room(self) -> usize {
+        room_for(self.mode, self.stream, self.settings)
     }
 }
 
-// The words for a refusal and the limit that is passed, as `text::put` puts bytes.
-pub fn put(
-    out: &mut [u8],
-    at: usize,
-    refusal: u32,
-    mode: u8,
-    stream: u8,
-    length: usize,
-    s: Settings,
-) -> usize
-    ensures { IsPrefixLen result out.new }
-{
-    let n = text::fill(out, at, b": refused with @: ", &[refusal as u64]);
-    text::fill(
-        out,
-        n,
-        text::entry(&TEXTS, limit_of(refusal, stream, length, s)),
-        &[room_for(mode, stream, s) as u64],
-    )
+// The words for a refusal and the limit that is passed.
+pub fn put<const N: usize>(line: &mut Line<N>, refusal: u32, request: Request) {
+    line.fill(b": refused with @: ", &[u64::from(refusal)]);
+    line.fill(request.limit(refusal).words(), &[request.room() as u64]);
 }
 
-// The words for a mode and stream that are not in the table, as `text::put` puts bytes.
-pub fn put_unlisted(out: &mut [u8], at: usize) -> usize
-    ensures { IsPrefixLen result out.new }
-{
-    let n = text::put(out, at, b": refused with 5: ");
-    text::put(out, n, text::entry(&TEXTS, TABLE))
+// The words for a mode and stream that are not in the table.
+pub fn put_unlisted<const N: usize>(line: &mut Line<N>) {
+    line.put(b": refused with 5: ");
+    line.put(Limit::Table.words());
 }
