@@ -1,87 +1,76 @@
 // The packet log as text for people: a line for each PDU, and an indented one for each entry of its log.
-ghost use Rattle.io.specs.Counts.{IsPrefixLen};
-
+use copies::Source;
 use outcome::Outcome;
+use text::Line;
 use words::Word;
 
-// The beginning of a PDU's line: one that is received, lost or refused; the last is that of one byte corrected.
-const PDUS: [u8; 119] =
-    *b"PDU @: received, @ header bytes corrected\0PDU @: lost\0PDU @: refused with @: \0PDU @: received, @ header byte corrected\0";
-
-// The end of a PDU's line by its outcome's kind; the last four are those of one that came as two copies.
-const ENDS: [u8; 92] =
-    *b"\n\0\n\0\0, from the first copy\n\0, from the second copy\n\0, from both copies\n\0, from either copy\n\0";
-
-// The line of an entry by its first word's kind, nothing for a data word; the last four are those of one byte.
-const ENTRIES: [u8; 92] =
-    *b"  packet @, @ bytes\n\0\0  PSD, @ bytes\n\0  note: \0  packet @, @ byte\n\0\0  PSD, @ byte\n\0  note: \0";
-
-fn line_of_pdu(kind: u8, number: u32) -> u32 {
-    if (kind == outcome::LOST) | (kind == outcome::REFUSED) {
-        return kind as u32;
+// The line of a PDU that is received, up to where its pieces are taken from.
+fn received(corrected: u32) -> &'static [u8] {
+    if corrected == 1 {
+        b"PDU @: received, @ header byte corrected"
+    } else {
+        b"PDU @: received, @ header bytes corrected"
     }
-    if number == 1 {
-        return 3;
+}
+
+// The end of a PDU's line, with the source of the pieces of one that came as two copies.
+fn end(source: Option<Source>) -> &'static [u8] {
+    match source {
+        None => b"\n",
+        Some(Source::First) => b", from the first copy\n",
+        Some(Source::Second) => b", from the second copy\n",
+        Some(Source::Both) => b", from both copies\n",
+        Some(Source::Either) => b", from either copy\n",
     }
-    0
 }
 
 // What came of a PDU, counted from 0.
-pub fn put_pdu(out: &mut [u8], pdu: u64, o: Outcome) -> usize
-    ensures { IsPrefixLen result out.new }
-{
-    let n = text::fill(
-        out,
-        0,
-        text::entry(&PDUS, line_of_pdu(o.kind, o.number)),
-        &[pdu, o.number as u64],
-    );
-    if o.kind != outcome::REFUSED {
-        return text::put(out, n, text::entry(&ENDS, o.kind as u32));
+pub fn put_pdu<const N: usize>(line: &mut Line<N>, pdu: u64, o: Outcome, source: Option<Source>) {
+    let numbers = [pdu, u64::from(o.number)];
+    match o.kind {
+        outcome::LOST => line.fill(b"PDU @: lost\n", &numbers),
+        outcome::REFUSED => {
+            line.fill(b"PDU @: refused with @: ", &numbers);
+            causes::put_refused(line, o.number, o.wrong);
+        }
+        _ => {
+            line.fill(received(o.number), &numbers);
+            line.put(end(source));
+        }
     }
-    causes::put_refused(out, n, o.number, o.wrong)
 }
 
-fn line_of_entry(kind: u32, length: u32) -> u32 {
-    if length == 1 {
-        return kind % 4 + 4;
-    }
-    kind
-}
-
-// The number that stands first in an entry's line: a packet's number, the length of PSD, or the piece of a note.
-fn leading(w: Word) -> u64 {
-    if w.kind == words::PACKET {
-        return w.high as u64;
-    }
-    w.low as u64
+// The end of the line of an entry of so many bytes.
+fn bytes(length: u32) -> &'static [u8] {
+    if length == 1 { b" byte\n" } else { b" bytes\n" }
 }
 
 // The cause of a note at the end of a line, with the piece that it is on.
-fn put_cause(out: &mut [u8], at: usize, cause: u32, piece: u32) -> usize
-    ensures { IsPrefixLen result out.new }
-{
-    let n = causes::put_note(out, at, cause);
-    text::fill(
-        out,
-        n,
-        text::entry(b"\n\0, piece @\n\0", crate::is_on_piece(cause)),
-        &[piece as u64],
-    )
+fn put_cause<const N: usize>(line: &mut Line<N>, cause: u32, piece: u32) {
+    line.put(causes::note(cause));
+    if crate::is_on_piece(cause) {
+        line.fill(b", piece @", &[u64::from(piece)]);
+    }
+    line.put(b"\n");
 }
 
 // An entry, by its first word; nothing for a data word.
-pub fn put_entry(out: &mut [u8], at: usize, w: Word) -> usize
-    ensures { IsPrefixLen result out.new }
-{
-    let n = text::fill(
-        out,
-        at,
-        text::entry(&ENTRIES, line_of_entry(w.kind, w.low)),
-        &[leading(w), w.low as u64],
-    );
-    if w.kind != words::NOTE {
-        return n;
+pub fn put_entry<const N: usize>(line: &mut Line<N>, w: Word) {
+    let high = u64::from(w.high);
+    let low = u64::from(w.low);
+    match w.kind {
+        words::PACKET => {
+            line.fill(b"  packet @, @", &[high, low]);
+            line.put(bytes(w.low));
+        }
+        words::PSD => {
+            line.fill(b"  PSD, @", &[low]);
+            line.put(bytes(w.low));
+        }
+        words::NOTE => {
+            line.put(b"  note: ");
+            put_cause(line, w.high, w.low);
+        }
+        _ => {}
     }
-    put_cause(out, n, w.high, w.low)
 }
