@@ -1,32 +1,59 @@
 // Whether the options for the files beside the log go together.
-use crate::{ALL, WRITTEN, option_of};
+use crate::OPTIONS;
+use files::Name;
 use host::Host;
 use options::{Command, Opt};
 
-// Whether the log, or one of so many files beside it, goes to standard output.
-fn is_output_taken(host: &Host, many: u8) -> bool {
-    let mut taken = files::named(host, Command::Log, Opt::Out) != files::PATH;
-    let mut k: u8 = 0;
-    while k < many {
-        taken = taken | (files::named(host, Command::Log, option_of(k)) == files::DASH);
-        k += 1;
+// What is wrong with an option: it names no file, it does not go with an interrupted drive, or what a dash stands for is taken.
+#[derive(Clone, Copy, Debug, PartialEq, Eq)]
+enum Wrong {
+    NoFile,
+    Interrupted,
+    OutputTaken,
+    InputTaken,
+}
+
+impl Wrong {
+    fn words(self) -> &'static [u8] {
+        match self {
+            Wrong::NoFile => b": names no file",
+            Wrong::Interrupted => b": not with --save or --resume",
+            Wrong::OutputTaken => b": standard output has another file",
+            Wrong::InputTaken => b": standard input has another file",
+        }
     }
-    taken
+}
+
+// What an option of the subcommand names.
+fn named(host: &Host, option: Opt) -> Name {
+    files::named(host, Command::Log, option)
+}
+
+// Whether the log, or the file of one of these options, goes to standard output.
+fn is_output_taken(host: &Host, others: &[Opt]) -> bool {
+    (named(host, Opt::Out) != Name::Path)
+        || others
+            .iter()
+            .any(|&option| named(host, option) == Name::Dash)
 }
 
 // Whether PDUs or marks are read from standard input.
 fn is_input_taken(host: &Host) -> bool {
-    (files::named(host, Command::Log, Opt::In) != files::PATH)
-        | (files::named(host, Command::Log, Opt::Second) == files::DASH)
-        | (files::named(host, Command::Log, Opt::Marks) == files::DASH)
+    (named(host, Opt::In) != Name::Path)
+        | (named(host, Opt::Second) == Name::Dash)
+        | (named(host, Opt::Marks) == Name::Dash)
 }
 
-// Whether what a dash stands for is taken, in the option of a number.
-fn is_taken(host: &Host, number: u8) -> bool {
-    if number < WRITTEN {
-        return is_output_taken(host, number);
+// Whether what a dash stands for is free, for an option and those before it.
+fn check_dash(host: &Host, option: Opt, others: &[Opt]) -> Result<(), Wrong> {
+    if option.is_written() {
+        if is_output_taken(host, others) {
+            return Err(Wrong::OutputTaken);
+        }
+    } else if is_input_taken(host) {
+        return Err(Wrong::InputTaken);
     }
-    is_input_taken(host)
+    Ok(())
 }
 
 // Whether an interrupted drive is asked for: how far the files beside the log are, its state does not tell.
@@ -34,47 +61,26 @@ fn is_interrupted(host: &Host) -> bool {
     options::given(host, Command::Log, Opt::Save) | options::given(host, Command::Log, Opt::Resume)
 }
 
-// The text for what a dash stands for, where that is taken.
-fn taken(number: u8) -> u32 {
-    if number < WRITTEN {
-        return 3;
+// Whether an option is right, after those before it.
+fn check(host: &Host, option: Opt, others: &[Opt]) -> Result<(), Wrong> {
+    match named(host, option) {
+        Name::Absent => Ok(()),
+        Name::Empty => Err(Wrong::NoFile),
+        Name::Dash | Name::Path if is_interrupted(host) => Err(Wrong::Interrupted),
+        Name::Dash => check_dash(host, option, others),
+        Name::Path => Ok(()),
     }
-    4
 }
 
-// What is wrong with the option of a number, as a text of the table of `is_right`; 0 for nothing.
-fn wrong(host: &Host, number: u8) -> u32 {
-    let given = files::named(host, Command::Log, option_of(number));
-    if given == files::ABSENT {
-        return 0;
+// The same; if it is not right, says what is wrong.
+fn is_right(host: &Host, option: Opt, others: &[Opt]) -> bool {
+    match check(host, option, others) {
+        Ok(()) => true,
+        Err(wrong) => {
+            options::complain(host, Command::Log, option, wrong.words());
+            false
+        }
     }
-    if given == files::EMPTY {
-        return 1;
-    }
-    if is_interrupted(host) {
-        return 2;
-    }
-    if (given == files::DASH) & is_taken(host, number) {
-        return taken(number);
-    }
-    0
-}
-
-// Whether the option of a number is right; if not, says what is wrong.
-fn is_right(host: &Host, number: u8) -> bool {
-    let k = wrong(host, number);
-    if k != 0 {
-        options::complain(
-            host,
-            Command::Log,
-            option_of(number),
-            text::entry(
-                b"\0: names no file\0: not with --save or --resume\0: standard output has another file\0: standard input has another file\0",
-                k,
-            ),
-        );
-    }
-    k == 0
 }
 
 // Whether an option for the comparison comes with the packets that were sent; if not, says so.
@@ -94,10 +100,8 @@ fn has_sent(host: &Host, option: Opt) -> bool {
 // Whether the options go together; if not, says why.
 pub fn is_asked(host: &Host) -> bool {
     let mut right = has_sent(host, Opt::Compared) & has_sent(host, Opt::SentAdts);
-    let mut k: u8 = 0;
-    while k < ALL {
-        right = right & is_right(host, k);
-        k += 1;
+    for (k, &option) in OPTIONS.iter().enumerate() {
+        right = is_right(host, option, &OPTIONS[..k]) & right;
     }
     right
 }

@@ -3,317 +3,251 @@
 
 pub mod asked;
 
-ghost use Rattle.std.specs.Prelude.{◌≡◌, length};
-ghost use Rattle.io.specs.Counts.{IsPrefixLen};
-
-use beside::Beside;
+use beside::{Beside, Fault};
 use comparison::Sent;
-use host::Host;
+use files::Label;
+use host::{Fd, Host};
 use options::{Command, Opt};
-use packets::Source;
+use packets::{Ending, Source};
+use records::Stop;
+use text::Line;
 
-// How many options there are; the first four name files that are written.
-const ALL: u8 = 5;
+// The options of the files beside the log; the first four name files that are written, in the order in which these are made.
+const OPTIONS: [Opt; 5] = [
+    Opt::PacketsOut,
+    Opt::AdtsOut,
+    Opt::PsdOut,
+    Opt::Compared,
+    Opt::Sent,
+];
 
-const WRITTEN: u8 = 4;
-
-// The option of a number, in the order of how a run stands where one of their files fails: `packets`, `adts`, `psd`, `compared` and `sent`.
-fn option_of(number: u8) -> u8 {
-    std::num::wrapping_add_u8(Opt::PacketsOut, number)
+// The labels of all files.
+#[derive(Drop)]
+pub struct Labels {
+    packets: Label,
+    adts: Label,
+    psd: Label,
+    list: Label,
+    sent: Label,
 }
 
-// Room for the labels of all files.
-pub fn label_buffer() -> [u8; 24576]
-    ensures { 24576 ≡ length result }
-{
-    [0; 24576]
-}
-
-// The label of the file of an option, by its number, and a zero byte.
-fn put_label(host: &Host, out: &mut [u8], at: usize, number: u8) -> usize
-    ensures { IsPrefixLen result out.new }
-{
-    let mut label = files::label_buffer();
-    let n = files::put_label(host, &mut label, Command::Log, option_of(number));
-    let k = text::put(out, at, &label[..n]);
-    text::put(out, k, b"\0")
-}
-
-// The labels of all files, as a table of texts.
-pub fn put_labels(host: &Host, out: &mut [u8]) -> usize
-    ensures { IsPrefixLen result out.new }
-{
-    let mut n = text::put(out, 0, b"");
-    let mut k: u8 = 0;
-    while k < ALL {
-        n = put_label(host, out, n, k);
-        k += 1;
+impl Labels {
+    pub fn new(host: &Host) -> Labels {
+        Labels {
+            packets: files::label(host, Command::Log, Opt::PacketsOut),
+            adts: files::label(host, Command::Log, Opt::AdtsOut),
+            psd: files::label(host, Command::Log, Opt::PsdOut),
+            list: files::label(host, Command::Log, Opt::Compared),
+            sent: files::label(host, Command::Log, Opt::Sent),
+        }
     }
-    n
 }
 
-// What came of counting the packets of a file, and how many there are.
-#[derive(Clone, Copy)]
+// How many packets of a file are read, and why no more are.
+#[derive(Clone, Copy, Debug)]
 struct Counted {
-    status: u8,
     many: u64,
+    ending: Ending,
 }
 
 // Counts the packets that were sent, by a buffer, until one cannot be read or has no bytes.
 fn count(host: &Host, source: Source, buf: &mut [u8]) -> Counted {
-    let mut many: u64 = 0;
-    while many < u64::MAX {
-        let r = packets::read(host, source, buf);
-        if (r.status != records::WHOLE) | (r.length == 0) {
-            return Counted {
-                status: r.status,
-                many: many,
-            };
+    for many in 0..u64::MAX {
+        if let Err(ending) = packets::read(host, source, buf) {
+            return Counted { many, ending };
         }
-        many += 1;
     }
     Counted {
-        status: records::LONG,
-        many: many,
+        many: u64::MAX,
+        ending: Ending::Records(Stop::Long),
     }
 }
 
-// The packets that were sent: whether they can be compared with, the number of their file, and how many there are.
-#[derive(Clone, Copy)]
-struct Compared {
-    ok: bool,
-    fd: i32,
-    many: u64,
-}
-
-fn not_compared() -> Compared {
-    Compared {
-        ok: false,
-        fd: -1,
-        many: 0,
-    }
-}
-
-// Counts the packets of an open file, which begins with one; where it cannot be gone back in, has something else than packets, or too many, says so.
-fn with_sent(host: &Host, fd: i32, label: &[u8]) -> Compared {
-    if !files::go_back(host, fd, 0) {
+// The packets that were sent, in an open file that begins with one; where it cannot be gone back in, has something else than packets, or too many, says so.
+fn with_sent(host: &Host, fd: Fd, label: &[u8]) -> Option<Sent> {
+    if !host.go_to(fd, 0) {
         files::say(
             host,
             label,
             b": is read more than once, so it cannot be a pipe or a terminal\n",
         );
-        return not_compared();
+        return None;
     }
+    let adts = options::given(host, Command::Log, Opt::SentAdts);
     let mut buf = io::buffer();
-    let source = Source {
-        fd: fd,
-        adts: options::given(host, Command::Log, Opt::SentAdts),
-    };
-    let c = count(host, source, &mut buf);
-    packets::say_end(host, label, c.status, c.many);
-    if comparison::MOST < c.many {
+    let counted = count(host, Source { fd, adts }, &mut buf);
+    packets::say_end(host, label, counted.ending, counted.many);
+    if comparison::MOST < counted.many {
         files::say(
             host,
             label,
             b": has over 1,048,576 packets, more than can be compared with\n",
         );
-        return not_compared();
+        return None;
     }
-    Compared {
-        ok: c.status == records::END,
-        fd: fd,
-        many: c.many,
+    if counted.ending != Ending::Records(Stop::End) {
+        return None;
     }
+    Some(Sent {
+        fd,
+        adts,
+        many: counted.many,
+        list: None,
+    })
 }
+
+// A file that is asked for and cannot be had, by its option.
+#[derive(Clone, Copy, Debug)]
+struct Missing(Opt);
 
 // Opens the file of the packets that were sent, where one is given.
-fn open_sent(host: &Host, label: &[u8]) -> Compared {
+fn open_sent(host: &Host, label: &[u8]) -> Result<Option<Sent>, Missing> {
     if !options::given(host, Command::Log, Opt::Sent) {
-        return Compared {
-            ok: true,
-            fd: -1,
-            many: 0,
-        };
+        return Ok(None);
     }
-    let fd = files::open(host, Command::Log, Opt::Sent, label);
-    if fd < 0 {
-        return not_compared();
-    }
-    with_sent(host, fd, label)
+    let missing = Missing(Opt::Sent);
+    let fd = files::open(host, Command::Log, Opt::Sent, label).ok_or(missing)?;
+    let sent = with_sent(host, fd, label).ok_or(missing)?;
+    Ok(Some(sent))
 }
 
-// A file that is written: its number, -1 where it is not asked for or cannot be made, and whether it is there, as far as it is asked for.
-#[derive(Clone, Copy)]
-struct Made {
-    fd: i32,
-    ok: bool,
-}
-
-// Makes the file of an option, by its number.
-fn make(host: &Host, labels: &[u8], number: u8) -> Made {
-    let option = option_of(number);
+// Makes the file of an option, if it is asked for.
+fn make(host: &Host, option: Opt, label: &Label) -> Result<Option<Fd>, Missing> {
     if !options::given(host, Command::Log, option) {
-        return Made { fd: -1, ok: true };
+        return Ok(None);
     }
-    let fd = files::open(
-        host,
-        Command::Log,
-        option,
-        text::entry(labels, number as u32),
-    );
-    Made {
-        fd: fd,
-        ok: 0 <= fd,
-    }
+    let fd = files::open(host, Command::Log, option, label.bytes()).ok_or(Missing(option))?;
+    Ok(Some(fd))
 }
 
-// Puts the number of a file at a place of a list, if the list has that place.
-fn put(list: &mut [i32], number: u8, fd: i32) {
-    let k = number as usize;
-    if k < list.len() {
-        list[k] = fd;
-    }
+// The files that are written, as far as they are asked for.
+#[derive(Clone, Copy, Debug)]
+struct Written {
+    packets: Option<Fd>,
+    adts: Option<Fd>,
+    psd: Option<Fd>,
+    list: Option<Fd>,
 }
 
-// Makes the files that are written. Answers how many options are done, up to the first file that cannot be made.
-fn make_all(host: &Host, labels: &[u8], list: &mut [i32]) -> u8 {
-    let mut k: u8 = 0;
-    while k < WRITTEN {
-        let made = make(host, labels, k);
-        if !made.ok {
-            return k;
+// Makes the files that are written, up to the first that cannot be made.
+fn make_all(host: &Host, labels: &Labels) -> Result<Written, Missing> {
+    Ok(Written {
+        packets: make(host, Opt::PacketsOut, &labels.packets)?,
+        adts: make(host, Opt::AdtsOut, &labels.adts)?,
+        psd: make(host, Opt::PsdOut, &labels.psd)?,
+        list: make(host, Opt::Compared, &labels.list)?,
+    })
+}
+
+// Removes the files that were made before one that is missing.
+fn unmake_before(host: &Host, missing: Missing) {
+    for &option in &OPTIONS {
+        if option == missing.0 {
+            return;
         }
-        put(list, k, made.fd);
-        k += 1;
-    }
-    k
-}
-
-// Removes the files that were made for so many options.
-fn unmake(host: &Host, many: u8) {
-    let mut k: u8 = 0;
-    while k < many {
-        files::unmake(host, Command::Log, option_of(k));
-        k += 1;
+        files::unmake(host, Command::Log, option);
     }
 }
 
-// The files of a run: whether all are there, that of the log, and those beside it.
-#[derive(Clone, Copy)]
+// The files of a run: that of the log, and those beside it.
+#[derive(Clone, Copy, Debug)]
 pub struct Opened {
-    pub ok: bool,
-    pub output: i32,
+    pub output: Fd,
     pub beside: Beside,
 }
 
-fn not_opened() -> Opened {
-    Opened {
-        ok: false,
-        output: -1,
-        beside: beside::none(),
-    }
-}
-
 // Makes the files beside that of the log, which is made; where one cannot be made, the others go, that of the log too.
-fn with_output(host: &Host, labels: &[u8], output: i32, s: Compared) -> Opened {
-    let mut list = [-1i32; 4];
-    let many = make_all(host, labels, &mut list);
-    if many != WRITTEN {
-        unmake(host, many);
-        files::unmake(host, Command::Log, Opt::Out);
-        return not_opened();
+fn with_output(host: &Host, labels: &Labels, output: Fd, sent: Option<Sent>) -> Option<Opened> {
+    let written = match make_all(host, labels) {
+        Ok(written) => written,
+        Err(missing) => {
+            unmake_before(host, missing);
+            files::unmake(host, Command::Log, Opt::Out);
+            return None;
+        }
+    };
+    let list = written.list;
+    if !comparison::list::begin(host, list) {
+        host.fail(labels.list.bytes());
+        return None;
     }
-    let titled = comparison::list::begin(host, list[3]);
-    if !titled {
-        host.fail(text::entry(labels, 3));
-    }
-    Opened {
-        ok: titled,
-        output: output,
+    Some(Opened {
+        output,
         beside: Beside {
-            packets: list[0],
-            adts: list[1],
-            psd: list[2],
-            sent: Sent {
-                fd: s.fd,
-                adts: options::given(host, Command::Log, Opt::SentAdts),
-                list: list[3],
-            },
-            many: s.many,
+            packets: written.packets,
+            adts: written.adts,
+            psd: written.psd,
+            sent: sent.map(|sent| Sent { list, ..sent }),
         },
-    }
+    })
 }
 
 // Opens the packets that were sent, and makes the file of the log, whose label this is, and those beside it. What cannot be had is said.
-pub fn open(host: &Host, onto: &[u8], labels: &[u8]) -> Opened {
-    let s = open_sent(host, text::entry(labels, 4));
-    if !s.ok {
-        return not_opened();
-    }
-    let output = files::open(host, Command::Log, Opt::Out, onto);
-    if output < 0 {
-        return not_opened();
-    }
-    with_output(host, labels, output, s)
+pub fn open(host: &Host, onto: &[u8], labels: &Labels) -> Option<Opened> {
+    let sent = open_sent(host, labels.sent.bytes()).ok()?;
+    let output = files::open(host, Command::Log, Opt::Out, onto)?;
+    with_output(host, labels, output, sent)
 }
 
-// Why no more PDUs are logged, where that is by one of these files.
-pub fn ends(host: &Host, status: u8, labels: &[u8]) {
-    match status {
-        beside::PACKETS => host.fail(text::entry(labels, 0)),
-        beside::ADTS => host.fail(text::entry(labels, 1)),
-        beside::PSD => host.fail(text::entry(labels, 2)),
-        beside::LISTED => host.fail(text::entry(labels, 3)),
-        beside::SENT => files::say(
+// Says why no more PDUs are logged, where that is by one of these files.
+pub fn ends(host: &Host, fault: Fault, labels: &Labels) {
+    match fault {
+        Fault::Packets => host.fail(labels.packets.bytes()),
+        Fault::Adts => host.fail(labels.adts.bytes()),
+        Fault::Psd => host.fail(labels.psd.bytes()),
+        Fault::List => host.fail(labels.list.bytes()),
+        Fault::Sent => files::say(
             host,
-            text::entry(labels, 4),
+            labels.sent.bytes(),
             b": cannot be read again as it was\n",
         ),
-        _ => {}
     }
 }
 
 // Closes a file, if there is one. Answers whether that went well; if not, says why.
-fn close(host: &Host, fd: i32, label: &[u8]) -> bool {
-    if fd < 0 {
-        return true;
+fn close(host: &Host, file: Option<Fd>, label: &Label) -> bool {
+    match file {
+        Some(fd) => files::close(host, fd, label.bytes()),
+        None => true,
     }
-    files::close(host, fd, label)
 }
 
 // Writes the last lines of the list where all PDUs are logged. Answers whether they are written; if not, says why.
-fn list_ended(host: &Host, sent: Sent, whole: bool, row: &[u64], labels: &[u8]) -> bool {
+fn list_ended(host: &Host, sent: Sent, whole: bool, row: &[u64], labels: &Labels) -> bool {
     if !whole {
         return true;
     }
-    let status = beside::status_of(comparison::end(host, sent, row));
-    ends(host, status, labels);
-    status == beside::KEPT
+    match sent.end(host, row) {
+        Ok(()) => true,
+        Err(fault) => {
+            ends(host, fault.into(), labels);
+            false
+        }
+    }
 }
 
 // Says what came of the comparison.
 fn say_compared(host: &Host, row: &[u64]) {
-    let mut lines = [0u8; 512];
-    let n = comparison::put_summary(&mut lines, row);
-    host.write_all(host::STDERR, &lines[..n]);
+    let mut lines = Line::<512>::new();
+    comparison::put_summary(&mut lines, row);
+    host.write_all(host::STDERR, lines.bytes());
 }
 
-// Ends the comparison, if there is one, where all PDUs are logged or not, and says what came of it.
-fn comparison_ended(host: &Host, sent: Sent, whole: bool, row: &[u64], labels: &[u8]) -> bool {
-    if sent.fd < 0 {
-        return true;
-    }
+// Ends the comparison, where all PDUs are logged or not, and says what came of it.
+fn comparison_ended(host: &Host, sent: Sent, whole: bool, row: &[u64], labels: &Labels) -> bool {
     let ended = list_ended(host, sent, whole, row, labels);
     say_compared(host, row);
-    ended & close(host, sent.list, text::entry(labels, 3))
+    ended & close(host, sent.list, &labels.list)
 }
 
 // Ends and closes the files, where all PDUs are logged or not. Answers whether that went well; if not, says why.
-pub fn finish(host: &Host, b: Beside, whole: bool, row: &[u64], labels: &[u8]) -> bool {
-    let sent = b.sent;
-    let compared = comparison_ended(host, sent, whole, row, labels);
+pub fn finish(host: &Host, b: Beside, whole: bool, row: &[u64], labels: &Labels) -> bool {
+    let compared = match b.sent {
+        Some(sent) => comparison_ended(host, sent, whole, row, labels),
+        None => true,
+    };
     compared
-        & close(host, b.packets, text::entry(labels, 0))
-        & close(host, b.adts, text::entry(labels, 1))
-        & close(host, b.psd, text::entry(labels, 2))
+        & close(host, b.packets, &labels.packets)
+        & close(host, b.adts, &labels.adts)
+        & close(host, b.psd, &labels.psd)
 }
