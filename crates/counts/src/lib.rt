@@ -1,12 +1,12 @@
 // What a run counts, as one row of numbers with a place for each count, and the lines that sum it up; on `loss`, `outcome` and `causes`.
 #![tactic(auto)]
 
-ghost use Rattle.std.specs.Prelude.{◌≡◌, ◌<◌, length};
-ghost use Rattle.io.specs.Counts.{IsPrefixLen};
+ghost use Rattle.std.specs.Prelude.{◌≡◌, length};
 
 use loss::Loss;
 use outcome::Outcome;
 use receiver::Receiver;
+use text::Line;
 use words::Word;
 
 const RECEIVED: usize = 0;
@@ -73,43 +73,90 @@ pub fn none() -> [u64; 48]
 
 // The count at a place, 0 where there is none.
 pub fn at(counts: &[u64], place: usize) -> u64 {
-    if counts.len() <= place {
-        return 0;
-    }
-    counts[place]
+    counts.get(place).copied().unwrap_or(0)
 }
 
 // Adds to the count at a place, if there is one.
 pub fn add(counts: &mut [u64], place: usize, more: u64) {
-    if counts.len() <= place {
-        return;
+    if let Some(count) = counts.get_mut(place) {
+        *count = count.wrapping_add(more);
     }
-    counts[place] = std::num::wrapping_add_u64(counts[place], more);
 }
 
 // Puts a number at a place, if there is one.
 pub fn set(counts: &mut [u64], place: usize, number: u64) {
-    if counts.len() <= place {
-        return;
+    if let Some(count) = counts.get_mut(place) {
+        *count = number;
     }
-    counts[place] = number;
 }
 
-// The place of a number among so many that follow a place.
-fn place_of(first: usize, number: u32, many: u32) -> usize
-    requires { first < 48 }
-{
-    if number < many {
-        return first + number as usize;
+// What is counted by its number, with a line for each number.
+#[derive(Clone, Copy, Debug, PartialEq, Eq)]
+enum Numbered {
+    Refusals,
+    Notes,
+}
+
+impl Numbered {
+    // How many numbers there are.
+    fn many(self) -> u32 {
+        match self {
+            Numbered::Refusals => REFUSALS,
+            Numbered::Notes => CAUSES,
+        }
     }
-    first
+
+    // The place of the count of a number; one that is past the last counts as 0.
+    fn place(self, number: u32) -> usize {
+        match self {
+            Numbered::Refusals if number < REFUSALS => REFUSED + number as usize,
+            Numbered::Refusals => REFUSED,
+            Numbered::Notes if number < CAUSES => NOTES + number as usize,
+            Numbered::Notes => NOTES,
+        }
+    }
+
+    // The sum of the counts of all numbers.
+    fn sum(self, counts: &[u64]) -> u64 {
+        let mut total: u64 = 0;
+        for number in 0..self.many() {
+            total = total.wrapping_add(at(counts, self.place(number)));
+        }
+        total
+    }
+
+    // The count of a number in a line; nothing where it is 0.
+    fn put_line<const N: usize>(self, lines: &mut Line<N>, number: u32, count: u64) {
+        if count == 0 {
+            return;
+        }
+        match self {
+            Numbered::Refusals => {
+                lines.fill(b"barzhilup log:   refused with @ (", &[u64::from(number)]);
+                lines.put(causes::refusal(number));
+                lines.fill(b"): @\n", &[count]);
+            }
+            Numbered::Notes => {
+                lines.put(b"barzhilup log:   note ");
+                lines.put(causes::note(number));
+                lines.fill(b": @\n", &[count]);
+            }
+        }
+    }
+
+    // A line for each count but 0.
+    fn put_lines<const N: usize>(self, lines: &mut Line<N>, counts: &[u64]) {
+        for number in 0..self.many() {
+            self.put_line(lines, number, at(counts, self.place(number)));
+        }
+    }
 }
 
 // Counts the bytes of a header that were corrected.
 fn add_corrected(counts: &mut [u64], bytes: u32) {
     if bytes != 0 {
         add(counts, HEADERS, 1);
-        add(counts, BYTES, bytes as u64);
+        add(counts, BYTES, u64::from(bytes));
     }
 }
 
@@ -121,9 +168,9 @@ fn hold(counts: &mut [u64], held: u64) {
 
 // Keeps the loss column.
 fn set_loss(counts: &mut [u64], l: Loss) {
-    set(counts, DELIVERED, l.delivered as u64);
-    set(counts, MISSING, l.missing as u64);
-    set(counts, LAST, l.last as u64);
+    set(counts, DELIVERED, u64::from(l.delivered));
+    set(counts, MISSING, u64::from(l.missing));
+    set(counts, LAST, u64::from(l.last));
 }
 
 // The loss column that was kept.
@@ -137,7 +184,7 @@ pub fn loss(counts: &[u64]) -> Loss {
 
 // Begins to count after what a receiver's record has: a beginning that is held, or none, and the loss column.
 pub fn begin(counts: &mut [u64], receiver: Receiver) {
-    set(counts, HOLDS, (receiver.held != 0) as u64);
+    set(counts, HOLDS, u64::from(receiver.held != 0));
     set_loss(counts, loss::of_record(receiver));
 }
 
@@ -145,43 +192,38 @@ pub fn begin(counts: &mut [u64], receiver: Receiver) {
 pub fn add_outcome(counts: &mut [u64], o: Outcome) {
     let receiver = o.receiver;
     set_loss(counts, loss::of_record(receiver));
-    hold(counts, (receiver.held != 0) as u64);
-    if o.kind == outcome::LOST {
-        add(counts, LOST, 1);
-        return;
+    hold(counts, u64::from(receiver.held != 0));
+    match o.kind {
+        outcome::LOST => add(counts, LOST, 1),
+        outcome::REFUSED => add(counts, Numbered::Refusals.place(o.number), 1),
+        _ => {
+            add(counts, RECEIVED, 1);
+            add_corrected(counts, o.number);
+        }
     }
-    if o.kind == outcome::REFUSED {
-        add(counts, place_of(REFUSED, o.number, REFUSALS), 1);
-        return;
-    }
-    add(counts, RECEIVED, 1);
-    add_corrected(counts, o.number);
 }
 
 fn add_word(counts: &mut [u64], w: Word) {
-    let kind = w.kind;
-    match kind {
+    match w.kind {
         words::PACKET => add(counts, PACKETS, 1),
         words::PSD => add(counts, PSD, 1),
-        words::NOTE => add(counts, place_of(NOTES, w.high, CAUSES), 1),
+        words::NOTE => add(counts, Numbered::Notes.place(w.high), 1),
         _ => {}
     }
 }
 
 // Counts the entries of a PDU's log.
 pub fn add_log(counts: &mut [u64], log: &[u32]) {
-    let mut i: usize = 0;
-    while i < log.len() {
-        add_word(counts, words::split(log[i]));
-        i += 1;
+    for &word in log {
+        add_word(counts, words::split(word));
     }
 }
 
 // How many pieces were delivered or noted.
 fn settled(counts: &[u64]) -> u64 {
-    let noted = std::num::wrapping_add_u64(at(counts, NOTHING_HELD), at(counts, TOO_LONG));
-    let wrong = std::num::wrapping_add_u64(noted, at(counts, WRONG_CRCS));
-    std::num::wrapping_add_u64(wrong, at(counts, PACKETS))
+    let noted = at(counts, NOTHING_HELD).wrapping_add(at(counts, TOO_LONG));
+    let wrong = noted.wrapping_add(at(counts, WRONG_CRCS));
+    wrong.wrapping_add(at(counts, PACKETS))
 }
 
 // Counts a PDU that was received with others in one call, whose receiver after it is not known: the bytes of its header that were corrected, its pieces, and the
@@ -193,26 +235,13 @@ pub fn add_received(counts: &mut [u64], corrected: u32, pieces: u64, log: &[u32]
     let looked = words::looked_at(pieces, at(counts, HOLDS) != 0, log);
     let before = settled(counts);
     add_log(counts, log);
-    let more = std::num::wrapping_sub_u64(settled(counts), before);
-    hold(counts, std::num::wrapping_sub_u64(looked, more));
-}
-
-// The sum of so many counts from a place on.
-fn sum(counts: &[u64], first: usize, many: u32) -> u64
-    requires { first < 48 }
-{
-    let mut total: u64 = 0;
-    let mut k: u32 = 0;
-    while k < many {
-        total = std::num::wrapping_add_u64(total, at(counts, first + k as usize));
-        k += 1;
-    }
-    total
+    let more = settled(counts).wrapping_sub(before);
+    hold(counts, looked.wrapping_sub(more));
 }
 
 // How many PDUs were refused.
 pub fn refused(counts: &[u64]) -> u64 {
-    sum(counts, REFUSED, REFUSALS)
+    Numbered::Refusals.sum(counts)
 }
 
 // How many PDUs were refused with 6: those of another mode or stream.
@@ -232,10 +261,10 @@ pub fn is_out_of_step(counts: &[u64]) -> bool {
 
 // How many pieces had a right CRC: such a one is delivered or held, or its note is 3 or 5 (document 01, "Receiver", step 4) or 7 (document 02, Ask 5).
 fn right_crcs(counts: &[u64]) -> u64 {
-    let alone = std::num::wrapping_add_u64(at(counts, NOTHING_HELD), at(counts, TOO_LONG));
-    let noted = std::num::wrapping_add_u64(alone, at(counts, RIGHT_IN_BOTH));
-    let taken = std::num::wrapping_add_u64(at(counts, PACKETS), at(counts, HELD));
-    std::num::wrapping_add_u64(noted, taken)
+    let alone = at(counts, NOTHING_HELD).wrapping_add(at(counts, TOO_LONG));
+    let noted = alone.wrapping_add(at(counts, RIGHT_IN_BOTH));
+    let taken = at(counts, PACKETS).wrapping_add(at(counts, HELD));
+    noted.wrapping_add(taken)
 }
 
 // Whether pieces had a wrong CRC, and none a right one.
@@ -254,94 +283,31 @@ pub fn is_nearly_every_crc_wrong(counts: &[u64]) -> bool {
     (right != 0) & (right <= (wrong - 1) / 16)
 }
 
-// The refusals with a number.
-fn put_refusals(out: &mut [u8], at: usize, number: u32, count: u64) -> usize
-    ensures { IsPrefixLen result out.new }
-{
-    let n = text::fill(
-        out,
-        at,
-        b"barzhilup log:   refused with @ (",
-        &[number as u64],
-    );
-    let k = causes::put_refusal(out, n, number);
-    text::fill(out, k, b"): @\n", &[count])
-}
-
-// The notes of a cause.
-fn put_notes(out: &mut [u8], at: usize, cause: u32, count: u64) -> usize
-    ensures { IsPrefixLen result out.new }
-{
-    let n = text::put(out, at, b"barzhilup log:   note ");
-    let k = causes::put_note(out, n, cause);
-    text::fill(out, k, b": @\n", &[count])
-}
-
-// The refusals with a number, or the notes of a cause, in a line; nothing where there are none.
-fn put_line(out: &mut [u8], at: usize, first: usize, number: u32, count: u64) -> usize
-    ensures { IsPrefixLen result out.new }
-{
-    if count == 0 {
-        return text::put(out, at, b"");
-    }
-    if first == REFUSED {
-        return put_refusals(out, at, number, count);
-    }
-    put_notes(out, at, number, count)
-}
-
-// A line for each count but 0 of so many from a place on: refusals, or notes.
-fn put_lines(out: &mut [u8], start: usize, counts: &[u64], first: usize, many: u32) -> usize
-    requires { first < 48 }
-    ensures { IsPrefixLen result out.new }
-{
-    let mut n = text::put(out, start, b"");
-    let mut k: u32 = 0;
-    while k < many {
-        n = put_line(out, n, first, k, at(counts, first + k as usize));
-        k += 1;
-    }
-    n
-}
-
 // How many of the received PDUs were withheld (document 02, Ask 10), within a line; nothing where none was.
-fn put_withheld(out: &mut [u8], start: usize, counts: &[u64]) -> usize
-    ensures { IsPrefixLen result out.new }
-{
+fn put_withheld<const N: usize>(lines: &mut Line<N>, counts: &[u64]) {
     let count = at(counts, WITHHELD);
-    if count == 0 {
-        return text::put(out, start, b"");
+    if count != 0 {
+        lines.fill(b", of these withheld @", &[count]);
     }
-    text::fill(out, start, b", of these withheld @", &[count])
 }
 
 // The counts of PDUs, and those of refusals.
-fn put_pdus(out: &mut [u8], pdus: u64, counts: &[u64]) -> usize
-    ensures { IsPrefixLen result out.new }
-{
-    let n = text::fill(
-        out,
-        0,
+fn put_pdus<const N: usize>(lines: &mut Line<N>, pdus: u64, counts: &[u64]) {
+    lines.fill(
         b"barzhilup log: PDUs @: received @",
         &[pdus, at(counts, RECEIVED)],
     );
-    let m = put_withheld(out, n, counts);
-    let k = text::fill(
-        out,
-        m,
+    put_withheld(lines, counts);
+    lines.fill(
         b", lost @, refused @\n",
         &[at(counts, LOST), refused(counts)],
     );
-    put_lines(out, k, counts, REFUSED, REFUSALS)
+    Numbered::Refusals.put_lines(lines, counts);
 }
 
 // The counts of what was corrected and of what was logged, and those of notes.
-fn put_logged(out: &mut [u8], start: usize, counts: &[u64]) -> usize
-    ensures { IsPrefixLen result out.new }
-{
-    let n = text::fill(
-        out,
-        start,
+fn put_logged<const N: usize>(lines: &mut Line<N>, counts: &[u64]) {
+    lines.fill(
         b"barzhilup log: headers corrected @, bytes corrected @
 barzhilup log: packets @, PSD entries @, notes @
 ",
@@ -350,51 +316,37 @@ barzhilup log: packets @, PSD entries @, notes @
             at(counts, BYTES),
             at(counts, PACKETS),
             at(counts, PSD),
-            sum(counts, NOTES, CAUSES),
+            Numbered::Notes.sum(counts),
         ],
     );
-    put_lines(out, n, counts, NOTES, CAUSES)
+    Numbered::Notes.put_lines(lines, counts);
 }
 
 // The loss column after the last PDU, and when it is exact.
-fn put_loss(out: &mut [u8], start: usize, counts: &[u64]) -> usize
-    ensures { IsPrefixLen result out.new }
-{
-    text::fill(
-        out,
-        start,
+fn put_loss<const N: usize>(lines: &mut Line<N>, counts: &[u64]) {
+    lines.fill(
         b"barzhilup log: delivered @, missing @; missing is exact from the first packet delivered to the last where each PDU comes or is marked lost once, in turn, and fewer than 64 packets are missing between two delivered\n",
         &[at(counts, DELIVERED), at(counts, MISSING)],
-    )
+    );
 }
 
 // What was received and logged.
-pub fn put_summary(out: &mut [u8], pdus: u64, counts: &[u64]) -> usize
-    ensures { IsPrefixLen result out.new }
-{
-    let n = put_pdus(out, pdus, counts);
-    let k = put_logged(out, n, counts);
-    put_loss(out, k, counts)
+pub fn put_summary<const N: usize>(lines: &mut Line<N>, pdus: u64, counts: &[u64]) {
+    put_pdus(lines, pdus, counts);
+    put_logged(lines, counts);
+    put_loss(lines, counts);
 }
 
 // What a receiver got by itself, in a line with its name.
-pub fn put_alone(out: &mut [u8], start: usize, name: &[u8], counts: &[u64]) -> usize
-    ensures { IsPrefixLen result out.new }
-{
-    let n = text::put(out, start, name);
-    let m = text::fill(
-        out,
-        n,
+pub fn put_alone<const N: usize>(lines: &mut Line<N>, name: &[u8], counts: &[u64]) {
+    let received = at(counts, RECEIVED);
+    lines.put(name);
+    lines.fill(
         b" alone: PDUs came @, received @",
-        &[
-            std::num::wrapping_add_u64(at(counts, RECEIVED), refused(counts)),
-            at(counts, RECEIVED),
-        ],
+        &[received.wrapping_add(refused(counts)), received],
     );
-    let k = put_withheld(out, m, counts);
-    text::fill(
-        out,
-        k,
+    put_withheld(lines, counts);
+    lines.fill(
         b"; headers corrected @, bytes corrected @; packets @, missing @\n",
         &[
             at(counts, HEADERS),
@@ -402,5 +354,5 @@ pub fn put_alone(out: &mut [u8], start: usize, name: &[u8], counts: &[u64]) -> u
             at(counts, PACKETS),
             at(counts, MISSING),
         ],
-    )
+    );
 }
