@@ -2,18 +2,25 @@
 // file; its log is theirs, one after another.
 #![tactic(auto)]
 
-ghost use Rattle.std.specs.Prelude.{◌≡◌, ◌+◌, ◌*◌, ◌<◌, length};
+ghost use Rattle.std.specs.Prelude.{◌≡◌, ◌+◌, ◌*◌, ◌<◌, length, IfOk};
 ghost use Rattle.io.specs.Counts.{IsPrefixLen};
 
-use host::Host;
+use host::{Fd, Host};
 
-// How reading stands beside what a record's reading answers: a record is no row of words, or a frame's log has more words than its buffer.
-pub const NO_WORDS: u8 = 5;
+// Why a frame's log is not read on: what stops the reading of a record, with `End` where the file has no more; a record is no row of words; or the frame's
+// log has more words than its buffer.
+#[derive(Clone, Copy, Debug, PartialEq, Eq)]
+pub enum Stop {
+    Record(records::Stop),
+    NoWords,
+    TooLong,
+}
 
-pub const TOO_LONG: u8 = 6;
-
-// In place of a file where there is none: it is at its end.
-pub const NONE: i32 = -1;
+impl From<records::Stop> for Stop {
+    fn from(stop: records::Stop) -> Stop {
+        Stop::Record(stop)
+    }
+}
 
 // Room for the log of a frame.
 pub fn log_buffer() -> [u32; 25000]
@@ -29,124 +36,101 @@ pub fn result_buffer() -> [u32; 50000]
     [0; 50000]
 }
 
-fn wide(x: u8) -> u32
-    ensures { (result ≡ x) × (result < 256) }
-{
-    x as u32
-}
-
 // The word of four bytes, low byte first.
 pub fn word_of(a: u8, b: u8, c: u8, d: u8) -> u32
     ensures { result ≡ a + 0x100 * (b + 0x100 * (c + 0x100 * d)) }
 {
-    wide(a) + 0x100 * (wide(b) + 0x100 * (wide(c) + 0x100 * wide(d)))
+    u32::from(a) + 0x100 * (u32::from(b) + 0x100 * (u32::from(c) + 0x100 * u32::from(d)))
 }
 
-// A word at a place of a log. Answers the place after it.
-fn put_word(log: &mut [u32], at: usize, word: u32) -> usize
-    requires { at < length log.old }
-    ensures { IsPrefixLen result log.new }
-{
-    log[at] = word;
-    at + 1
-}
-
-// The words of a record's bytes, into the log from a place on; those that there is no room for are left out. Answers the place after them.
-fn put_words(log: &mut [u32], start: usize, bytes: &[u8]) -> usize
-    requires { IsPrefixLen start log.old }
-    ensures { IsPrefixLen result log.new }
-{
-    let mut at = start;
-    let mut i: usize = 0;
-    while i + 4 <= bytes.len() {
-        if log.len() <= at {
-            return at;
-        }
-        let word = word_of(bytes[i], bytes[i + 1], bytes[i + 2], bytes[i + 3]);
-        at = put_word(log, at, word);
-        i += 4;
+// The words of a record's bytes, from the log's start on, as many as there is room for.
+fn put_words(log: &mut [u32], bytes: &[u8]) {
+    for (word, four) in log.iter_mut().zip(bytes.chunks_exact(4)) {
+        *word = word_of(four[0], four[1], four[2], four[3]);
     }
-    at
 }
 
-// A frame so far: how its reading stands, how many words its log has, and how many PDUs were read of the file.
+// A frame so far: why its reading stopped before all its PDUs, if it did; how many words its log has, and how many PDUs were read of the file.
 #[derive(Clone, Copy)]
 pub struct Frame {
-    pub status: u8,
+    pub stop: Option<Stop>,
     pub words: usize,
     pub pdus: u64,
 }
 
-// A frame of which nothing is read yet, after so many PDUs.
-fn begun(pdus: u64) -> Frame
-    ensures { result.words ≡ 0 }
-{
-    Frame {
-        status: records::WHOLE,
-        words: 0,
-        pdus: pdus,
+impl Frame {
+    // Why the frame is not read; nothing where it has all its PDUs, or as many as the file still has.
+    pub fn fault(self) -> Option<Stop> {
+        match self.stop {
+            Some(Stop::Record(records::Stop::End)) => None,
+            stop => stop,
+        }
     }
-}
 
-// The frame where its reading stops, with the words that it has.
-fn stopped(frame: Frame, status: u8) -> Frame
-    ensures { result.words ≡ frame.words }
-{
-    Frame {
-        status: status,
-        words: frame.words,
-        pdus: frame.pdus,
+    // The frame with the words of one more record.
+    fn with_record(self, bytes: &[u8], log: &mut [u32]) -> Result<Frame, Stop>
+        requires { IsPrefixLen self.words log.old }
+        ensures { IfOk result (λ frame. IsPrefixLen frame.words log.new) }
+    {
+        if bytes.len() % 4 != 0 {
+            return Err(Stop::NoWords);
+        }
+        let at = self.words;
+        let many = bytes.len() / 4;
+        if log.len() - at < many {
+            return Err(Stop::TooLong);
+        }
+        put_words(&mut log[at..], bytes);
+        Ok(Frame {
+            words: at + many,
+            pdus: self.pdus.wrapping_add(1),
+            ..self
+        })
     }
-}
 
-// The frame with the words of one more record.
-fn with_record(frame: Frame, bytes: &[u8], log: &mut [u32]) -> Frame
-    requires { IsPrefixLen frame.words log.old }
-    ensures { IsPrefixLen result.words log.new }
-{
-    if bytes.len() % 4 != 0 {
-        return stopped(frame, NO_WORDS);
+    // The frame with the next PDU of the file; where there is no file, it is at its end.
+    fn next(
+        self,
+        host: &Host,
+        fd: Option<Fd>,
+        buf: &mut [u8],
+        log: &mut [u32],
+    ) -> Result<Frame, Stop>
+        requires { IsPrefixLen self.words log.old }
+        ensures { IfOk result (λ frame. IsPrefixLen frame.words log.new) }
+    {
+        let fd = fd.ok_or(records::Stop::End)?;
+        let n = records::read(host, fd, buf)?;
+        self.with_record(&buf[..n], log)
     }
-    let at = frame.words;
-    if log.len() - at < bytes.len() / 4 {
-        return stopped(frame, TOO_LONG);
-    }
-    Frame {
-        status: records::WHOLE,
-        words: put_words(log, at, bytes),
-        pdus: std::num::wrapping_add_u64(frame.pdus, 1),
-    }
-}
-
-// The frame with the next PDU of the file.
-fn next(host: &Host, fd: i32, frame: Frame, buf: &mut [u8], log: &mut [u32]) -> Frame
-    requires { IsPrefixLen frame.words log.old }
-    ensures { IsPrefixLen result.words log.new }
-{
-    if fd < 0 {
-        return stopped(frame, records::END);
-    }
-    let r = records::read(host, fd, buf);
-    if r.status != records::WHOLE {
-        return stopped(frame, r.status);
-    }
-    let n = r.length;
-    with_record(frame, &buf[..n], log)
 }
 
 // Reads a frame of so many PDUs, to the log's start, after so many PDUs; where the file is at its end, of fewer or none.
-pub fn read(host: &Host, fd: i32, count: u32, before: u64, buf: &mut [u8], log: &mut [u32]) -> Frame
+pub fn read(
+    host: &Host,
+    fd: Option<Fd>,
+    count: u32,
+    before: u64,
+    buf: &mut [u8],
+    log: &mut [u32],
+) -> Frame
     ensures { IsPrefixLen result.words log.new }
 {
-    let mut frame = begun(before);
-    let mut left = count;
-    while 0 < left {
-        let more = next(host, fd, frame, buf, log);
-        frame = more;
-        if frame.status != records::WHOLE {
-            return frame;
+    let mut frame = Frame {
+        stop: None,
+        words: 0,
+        pdus: before,
+    };
+    for _ in 0..count {
+        match frame.next(host, fd, &mut *buf, &mut *log) {
+            Ok(more) => frame = more,
+            Err(stop) => {
+                return Frame {
+                    stop: Some(stop),
+                    ..frame
+                };
+            }
         }
-        left -= 1;
     }
     frame
 }
