@@ -105,32 +105,34 @@ impl Frame {
     }
 }
 
-// Reads a frame of so many PDUs, to the log's start, after so many PDUs; where the file is at its end, of fewer or none.
-pub fn read(
-    host: &Host,
-    fd: Option<Fd>,
-    count: u32,
-    before: u64,
-    buf: &mut [u8],
-    log: &mut [u32],
-) -> Frame
-    ensures { IsPrefixLen result.words log.new }
-{
-    let mut frame = Frame {
-        stop: None,
-        words: 0,
-        pdus: before,
-    };
-    for _ in 0..count {
-        match frame.next(host, fd, &mut *buf, &mut *log) {
-            Ok(more) => frame = more,
-            Err(stop) => {
-                return Frame {
-                    stop: Some(stop),
-                    ..frame
-                };
+// Where the log of a stream comes from, if there is one, and how many PDUs a frame has.
+#[derive(Clone, Copy)]
+pub struct Source {
+    pub fd: Option<Fd>,
+    pub pdus: u32,
+}
+
+impl Source {
+    // Reads a frame, to the log's start, after so many PDUs; where the file is at its end, of fewer PDUs or none.
+    pub fn read(self, host: &Host, before: u64, buf: &mut [u8], log: &mut [u32]) -> Frame
+        ensures { IsPrefixLen result.words log.new }
+    {
+        let mut frame = Frame {
+            stop: None,
+            words: 0,
+            pdus: before,
+        };
+        for _ in 0..self.pdus {
+            match frame.next(host, self.fd, &mut *buf, &mut *log) {
+                Ok(more) => frame = more,
+                Err(stop) => {
+                    return Frame {
+                        stop: Some(stop),
+                        ..frame
+                    };
+                }
             }
         }
+        frame
     }
-    frame
 }
