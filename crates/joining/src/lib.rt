@@ -2,41 +2,35 @@
 // joins them, and writes what comes of it.
 #![tactic(auto)]
 
-ghost use Rattle.io.specs.Counts.{IsPrefixLen};
-
-use host::{Host, STDERR};
-use join::Joined;
+use frame_logs::{Frame, Source, Stop};
+use host::{Fd, Host, STDERR};
 use options::Command;
+use side_by_side::{Block, Format};
+use text::Line;
 
-// Where the logs come from, how many PDUs of each a frame has, where the result goes, and in which format.
+// Where the logs come from, where the result goes, and in which format.
 #[derive(Clone, Copy)]
 pub struct Task {
-    pub core: i32,
-    pub core_pdus: u32,
-    pub enhanced: i32,
-    pub enhanced_pdus: u32,
-    pub output: i32,
-    pub format: u8,
+    pub core: Source,
+    pub enhanced: Source,
+    pub output: Fd,
+    pub format: Format,
 }
 
-// How a run stands: it goes on, all is done, the core's log or the enhanced one cannot be read on, or the result cannot be written.
-pub const GOING: u8 = 0;
+// Why no more frames are joined: all are, the core's log or the enhanced one cannot be read on, or the result cannot be written.
+#[derive(Clone, Copy, Debug, PartialEq, Eq)]
+pub enum Ending {
+    Done,
+    Core(Stop),
+    Enhanced(Stop),
+    Unwritten,
+}
 
-pub const DONE: u8 = 1;
-
-pub const CORE: u8 = 2;
-
-pub const ENHANCED: u8 = 3;
-
-pub const UNWRITTEN: u8 = 4;
-
-// A run so far: how it stands; how the reading of a log stands that cannot be read on; how many PDUs of either log were read; how many frames there
-// were, and how many of them were refused with 23 and with 24; core packets alone, pairs, and enhanced packets dropped; and the frames without a note
-// that yet have packets alone and packets dropped.
+// A run so far: why it ended, if it did; how many PDUs of either log were read; how many frames there were, and how many of them were refused with 23 and
+// with 24; core packets alone, pairs, and enhanced packets dropped; and the frames without a note that yet have packets alone and packets dropped.
 #[derive(Clone, Copy)]
 pub struct Run {
-    pub status: u8,
-    pub reading: u8,
+    pub ending: Option<Ending>,
     pub core_pdus: u64,
     pub enhanced_pdus: u64,
     pub frames: u64,
@@ -48,341 +42,169 @@ pub struct Run {
     pub unlike: u64,
 }
 
-fn start() -> Run {
-    Run {
-        status: GOING,
-        reading: records::WHOLE,
-        core_pdus: 0,
-        enhanced_pdus: 0,
-        frames: 0,
-        no_logs: 0,
-        no_order: 0,
-        alone: 0,
-        both: 0,
-        dropped: 0,
-        unlike: 0,
-    }
-}
+const START: Run = Run {
+    ending: None,
+    core_pdus: 0,
+    enhanced_pdus: 0,
+    frames: 0,
+    no_logs: 0,
+    no_order: 0,
+    alone: 0,
+    both: 0,
+    dropped: 0,
+    unlike: 0,
+};
 
-fn stopped(run: Run, status: u8, reading: u8) -> Run {
-    let mut next = run;
-    next.status = status;
-    next.reading = reading;
-    next
-}
-
-// Joins all frames. What stopped it before the end, its status says, and errno with that.
+// Joins all frames. What stopped it before the end, its ending says, and errno with that.
 pub fn join_all(host: &Host, task: Task) -> Run {
+    let mut block = Block::new();
+    task.format.put_title(&mut block);
+    if !write(host, task, &mut block) {
+        return START.ended(Ending::Unwritten);
+    }
+    let run = all_turns(host, task, &mut block);
+    if run.ending != Some(Ending::Done) {
+        return run;
+    }
+    task.format.put_end(&mut block, run.frames);
+    if write(host, task, &mut block) {
+        return run;
+    }
+    run.ended(Ending::Unwritten)
+}
+
+// Writes what stands in the block, which is empty then. Answers whether that went well.
+fn write(host: &Host, task: Task, block: &mut Block) -> bool {
+    let written = host.write_all(task.output, block.bytes());
+    block.clear();
+    written
+}
+
+// All turns. Their number has a bound that no run comes to, since a proved loop has to end, and nothing says that a file does.
+fn all_turns(host: &Host, task: Task, block: &mut Block) -> Run {
+    let mut buf = io::large_buffer();
     let mut core = frame_logs::log_buffer();
     let mut enhanced = frame_logs::log_buffer();
-    let mut result = frame_logs::result_buffer();
-    let mut block = side_by_side::block();
-    let n = side_by_side::put_title(&mut block, task.format);
-    if !host.write_all(task.output, &block[..n]) {
-        return stopped(start(), UNWRITTEN, records::WHOLE);
-    }
-    let run = all_turns(
-        host,
-        task,
-        &mut core,
-        &mut enhanced,
-        &mut result,
-        &mut block,
-        start(),
-    );
-    ended(host, task, &mut block, run)
-}
-
-// Writes what stands after all frames, if all are read.
-fn ended(host: &Host, task: Task, block: &mut [u8], run: Run) -> Run {
-    if run.status != DONE {
-        return run;
-    }
-    let n = side_by_side::put_end(block, task.format, run.frames);
-    if host.write_all(task.output, &block[..n]) {
-        return run;
-    }
-    stopped(run, UNWRITTEN, records::WHOLE)
-}
-
-// All turns. They are counted down from a number that no run uses up, since a proved loop has to end, and nothing says that a file does.
-fn all_turns(
-    host: &Host,
-    task: Task,
-    core: &mut [u32],
-    enhanced: &mut [u32],
-    res: &mut [u32],
-    block: &mut [u8],
-    begun: Run,
-) -> Run {
-    let mut run = begun;
-    let mut buf = io::large_buffer();
-    let mut shown = files::second(host);
-    let mut turns = u64::MAX;
-    while 0 < turns {
-        let next = turn(host, task, &mut buf, core, enhanced, res, block, run);
-        run = next;
-        if run.status != GOING {
+    let mut res = frame_logs::result_buffer();
+    let mut run = START;
+    let mut shown = host.time();
+    for _ in 0..u64::MAX {
+        let c = task.core.read(host, run.core_pdus, &mut buf, &mut core);
+        let e = task
+            .enhanced
+            .read(host, run.enhanced_pdus, &mut buf, &mut enhanced);
+        run = run.with_pdus(c, e);
+        if run.ending.is_none() {
+            run = joined(
+                host,
+                task,
+                run,
+                &core[..c.words],
+                &enhanced[..e.words],
+                &mut res,
+                &mut *block,
+            );
+        }
+        if run.ending.is_some() {
             return run;
         }
         shown = files::progress(host, Command::Join, run.frames, shown);
-        turns -= 1;
     }
     run
-}
-
-// A frame of either log that was read: how the run stands then, and how the reading of a log that cannot be read on; how many words each has, and how many
-// PDUs of either log were read.
-#[derive(Clone, Copy)]
-struct Frames {
-    status: u8,
-    reading: u8,
-    core: usize,
-    enhanced: usize,
-    core_pdus: u64,
-    enhanced_pdus: u64,
-}
-
-// Whether a frame is read: all its PDUs, or as many as the file still has.
-fn is_read(reading: u8) -> bool {
-    (reading == records::WHOLE) | (reading == records::END)
-}
-
-// How a run stands after its logs were read, with more PDUs or without.
-fn standing(core: u8, enhanced: u8, more: bool) -> u8 {
-    if !is_read(core) {
-        return CORE;
-    }
-    if !is_read(enhanced) {
-        return ENHANCED;
-    }
-    if more {
-        return GOING;
-    }
-    DONE
-}
-
-// How the reading stands of the log that cannot be read on, the core's first.
-fn reading_of(core: u8, enhanced: u8) -> u8 {
-    if is_read(core) {
-        return enhanced;
-    }
-    core
-}
-
-// Reads a frame of either log, each to its buffer's start, after so many PDUs.
-fn read(
-    host: &Host,
-    task: Task,
-    core_pdus: u64,
-    enhanced_pdus: u64,
-    buf: &mut [u8],
-    core: &mut [u32],
-    enhanced: &mut [u32],
-) -> Frames
-    ensures prefix_len { IsPrefixLen result.core core.new }
-    ensures prefix_len_2 { IsPrefixLen result.enhanced enhanced.new }
-{
-    let c = frame_logs::read(host, task.core, task.core_pdus, core_pdus, buf, core);
-    let e = frame_logs::read(
-        host,
-        task.enhanced,
-        task.enhanced_pdus,
-        enhanced_pdus,
-        buf,
-        enhanced,
-    );
-    let more = (c.pdus != core_pdus) | (e.pdus != enhanced_pdus);
-    Frames {
-        status: standing(c.status, e.status, more),
-        reading: reading_of(c.status, e.status),
-        core: c.words,
-        enhanced: e.words,
-        core_pdus: c.pdus,
-        enhanced_pdus: e.pdus,
-    }
-}
-
-// Reads a frame of either log and takes them.
-fn turn(
-    host: &Host,
-    task: Task,
-    buf: &mut [u8],
-    core: &mut [u32],
-    enhanced: &mut [u32],
-    res: &mut [u32],
-    block: &mut [u8],
-    run: Run,
-) -> Run {
-    let frames = read(
-        host,
-        task,
-        run.core_pdus,
-        run.enhanced_pdus,
-        buf,
-        core,
-        enhanced,
-    );
-    let n = frames.core;
-    let k = frames.enhanced;
-    taken(
-        host,
-        task,
-        frames,
-        &core[..n],
-        &enhanced[..k],
-        res,
-        block,
-        run,
-    )
-}
-
-// The run with so many PDUs of either log read.
-fn with_pdus(run: Run, core: u64, enhanced: u64) -> Run {
-    let mut next = run;
-    next.core_pdus = core;
-    next.enhanced_pdus = enhanced;
-    next
-}
-
-// Joins a frame of either log; stops where one cannot be read on, or where both have no more PDUs.
-fn taken(
-    host: &Host,
-    task: Task,
-    frames: Frames,
-    core: &[u32],
-    enhanced: &[u32],
-    res: &mut [u32],
-    block: &mut [u8],
-    run: Run,
-) -> Run {
-    let next = with_pdus(run, frames.core_pdus, frames.enhanced_pdus);
-    if frames.status != GOING {
-        return stopped(next, frames.status, frames.reading);
-    }
-    joined(host, task, core, enhanced, res, block, next)
 }
 
 // Joins a frame, and writes what comes of it; stops where that cannot be written.
 fn joined(
     host: &Host,
     task: Task,
+    run: Run,
     core: &[u32],
     enhanced: &[u32],
     res: &mut [u32],
-    block: &mut [u8],
-    run: Run,
+    block: &mut Block,
 ) -> Run {
     let answer = join::join(core, enhanced, res);
-    let n = put(task.format, core, enhanced, res, answer, block, run.frames);
-    if !host.write_all(task.output, &block[..n]) {
-        return stopped(run, UNWRITTEN, records::WHOLE);
-    }
-    counted(
-        host,
-        run,
-        answer,
-        core,
-        enhanced,
-        words_of(res, answer.words),
-    )
-}
-
-// The words that were written to a result, which are its first ones.
-fn words_of(res: &[u32], words: usize) -> &[u32] {
-    if words < res.len() {
-        return &res[0..words];
-    }
-    res
-}
-
-// What stands for a frame, joined or refused. Answers how many bytes.
-fn put(
-    format: u8,
-    core: &[u32],
-    enhanced: &[u32],
-    res: &[u32],
-    answer: Joined,
-    block: &mut [u8],
-    frame: u64,
-) -> usize
-    ensures { IsPrefixLen result block.new }
-{
-    if answer.refusal != 0 {
-        return side_by_side::put_refused(block, format, frame, answer.refusal);
-    }
-    side_by_side::put_frame(
-        block,
-        format,
-        frame,
-        core,
-        enhanced,
-        words_of(res, answer.words),
-    )
-}
-
-fn more(count: u64, by: u64) -> u64 {
-    std::num::wrapping_add_u64(count, by)
-}
-
-// A count less another one, which is not more.
-fn less(count: u64, by: u64) -> u64 {
-    if count < by {
-        return 0;
-    }
-    count - by
-}
-
-// The run with one more frame, which is refused with a number.
-fn with_refused(run: Run, refusal: u32) -> Run {
-    let mut next = run;
-    next.frames = more(run.frames, 1);
-    if refusal == 23 {
-        next.no_logs = more(run.no_logs, 1);
+    let words = words::written(res, answer.words);
+    if answer.refusal == 0 {
+        task.format
+            .put_frame(&mut *block, run.frames, core, enhanced, words);
     } else {
-        next.no_order = more(run.no_order, 1);
+        task.format
+            .put_refused(&mut *block, run.frames, answer.refusal);
     }
-    next
+    if !write(host, task, block) {
+        return run.ended(Ending::Unwritten);
+    }
+    if answer.refusal == 0 {
+        return run.counted(core, enhanced, words);
+    }
+    say_refused(
+        host,
+        run.frames,
+        answer.refusal,
+        run.no_logs.wrapping_add(run.no_order),
+    );
+    run.with_refused(answer.refusal)
 }
 
-// The run with one more frame, of its two logs and what was joined.
-fn counted(
-    host: &Host,
-    run: Run,
-    answer: Joined,
-    core: &[u32],
-    enhanced: &[u32],
-    res: &[u32],
-) -> Run {
-    if answer.refusal != 0 {
-        say_refused(
-            host,
-            run.frames,
-            answer.refusal,
-            more(run.no_logs, run.no_order),
-        );
-        return with_refused(run, answer.refusal);
+// Why no more frames are joined after these two; nothing where there are more: a frame with any PDU.
+fn ending_of(core: Frame, enhanced: Frame, more: bool) -> Option<Ending> {
+    match (core.fault(), enhanced.fault()) {
+        (Some(stop), _) => Some(Ending::Core(stop)),
+        (None, Some(stop)) => Some(Ending::Enhanced(stop)),
+        (None, None) if more => None,
+        (None, None) => Some(Ending::Done),
     }
-    let joined = side_by_side::packets_of(res);
-    let beside = side_by_side::packets_of(enhanced);
-    let alone = less(joined.plain, joined.marked);
-    let dropped = less(beside.plain, joined.marked);
-    let noted = more(side_by_side::packets_of(core).notes, beside.notes) != 0;
-    let mut next = run;
-    next.frames = more(run.frames, 1);
-    next.alone = more(run.alone, alone);
-    next.both = more(run.both, joined.marked);
-    next.dropped = more(run.dropped, dropped);
-    next.unlike = more(run.unlike, unlike(noted, alone, dropped));
-    next
 }
 
-// 1 for a frame that has packets alone and packets dropped though nothing was noted in it, else 0.
-fn unlike(noted: bool, alone: u64, dropped: u64) -> u64 {
-    if noted {
-        return 0;
+impl Run {
+    fn ended(self, ending: Ending) -> Run {
+        Run {
+            ending: Some(ending),
+            ..self
+        }
     }
-    ((alone != 0) & (dropped != 0)) as u64
+
+    // The run after a frame of either log is read.
+    fn with_pdus(self, core: Frame, enhanced: Frame) -> Run {
+        let more = (core.pdus != self.core_pdus) | (enhanced.pdus != self.enhanced_pdus);
+        Run {
+            ending: ending_of(core, enhanced, more),
+            core_pdus: core.pdus,
+            enhanced_pdus: enhanced.pdus,
+            ..self
+        }
+    }
+
+    // The run with one more frame, which is refused with a number.
+    fn with_refused(self, refusal: u32) -> Run {
+        Run {
+            frames: self.frames.wrapping_add(1),
+            no_logs: self.no_logs.wrapping_add(u64::from(refusal == 23)),
+            no_order: self.no_order.wrapping_add(u64::from(refusal != 23)),
+            ..self
+        }
+    }
+
+    // The run with one more frame, of its two logs and what was joined.
+    fn counted(self, core: &[u32], enhanced: &[u32], res: &[u32]) -> Run {
+        let joined = side_by_side::packets_of(res);
+        let beside = side_by_side::packets_of(enhanced);
+        let alone = joined.plain.saturating_sub(joined.marked);
+        let dropped = beside.plain.saturating_sub(joined.marked);
+        let notes = side_by_side::packets_of(core)
+            .notes
+            .wrapping_add(beside.notes);
+        let unlike = (notes == 0) & (alone != 0) & (dropped != 0);
+        Run {
+            frames: self.frames.wrapping_add(1),
+            alone: self.alone.wrapping_add(alone),
+            both: self.both.wrapping_add(joined.marked),
+            dropped: self.dropped.wrapping_add(dropped),
+            unlike: self.unlike.wrapping_add(u64::from(unlike)),
+            ..self
+        }
+    }
 }
 
 // How many refused frames are said, each in a line.
@@ -401,17 +223,15 @@ fn say_refused(host: &Host, frame: u64, refusal: u32, before: u64) {
         );
         return;
     }
-    let mut line = [0u8; 160];
-    let n = text::fill(
-        &mut line,
-        0,
+    let mut line = Line::<160>::new();
+    line.fill(
         b"barzhilup join: frame @: refused with @: ",
-        &[frame, refusal as u64],
+        &[frame, u64::from(refusal)],
     );
-    let words = text::entry(
-        b"words that are no log\n\0packet numbers that do not rise within a log\n\0",
-        (refusal == 24) as u32,
-    );
-    let end = text::put(&mut line, n, words);
-    host.write_all(STDERR, &line[..end]);
+    if refusal == 24 {
+        line.put(b"packet numbers that do not rise within a log\n");
+    } else {
+        line.put(b"words that are no log\n");
+    }
+    host.write_all(STDERR, line.bytes());
 }
