@@ -6,74 +6,79 @@ mod arguments;
 mod report;
 
 use arguments::Job;
+use files::{Exit, File};
+use frame_logs::Source;
 use host::Host;
-use joining::{Run, Task};
+use joining::{Ending, Task};
 use options::{Command, Opt};
+use report::Labels;
 
-// The program: answers its exit status. What went wrong is said.
-pub fn program(host: &Host) -> i32 {
+// The program: answers how it ends. What went wrong is said.
+pub fn program(host: &Host) -> Exit {
     if options::given(host, Command::Join, Opt::Help) {
         return files::status(host, Command::Join, report::usage(host));
     }
     if !arguments::check(host) {
-        return files::WRONG;
+        return Exit::Wrong;
     }
-    let job = arguments::asked(host);
-    if !job.ok {
-        return files::WRONG;
+    match arguments::asked(host) {
+        Some(job) => files::status(host, Command::Join, with_job(host, job)),
+        None => Exit::Wrong,
     }
-    files::status(host, Command::Join, with_job(host, job))
 }
 
 // Opens the core's log.
 fn with_job(host: &Host, job: Job) -> bool {
-    let mut label = files::label_buffer();
-    let core = files::opened(host, Command::Join, Opt::In, &mut label);
-    if core.fd < 0 {
-        return false;
+    match files::opened(host, Command::Join, Opt::In) {
+        Some(core) => with_core(host, job, &core),
+        None => false,
     }
-    let n = core.length;
-    with_core(host, job, &label[..n], core.fd)
 }
 
 // Opens the enhanced log, where one is given.
-fn with_core(host: &Host, job: Job, from: &[u8], core: i32) -> bool {
+fn with_core(host: &Host, job: Job, core: &File) -> bool {
     if !options::given(host, Command::Join, Opt::Enhanced) {
-        return with_logs(host, job, from, core, b"", frame_logs::NONE);
+        return with_logs(host, job, core, None);
     }
-    let mut label = files::label_buffer();
-    let enhanced = files::opened(host, Command::Join, Opt::Enhanced, &mut label);
-    if enhanced.fd < 0 {
-        return false;
+    match files::opened(host, Command::Join, Opt::Enhanced) {
+        Some(enhanced) => with_logs(host, job, core, Some(&enhanced)),
+        None => false,
     }
-    let n = enhanced.length;
-    with_logs(host, job, from, core, &label[..n], enhanced.fd)
 }
 
-// Opens the file of the result, and joins.
-fn with_logs(host: &Host, job: Job, from: &[u8], core: i32, beside: &[u8], enhanced: i32) -> bool {
-    let mut onto = files::label_buffer();
-    let output = files::opened(host, Command::Join, Opt::Out, &mut onto);
-    if output.fd < 0 {
+// Opens the file of the result, joins, closes that file, and says what was joined.
+fn with_logs(host: &Host, job: Job, core: &File, enhanced: Option<&File>) -> bool {
+    let Some(output) = files::opened(host, Command::Join, Opt::Out) else {
         return false;
-    }
-    let n = output.length;
+    };
     let task = Task {
-        core: core,
-        core_pdus: job.core,
-        enhanced: enhanced,
-        enhanced_pdus: job.enhanced,
+        core: Source {
+            fd: Some(core.fd),
+            pdus: job.core,
+        },
+        enhanced: Source {
+            fd: enhanced.map(|file| file.fd),
+            pdus: job.enhanced,
+        },
         output: output.fd,
         format: job.format,
     };
+    let labels = Labels {
+        core: core.label.bytes(),
+        enhanced: label_of(enhanced),
+        output: output.label.bytes(),
+    };
     let run = joining::join_all(host, task);
-    report::ends(host, run, from, beside, &onto[..n]);
-    finish(host, run, output.fd, &onto[..n])
+    labels.ends(host, run);
+    let closed = files::close(host, output.fd, labels.output);
+    report::summary(host, run);
+    (run.ending == Some(Ending::Done)) & closed
 }
 
-// Closes the file of the result, and says what was joined.
-fn finish(host: &Host, run: Run, output: i32, onto: &[u8]) -> bool {
-    let closed = files::close(host, output, onto);
-    report::summary(host, run);
-    (run.status == joining::DONE) & closed
+// The label of a file; nothing where there is none.
+fn label_of(file: Option<&File>) -> &[u8] {
+    match file {
+        Some(file) => file.label.bytes(),
+        None => b"",
+    }
 }

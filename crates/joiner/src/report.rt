@@ -1,44 +1,54 @@
 // What the program says on standard error, a line in one write.
+use frame_logs::Stop;
 use host::Host;
-use joining::Run;
+use joining::{Ending, Run};
 use options::Command;
 
+// The labels of the files: the logs, which are read, and the result.
+#[derive(Clone, Copy)]
+pub struct Labels<'a> {
+    pub core: &'a [u8],
+    pub enhanced: &'a [u8],
+    pub output: &'a [u8],
+}
+
+impl Labels<'_> {
+    // Why no more frames are joined; nothing where all are.
+    pub fn ends(self, host: &Host, run: Run) {
+        match run.ending {
+            Some(Ending::Done) => {}
+            Some(Ending::Core(stop)) => unread(host, stop, self.core, run.core_pdus),
+            Some(Ending::Enhanced(stop)) => unread(host, stop, self.enhanced, run.enhanced_pdus),
+            Some(Ending::Unwritten) | None => host.fail(self.output),
+        }
+    }
+}
+
 // Why a log is not read on, after so many PDUs. PDUs are counted from 0.
-fn unread(host: &Host, reading: u8, label: &[u8], pdus: u64) {
-    match reading {
-        records::CUT => files::say_number(
+fn unread(host: &Host, stop: Stop, label: &[u8], pdus: u64) {
+    match stop {
+        Stop::Record(records::Stop::Cut) => files::say_number(
             host,
             label,
             b": ends inside the record of PDU ",
             pdus,
             b"\n",
         ),
-        frame_logs::NO_WORDS => files::say_number(
+        Stop::NoWords => files::say_number(
             host,
             label,
             b": the record of PDU ",
             pdus,
             b" is no row of words: is this a file of log --format records?\n",
         ),
-        frame_logs::TOO_LONG => files::say_number(
+        Stop::TooLong => files::say_number(
             host,
             label,
             b": more than 25,000 words in a frame, at PDU ",
             pdus,
             b"\n",
         ),
-        _ => host.fail(label),
-    }
-}
-
-// Why no more frames are joined; nothing where all are.
-pub fn ends(host: &Host, run: Run, from: &[u8], beside: &[u8], onto: &[u8]) {
-    let status = run.status;
-    match status {
-        joining::DONE => {}
-        joining::CORE => unread(host, run.reading, from, run.core_pdus),
-        joining::ENHANCED => unread(host, run.reading, beside, run.enhanced_pdus),
-        _ => host.fail(onto),
+        Stop::Record(_) => host.fail(label),
     }
 }
 
