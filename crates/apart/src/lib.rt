@@ -36,44 +36,35 @@ pub const FROM_SECOND: usize = 165;
 
 pub const ALIKE: usize = 166;
 
+// The files, each with a carry and a row of its own.
+#[derive(Clone, Copy, Debug, PartialEq, Eq)]
+pub enum File {
+    First,
+    Second,
+}
+
 // The receiver of a row, opened as the pair's is.
 fn remembered(row: &[u64], r: Receiver) -> Receiver {
-    let l = counts::loss(row);
-    Receiver {
-        mode: r.mode,
-        stream: r.stream,
-        register: r.register,
-        entitled: r.entitled,
+    let own = Receiver {
         known: counts::at(row, KNOWN) != 0,
         sequence: (counts::at(row, SEQUENCE) % 256) as u8,
         held: (counts::at(row, HELD) % 65536) as u16,
         number: (counts::at(row, NUMBER) % 256) as u8,
         serviced: counts::at(row, SERVICED) != 0,
         services: (counts::at(row, SERVICES) % 256) as u8,
-        delivered: l.delivered,
-        missing: l.missing,
-        last: l.last,
-    }
+        ..r
+    };
+    loss::in_record(own, counts::loss(row))
 }
 
-// Keeps in a row the applied services in force (document 02, Ask 10).
-fn remember_services(row: &mut [u64], r: Receiver) {
-    counts::set(row, SERVICED, r.serviced as u64);
-    counts::set(row, SERVICES, r.services as u64);
-}
-
-// Keeps in a row the sequence and the held beginning.
-fn remember_step(row: &mut [u64], r: Receiver) {
-    counts::set(row, KNOWN, r.known as u64);
-    counts::set(row, SEQUENCE, r.sequence as u64);
-    counts::set(row, HELD, r.held as u64);
-    counts::set(row, NUMBER, r.number as u64);
-}
-
-// Keeps in a row what a receiver remembers.
+// Keeps in a row what a receiver remembers: the sequence, the held beginning, and the applied services in force (document 02, Ask 10).
 fn remember(row: &mut [u64], r: Receiver) {
-    remember_step(row, r);
-    remember_services(row, r);
+    counts::set(row, KNOWN, u64::from(r.known));
+    counts::set(row, SEQUENCE, u64::from(r.sequence));
+    counts::set(row, HELD, u64::from(r.held));
+    counts::set(row, NUMBER, u64::from(r.number));
+    counts::set(row, SERVICED, u64::from(r.serviced));
+    counts::set(row, SERVICES, u64::from(r.services));
 }
 
 // What a file gives alone: its copy is received by its own receiver and counted, and is left as it came.
@@ -87,43 +78,40 @@ fn alone(receiver: Receiver, carry: &mut [u8], pdu: &mut [u8], log: &mut [u32], 
     remember(row, o.receiver);
 }
 
-// The row of a file, the first or the second; nothing where there is none.
-pub fn row_of(rows: &[u64], number: usize) -> &[u64]
-    requires { number ≤ 2 }
-{
-    let row = number * ROW;
-    if rows.len() < row + ROW {
-        return &rows[0..0];
+impl File {
+    // The file's number: after the pair, 0.
+    fn number(self) -> usize
+        ensures { result ≤ 2 }
+    {
+        match self {
+            File::First => 1,
+            File::Second => 2,
+        }
     }
-    &rows[row..row + ROW]
-}
 
-// The same with the carry and the row of a file, the first or the second.
-fn alone_at(
-    number: usize,
-    receiver: Receiver,
-    carries: &mut [u8],
-    pdu: &mut [u8],
-    log: &mut [u32],
-    rows: &mut [u64],
-)
-    requires { number ≤ 2 }
-{
-    let carry = number * CARRY;
-    let row = number * ROW;
-    if carries.len() < carry + CARRY {
-        return;
+    // The row of a file; nothing where there is none.
+    pub fn row(self, rows: &[u64]) -> &[u64] {
+        let row = self.number() * ROW;
+        rows.get(row..row + ROW).unwrap_or(&[])
     }
-    if rows.len() < row + ROW {
-        return;
+
+    // What a file gives alone, with its carry and its row.
+    fn receive(
+        self,
+        receiver: Receiver,
+        carries: &mut [u8],
+        pdu: &mut [u8],
+        log: &mut [u32],
+        rows: &mut [u64],
+    ) {
+        let carry = self.number() * CARRY;
+        let row = self.number() * ROW;
+        if let Some(carry) = carries.get_mut(carry..carry + CARRY) {
+            if let Some(row) = rows.get_mut(row..row + ROW) {
+                alone(receiver, carry, pdu, log, row);
+            }
+        }
     }
-    alone(
-        receiver,
-        &mut carries[carry..carry + CARRY],
-        pdu,
-        log,
-        &mut rows[row..row + ROW],
-    )
 }
 
 // What each of two files gives alone.
@@ -135,6 +123,6 @@ pub fn both(
     log: &mut [u32],
     rows: &mut [u64],
 ) {
-    alone_at(1, receiver, carries, first, &mut *log, rows);
-    alone_at(2, receiver, carries, second, log, rows);
+    File::First.receive(receiver, carries, first, &mut *log, rows);
+    File::Second.receive(receiver, carries, second, log, rows);
 }
