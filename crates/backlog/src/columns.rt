@@ -17,11 +17,8 @@ pub struct Bench {
 }
 
 // A quotient, 0 where the divisor is.
-pub fn quotient(a: usize, b: usize) -> usize {
-    if b == 0 {
-        return 0;
-    }
-    a / b
+fn quotient(a: usize, b: usize) -> usize {
+    a.checked_div(b).unwrap_or(0)
 }
 
 // How many parts of a size so many ticks have, the last of them perhaps not whole.
@@ -29,100 +26,85 @@ fn parts(ticks: usize, size: usize) -> usize {
     if ticks == 0 {
         return 0;
     }
-    std::num::wrapping_add_usize(quotient(ticks - 1, size), 1)
+    quotient(ticks - 1, size).wrapping_add(1)
 }
 
-// The bench of a latency: as many ticks in a column as leave no more columns than there may be.
-pub fn bench_of(mode: u8, stream: u8, latency: u8, ticks: usize) -> Bench {
-    let each = parts(ticks, MOST);
-    Bench {
-        mode: mode,
-        stream: stream,
-        latency: latency,
-        ticks: ticks,
-        each: each,
-        columns: parts(ticks, each),
-    }
-}
-
-// Stores the more of a value and what stands at a place.
-fn raise(row: &mut [u32], at: usize, value: u32) {
-    if row.len() <= at {
-        return;
-    }
-    if row[at] < value {
-        row[at] = value;
-    }
-}
-
-// Stores the less of a value and what stands at a place.
-fn lower(row: &mut [u32], at: usize, value: u32) {
-    if row.len() <= at {
-        return;
-    }
-    if value < row[at] {
-        row[at] = value;
-    }
-}
-
-// Shows a tick in its column.
-fn show(b: Bench, tick: usize, waiting: u32, most: &mut [u32], least: &mut [u32], dry: &mut [u32]) {
-    let at = quotient(tick, b.each);
-    raise(most, at, waiting);
-    lower(least, at, waiting);
-    if latency::is_dry(b.latency, tick, waiting as usize) {
-        raise(dry, at, 1);
-    }
-}
-
-// Shows the ticks of a block, from one on.
-fn show_block(
-    b: Bench,
-    first: usize,
-    block: &[u32],
-    most: &mut [u32],
-    least: &mut [u32],
-    dry: &mut [u32],
-) {
-    let mut k: usize = 0;
-    while k < block.len() {
-        show(
-            b,
-            std::num::wrapping_add_usize(first, k),
-            block[k],
-            most,
-            least,
-            dry,
-        );
-        k += 1;
-    }
-}
-
-// The part of a row up to a place; nothing where the place is past its end.
-pub fn part(row: &[u32], end: usize) -> &[u32] {
-    if row.len() < end {
-        return &row[0..0];
-    }
-    &row[0..end]
-}
-
-// Shows all ticks: `least` has to be full of the largest number before, the other rows of zeros.
-pub fn show_all(b: Bench, counts: &[u32], most: &mut [u32], least: &mut [u32], dry: &mut [u32]) {
-    let mut block = [0u32; BLOCK];
-    let mut first: usize = 0;
-    while first < b.ticks {
-        let shown = latency::show_waiting(b.mode, b.stream, counts, b.latency, first, &mut block);
-        show_block(
-            b,
-            first,
-            part(&block, shown.count as usize),
-            most,
-            least,
-            dry,
-        );
-        if b.ticks - first <= BLOCK {
-            return;
+impl Bench {
+    // The bench of a latency: as many ticks in a column as leave no more columns than there may be.
+    pub fn new(mode: u8, stream: u8, latency: u8, ticks: usize) -> Bench {
+        let each = parts(ticks, MOST);
+        Bench {
+            mode,
+            stream,
+            latency,
+            ticks,
+            each,
+            columns: parts(ticks, each),
         }
-        first += BLOCK;
+    }
+
+    // The column of a tick.
+    pub fn column(self, tick: usize) -> usize {
+        quotient(tick, self.each)
+    }
+}
+
+// What each column shows: the most and the fewest packets that wait at one of its ticks, and whether one is dry.
+#[derive(Clone, Copy)]
+pub struct Rows {
+    most: [u32; MOST],
+    least: [u32; MOST],
+    dry: [bool; MOST],
+}
+
+impl Rows {
+    // The columns of all ticks.
+    pub fn new(b: Bench, counts: &[u32]) -> Rows {
+        let mut rows = Rows {
+            most: [0; MOST],
+            least: [u32::MAX; MOST],
+            dry: [false; MOST],
+        };
+        let mut block = [0u32; BLOCK];
+        for first in (0..b.ticks).step_by(BLOCK) {
+            let shown = latency::show_waiting(
+                b.mode, b.stream, counts, b.latency, first, &mut block,
+            );
+            let count = BLOCK.min(shown.count as usize);
+            rows.show_block(b, first, &block[..count]);
+        }
+        rows
+    }
+
+    // Shows the ticks of a block, from one on.
+    fn show_block(&mut self, b: Bench, first: usize, block: &[u32]) {
+        for (k, &waiting) in block.iter().enumerate() {
+            self.show(b, first.wrapping_add(k), waiting);
+        }
+    }
+
+    // Shows a tick in its column.
+    fn show(&mut self, b: Bench, tick: usize, waiting: u32) {
+        let at = b.column(tick);
+        if at < MOST {
+            self.most[at] = self.most[at].max(waiting);
+            self.least[at] = self.least[at].min(waiting);
+            self.dry[at] = self.dry[at] | latency::is_dry(b.latency, tick, waiting as usize);
+        }
+    }
+
+    // The most packets of each column.
+    pub fn most(&self, b: Bench) -> &[u32] {
+        &self.most[..b.columns.min(MOST)]
+    }
+
+    // The fewest packets of each column.
+    pub fn least(&self, b: Bench) -> &[u32] {
+        &self.least[..b.columns.min(MOST)]
+    }
+
+    // Whether a tick of each column is dry.
+    pub fn dry(&self, b: Bench) -> &[bool] {
+        &self.dry[..b.columns.min(MOST)]
     }
 }

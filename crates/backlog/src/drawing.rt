@@ -1,16 +1,12 @@
 // The picture: its frame, and the columns as three shapes.
-ghost use Rattle.io.specs.Counts.{IsPrefixLen};
-
-use crate::columns;
-use crate::columns::Bench;
+use crate::columns::{Bench, Rows};
 use latency::Trial;
+use text::Line;
 
 // From the first tag to the ground of the columns. Classes: a and b the most and the fewest packets that wait, d dry ticks, s the ground, p that of
 // the ticks that take nothing, h the title, t words, q words that end at their place.
-fn put_head(out: &mut [u8], b: Bench, pdus: u64, trial: Trial) -> usize {
-    text::fill(
-        out,
-        0,
+fn put_head<const N: usize>(line: &mut Line<N>, b: Bench, pdus: u64, trial: Trial) {
+    line.fill(
         b"<svg xmlns=\"http://www.w3.org/2000/svg\" viewBox=\"0 0 736 324\" width=\"736\" height=\"324\" font-family=\"sans-serif\" font-size=\"10\">
 <title>Packets waiting, latency @</title>
 <style>
@@ -23,121 +19,70 @@ fn put_head(out: &mut [u8], b: Bench, pdus: u64, trial: Trial) -> usize {
 <rect class=\"s\" x=\"64\" y=\"72\" width=\"648\" height=\"180\"/>
 ",
         &[
-            b.latency as u64,
-            b.latency as u64,
-            b.mode as u64,
-            b.stream as u64,
+            u64::from(b.latency),
+            u64::from(b.latency),
+            u64::from(b.mode),
+            u64::from(b.stream),
             pdus,
-            trial.ticks as u64,
-            trial.dry as u64,
-            trial.most as u64,
+            u64::from(trial.ticks),
+            u64::from(trial.dry),
+            u64::from(trial.most),
         ],
-    )
-}
-
-// The height of the columns: at least 1, since a view of no height shows nothing.
-fn height_of(most: u32) -> u64 {
-    if most == 0 {
-        return 1;
-    }
-    most as u64
-}
-
-fn below(height: u64, value: u32) -> u64 {
-    if height < value as u64 {
-        return 0;
-    }
-    height - value as u64
+    );
 }
 
 // The outline of a row's columns, from left to right: each is a step of a height.
-fn put_steps(out: &mut [u8], at: usize, height: u64, row: &[u32]) -> usize {
-    let mut n = at;
-    let mut k: usize = 0;
-    while k < row.len() {
-        n = text::fill(out, n, b"V@h1", &[below(height, row[k])]);
-        k += 1;
+fn put_steps<const N: usize>(line: &mut Line<N>, height: u64, row: &[u32]) {
+    for &value in row {
+        line.fill(b"V@h1", &[height.saturating_sub(u64::from(value))]);
     }
-    n
 }
 
 // The columns of two rows, one before the other, and before both the ground of the first ones, which take nothing: in a view that has a unit for
 // each column and each packet.
-fn put_columns(
-    out: &mut [u8],
-    at: usize,
+fn put_columns<const N: usize>(
+    line: &mut Line<N>,
     height: u64,
     most: &[u32],
     least: &[u32],
-    early: u64,
-) -> usize {
-    let mut n = text::fill(
-        out,
-        at,
+    early: usize,
+) {
+    line.fill(
         b"<svg x=\"64\" y=\"72\" width=\"648\" height=\"180\" viewBox=\"0 0 @ @\" preserveAspectRatio=\"none\">
 <path class=\"p\" d=\"M0 0H@V@H0z\"/>
 <path class=\"a\" d=\"M0 @",
-        &[most.len() as u64, height, early, height, height],
+        &[most.len() as u64, height, early as u64, height, height],
     );
-    n = put_steps(out, n, height, most);
-    n = text::fill(
-        out,
-        n,
-        b"V@z\"/>\n<path class=\"b\" d=\"M0 @",
-        &[height, height],
-    );
-    n = put_steps(out, n, height, least);
-    text::fill(out, n, b"V@z\"/>\n</svg>\n", &[height])
-}
-
-// A mark in a column, if a tick in it is dry.
-fn put_mark(out: &mut [u8], at: usize, column: usize, dry: u32) -> usize {
-    if dry == 0 {
-        return at;
-    }
-    text::fill(out, at, b"M@ 0h1v1h-1z", &[column as u64])
+    put_steps(&mut *line, height, most);
+    line.fill(b"V@z\"/>\n<path class=\"b\" d=\"M0 @", &[height, height]);
+    put_steps(&mut *line, height, least);
+    line.fill(b"V@z\"/>\n</svg>\n", &[height]);
 }
 
 // A mark in each column with a dry tick.
-fn put_marks(out: &mut [u8], at: usize, dry: &[u32]) -> usize {
-    let mut n = at;
-    let mut k: usize = 0;
-    while k < dry.len() {
-        n = put_mark(out, n, k, dry[k]);
-        k += 1;
+fn put_marks<const N: usize>(line: &mut Line<N>, dry: &[bool]) {
+    for (k, &is_dry) in dry.iter().enumerate() {
+        if is_dry {
+            line.fill(b"M@ 0h1v1h-1z", &[k as u64]);
+        }
     }
-    n
 }
 
 // The strip of dry ticks.
-fn put_strip(out: &mut [u8], at: usize, dry: &[u32]) -> usize {
-    let mut n = text::fill(
-        out,
-        at,
+fn put_strip<const N: usize>(line: &mut Line<N>, dry: &[bool]) {
+    line.fill(
         b"<rect class=\"s\" x=\"64\" y=\"258\" width=\"648\" height=\"10\"/>
 <svg x=\"64\" y=\"258\" width=\"648\" height=\"10\" viewBox=\"0 0 @ 1\" preserveAspectRatio=\"none\">
 <path class=\"d\" d=\"",
         &[dry.len() as u64],
     );
-    n = put_marks(out, n, dry);
-    text::put(out, n, b"\"/>\n</svg>\n")
-}
-
-// The last tick.
-fn last_of(ticks: u32) -> u64 {
-    if ticks == 0 {
-        return 0;
-    }
-    (ticks - 1) as u64
+    put_marks(&mut *line, dry);
+    line.put(b"\"/>\n</svg>\n");
 }
 
 // What stands beside and below the columns, to the picture's end.
-fn put_legend(out: &mut [u8], at: usize, b: Bench, trial: Trial) -> usize
-    ensures { IsPrefixLen result out.new }
-{
-    text::fill(
-        out,
-        at,
+fn put_legend<const N: usize>(line: &mut Line<N>, b: Bench, trial: Trial) {
+    line.fill(
         b"<text class=\"q\" x=\"58\" y=\"80\">@</text>
 <text class=\"q\" x=\"58\" y=\"252\">0</text>
 <text class=\"q\" x=\"58\" y=\"267\">dry</text>
@@ -154,32 +99,26 @@ fn put_legend(out: &mut [u8], at: usize, b: Bench, trial: Trial) -> usize
 </svg>
 ",
         &[
-            trial.most as u64,
-            last_of(trial.ticks),
+            u64::from(trial.most),
+            u64::from(trial.ticks.saturating_sub(1)),
             b.each as u64,
-            (b.latency as u64) * 2,
+            u64::from(b.latency) * 2,
         ],
-    )
+    );
 }
 
-// The picture of a latency, of which a trial is told, from the buffer's start on.
-pub fn put(out: &mut [u8], b: Bench, counts: &[u32], trial: Trial) -> usize
-    ensures { IsPrefixLen result out.new }
-{
-    let mut most = [0u32; columns::MOST];
-    let mut least = [4294967295u32; columns::MOST];
-    let mut dry = [0u32; columns::MOST];
-    columns::show_all(b, counts, &mut most, &mut least, &mut dry);
-    let height = height_of(trial.most);
-    let mut n = put_head(out, b, counts.len() as u64, trial);
-    n = put_columns(
-        out,
-        n,
-        height,
-        columns::part(&most, b.columns),
-        columns::part(&least, b.columns),
-        columns::quotient((b.latency as usize) * 2, b.each) as u64,
+// The picture of a latency, of which a trial is told.
+pub fn put<const N: usize>(line: &mut Line<N>, b: Bench, counts: &[u32], trial: Trial) {
+    let rows = Rows::new(b, counts);
+    put_head(&mut *line, b, counts.len() as u64, trial);
+    // The height is at least 1, since a view of no height shows nothing.
+    put_columns(
+        &mut *line,
+        u64::from(trial.most).max(1),
+        rows.most(b),
+        rows.least(b),
+        b.column(usize::from(b.latency) * 2),
     );
-    n = put_strip(out, n, columns::part(&dry, b.columns));
-    put_legend(out, n, b, trial)
+    put_strip(&mut *line, rows.dry(b));
+    put_legend(line, b, trial);
 }
