@@ -93,8 +93,8 @@ fn next_of(path: &[u8]) -> Line<4800> {
 }
 
 // Reads a record of at most so many bytes as the buffer has, of one that is cut what there is.
-fn read_record(host: &Host, fd: Fd, record: &mut [u8]) -> Filled
-    ensures { IsPrefixLen result.length record.new }
+fn read_record(host: &Host, fd: Fd, buf: &mut [u8]) -> Filled
+    ensures { IsPrefixLen result.length buf.new }
 {
     let mut head = [0u8; 2];
     if let Some(stop) = records::fill(host, fd, &mut head).stop {
@@ -104,13 +104,13 @@ fn read_record(host: &Host, fd: Fd, record: &mut [u8]) -> Filled
         };
     }
     let length = records::two_bytes(head[0], head[1]);
-    if record.len() < length {
+    if buf.len() < length {
         return Filled {
             length: 0,
             stop: Some(Stop::Long),
         };
     }
-    let filled = records::fill(host, fd, &mut record[..length]);
+    let filled = records::fill(host, fd, &mut buf[..length]);
     if filled.stop == Some(Stop::End) {
         return Filled {
             length: 0,
