@@ -2,11 +2,14 @@
 // `limits` and `named_settings`.
 #![tactic(auto)]
 
-ghost use Rattle.io.specs.Counts.{IsPrefixLen};
-
-use host::Host;
+use files::{File, Name};
+use host::{Fd, Host};
+use limits::Request;
+use named_settings::Given;
 use options::{Command, Opt};
-use saved_state::State;
+use records::Stop;
+use saved_state::{Fault, State};
+use text::Line;
 
 // Whether an option is right; if not, says what is wrong.
 fn is_right(host: &Host, option: Opt, wrong: bool, words: &[u8]) -> bool {
@@ -18,7 +21,7 @@ fn is_right(host: &Host, option: Opt, wrong: bool, words: &[u8]) -> bool {
 
 // Whether an option names a file.
 fn is_file(host: &Host, option: Opt) -> bool {
-    files::named(host, Command::Log, option) == files::PATH
+    files::named(host, Command::Log, option) == Name::Path
 }
 
 // Whether the files of both options can be had as they are asked for; if not, says why.
@@ -76,20 +79,13 @@ pub fn is_asked(host: &Host) -> bool {
         )
 }
 
-// How a run begins: whether it can, and how the drive stands.
-#[derive(Clone, Copy)]
-pub struct Start {
-    pub ok: bool,
-    pub state: State,
-}
-
 // Says that a receiver is not opened, for the file of a label where it has one.
 fn refused(host: &Host, label: &[u8], refusal: u32) {
-    let mut line = [0u8; 4800];
-    let n = text::put(&mut line, 0, label);
-    let m = text::fill(&mut line, n, b": refused with @: ", &[refusal as u64]);
-    let k = causes::put_refused(&mut line, m, refusal, 0);
-    host.write_all(host::STDERR, &line[..k]);
+    let mut line = Line::<4800>::new();
+    line.put(label);
+    line.fill(b": refused with @: ", &[u64::from(refusal)]);
+    causes::put_refused(&mut line, refusal, 0);
+    host.write_all(host::STDERR, line.bytes());
 }
 
 // Says that no receiver is opened for a mode and a stream: with 5 by the words in which a writer refuses them, that have the table.
@@ -98,118 +94,96 @@ fn not_opened(host: &Host, refusal: u32, mode: u8, stream: u8) {
         refused(host, b"barzhilup log", refusal);
         return;
     }
-    let mut line = [0u8; 256];
-    let n = options::put_program(&mut line, Command::Log);
-    let settings = named_settings::of(named_settings::none());
-    let k = limits::put(&mut line, n, refusal, mode, stream, 0, settings);
-    host.write_all(host::STDERR, &line[..k]);
+    let request = Request {
+        mode,
+        stream,
+        length: 0,
+        settings: Given::none().settings(),
+    };
+    let mut line = Line::<256>::new();
+    line.put(Command::Log.words());
+    limits::put(&mut line, refusal, request);
+    host.write_all(host::STDERR, line.bytes());
 }
 
-// A receiver that is opened for a mode, a stream, a register and the entitled programs of the option; if it is refused, says so.
-fn opened(host: &Host, mode: u8, stream: u8, register: u8) -> Start {
-    let o = opening::open(host, mode, stream, register);
-    let receiver = o.receiver;
-    if o.refusal != 0 {
-        not_opened(host, o.refusal, mode, stream);
-    }
-    Start {
-        ok: o.refusal == 0,
-        state: State {
-            receiver: receiver,
+// How a drive begins, with a receiver that is opened for a mode, a stream, a register and the entitled programs of the option; if it is refused, says so.
+fn opened(host: &Host, mode: u8, stream: u8, register: u8) -> Option<State> {
+    match opening::open(host, mode, stream, register) {
+        Ok(receiver) => Some(State {
+            receiver,
             pdus: 0,
             bytes: 0,
-        },
+        }),
+        Err(refusal) => {
+            not_opened(host, refusal, mode, stream);
+            None
+        }
     }
 }
 
-// A run that cannot begin.
-fn none() -> Start {
-    let o = receiver::open(0, 0, 0);
-    let receiver = o.receiver;
-    Start {
-        ok: false,
-        state: State {
-            receiver: receiver,
-            pdus: 0,
-            bytes: 0,
-        },
-    }
-}
-
-// Says what came of a saved state: what is wrong, or how far the drive is. Answers whether it can go on.
-fn say_loaded(host: &Host, label: &[u8], ok: bool, refusal: u32, pdus: u64, bytes: u64) -> bool {
-    if !ok {
-        host.fail(label);
-        return false;
-    }
-    if refusal != 0 {
-        refused(host, label, refusal);
-        return false;
-    }
-    let mut line = [0u8; 4800];
-    let n = text::put(&mut line, 0, label);
-    let k = text::fill(
-        &mut line,
-        n,
+// Says how far a drive is.
+fn say_goes_on(host: &Host, label: &[u8], state: State) {
+    let mut line = Line::<4800>::new();
+    line.put(label);
+    line.fill(
         b": goes on after @ PDUs and @ bytes of their log\n",
-        &[pdus, bytes],
+        &[state.pdus, state.bytes],
     );
-    host.write_all(host::STDERR, &line[..k]);
-    true
+    host.write_all(host::STDERR, line.bytes());
 }
 
-// The state that an open file has, whose label this is; its held bytes go to the carry.
-fn resumed(host: &Host, fd: i32, label: &[u8], carry: &mut [u8]) -> Start {
-    let l = saved_state::load(host, fd, carry);
-    let state = l.state;
-    let ok = say_loaded(host, label, l.ok, l.refusal, state.pdus, state.bytes);
-    host.close(fd);
-    Start {
-        ok: ok,
-        state: state,
+// Says why a file has no state.
+fn say_wrong(host: &Host, label: &[u8], fault: Fault) {
+    match fault {
+        Fault::Failed => host.fail(label),
+        Fault::Refused(refusal) => refused(host, label, refusal),
     }
 }
 
-// How a run begins: as the file of `--resume` has it, or with a receiver that is opened. If it cannot begin, says why.
-pub fn begin(host: &Host, mode: u8, stream: u8, register: u8, carry: &mut [u8]) -> Start {
+// The state that an open file has, which is said, or what is wrong; its held bytes go to the carry.
+fn resumed(host: &Host, file: &File, carry: &mut [u8]) -> Option<State> {
+    let loaded = State::load(host, file.fd, carry);
+    match loaded {
+        Ok(state) => say_goes_on(host, file.label.bytes(), state),
+        Err(fault) => say_wrong(host, file.label.bytes(), fault),
+    }
+    host.close(file.fd);
+    loaded.ok()
+}
+
+// How the drive stands where a run begins: as the file of `--resume` has it, or with a receiver that is opened. If it cannot begin, says why.
+pub fn begin(host: &Host, mode: u8, stream: u8, register: u8, carry: &mut [u8]) -> Option<State> {
     if !options::given(host, Command::Log, Opt::Resume) {
         return opened(host, mode, stream, register);
     }
-    let mut label = files::label_buffer();
-    let file = files::opened(host, Command::Log, Opt::Resume, &mut label);
-    if file.fd < 0 {
-        return none();
-    }
-    let n = file.length;
-    resumed(host, file.fd, &label[..n], carry)
+    let file = files::opened(host, Command::Log, Opt::Resume)?;
+    resumed(host, &file, carry)
 }
 
-// What came of passing over so many records of a file, by a buffer: WHOLE, or what came of the reading that ended it.
-fn passed(host: &Host, fd: i32, many: u64, buf: &mut [u8]) -> u8 {
-    let mut left = many;
-    while 0 < left {
-        let r = records::read(host, fd, buf);
-        if r.status != records::WHOLE {
-            return r.status;
-        }
-        left -= 1;
+// Passes over so many records of a file, by a buffer, up to one that is not whole.
+fn passed(host: &Host, fd: Fd, many: u64, buf: &mut [u8]) -> Result<(), Stop> {
+    for _ in 0..many {
+        records::read(host, fd, buf)?;
     }
-    records::WHOLE
+    Ok(())
 }
 
 // Passes over the records of so many PDUs in a file, where `--skip` is given and there is one. Answers whether they are there; if not, says so with its label.
-pub fn pass_over(host: &Host, fd: i32, label: &[u8], many: u64) -> bool {
-    if !options::given(host, Command::Log, Opt::Skip) | (fd < 0) {
+pub fn pass_over(host: &Host, file: Option<Fd>, label: &[u8], many: u64) -> bool {
+    let Some(fd) = file else {
+        return true;
+    };
+    if !options::given(host, Command::Log, Opt::Skip) {
         return true;
     }
     let mut buf = [0u8; 65535];
     match passed(host, fd, many, &mut buf) {
-        records::WHOLE => true,
-        records::FAILED => {
+        Ok(()) => true,
+        Err(Stop::Failed) => {
             host.fail(label);
             false
         }
-        _ => {
+        Err(Stop::End | Stop::Cut | Stop::Long) => {
             files::say_number(
                 host,
                 label,
@@ -223,21 +197,21 @@ pub fn pass_over(host: &Host, fd: i32, label: &[u8], many: u64) -> bool {
 }
 
 // The name of the file of `--save`; nothing where none is asked for.
-pub fn put_path(host: &Host, path: &mut [u8]) -> usize
-    ensures { IsPrefixLen result path.new }
-{
-    options::value(host, Command::Log, Opt::Save, path)
+pub fn path(host: &Host) -> Line<4096> {
+    let mut value = io::buffer();
+    let n = options::value(host, Command::Log, Opt::Save, &mut value);
+    let mut path = Line::new();
+    path.put(&value[..n]);
+    path
 }
 
 // Puts how the drive stands into the file of a name that is taken for it. Answers whether that went well; if not, the file goes.
 fn first_state(host: &Host, state: State, carry: &[u8]) -> bool {
-    let mut path = io::buffer();
-    let n = put_path(host, &mut path);
-    if saved_state::save(host, &path[..n], state, carry) {
-        return true;
+    let saved = state.save(host, path(host).bytes(), carry);
+    if !saved {
+        files::unmake(host, Command::Log, Opt::Save);
     }
-    files::unmake(host, Command::Log, Opt::Save);
-    false
+    saved
 }
 
 // Makes the file of `--save`, where one is asked for, with how the drive stands. Answers whether that went well; if not, says why, and there is none.
@@ -245,11 +219,9 @@ pub fn make(host: &Host, state: State, carry: &[u8]) -> bool {
     if !options::given(host, Command::Log, Opt::Save) {
         return true;
     }
-    let mut label = files::label_buffer();
-    let file = files::opened(host, Command::Log, Opt::Save, &mut label);
-    if file.fd < 0 {
+    let Some(file) = files::opened(host, Command::Log, Opt::Save) else {
         return false;
-    }
+    };
     host.close(file.fd);
     first_state(host, state, carry)
 }
