@@ -1,6 +1,11 @@
-// The packet log as comma-separated values: its lines, and what each one says; on `records` and the toolchain's `bytes` and `check`.
+// The packet log as comma-separated values: its lines, and what each one says; on `records` and `text`.
 #![tactic(auto)]
 
-pub mod entry;
+mod entry;
 mod fields;
-pub mod lines;
+mod lines;
+mod wrong;
+
+pub use entry::{Cause, Entry, Fate, Loss, Origin};
+pub use lines::{Line, Lines, Stop};
+pub use wrong::Wrong;
