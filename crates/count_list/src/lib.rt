@@ -2,187 +2,128 @@
 // `bytes`.
 #![tactic(auto)]
 
-ghost use Rattle.std.specs.Prelude.{◌≡◌, ◌<◌};
+ghost use Rattle.std.specs.Prelude.{◌≡◌, ◌<◌, ◌≤◌, length, IfSome};
 
-use host::Host;
+use host::{Fd, Host};
 
-// How a list stands: it goes on, it is read, a byte is neither a digit nor a blank, or a read failed and errno names why.
-pub const GOING: u8 = 0;
+// What is wrong with a list: a byte of a line, counted from 1, is neither a digit nor a blank; or a read failed, and errno names why.
+#[derive(Clone, Copy, Debug, PartialEq, Eq)]
+pub enum Wrong {
+    Strange(u64),
+    Failed,
+}
 
-pub const READ: u8 = 1;
+// Why a list is not read on: all of it, or as much as there is room for, is read, and so many counts are stored; or something is wrong.
+#[derive(Clone, Copy, Debug, PartialEq, Eq)]
+enum Stop {
+    Read(usize),
+    Wrong(Wrong),
+}
 
-pub const STRANGE: u8 = 2;
-
-pub const FAILED: u8 = 3;
-
-// A list so far: how it stands, how many counts are stored, whether one is begun and its value so far, and the line that is read, from 1.
+// A list so far: how many counts are stored, the value so far of one that is begun, and the line that is read, from 1.
 #[derive(Clone, Copy)]
-pub struct List {
-    pub status: u8,
-    pub count: usize,
-    pub begun: bool,
-    pub value: u32,
-    pub line: u64,
+struct List {
+    count: usize,
+    begun: Option<u32>,
+    line: u64,
 }
 
-fn empty() -> List {
-    List {
-        status: GOING,
-        count: 0,
-        begun: false,
-        value: 0,
-        line: 1,
+impl List {
+    // The list after a digit: a value that would be too large is the largest.
+    fn longer(self, digit: u8) -> List {
+        let value = self.begun.unwrap_or(0);
+        List {
+            begun: Some(value.saturating_mul(10).saturating_add(u32::from(digit))),
+            ..self
+        }
     }
-}
 
-fn stopped(list: List, status: u8) -> List {
-    List {
-        status: status,
-        count: list.count,
-        begun: false,
-        value: 0,
-        line: list.line,
-    }
-}
-
-fn wide(x: u8) -> u32
-    ensures { result ≡ x }
-{
-    x as u32
-}
-
-// A value with one more digit, or the largest where it would be more.
-fn with_digit(value: u32, digit: u8) -> u32
-    requires { digit < 10 }
-{
-    if 429496728 < value {
-        return 4294967295;
-    }
-    value * 10 + wide(digit)
-}
-
-// The list after a digit.
-fn longer(list: List, byte: u8) -> List {
-    if byte < 48 {
-        return stopped(list, STRANGE);
-    }
-    if 57 < byte {
-        return stopped(list, STRANGE);
-    }
-    List {
-        status: GOING,
-        count: list.count,
-        begun: true,
-        value: with_digit(list.value, byte - 48),
-        line: list.line,
-    }
-}
-
-// The list after a blank: a count that is begun is stored, and where there is no room for it, the list is read.
-fn stored(list: List, counts: &mut [u32], line: u64) -> List {
-    let at = list.count;
-    if !list.begun {
-        return List {
-            status: GOING,
-            count: at,
-            begun: false,
-            value: 0,
-            line: line,
+    // The list after a blank: a count that is begun is stored, and where there is no room for it, the list is read.
+    fn stored(self, counts: &mut [u32]) -> Result<List, Stop> {
+        let Some(value) = self.begun else {
+            return Ok(self);
         };
-    }
-    if counts.len() <= at {
-        return stopped(list, READ);
-    }
-    counts[at] = list.value;
-    List {
-        status: GOING,
-        count: at + 1,
-        begun: false,
-        value: 0,
-        line: line,
-    }
-}
-
-// The list after a byte.
-fn after(list: List, byte: u8, counts: &mut [u32]) -> List {
-    match byte {
-        b' ' => stored(list, counts, list.line),
-        9 => stored(list, counts, list.line),
-        13 => stored(list, counts, list.line),
-        10 => stored(list, counts, std::num::wrapping_add_u64(list.line, 1)),
-        _ => longer(list, byte),
-    }
-}
-
-// The list after a block of text.
-fn after_block(start: List, block: &[u8], counts: &mut [u32]) -> List {
-    let mut list = start;
-    let mut i: usize = 0;
-    while i < block.len() {
-        let next = after(list, block[i], counts);
-        list = next;
-        if list.status != GOING {
-            return list;
+        if counts.len() <= self.count {
+            return Err(Stop::Read(self.count));
         }
-        i += 1;
+        counts[self.count] = value;
+        Ok(List {
+            count: self.count + 1,
+            begun: None,
+            ..self
+        })
     }
-    list
+
+    // The list after a byte.
+    fn after(self, byte: u8, counts: &mut [u32]) -> Result<List, Stop> {
+        match byte {
+            b' ' | b'\t' | b'\r' => self.stored(counts),
+            b'\n' => {
+                let next = self.stored(counts)?;
+                Ok(List {
+                    line: next.line.wrapping_add(1),
+                    ..next
+                })
+            }
+            b'0'..=b'9' => Ok(self.longer(byte - b'0')),
+            _ => Err(Stop::Wrong(Wrong::Strange(self.line))),
+        }
+    }
+
+    // The list after a block of text.
+    fn after_block(self, block: &[u8], counts: &mut [u32]) -> Result<List, Stop> {
+        let mut list = self;
+        for &byte in block {
+            list = list.after(byte, &mut *counts)?;
+        }
+        Ok(list)
+    }
+
+    // The list after the next block of a file; at the file's end it is read.
+    fn turn(self, host: &Host, fd: Fd, buf: &mut [u8], counts: &mut [u32]) -> Result<List, Stop> {
+        let got = records::fill(host, fd, &mut *buf);
+        let next = self.after_block(&buf[..got.length], &mut *counts)?;
+        match got.stop {
+            None => Ok(next),
+            Some(records::Stop::Failed) => Err(Stop::Wrong(Wrong::Failed)),
+            Some(_) => {
+                let last = next.stored(counts)?;
+                Err(Stop::Read(last.count))
+            }
+        }
+    }
 }
 
-// The list at the file's end, or where a read failed.
-fn ended(list: List, failed: bool, counts: &mut [u32]) -> List {
-    if failed {
-        return stopped(list, FAILED);
-    }
-    let last = stored(list, counts, list.line);
-    stopped(last, READ)
-}
-
-// The list after the next block of a file.
-fn turn(host: &Host, fd: i32, list: List, buf: &mut [u8], counts: &mut [u32]) -> List {
-    let got = records::fill(host, fd, buf);
-    let next = after_block(list, &buf[..got.length], counts);
-    if next.status != GOING {
-        return next;
-    }
-    if got.status == records::WHOLE {
-        return next;
-    }
-    ended(next, got.status == records::FAILED, counts)
-}
-
-// Reads the counts of a file into a row, as many as there is room for. The blocks are counted down from a number that no file uses up, since a
+// Reads the counts of a file into a row, as many as there is room for, and answers how many. The number of blocks has a bound that no file comes to, since a
 // proved loop has to end, and nothing says that a file does.
-pub fn read(host: &Host, fd: i32, counts: &mut [u32]) -> List {
+pub fn read(host: &Host, fd: Fd, counts: &mut [u32]) -> Result<usize, Wrong> {
     let mut buf = io::large_buffer();
-    let mut list = empty();
-    let mut turns = u64::MAX;
-    while 0 < turns {
-        let next = turn(host, fd, list, &mut buf, counts);
-        list = next;
-        if list.status != GOING {
-            return list;
+    let mut list = List {
+        count: 0,
+        begun: None,
+        line: 1,
+    };
+    for _ in 0..u64::MAX {
+        match list.turn(host, fd, &mut buf, &mut *counts) {
+            Ok(next) => list = next,
+            Err(Stop::Read(count)) => return Ok(count),
+            Err(Stop::Wrong(wrong)) => return Err(wrong),
         }
-        turns -= 1;
     }
-    list
+    Err(Wrong::Failed)
 }
 
-// Reads the counts of a text into a row, as many as there is room for.
-pub fn from_text(text: &[u8], counts: &mut [u32]) -> List {
-    let mut list = empty();
-    let mut at: usize = 0;
-    while at <= text.len() {
-        let end = text::find(text, at, text.len(), b',');
-        let number = text::parse(&text[at..end]);
-        if !number.ok {
-            return stopped(list, STRANGE);
+// Reads the counts of a text into a row, as many as there is room for. Answers how many; nothing where the text is no list.
+pub fn from_text(text: &[u8], counts: &mut [u32]) -> Option<usize>
+    ensures { IfSome result (λ count. count ≤ length counts.new) }
+{
+    let mut count: usize = 0;
+    for part in text.split(|&byte| byte == b',') {
+        let number = text::parse(part)?;
+        if count < counts.len() {
+            counts[count] = number;
+            count += 1;
         }
-        list.begun = true;
-        list.value = number.value;
-        let next = stored(list, counts, 1);
-        list = next;
-        at = end + 1;
     }
-    stopped(list, READ)
+    Some(count)
 }
