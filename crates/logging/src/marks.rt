@@ -1,65 +1,49 @@
 // The file of marks: for each PDU a record, whose bytes are the places of those header bytes that are marked doubtful (document 02, Ask 3).
+ghost use Rattle.std.specs.Prelude.{IfOk};
 ghost use Rattle.io.specs.Counts.{IsPrefixLen};
 
-use host::Host;
-use records::Record;
+use crate::Ending;
+use host::{Fd, Host};
+use records::Stop;
 
-// In place of a file of marks where there is none.
-pub const NONE: i32 = -1;
+// What is wrong with the file: it ends before the marks of a PDU, or inside them, or cannot be read, or goes on after those of the last PDU.
+#[derive(Clone, Copy, Debug, PartialEq, Eq)]
+pub enum Fault {
+    Missing,
+    Cut,
+    Unread,
+    Left,
+}
 
-// How a run stands where the file ends before the marks of a PDU, or inside them, or cannot be read, or goes on after those of the last PDU.
-pub const MISSING: u8 = 6;
-
-pub const CUT: u8 = 7;
-
-pub const UNREAD: u8 = 8;
-
-pub const LEFT: u8 = 9;
-
-// How a run stands after what came of reading a PDU's marks.
-fn status_of(status: u8) -> u8 {
-    match status {
-        records::WHOLE => records::WHOLE,
-        records::END => MISSING,
-        records::CUT => CUT,
-        _ => UNREAD,
+impl From<Stop> for Fault {
+    // What is wrong where a PDU's marks are not read.
+    fn from(stop: Stop) -> Fault {
+        match stop {
+            Stop::End => Fault::Missing,
+            Stop::Cut => Fault::Cut,
+            Stop::Long | Stop::Failed => Fault::Unread,
+        }
     }
 }
 
-// Reads the marks of the next PDU to the buffer's start; where there is no file of marks, it has none.
-pub fn next(host: &Host, fd: i32, buf: &mut [u8]) -> Record
-    ensures { IsPrefixLen result.length buf.new }
+// Reads the marks of the next PDU to the buffer's start; where there is no file of marks, it has none. Answers how many.
+pub fn next(host: &Host, file: Option<Fd>, buf: &mut [u8]) -> Result<usize, Fault>
+    ensures { IfOk result (λ n. IsPrefixLen n buf.new) }
 {
-    if fd < 0 {
-        return Record {
-            status: records::WHOLE,
-            length: 0,
-        };
-    }
-    let r = records::read(host, fd, buf);
-    Record {
-        status: status_of(r.status),
-        length: r.length,
-    }
+    let Some(fd) = file else {
+        return Ok(0);
+    };
+    Ok(records::read(host, fd, buf)?)
 }
 
-// How a run stands after what came of reading on, where all PDUs are read.
-fn last_status(status: u8) -> u8 {
-    match status {
-        records::END => records::END,
-        records::FAILED => UNREAD,
-        _ => LEFT,
+// How a run ends after what stopped its records: where all PDUs are read, no marks may be left.
+pub fn last(host: &Host, file: Option<Fd>, buf: &mut [u8], stop: Stop) -> Ending {
+    let (Stop::End, Some(fd)) = (stop, file) else {
+        return Ending::Records(stop);
+    };
+    match records::read(host, fd, buf) {
+        Err(Stop::End) => Ending::Records(Stop::End),
+        Err(Stop::Failed) => Ending::Marks(Fault::Unread),
+        Ok(_) | Err(Stop::Cut | Stop::Long) => Ending::Marks(Fault::Left),
     }
-}
-
-// How a run stands after a record that is no PDU: where all PDUs are read, no marks may be left.
-pub fn last(host: &Host, fd: i32, buf: &mut [u8], status: u8) -> u8 {
-    if status != records::END {
-        return status;
-    }
-    if fd < 0 {
-        return status;
-    }
-    let r = records::read(host, fd, buf);
-    last_status(r.status)
 }
