@@ -1,34 +1,38 @@
 // What the command line of `barzhilup log` asks for; on `interruption`, `beside_files` and `formats`.
 #![tactic(auto)]
 
-ghost use Rattle.std.specs.Prelude.{◌≤◌};
+ghost use Rattle.std.specs.Prelude.{◌≤◌, IfSome};
 
+use formats::Format;
 use host::Host;
 use options::{Command, Opt};
-use text::Number;
+use std::num::NonZeroU32;
 
-// What is asked for; ok where mode, stream, the register that CRCs start with, the entitled programs, format and the records of a frame are given as they can
-// be, and the options go together.
-#[derive(Clone, Copy)]
+// The mode that is asked for: a number, or with the stream that of the first PDU that can be read.
+#[derive(Clone, Copy, Debug, PartialEq, Eq)]
+pub enum Mode {
+    Number(u8),
+    Auto,
+}
+
+// What is asked for.
+#[derive(Clone, Copy, Debug)]
 pub struct Job {
-    pub ok: bool,
-    // Whether mode and stream are those of the first PDU that can be read.
-    pub auto: bool,
+    pub mode: Mode,
+    pub stream: u8,
+    // The register that CRCs start with.
+    pub register: u8,
     // Whether bytes at which no record begins are passed over.
     pub resync: bool,
-    pub mode: u8,
-    pub stream: u8,
-    pub register: u8,
-    pub format: u8,
-    // How many records are received in one call, 1 to 64; 0 where that is not asked for.
-    pub batch: usize,
+    pub format: Format,
+    // How many records are received in one call, 1 to 64, where that is asked for.
+    pub batch: Option<NonZeroU32>,
 }
 
 // A number of one byte, 0 where its option is not given.
-fn number(host: &Host, option: Opt) -> Number
-    ensures { result.value ≤ 255 }
-{
-    options::number(host, Command::Log, option, 0, 0, 255)
+fn number(host: &Host, option: Opt) -> Option<u8> {
+    let number = options::number(host, Command::Log, option, 0, 0, 255)?;
+    Some(number as u8)
 }
 
 // Whether mode and stream are to be those of the first PDU that can be read.
@@ -38,14 +42,13 @@ fn is_auto(host: &Host) -> bool {
     check::same(&value[..n], b"auto")
 }
 
-// The mode, 0 where it is not given as a number.
-fn mode_asked(host: &Host, auto: bool) -> Number
-    ensures { result.value ≤ 255 }
-{
-    if auto {
-        return Number { ok: true, value: 0 };
+// The mode that is asked for.
+fn mode_asked(host: &Host) -> Option<Mode> {
+    if is_auto(host) {
+        return Some(Mode::Auto);
     }
-    number(host, Opt::Mode)
+    let mode = number(host, Opt::Mode)?;
+    Some(Mode::Number(mode))
 }
 
 // Whether an option by which PDUs are not read one by one from one file is given.
@@ -55,34 +58,26 @@ fn is_otherwise(host: &Host) -> bool {
         | options::given(host, Command::Log, Opt::Second)
 }
 
-fn format_named(name: &[u8]) -> u8 {
-    if check::same(name, b"words") {
-        return formats::WORDS;
+fn format_named(name: &[u8]) -> Option<Format> {
+    match name {
+        b"words" => Some(Format::Words),
+        b"text" => Some(Format::Text),
+        b"csv" => Some(Format::Csv),
+        b"json" => Some(Format::Json),
+        b"records" => Some(Format::Records),
+        _ => None,
     }
-    if check::same(name, b"text") {
-        return formats::TEXT;
-    }
-    if check::same(name, b"csv") {
-        return formats::CSV;
-    }
-    if check::same(name, b"json") {
-        return formats::JSON;
-    }
-    if check::same(name, b"records") {
-        return formats::RECORDS;
-    }
-    formats::NO_FORMAT
 }
 
 // The format that is asked for; where there is no such format, says so.
-fn format_asked(host: &Host) -> u8 {
+fn format_asked(host: &Host) -> Option<Format> {
     if !options::given(host, Command::Log, Opt::Format) {
-        return formats::TEXT;
+        return Some(Format::Text);
     }
     let mut name = io::buffer();
     let n = options::value(host, Command::Log, Opt::Format, &mut name);
     let format = format_named(&name[..n]);
-    if format == formats::NO_FORMAT {
+    if format.is_none() {
         options::complain_of(
             host,
             Command::Log,
@@ -145,16 +140,10 @@ fn can_pair(host: &Host) -> bool {
 
 // Whether every option is one that is known, with its value, and the files go together; if not, says what is wrong.
 pub fn check(host: &Host) -> bool {
-    if !options::check(host, Command::Log) {
-        return false;
-    }
-    if !is_apart(host, Opt::Marks) {
-        return false;
-    }
-    if !is_apart(host, Opt::Second) {
-        return false;
-    }
-    can_pair(host)
+    options::check(host, Command::Log)
+        && is_apart(host, Opt::Marks)
+        && is_apart(host, Opt::Second)
+        && can_pair(host)
 }
 
 // Whether the log that is summed up has a name; if not, says so.
@@ -170,7 +159,7 @@ fn has_name(host: &Host) -> bool {
 // Whether the summary of a log is asked for alone, as one argument or as two after the subcommand; if not, says so.
 pub fn is_alone(host: &Host) -> bool {
     let mut first = [0u8; 16];
-    let n = host.arg(2, &mut first);
+    let n = host.arg(2, &mut first).unwrap_or(0);
     let count = host.arg_count();
     if (count == 3) | ((count == 4) & check::same(&first[..n], b"--summary")) {
         return has_name(host);
@@ -184,43 +173,49 @@ pub fn is_alone(host: &Host) -> bool {
     false
 }
 
-pub fn asked(host: &Host) -> Job {
-    let auto = is_auto(host);
+// Whether an option by which PDUs are read one by one from one file goes with the others, where it is given; if not, says so in these words.
+fn is_one_by_one(host: &Host, option: Opt, given: bool, words: &[u8]) -> bool {
+    is_right(host, option, given & is_otherwise(host), words)
+}
+
+// Whether the options go together; if not, says why.
+fn go_together(host: &Host, auto: bool, resync: bool) -> bool {
+    can_batch(host)
+        & is_one_by_one(
+            host,
+            Opt::Resync,
+            resync,
+            b": not with --batch, --marks or --second",
+        )
+        & is_one_by_one(
+            host,
+            Opt::Mode,
+            auto,
+            b" auto: not with --batch, --marks or --second",
+        )
+        & interruption::is_asked(host)
+        & beside_files::asked::is_asked(host)
+}
+
+// What is asked for, where mode, stream, the register that CRCs start with, the entitled programs, format and the records of a frame are given as they can be, and
+// the options go together; says what is wrong with each that is not.
+pub fn asked(host: &Host) -> Option<Job> {
     let resync = options::given(host, Command::Log, Opt::Resync);
-    let mode = mode_asked(host, auto);
+    let mode = mode_asked(host);
     let stream = number(host, Opt::Stream);
     let register = number(host, Opt::CrcStart);
     let programs = opening::is_asked(host);
     let format = format_asked(host);
     let batch = options::number(host, Command::Log, Opt::Batch, 0, 1, 64);
-    Job {
-        ok: mode.ok
-            & stream.ok
-            & register.ok
-            & programs
-            & (format != formats::NO_FORMAT)
-            & batch.ok
-            & can_batch(host)
-            & is_right(
-                host,
-                Opt::Resync,
-                resync & is_otherwise(host),
-                b": not with --batch, --marks or --second",
-            )
-            & is_right(
-                host,
-                Opt::Mode,
-                auto & is_otherwise(host),
-                b" auto: not with --batch, --marks or --second",
-            )
-            & interruption::is_asked(host)
-            & beside_files::asked::is_asked(host),
-        auto: auto,
-        resync: resync,
-        mode: mode.value as u8,
-        stream: stream.value as u8,
-        register: register.value as u8,
-        format: format,
-        batch: batch.value as usize,
+    if !(programs & go_together(host, mode == Some(Mode::Auto), resync)) {
+        return None;
     }
+    Some(Job {
+        mode: mode?,
+        stream: stream?,
+        register: register?,
+        resync,
+        format: format?,
+        batch: NonZeroU32::new(batch?),
+    })
 }
