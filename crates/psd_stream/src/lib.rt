@@ -1,4 +1,4 @@
-// The PSD of each PDU: the same bytes in every one, or the next bytes of a file; on `records` and `files`.
+// The PSD of each PDU: the same bytes in every one, or the next bytes of a file; on `records`.
 //
 // The bytes stand in a lent buffer.
 #![tactic(auto)]
