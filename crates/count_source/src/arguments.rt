@@ -1,10 +1,9 @@
 // What the command line asks for.
-ghost use Rattle.std.specs.Prelude.{◌≤◌};
-ghost use Rattle.io.specs.Counts.{IsPrefixLen};
+ghost use Rattle.std.specs.Prelude.{◌≤◌, IfSome};
 
+use files::Label;
 use host::Host;
 use options::{Command, Opt};
-use text::Number;
 
 // Whether counts are given twice; says so.
 fn is_twofold(host: &Host) -> bool {
@@ -24,50 +23,45 @@ fn is_twofold(host: &Host) -> bool {
 
 // Whether every option is one that is known, with its value, and they go together; if not, says what is wrong.
 pub fn check(host: &Host) -> bool {
-    if !transmission::check(host, Command::Latency) {
-        return false;
-    }
-    if !files::is_apart(
-        host,
-        Command::Latency,
-        Opt::Svg,
-        Opt::Out,
-        b": standard output has the table",
-    ) {
-        return false;
-    }
-    !is_twofold(host)
+    transmission::check(host, Command::Latency)
+        && files::is_apart(
+            host,
+            Command::Latency,
+            Opt::Svg,
+            Opt::Out,
+            b": standard output has the table",
+        )
+        && !is_twofold(host)
 }
 
-// The latency that is to be drawn, if one is given.
-pub fn draw(host: &Host) -> Number
-    ensures { result.value ≤ 7 }
+// The latency that is to be drawn, 0 where none is given. Where it is none, says so and answers nothing.
+pub fn draw(host: &Host) -> Option<u8>
+    ensures { IfSome result (λ latency. latency ≤ 7) }
 {
-    options::number(host, Command::Latency, Opt::Draw, 0, 0, 7)
+    let latency = options::number(host, Command::Latency, Opt::Draw, 0, 0, 7)?;
+    Some(latency as u8)
 }
 
 // The label of what is read: the file, standard input or the option with the counts.
-pub fn put_label(host: &Host, out: &mut [u8]) -> usize
-    ensures { IsPrefixLen result out.new }
-{
-    if options::given(host, Command::Latency, Opt::Counts) {
-        let n = options::put_program(out, Command::Latency);
-        return text::put(out, n, b": --counts");
+pub fn label(host: &Host) -> Label {
+    if !options::given(host, Command::Latency, Opt::Counts) {
+        return files::label(host, Command::Latency, Opt::In);
     }
-    files::put_label(host, out, Command::Latency, Opt::In)
+    let mut label = Label::new();
+    label.put(Command::Latency.words());
+    label.put(b": --counts");
+    label
 }
 
-// The counts of the option that has them into a row. Answers how many; 0 where it is not given. Where it has other things, says so and answers
-// that it is not ok.
-pub fn from_option(host: &Host, counts: &mut [u32]) -> Listed {
+// The counts of the option that has them into a row. Answers how many; 0 where it is not given. Where it has other things, says so and answers nothing.
+pub fn from_option(host: &Host, counts: &mut [u32]) -> Option<usize> {
     if !options::given(host, Command::Latency, Opt::Counts) {
-        return Listed { ok: true, count: 0 };
+        return Some(0);
     }
     let mut value = io::buffer();
     let n = options::value(host, Command::Latency, Opt::Counts, &mut value);
-    let list = count_list::from_text(&value[..n], counts);
-    let ok = list.status == count_list::READ;
-    if !ok {
+    let listed = count_list::from_text(&value[..n], counts);
+    if listed.is_none() {
         options::complain_of(
             host,
             Command::Latency,
@@ -76,15 +70,5 @@ pub fn from_option(host: &Host, counts: &mut [u32]) -> Listed {
             &value[..n],
         );
     }
-    Listed {
-        ok: ok,
-        count: list.count,
-    }
-}
-
-// Counts in a row: whether they are there, and how many.
-#[derive(Clone, Copy)]
-pub struct Listed {
-    pub ok: bool,
-    pub count: usize,
+    listed
 }

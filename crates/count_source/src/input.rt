@@ -1,200 +1,101 @@
 // Where the counts come from: a text, or packets that are packed as `generate` packs them.
-use crate::arguments::Listed;
-use host::Host;
+use count_list::Wrong;
+use host::{Fd, Host};
 use options::{Command, Opt};
+use packets::Source;
 use packets::window::Window;
-use packets::{Source, window};
-use sending::{Run, Task, trial};
+use sending::{Buffers, Course, Extra, Run, Way, trial};
 use transmission::Transmission;
-use writer::Writer;
 
-fn none() -> Listed {
-    Listed {
-        ok: false,
-        count: 0,
-    }
-}
+// The label of what is said of settings.
+const LABEL: &[u8] = b"barzhilup latency";
 
 // The counts of a text; says why they cannot be read.
-fn from_text(host: &Host, label: &[u8], input: i32, counts: &mut [u32]) -> Listed {
-    let list = count_list::read(host, input, counts);
-    let status = list.status;
-    match status {
-        count_list::STRANGE => files::say_number(
-            host,
-            label,
-            b": line ",
-            list.line,
-            b": not counts with blanks between them\n",
-        ),
-        count_list::FAILED => host.fail(label),
-        _ => {}
-    }
-    Listed {
-        ok: status == count_list::READ,
-        count: list.count,
-    }
-}
-
-// Stores a count at a place, if there is room.
-fn put(counts: &mut [u32], at: usize, count: u32) {
-    if at < counts.len() {
-        counts[at] = count;
+fn from_text(host: &Host, label: &[u8], input: Fd, counts: &mut [u32]) -> Option<usize> {
+    match count_list::read(host, input, counts) {
+        Ok(count) => Some(count),
+        Err(Wrong::Strange(line)) => {
+            files::say_number(
+                host,
+                label,
+                b": line ",
+                line,
+                b": not counts with blanks between them\n",
+            );
+            None
+        }
+        Err(Wrong::Failed) => {
+            host.fail(label);
+            None
+        }
     }
 }
 
-// Stores how many packets ended in the last PDU of a run. Answers the place after it.
-fn note(counts: &mut [u32], at: usize, run: Run) -> usize {
-    put(counts, at, run.ended);
-    std::num::wrapping_add_usize(at, 1)
-}
-
-// The run after its last PDU, and how many counts are stored.
-#[derive(Clone, Copy)]
-struct Stored {
-    run: Run,
-    count: usize,
-}
-
-// Packs packets, and stores how many end in each PDU, until there are no more or no room is left.
+// Packs packets, and stores how many end in each PDU, until there are no more or no room is left. Answers the run then, and how many counts are stored.
 fn packed(
     host: &Host,
-    task: Task,
-    label: &[u8],
-    psd: &[u8],
-    lengths: &mut [u16],
-    bytes: &mut [u8],
-    pdu: &mut [u8],
+    way: Way,
+    extra: Extra,
+    length: usize,
     start: Run,
     counts: &mut [u32],
-) -> Stored {
+) -> (Run, usize) {
+    let mut buffers = Buffers::new(length);
     let mut run = start;
-    let mut count: usize = 0;
-    let mut left = counts.len();
-    while 0 < left {
-        let next = sending::turn(
-            host,
-            task,
-            label,
-            b"barzhilup latency",
-            psd,
-            lengths,
-            bytes,
-            pdu,
-            run,
-        );
-        run = next;
-        if !run.going {
-            return Stored {
-                run: run,
-                count: count,
-            };
+    for k in 0..counts.len() {
+        run = run.turn(host, way, extra, &mut buffers);
+        if run.course != Course::Going {
+            return (run, k);
         }
-        count = note(counts, count, run);
-        left -= 1;
+        counts[k] = run.ended;
     }
-    Stored {
-        run: run,
-        count: count,
-    }
+    (run, counts.len())
 }
 
 // The packets of a file before the first is read: records, or ADTS frames.
-fn window_of(host: &Host, input: i32) -> Window {
+fn window_of(host: &Host, input: Fd) -> Window {
     let source = Source {
         fd: input,
         adts: options::given(host, Command::Latency, Opt::Adts),
     };
-    window::begin(source, options::given(host, Command::Latency, Opt::Resync))
+    Window::new(source, options::given(host, Command::Latency, Opt::Resync))
 }
 
-// Packs packets into PDUs of a length.
+// Reads the PSD, tries the settings, opens the file of packets, and packs them.
 fn from_packets(
     host: &Host,
     label: &[u8],
-    input: i32,
     asked: Transmission,
-    psd: &[u8],
-    writer: Writer,
     counts: &mut [u32],
-) -> Listed {
-    let mut lengths = [0u16; 256];
-    let mut bytes = io::large_buffer();
-    let mut pdu = [0u8; trial::OVER];
-    let size = trial::size_for(asked.length);
-    let settings = asked.settings;
-    let task = Task {
-        output: sending::NOWHERE,
-        settings: settings,
-    };
-    let done = packed(
-        host,
-        task,
-        label,
-        psd,
-        &mut lengths,
-        &mut bytes,
-        &mut pdu[0..size],
-        sending::begin(writer, window_of(host, input)),
-        counts,
-    );
-    let run = done.run;
-    window::say_places(host, Command::Latency, run.window);
-    Listed {
-        ok: run.ok,
-        count: done.count,
-    }
-}
-
-// Reads the PSD, tries the settings, and opens the file of packets.
-fn with_writer(
-    host: &Host,
-    label: &[u8],
-    asked: Transmission,
-    writer: Writer,
-    counts: &mut [u32],
-) -> Listed {
+) -> Option<usize> {
+    let writer = writer::open(asked.mode, asked.stream, asked.register).writer;
     let mut psd = [0u8; 256];
-    let read = transmission::psd::read(host, Command::Latency, &mut psd);
-    if read.status == records::FAILED {
-        return none();
+    let n = transmission::psd::read(host, Command::Latency, &mut psd)?;
+    let extra = Extra {
+        settings: asked.settings(),
+        psd: &psd[..n],
+    };
+    if !trial::is_taken(host, LABEL, extra, asked.length, writer) {
+        return None;
     }
-    let settings = asked.settings;
-    if !trial::is_taken(
-        host,
-        b"barzhilup latency",
-        settings,
-        &psd[..read.length],
-        asked.length,
-        writer,
-    ) {
-        return none();
-    }
-    let input = files::open(host, Command::Latency, Opt::In, label);
-    if input < 0 {
-        return none();
-    }
-    from_packets(
-        host,
-        label,
-        input,
-        asked,
-        &psd[..read.length],
-        writer,
-        counts,
-    )
+    let input = files::open(host, Command::Latency, Opt::In, label)?;
+    let way = Way {
+        from: label,
+        onto: LABEL,
+        output: None,
+    };
+    let start = Run::new(writer, window_of(host, input));
+    let (run, count) = packed(host, way, extra, asked.length, start, counts);
+    run.window.say_places(host, Command::Latency);
+    (run.course != Course::Failed).then_some(count)
 }
 
-// The counts that are asked for, where no option has them; what went wrong is said.
-pub fn read(host: &Host, label: &[u8], asked: Transmission, counts: &mut [u32]) -> Listed {
+// The counts that are asked for, where no option has them: into a row, as many as there is room for. Answers how many; where something went wrong, which is
+// said, nothing.
+pub fn read(host: &Host, label: &[u8], asked: Transmission, counts: &mut [u32]) -> Option<usize> {
     if options::given(host, Command::Latency, Opt::Packets) {
-        let opened = writer::open(asked.mode, asked.stream, asked.register);
-        let writer = opened.writer;
-        return with_writer(host, label, asked, writer, counts);
+        return from_packets(host, label, asked, counts);
     }
-    let input = files::open(host, Command::Latency, Opt::In, label);
-    if input < 0 {
-        return none();
-    }
+    let input = files::open(host, Command::Latency, Opt::In, label)?;
     from_text(host, label, input, counts)
 }
