@@ -1,9 +1,12 @@
 // What `barzhilup log` says on standard error, a line or more in one write, and how it is used; on `logging`, `apart` and `mode_table`.
 #![tactic(auto)]
 
+use apart::File;
 use host::{Host, STDERR};
-use logging::marks;
+use logging::{Ending, marks};
 use options::Command;
+use records::Stop;
+use text::Line;
 
 fn say(host: &Host, line: &[u8]) {
     host.write_all(STDERR, line);
@@ -12,43 +15,38 @@ fn say(host: &Host, line: &[u8]) {
 // Why no more PDUs are logged, after so many; nothing where all are, or where that is said already. PDUs are counted from 0; the next record is at a byte.
 pub fn ends(
     host: &Host,
-    status: u8,
+    ending: Ending,
     from: &[u8],
     marking: &[u8],
     onto: &[u8],
     pdus: u64,
     place: u64,
 ) {
-    match status {
-        records::END | logging::UNSAVED => {}
-        beside::PACKETS | beside::ADTS | beside::PSD | beside::LISTED | beside::SENT => {}
-        logging::UNWRITTEN => host.fail(onto),
-        marks::MISSING | marks::CUT | marks::UNREAD | marks::LEFT => {
-            marks_end(host, status, marking, pdus)
-        }
-        _ => record_ends(host, status, from, pdus, place),
+    match ending {
+        Ending::Records(Stop::End) | Ending::Unsaved | Ending::Beside(_) => {}
+        Ending::Unwritten => host.fail(onto),
+        Ending::Marks(fault) => marks_end(host, fault, marking, pdus),
+        Ending::Records(stop) => record_ends(host, stop, from, pdus, place),
     }
 }
 
 // What is wrong with the record of a PDU at a byte of a file: the file ends inside it, it is longer than any PDU, or it cannot be read.
-pub fn record_ends(host: &Host, status: u8, from: &[u8], pdu: u64, place: u64) {
-    if status == records::CUT {
-        files::say_number(host, from, b": ends inside the record of PDU ", pdu, b"\n");
-        return;
+pub fn record_ends(host: &Host, stop: Stop, from: &[u8], pdu: u64, place: u64) {
+    match stop {
+        Stop::Cut => {
+            files::say_number(host, from, b": ends inside the record of PDU ", pdu, b"\n")
+        }
+        Stop::Long => {
+            let mut line = Line::<4800>::new();
+            line.put(from);
+            line.fill(
+                b": the record of PDU @, at byte @, has a length over 20480, which no PDU has\n",
+                &[pdu, place],
+            );
+            say(host, line.bytes());
+        }
+        Stop::End | Stop::Failed => host.fail(from),
     }
-    if status != records::LONG {
-        host.fail(from);
-        return;
-    }
-    let mut line = [0u8; 4800];
-    let n = text::put(&mut line, 0, from);
-    let k = text::fill(
-        &mut line,
-        n,
-        b": the record of PDU @, at byte @, has a length over 20480, which no PDU has\n",
-        &[pdu, place],
-    );
-    say(host, &line[..k]);
 }
 
 // At how many places bytes were passed over, and how many bytes, if there were any.
@@ -56,55 +54,56 @@ pub fn passed(host: &Host, places: u64, bytes: u64) {
     if places == 0 {
         return;
     }
-    let mut line = [0u8; 128];
-    let n = text::fill(
-        &mut line,
-        0,
+    let mut line = Line::<128>::new();
+    line.fill(
         b"barzhilup log: places passed over @ (bytes @), each logged as a lost PDU\n",
         &[places, bytes],
     );
-    say(host, &line[..n]);
+    say(host, line.bytes());
 }
 
 // What is wrong with the file of marks, after so many PDUs.
-fn marks_end(host: &Host, status: u8, marking: &[u8], pdus: u64) {
-    match status {
-        marks::MISSING => {
-            files::say_number(
-                host,
-                marking,
-                b": ends before the marks of PDU ",
-                pdus,
-                b"\n",
-            )
-        }
-        marks::CUT => files::say_number(
+fn marks_end(host: &Host, fault: marks::Fault, marking: &[u8], pdus: u64) {
+    match fault {
+        marks::Fault::Missing => files::say_number(
+            host,
+            marking,
+            b": ends before the marks of PDU ",
+            pdus,
+            b"\n",
+        ),
+        marks::Fault::Cut => files::say_number(
             host,
             marking,
             b": ends inside the marks of PDU ",
             pdus,
             b"\n",
         ),
-        marks::LEFT => {
-            files::say_number(
-                host,
-                marking,
-                b": has marks of more than the ",
-                pdus,
-                b" PDUs\n",
-            )
-        }
-        _ => host.fail(marking),
+        marks::Fault::Left => files::say_number(
+            host,
+            marking,
+            b": has marks of more than the ",
+            pdus,
+            b" PDUs\n",
+        ),
+        marks::Fault::Unread => host.fail(marking),
     }
 }
 
-// What is wrong with one of two files, of which so many records were read and so many PDUs logged, and whose next record is at a byte; nothing where it has a
-// record for each.
-pub fn side_ends(host: &Host, status: u8, from: &[u8], records: u64, pdus: u64, place: u64) {
-    match status {
-        records::WHOLE => {}
-        records::END => shorter(host, from, records, pdus),
-        _ => record_ends(host, status, from, records, place),
+// What is wrong with one of two files, by what stopped its reading, of which so many records were read and so many PDUs logged, and whose next record is at a
+// byte; nothing where it has a record for each.
+pub fn side_ends(
+    host: &Host,
+    stop: Option<Stop>,
+    from: &[u8],
+    records: u64,
+    pdus: u64,
+    place: u64,
+) {
+    match stop {
+        None => {}
+        Some(Stop::End) => shorter(host, from, records, pdus),
+        Some(stop) => record_ends(host, stop, from, records, place),
     }
 }
 
@@ -113,35 +112,29 @@ fn shorter(host: &Host, from: &[u8], records: u64, pdus: u64) {
     if records == pdus {
         return;
     }
-    let mut line = [0u8; 4800];
-    let n = text::put(&mut line, 0, from);
-    let k = text::fill(
-        &mut line,
-        n,
+    let mut line = Line::<4800>::new();
+    line.put(from);
+    line.fill(
         b": has @ of @ PDUs: the others count as not come\n",
         &[records, pdus],
     );
-    say(host, &line[..k]);
+    say(host, line.bytes());
 }
 
 // What each of two files gives alone, and where the pieces are taken from, by the counts of both.
 pub fn copies(host: &Host, rows: &[u64]) {
-    let mut lines = [0u8; 512];
-    let n = counts::put_alone(
+    let mut lines = Line::<512>::new();
+    counts::put_alone(
         &mut lines,
-        0,
         b"barzhilup log: first copies",
-        apart::row_of(rows, 1),
+        File::First.row(rows),
     );
-    let m = counts::put_alone(
+    counts::put_alone(
         &mut lines,
-        n,
         b"barzhilup log: second copies",
-        apart::row_of(rows, 2),
+        File::Second.row(rows),
     );
-    let k = text::fill(
-        &mut lines,
-        m,
+    lines.fill(
         b"barzhilup log: pieces taken from the first copy @, from the second @, alike in both @\n",
         &[
             counts::at(rows, apart::FROM_FIRST),
@@ -149,7 +142,7 @@ pub fn copies(host: &Host, rows: &[u64]) {
             counts::at(rows, apart::ALIKE),
         ],
     );
-    say(host, &lines[..k]);
+    say(host, lines.bytes());
 }
 
 // More pairs were refused with 20 than PDUs were received: the two files may not have a record for each PDU.
@@ -162,35 +155,31 @@ pub fn out_of_step(host: &Host) {
 
 // What was received and logged.
 pub fn summary(host: &Host, pdus: u64, counts: &[u64]) {
-    let mut lines = io::buffer();
-    let n = counts::put_summary(&mut lines, pdus, counts);
-    say(host, &lines[..n]);
+    let mut lines = Line::<4096>::new();
+    counts::put_summary(&mut lines, pdus, counts);
+    say(host, lines.bytes());
 }
 
 // PDUs were refused, and none was received: the mode and the stream that are asked for may not be the file's.
 pub fn none_received(host: &Host, mode: u8, stream: u8) {
-    let mut line = [0u8; 128];
-    let n = text::fill(
-        &mut line,
-        0,
+    let mut line = Line::<128>::new();
+    line.fill(
         b"barzhilup log: no PDU was received: is this a file of PDUs of mode @, stream @?\n",
-        &[mode as u64, stream as u64],
+        &[u64::from(mode), u64::from(stream)],
     );
-    say(host, &line[..n]);
+    say(host, line.bytes());
 }
 
 // Every piece, or nearly every one, had a wrong CRC: the register that is asked for may not be the one that the file's CRCs start with.
 pub fn crcs_wrong(host: &Host, share: &[u8], register: u8) {
-    let mut line = [0u8; 128];
-    let mut n = text::put(&mut line, 0, b"barzhilup log: ");
-    n = text::put(&mut line, n, share);
-    n = text::fill(
-        &mut line,
-        n,
+    let mut line = Line::<128>::new();
+    line.put(b"barzhilup log: ");
+    line.put(share);
+    line.fill(
         b" CRCs were wrong: is @ the start of this file's CRCs (--crc-start)?\n",
-        &[register as u64],
+        &[u64::from(register)],
     );
-    say(host, &line[..n]);
+    say(host, line.bytes());
 }
 
 // All PDUs are logged, and packets among them were never sent: the last line.
@@ -203,10 +192,7 @@ pub fn never_sent(host: &Host) {
 
 // The help, on standard output: how the program is used, and the mode table.
 pub fn help(host: &Host) -> bool {
-    if !usage(host) {
-        return false;
-    }
-    mode_table::print(host, Command::Log)
+    usage(host) && mode_table::print(host, Command::Log)
 }
 
 // How the program is used, on standard output.
