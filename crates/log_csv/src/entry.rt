@@ -114,10 +114,17 @@ pub enum Fate {
 }
 
 // The loss column: what the receiver's record has after a PDU.
-#[derive(Clone, Copy, Debug)]
+#[derive(Clone, Copy, Debug, Default)]
 pub struct Loss {
     pub delivered: u32,
     pub missing: u32,
+}
+
+impl Loss {
+    // How many packets were delivered or are missing.
+    pub fn both(self) -> u64 {
+        u64::from(self.delivered) + u64::from(self.missing)
+    }
 }
 
 // A line: the first one, which names the columns, and says so whether the log has a loss column; what became of a PDU, with the loss column, if the log has
