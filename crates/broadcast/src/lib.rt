@@ -1,327 +1,198 @@
 // A run of the writer in which settings and PSD may change from PDU to PDU; on `sending`, `schedule` and `psd_stream`.
 #![tactic(auto)]
 
+use files::Label;
 use host::Host;
+use named_settings::Given;
 use options::Command;
-use packets::window;
 use packets::window::Window;
 use psd_stream::Supply;
-use schedule::Change;
-use sending::{Run, Task, trial};
+use records::Stop;
+use schedule::{Change, Fault};
+use sending::{Buffers, Course, Extra, Run, Way, trial};
 use writer::Writer;
 
-// A broadcast so far: its run; the settings of the last PDU, by their names, the change that comes next, and how many have come; and the supply of PSD.
+// A broadcast so far: its run; what is given of the settings of the last PDU, the change that comes next, if one does, and how many have come; and the supply
+// of PSD.
 #[derive(Clone, Copy)]
-pub struct Broadcast {
+pub struct Broadcast<'a> {
     pub run: Run,
-    pub row: [u32; 22],
-    pub next: Change,
+    pub given: Given,
+    pub next: Option<Change<'a>>,
     pub changes: u64,
     pub supply: Supply,
 }
 
-// The broadcast before its first PDU, of the packets of a window, with the settings before the first change of a text.
-pub fn begin(
-    writer: Writer,
-    window: Window,
-    text: &[u8],
-    row: [u32; 22],
-    supply: Supply,
-) -> Broadcast {
-    Broadcast {
-        run: sending::begin(writer, window),
-        row: row,
-        next: schedule::first(text, row),
-        changes: 0,
-        supply: supply,
-    }
-}
-
-// Sends all packets in PDUs of a length to a file: lengths over 20,480 are refused. The text has the changes of settings, the buffer the PSD.
-pub fn send(
-    host: &Host,
-    output: i32,
-    from: &[u8],
-    onto: &[u8],
-    text: &[u8],
-    psd: &mut [u8],
-    length: usize,
-    start: Broadcast,
-) -> Broadcast {
-    let mut lengths = [0u16; 256];
-    let mut bytes = io::large_buffer();
-    let mut pdu = [0u8; trial::OVER];
-    let size = trial::size_for(length);
-    all_turns(
-        host,
-        output,
-        from,
-        onto,
-        text,
-        psd,
-        &mut lengths,
-        &mut bytes,
-        &mut pdu[0..size],
-        start,
-    )
-}
-
-// All turns. They are counted down from a number that no run uses up, since a proved loop has to end, and nothing says that a file does.
-fn all_turns(
-    host: &Host,
-    output: i32,
-    from: &[u8],
-    onto: &[u8],
-    text: &[u8],
-    psd: &mut [u8],
-    lengths: &mut [u16],
-    bytes: &mut [u8],
-    pdu: &mut [u8],
-    start: Broadcast,
-) -> Broadcast {
-    let mut now = start;
-    let mut shown = files::second(host);
-    let mut turns = u64::MAX;
-    while 0 < turns {
-        let next = turn(
-            host, output, from, onto, text, psd, lengths, bytes, pdu, now,
-        );
-        now = next;
-        if !is_going(now) {
-            return now;
+impl<'a> Broadcast<'a> {
+    // The broadcast before its first PDU, of the packets of a window, with what is given of the settings before the first change of a text.
+    pub fn new(
+        writer: Writer,
+        window: Window,
+        text: &'a [u8],
+        given: Given,
+        supply: Supply,
+    ) -> Broadcast<'a> {
+        Broadcast {
+            run: Run::new(writer, window),
+            given,
+            next: schedule::first(text, given).unwrap_or(None),
+            changes: 0,
+            supply,
         }
-        shown = progress(host, now, shown);
-        turns -= 1;
     }
-    now
-}
 
-// Whether a broadcast goes on.
-fn is_going(b: Broadcast) -> bool {
-    let run = b.run;
-    run.going
-}
-
-// How far the work is, where somebody looks on, as `files::progress` has it.
-fn progress(host: &Host, b: Broadcast, shown: i64) -> i64 {
-    let run = b.run;
-    files::progress(host, Command::Generate, run.pdus, shown)
-}
-
-// Reads ahead and sends a PDU; stops where no packet waits.
-fn turn(
-    host: &Host,
-    output: i32,
-    from: &[u8],
-    onto: &[u8],
-    text: &[u8],
-    psd: &mut [u8],
-    lengths: &mut [u16],
-    bytes: &mut [u8],
-    pdu: &mut [u8],
-    b: Broadcast,
-) -> Broadcast {
-    let w = window::filled(host, from, window_of(b), lengths, bytes);
-    if w.end <= w.first {
-        let run = b.run;
-        return with_run(b, sending::ended(run, w));
-    }
-    due(host, output, onto, text, psd, w, lengths, bytes, pdu, b)
-}
-
-// The packets that wait.
-pub fn window_of(b: Broadcast) -> Window {
-    let run = b.run;
-    let window = run.window;
-    window
-}
-
-// The broadcast at its end, and whether all went well.
-fn stopped(b: Broadcast, ok: bool) -> Broadcast {
-    let run = b.run;
-    with_run(b, sending::stopped(run, ok))
-}
-
-// Sends a PDU from the packets that wait, with the settings and the PSD that are due; stops where its PSD cannot be read.
-fn due(
-    host: &Host,
-    output: i32,
-    onto: &[u8],
-    text: &[u8],
-    psd: &mut [u8],
-    w: Window,
-    lengths: &[u16],
-    bytes: &[u8],
-    pdu: &mut [u8],
-    b: Broadcast,
-) -> Broadcast {
-    let ready = supplied(host, changed(text, b), psd);
-    let supply = ready.supply;
-    if supply.status == records::FAILED {
-        return stopped(ready, false);
-    }
-    sent(host, output, onto, psd, w, lengths, bytes, pdu, ready)
-}
-
-// The broadcast with the settings of its next PDU.
-fn changed(text: &[u8], b: Broadcast) -> Broadcast {
-    let run = b.run;
-    let next = b.next;
-    if next.pdu != run.pdus {
-        return b;
-    }
-    let row = next.row;
-    let supply = b.supply;
-    Broadcast {
-        run: run,
-        row: row,
-        next: schedule::next(text, next),
-        changes: std::num::wrapping_add_u64(b.changes, 1),
-        supply: supply,
-    }
-}
-
-// The broadcast with the PSD of its next PDU in the buffer.
-fn supplied(host: &Host, b: Broadcast, psd: &mut [u8]) -> Broadcast {
-    let run = b.run;
-    let row = b.row;
-    let next = b.next;
-    let supply = b.supply;
-    let writer = run.writer;
-    let room = limits::room_for(writer.mode, writer.stream, named_settings::of(row));
-    Broadcast {
-        run: run,
-        row: row,
-        next: next,
-        changes: b.changes,
-        supply: psd_stream::next(host, supply, room, psd),
-    }
-}
-
-fn with_run(b: Broadcast, run: Run) -> Broadcast {
-    let row = b.row;
-    let next = b.next;
-    let supply = b.supply;
-    Broadcast {
-        run: run,
-        row: row,
-        next: next,
-        changes: b.changes,
-        supply: supply,
-    }
-}
-
-// The broadcast once the PSD of a PDU is sent.
-fn counted(b: Broadcast) -> Broadcast {
-    let run = b.run;
-    let row = b.row;
-    let next = b.next;
-    let supply = b.supply;
-    Broadcast {
-        run: run,
-        row: row,
-        next: next,
-        changes: b.changes,
-        supply: psd_stream::counted(supply),
-    }
-}
-
-// Sends a PDU from the packets that wait.
-fn sent(
-    host: &Host,
-    output: i32,
-    onto: &[u8],
-    psd: &[u8],
-    w: Window,
-    lengths: &[u16],
-    bytes: &[u8],
-    pdu: &mut [u8],
-    b: Broadcast,
-) -> Broadcast {
-    let run = b.run;
-    let row = b.row;
-    let supply = b.supply;
-    let task = Task {
-        output: output,
-        settings: named_settings::of(row),
-    };
-    let bytes_of_psd = psd_stream::part(psd, supply.length);
-    let next = sending::sent(host, task, onto, bytes_of_psd, w, lengths, bytes, pdu, run);
-    if !next.going {
-        return with_run(b, next);
-    }
-    counted(with_run(b, next))
-}
-
-// Whether a change of settings is right, and the writer takes it, with as much PSD as there may be; if not, says so with the number of its line.
-fn is_right(
-    host: &Host,
-    label: &[u8],
-    text: &[u8],
-    change: Change,
-    supply: Supply,
-    psd: &[u8],
-    length: usize,
-    writer: Writer,
-) -> bool {
-    let mut line = files::label_buffer();
-    let n = schedule::put_label(&mut line, label, change);
-    if change.wrong != schedule::RIGHT {
-        let mut words = io::buffer();
-        let k = schedule::put_wrong(&mut words, 0, text, change);
-        files::say(host, &line[..n], &words[..k]);
-        return false;
-    }
-    let row = change.row;
-    is_taken(host, &line[..n], row, supply, psd, length, writer)
-}
-
-// Whether the writer takes the settings of a row, with as much PSD as there may be; if not, says why.
-pub fn is_taken(
-    host: &Host,
-    label: &[u8],
-    row: [u32; 22],
-    supply: Supply,
-    psd: &[u8],
-    length: usize,
-    writer: Writer,
-) -> bool {
-    let settings = named_settings::of(row);
-    let room = limits::room_for(writer.mode, writer.stream, settings);
-    let n = psd_stream::tried(supply, room);
-    trial::is_taken(
-        host,
-        label,
-        settings,
-        psd_stream::part(psd, n),
-        length,
-        writer,
-    )
-}
-
-// Whether every change of a text is right, and the writer takes it; says so of the first that is not. Each change has a byte of the text at least.
-pub fn are_taken(
-    host: &Host,
-    label: &[u8],
-    text: &[u8],
-    row: [u32; 22],
-    supply: Supply,
-    psd: &[u8],
-    length: usize,
-    writer: Writer,
-) -> bool {
-    let mut change = schedule::first(text, row);
-    let mut left = text.len();
-    while 0 < left {
-        if change.pdu == schedule::NEVER {
-            return true;
+    // Sends all packets in PDUs of a length: lengths over 20,480 are refused. The buffer has the PSD. The turns are so many that no run uses them up: a proved
+    // loop has to end, and nothing says that a file does.
+    pub fn send(self, host: &Host, way: Way, psd: &mut [u8], length: usize) -> Broadcast<'a> {
+        let mut buffers = Buffers::new(length);
+        let mut now = self;
+        let mut shown = host.time();
+        for _ in 0..u64::MAX {
+            now = now.turn(host, way, psd, &mut buffers);
+            if now.run.course != Course::Going {
+                return now;
+            }
+            shown = files::progress(host, Command::Generate, now.run.pdus, shown);
         }
-        if !is_right(host, label, text, change, supply, psd, length, writer) {
-            return false;
-        }
-        let next = schedule::next(text, change);
-        change = next;
-        left -= 1;
+        now
     }
-    true
+
+    // Reads ahead and sends a PDU; stops where no packet waits.
+    fn turn(self, host: &Host, way: Way, psd: &mut [u8], buffers: &mut Buffers) -> Broadcast<'a> {
+        let window = buffers.filled(host, way.from, self.run.window);
+        if window.is_empty() {
+            return self.with_run(self.run.ended(window));
+        }
+        self.due(host, way, psd, window, buffers)
+    }
+
+    // Sends a PDU from the packets that wait, with the settings and the PSD that are due; stops where its PSD cannot be read.
+    fn due(
+        self,
+        host: &Host,
+        way: Way,
+        psd: &mut [u8],
+        window: Window,
+        buffers: &mut Buffers,
+    ) -> Broadcast<'a> {
+        let ready = self.changed().supplied(host, psd);
+        if ready.supply.stop == Some(Stop::Failed) {
+            return ready.with_run(ready.run.stopped(Course::Failed));
+        }
+        ready.sent(host, way, psd, window, buffers)
+    }
+
+    // The broadcast with the settings of its next PDU.
+    fn changed(self) -> Broadcast<'a> {
+        match self.next {
+            Some(change) if change.pdu == self.run.pdus => Broadcast {
+                given: change.given,
+                next: change.next().unwrap_or(None),
+                changes: self.changes.wrapping_add(1),
+                ..self
+            },
+            _ => self,
+        }
+    }
+
+    // The broadcast with the PSD of its next PDU in the buffer.
+    fn supplied(self, host: &Host, psd: &mut [u8]) -> Broadcast<'a> {
+        let writer = self.run.writer;
+        let room = limits::room_for(writer.mode, writer.stream, self.given.settings());
+        Broadcast {
+            supply: self.supply.next(host, room, psd),
+            ..self
+        }
+    }
+
+    fn with_run(self, run: Run) -> Broadcast<'a> {
+        Broadcast { run, ..self }
+    }
+
+    // Sends a PDU from the packets that wait.
+    fn sent(
+        self,
+        host: &Host,
+        way: Way,
+        psd: &[u8],
+        window: Window,
+        buffers: &mut Buffers,
+    ) -> Broadcast<'a> {
+        let extra = Extra {
+            settings: self.given.settings(),
+            psd: psd_stream::part(psd, self.supply.length),
+        };
+        let run = self.run.sent(host, way, extra, window, buffers);
+        if run.course != Course::Going {
+            return self.with_run(run);
+        }
+        Broadcast {
+            run,
+            supply: self.supply.counted(),
+            ..self
+        }
+    }
+}
+
+// What settings are tried with: a writer, the length of PDUs, and a supply of PSD with its buffer.
+#[derive(Clone, Copy)]
+pub struct Probe<'a> {
+    pub writer: Writer,
+    pub length: usize,
+    pub supply: Supply,
+    pub psd: &'a [u8],
+}
+
+impl<'a> Probe<'a> {
+    // Whether the writer takes what is given of settings, with as much PSD as there may be; if not, says why.
+    pub fn takes(self, host: &Host, label: &[u8], given: Given) -> bool {
+        let settings = given.settings();
+        let room = limits::room_for(self.writer.mode, self.writer.stream, settings);
+        let extra = Extra {
+            settings,
+            psd: psd_stream::part(self.psd, self.supply.tried(room)),
+        };
+        trial::is_taken(host, label, extra, self.length, self.writer)
+    }
+
+    // Whether the writer takes a change of settings; if not, says why with the number of its line.
+    fn takes_change(self, host: &Host, label: &[u8], change: Change) -> bool {
+        let line = label_of(label, change.line);
+        self.takes(host, line.bytes(), change.given)
+    }
+
+    // Whether every change of a text is right, and the writer takes it; says so of the first that is not. Each change has a byte of the text at least.
+    pub fn takes_all(self, host: &Host, label: &[u8], text: &[u8], given: Given) -> bool {
+        let mut next = schedule::first(text, given);
+        for _ in text {
+            match next {
+                Ok(None) => return true,
+                Ok(Some(change)) => {
+                    if !self.takes_change(host, label, change) {
+                        return false;
+                    }
+                    next = change.next();
+                }
+                Err(fault) => {
+                    say_fault(host, label, fault);
+                    return false;
+                }
+            }
+        }
+        true
+    }
+}
+
+// The label of a line of the changes.
+fn label_of(label: &[u8], line: u64) -> Label {
+    let mut words = Label::new();
+    schedule::put_label(&mut words, label, line);
+    words
+}
+
+// Says what is wrong with a line of the changes.
+fn say_fault(host: &Host, label: &[u8], fault: Fault) {
+    let line = label_of(label, fault.line);
+    let words = fault.words();
+    files::say(host, line.bytes(), words.bytes());
 }
