@@ -4,42 +4,50 @@
 
 mod report;
 
-use backlog::{columns, drawing};
+use backlog::columns::Bench;
+use backlog::drawing;
 use count_source::{arguments, input};
+use files::{Exit, File};
 use host::Host;
 use latency::{Answer, Spacing};
+use limits::Request;
 use options::{Command, Opt};
 use sending::trial;
+use text::Line;
 use transmission::Transmission;
 
 // One more than the counts that may be: so too many are seen, and refused.
 const ROOM: usize = 4097;
 
-// The mode and stream that are tried, and the latency that is drawn.
+// What is tried: counts, with their mode and stream; what was found; and the latency that is drawn.
 #[derive(Clone, Copy)]
-struct Job {
+struct Trials<'a> {
     mode: u8,
     stream: u8,
+    counts: &'a [u32],
+    answer: Answer,
     drawn: u8,
 }
 
-// The program: answers its exit status.
-pub fn program(host: &Host) -> i32 {
+// The program: answers how it ends.
+pub fn program(host: &Host) -> Exit {
     if options::given(host, Command::Latency, Opt::Help) {
         return files::status(host, Command::Latency, report::usage(host));
     }
     if !arguments::check(host) {
-        return files::WRONG;
+        return Exit::Wrong;
     }
     let asked = transmission::asked(host, Command::Latency);
     let draw = arguments::draw(host);
     let mut counts = [0u32; ROOM];
     let listed = arguments::from_option(host, &mut counts);
-    if !asked.ok | !draw.ok | !listed.ok {
-        return files::WRONG;
+    match (asked, draw, listed) {
+        (Some(asked), Some(draw), Some(listed)) => {
+            let done = run(host, asked, draw, listed, &mut counts);
+            files::status(host, Command::Latency, done)
+        }
+        _ => Exit::Wrong,
     }
-    let done = run(host, asked, draw.value as u8, listed.count, &mut counts);
-    files::status(host, Command::Latency, done)
 }
 
 // Whether the table has a mode and stream; if not, says so.
@@ -47,136 +55,113 @@ fn is_listed(host: &Host, asked: Transmission) -> bool {
     match latency::spacing_for(asked.mode, asked.stream, &[0u32]) {
         Spacing::Every(_) => true,
         Spacing::Refused(n) => {
-            let settings = asked.settings;
-            trial::say_refused(
-                host,
-                b"barzhilup latency",
-                n,
-                asked.mode,
-                asked.stream,
-                asked.length,
-                settings,
-            );
+            let request = Request {
+                mode: asked.mode,
+                stream: asked.stream,
+                length: asked.length,
+                settings: asked.settings(),
+            };
+            trial::say_refused(host, b"barzhilup latency", n, request);
             false
         }
     }
 }
 
-// Reads the counts, unless an option has them. Answers whether all is done; what went wrong is said.
-fn run(host: &Host, asked: Transmission, draw: u8, count: usize, counts: &mut [u32]) -> bool {
+// Reads the counts, unless an option has them, which are so many. Answers whether all is done; what went wrong is said.
+fn run(host: &Host, asked: Transmission, draw: u8, listed: usize, counts: &mut [u32]) -> bool {
     if !is_listed(host, asked) {
         return false;
     }
-    let mut label = files::label_buffer();
-    let n = arguments::put_label(host, &mut label);
-    let job = Job {
-        mode: asked.mode,
-        stream: asked.stream,
-        drawn: draw,
+    let label = arguments::label(host);
+    let count = if options::given(host, Command::Latency, Opt::Counts) {
+        Some(listed)
+    } else {
+        input::read(host, label.bytes(), asked, &mut *counts)
     };
-    if options::given(host, Command::Latency, Opt::Counts) {
-        return tried(host, job, &label[..n], columns::part(counts, count));
+    match count {
+        Some(n) => {
+            let row = &counts[..n.min(counts.len())];
+            tried(host, asked, draw, label.bytes(), row)
+        }
+        None => false,
     }
-    let read = input::read(host, &label[..n], asked, counts);
-    if !read.ok {
-        return false;
-    }
-    tried(host, job, &label[..n], columns::part(counts, read.count))
 }
 
-// Tries the latencies.
-fn tried(host: &Host, job: Job, label: &[u8], counts: &[u32]) -> bool {
-    let answer = latency::smallest(job.mode, job.stream, counts);
-    match answer {
+// Tries the latencies. Drawn is the one that is asked for, or that of the answer.
+fn tried(host: &Host, asked: Transmission, draw: u8, label: &[u8], counts: &[u32]) -> bool {
+    let answer = latency::smallest(asked.mode, asked.stream, counts);
+    let found = match answer {
         Answer::Refused(_) => {
             report::refused(host, label, counts);
-            false
+            return false;
         }
-        Answer::Smallest(v) => with_answer(host, job, counts, answer, v),
-        Answer::AllDry => with_answer(host, job, counts, answer, 7),
-    }
+        Answer::Smallest(v) => v,
+        Answer::AllDry => 7,
+    };
+    let drawn = if options::given(host, Command::Latency, Opt::Draw) {
+        draw
+    } else {
+        found
+    };
+    let trials = Trials {
+        mode: asked.mode,
+        stream: asked.stream,
+        counts,
+        answer,
+        drawn,
+    };
+    trials.shown(host)
 }
 
-// The job with the latency that is drawn: the one asked for, or that of the answer.
-fn drawing_of(host: &Host, job: Job, v: u8) -> Job {
-    if options::given(host, Command::Latency, Opt::Draw) {
-        return job;
+impl Trials<'_> {
+    // Makes the picture's file, where one is asked for.
+    fn shown(self, host: &Host) -> bool {
+        if !options::given(host, Command::Latency, Opt::Svg) {
+            return self.with_picture(host, None);
+        }
+        match files::opened(host, Command::Latency, Opt::Svg) {
+            Some(picture) => self.with_picture(host, Some(&picture)),
+            None => false,
+        }
     }
-    Job {
-        mode: job.mode,
-        stream: job.stream,
-        drawn: v,
-    }
-}
 
-// Makes the picture's file, where one is asked for.
-fn with_answer(host: &Host, job: Job, counts: &[u32], answer: Answer, v: u8) -> bool {
-    let drawn = drawing_of(host, job, v);
-    if !options::given(host, Command::Latency, Opt::Svg) {
-        return with_picture(host, drawn, counts, answer, b"", -1);
+    // Makes the table's file, and writes both. Where that file is not made, the picture's goes, too.
+    fn with_picture(self, host: &Host, picture: Option<&File>) -> bool {
+        let Some(output) = files::opened(host, Command::Latency, Opt::Out) else {
+            files::unmake(host, Command::Latency, Opt::Svg);
+            return false;
+        };
+        let done = self.write_table(host, &output);
+        let drawn = match picture {
+            Some(file) => self.draw(host, file),
+            None => true,
+        };
+        report::summary(host, self.counts, self.answer);
+        done & drawn
     }
-    let mut label = files::label_buffer();
-    let picture = files::opened(host, Command::Latency, Opt::Svg, &mut label);
-    if picture.fd < 0 {
-        return false;
-    }
-    let n = picture.length;
-    with_picture(host, drawn, counts, answer, &label[..n], picture.fd)
-}
 
-// Makes the table's file, and writes both. Where that file is not made, the picture's goes, too.
-fn with_picture(
-    host: &Host,
-    job: Job,
-    counts: &[u32],
-    answer: Answer,
-    shown: &[u8],
-    picture: i32,
-) -> bool {
-    let mut onto = files::label_buffer();
-    let output = files::opened(host, Command::Latency, Opt::Out, &mut onto);
-    if output.fd < 0 {
-        files::unmake(host, Command::Latency, Opt::Svg);
-        return false;
+    fn write_table(self, host: &Host, file: &File) -> bool {
+        let mut block = Line::<4096>::new();
+        latency_table::put(&mut block, self.mode, self.stream, self.counts, self.answer);
+        write(host, file, block.bytes())
     }
-    let n = output.length;
-    let done = write_table(host, job, counts, answer, output.fd, &onto[..n]);
-    let drawn = draw(host, job, counts, picture, shown);
-    report::summary(host, counts, answer);
-    done & drawn
+
+    // Draws the picture.
+    fn draw(self, host: &Host, file: &File) -> bool {
+        let mut block = Line::<65536>::new();
+        let trial = latency::try_latency(self.mode, self.stream, self.counts, self.drawn);
+        let bench = Bench::new(self.mode, self.stream, self.drawn, trial.ticks as usize);
+        drawing::put(&mut block, bench, self.counts, trial);
+        write(host, file, block.bytes())
+    }
 }
 
 // Writes a file and closes it. Answers whether all is there; if not, says why.
-fn write(host: &Host, fd: i32, label: &[u8], block: &[u8]) -> bool {
-    if !host.write_all(fd, block) {
-        host.fail(label);
-        host.close(fd);
+fn write(host: &Host, file: &File, block: &[u8]) -> bool {
+    if !host.write_all(file.fd, block) {
+        host.fail(file.label.bytes());
+        host.close(file.fd);
         return false;
     }
-    files::close(host, fd, label)
-}
-
-fn write_table(
-    host: &Host,
-    job: Job,
-    counts: &[u32],
-    answer: Answer,
-    output: i32,
-    onto: &[u8],
-) -> bool {
-    let mut block = io::buffer();
-    let n = latency_table::put(&mut block, job.mode, job.stream, counts, answer);
-    write(host, output, onto, &block[..n])
-}
-
-// Draws the picture, if it has a file.
-fn draw(host: &Host, job: Job, counts: &[u32], picture: i32, shown: &[u8]) -> bool {
-    if picture < 0 {
-        return true;
-    }
-    let mut block = io::large_buffer();
-    let trial = latency::try_latency(job.mode, job.stream, counts, job.drawn);
-    let bench = columns::bench_of(job.mode, job.stream, job.drawn, trial.ticks as usize);
-    let n = drawing::put(&mut block, bench, counts, trial);
-    write(host, picture, shown, &block[..n])
+    files::close(host, file.fd, file.label.bytes())
 }

@@ -2,17 +2,14 @@
 use host::{Host, STDERR};
 use latency::Answer;
 use options::Command;
+use text::Line;
 
 // The first count over 63; how many there are where none is.
 fn first_over(counts: &[u32]) -> usize {
-    let mut i: usize = 0;
-    while i < counts.len() {
-        if 63 < counts[i] {
-            return i;
-        }
-        i += 1;
-    }
-    i
+    counts
+        .iter()
+        .position(|&count| 63 < count)
+        .unwrap_or(counts.len())
 }
 
 // Why counts are refused with 21.
@@ -36,24 +33,19 @@ pub fn refused(host: &Host, label: &[u8], counts: &[u32]) {
 
 // What was tried, and what was found.
 pub fn summary(host: &Host, counts: &[u32], answer: Answer) {
-    let mut line = [0u8; 256];
-    let mut n = options::put_program(&mut line, Command::Latency);
-    n = text::fill(
-        &mut line,
-        n,
+    let mut line = Line::<256>::new();
+    line.put(Command::Latency.words());
+    line.fill(
         b": PDUs @, packets @; ",
         &[counts.len() as u64, latency_table::packets_of(counts)],
     );
-    n = latency_table::put_answer(&mut line, n, answer);
-    host.write_all(STDERR, &line[..n]);
+    latency_table::put_answer(&mut line, answer);
+    host.write_all(STDERR, line.bytes());
 }
 
 // How the program is used, on standard output.
 pub fn usage(host: &Host) -> bool {
-    if !print_options(host) {
-        return false;
-    }
-    mode_table::print(host, Command::Latency)
+    print_options(host) && mode_table::print(host, Command::Latency)
 }
 
 fn print_options(host: &Host) -> bool {
