@@ -90,19 +90,13 @@ section{break-before:page;break-inside:avoid}
     picture::put_colours(line);
 }
 
-// How many bytes the PDUs have, from the least to the greatest, where that is known.
+// How many bytes the PDUs have, from the least to the greatest.
 fn put_lengths<const N: usize>(line: &mut Line<N>, shortest: u32, longest: u32) {
-    if longest == 0 {
-        return;
+    line.fill(b"<p><b>PDU length</b>@", &[u64::from(shortest)]);
+    if shortest != longest {
+        line.fill(b" to @", &[u64::from(longest)]);
     }
-    if shortest == longest {
-        line.fill(b"<p><b>PDU length</b>@ bytes</p>\n", &[u64::from(longest)]);
-        return;
-    }
-    line.fill(
-        b"<p><b>PDU length</b>@ to @ bytes</p>\n",
-        &[u64::from(shortest), u64::from(longest)],
-    );
+    line.put(b" bytes</p>\n");
 }
 
 // How long a PDU and the drive are.
@@ -125,12 +119,11 @@ fn put_heading<const N: usize>(host: &Host, line: &mut Line<N>) {
     put_title(host, line);
 }
 
-// All that stands above the overview, in place of what the block has.
+// All that stands above the overview, in place of what the block has, with the lengths of PDUs and how long one is, where these are known.
 pub fn put_head<const N: usize>(
     host: &Host,
     block: &mut Line<N>,
-    shortest: u32,
-    longest: u32,
+    lengths: Option<(u32, u32)>,
     clock: Option<Clock>,
     pdus: u32,
 ) {
@@ -140,7 +133,9 @@ pub fn put_head<const N: usize>(
     for (option, before) in LINES {
         put_given(host, block, option, before, b"</p>\n");
     }
-    put_lengths(block, shortest, longest);
+    if let Some((shortest, longest)) = lengths {
+        put_lengths(block, shortest, longest);
+    }
     if let Some(clock) = clock {
         put_times(block, clock, pdus);
     }
