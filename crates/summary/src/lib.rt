@@ -2,178 +2,168 @@
 #![tactic(auto)]
 
 use drive::Drive;
-use host::Host;
-use log_csv::entry::Entry;
-use log_csv::lines::Lines;
-use log_csv::{entry, lines};
+use host::{Fd, Host};
+use log_csv::{Cause, Entry, Fate, Lines, Loss, Stop, Wrong};
 use options::Command;
 use outcome::Outcome;
 use receiver::Receiver;
+use text::Line;
 
-// How a reading stands: it goes on; all lines are read, or all that a cut has left; a line is wrong; a line cannot be read, and errno names why; or the log is
-// an older one that has no loss column.
-const GOING: u8 = 0;
+// The first words of entries of a log: of a packet, of PSD, and of a note with cause 0 (document 01, "Receiver").
+const PACKET: u32 = 0;
 
-const READ: u8 = 1;
+const PSD: u32 = 0x80000000;
 
-const WRONG: u8 = 2;
+const NOTE: u32 = 0xC0000000;
 
-const NOT_READ: u8 = 3;
-
-const UNCOUNTED: u8 = 4;
-
-// A reading so far: how it stands, how many lines were read, what is read ahead, and the drive.
-#[derive(Clone, Copy)]
-struct Run {
-    state: u8,
-    count: u64,
-    ahead: Lines,
-    drive: Drive,
+// Why lines are not counted: one is wrong; one cannot be read, and the system says why; or the log is an older one that has no loss column.
+#[derive(Clone, Copy, Debug, PartialEq, Eq)]
+enum Fault {
+    Wrong,
+    Failed,
+    Uncounted,
 }
 
-fn run_of(state: u8, count: u64, rest: Lines, d: Drive) -> Run {
-    Run {
-        state: state,
-        count: count,
-        ahead: rest,
-        drive: d,
+impl From<Wrong> for Fault {
+    fn from(_wrong: Wrong) -> Fault {
+        Fault::Wrong
     }
 }
 
-fn stopped(run: Run, state: u8) -> Run {
-    run_of(state, run.count, run.ahead, run.drive)
-}
-
 // A receiver with the loss column of a PDU's line.
-fn receiver_of(e: Entry) -> Receiver {
-    let o = receiver::open(0, 0, 0);
-    let mut r = o.receiver;
-    r.delivered = e.delivered;
-    r.missing = e.missing;
-    r
-}
-
-// What became of a PDU, by the kind of its line.
-fn kind_of(kind: u32) -> u8 {
-    match kind {
-        entry::LOST => outcome::LOST,
-        entry::REFUSED => outcome::REFUSED,
-        _ => outcome::RECEIVED,
+fn receiver_of(loss: Option<Loss>) -> Receiver {
+    let receiver = receiver::open(0, 0, 0).receiver;
+    match loss {
+        Some(loss) => Receiver {
+            delivered: loss.delivered,
+            missing: loss.missing,
+            ..receiver
+        },
+        None => receiver,
     }
 }
 
 // What came of a PDU, by its line.
-fn outcome_of(e: Entry) -> Outcome {
+fn outcome_of(fate: Fate, loss: Option<Loss>) -> Outcome {
+    let (kind, number) = match fate {
+        Fate::Received { corrected, .. } => (outcome::RECEIVED, corrected),
+        Fate::Lost => (outcome::LOST, 0),
+        Fate::Refused(number) => (outcome::REFUSED, number),
+    };
     Outcome {
-        kind: kind_of(e.kind),
-        number: e.number,
+        kind,
+        number,
         wrong: 0,
         length: 0,
         words: 0,
-        receiver: receiver_of(e),
+        receiver: receiver_of(loss),
     }
 }
 
-// The first word of an entry of a log, by the kind of its line: kinds 0, 2 and 3 (document 01, "Receiver"), with the cause of a note.
-fn word_of(e: Entry) -> u32 {
-    let kind = e.kind;
-    match kind {
-        entry::PACKET => 0,
-        entry::PSD => 2147483648,
-        _ => 3221225472 + e.cause % 16 * 65536,
+// The word of a note, by its cause, 0 for one that is not known.
+fn note_of(cause: Option<Cause>) -> u32 {
+    match cause {
+        Some(cause) => NOTE + cause as u32 * 0x10000,
+        None => NOTE,
     }
 }
 
 // Counts what a line says, besides the first and the last.
-fn add(counts: &mut [u64], e: Entry) {
-    if (e.kind == entry::TITLE) | (e.kind == entry::END) {
-        return;
+fn add(counts: &mut [u64], entry: Entry) {
+    match entry {
+        Entry::Title { .. } | Entry::End { .. } => {}
+        Entry::Pdu { fate, loss, .. } => counts::add_outcome(counts, outcome_of(fate, loss)),
+        Entry::Packet { .. } => counts::add_log(counts, &[PACKET]),
+        Entry::Psd { .. } => counts::add_log(counts, &[PSD]),
+        Entry::Note { cause, .. } => counts::add_log(counts, &[note_of(cause)]),
     }
-    if entry::is_pdu(e.kind) {
-        counts::add_outcome(counts, outcome_of(e));
-        return;
-    }
-    counts::add_log(counts, &[word_of(e)]);
 }
 
-// Takes a line, if it is in its place.
-fn taken(counts: &mut [u64], run: Run, rest: Lines, e: Entry) -> Run {
-    let before = run.drive;
-    if drive::fault(before, e) != 0 {
-        return stopped(run, WRONG);
-    }
-    if !e.counted {
-        return stopped(run, UNCOUNTED);
-    }
-    add(counts, e);
-    let next = drive::taken(before, e);
-    run_of(GOING, std::num::wrapping_add_u64(run.count, 1), rest, next)
+// A reading so far: the lines that follow, how many were read, and the drive that these tell of.
+#[derive(Clone, Copy, Debug)]
+struct Run {
+    lines: Lines,
+    count: u64,
+    drive: Drive,
 }
 
-// How a reading stands where no line is read.
-fn ended(run: Run, status: u8) -> Run {
-    if status == lines::FAILED {
-        return stopped(run, NOT_READ);
+impl Run {
+    // Whether a line lacks its end and may so say less than it did: not the last line of a log, if that has the count of PDUs.
+    fn is_cut(self, ended: bool, entry: Result<Entry, Wrong>) -> bool {
+        let last = match entry {
+            Ok(Entry::End { pdus }) => pdus == self.drive.count,
+            _ => false,
+        };
+        !ended & !last & !self.drive.whole
     }
-    if (status == lines::LONG) | (run.count == 0) {
-        return stopped(run, WRONG);
-    }
-    stopped(run, READ)
-}
 
-// Whether a line lacks its end and may so say less than it did: not the last line of a log, if that has the count of PDUs.
-fn is_cut(d: Drive, ended: bool, e: Entry) -> bool {
-    let last = (e.kind == entry::END) & (e.wrong == 0) & (e.number == d.count);
-    !ended & !last & !d.whole
-}
-
-// Reads a line and counts what it says; one that is cut is left out.
-fn turn(host: &Host, buf: &mut [u8], counts: &mut [u64], run: Run) -> Run {
-    let before = run.ahead;
-    let l = lines::next(host, before, buf);
-    if l.status != lines::GOT {
-        return ended(run, l.status);
-    }
-    let d = run.drive;
-    let e = entry::read(lines::part(buf, l.from, l.to), run.count, d.counted);
-    if is_cut(d, l.ended, e) {
-        return ended(run, lines::END);
-    }
-    taken(counts, run, l.rest, e)
-}
-
-// All lines. They are counted down from a number that no file uses up, since a proved loop has to end, and nothing says that a file does.
-fn all_lines(host: &Host, buf: &mut [u8], counts: &mut [u64], start: Run) -> Run {
-    let mut run = start;
-    let mut turns = u64::MAX;
-    while 0 < turns {
-        let next = turn(host, buf, counts, run);
-        run = next;
-        if run.state != GOING {
-            return run;
+    // How the reading ends where no line is read: all lines are counted, or all that a cut has left.
+    fn ended(self, stop: Stop) -> Result<(), Fault> {
+        match stop {
+            Stop::Failed => Err(Fault::Failed),
+            Stop::Long => Err(Fault::Wrong),
+            Stop::End if self.count == 0 => Err(Fault::Wrong),
+            Stop::End => Ok(()),
         }
-        turns -= 1;
     }
-    run
+
+    // Takes a line, if it is in its place.
+    fn take(&mut self, counts: &mut [u64], entry: Entry) -> Result<(), Fault> {
+        let drive = self.drive.with(entry)?;
+        if let Entry::Title { counted: false } = entry {
+            return Err(Fault::Uncounted);
+        }
+        add(counts, entry);
+        self.drive = drive;
+        self.count = self.count.wrapping_add(1);
+        Ok(())
+    }
+
+    // Reads a line and counts what it says; one that is cut is left out. Answers whether the reading goes on.
+    fn turn(&mut self, host: &Host, buf: &mut [u8], counts: &mut [u64]) -> Result<bool, Fault> {
+        let line = match self.lines.next(host, buf) {
+            Ok(line) => line,
+            Err(stop) => {
+                self.ended(stop)?;
+                return Ok(false);
+            }
+        };
+        let entry = Entry::read(line.text, self.count, self.drive.is_counted());
+        if self.is_cut(line.ended, entry) {
+            self.ended(Stop::End)?;
+            return Ok(false);
+        }
+        self.take(counts, entry?)?;
+        Ok(true)
+    }
+
+    // Reads all lines, of which no file has as many as there may be turns.
+    fn read(&mut self, host: &Host, buf: &mut [u8], counts: &mut [u64]) -> Result<(), Fault> {
+        for _ in 0..u64::MAX {
+            if !self.turn(host, buf, counts)? {
+                return Ok(());
+            }
+        }
+        Ok(())
+    }
 }
 
-// Says what is wrong with the file of a label, after so many lines; or that its log is not whole, unless it is.
-fn say(host: &Host, label: &[u8], state: u8, count: u64, whole: bool) {
-    match state {
-        NOT_READ => host.fail(label),
-        WRONG => files::say_number(
+// Says what is wrong with the file of a label, after so many lines.
+fn say_wrong(host: &Host, label: &[u8], fault: Fault, count: u64) {
+    match fault {
+        Fault::Failed => host.fail(label),
+        Fault::Wrong => files::say_number(
             host,
             label,
             b": line ",
-            std::num::wrapping_add_u64(count, 1),
+            count.wrapping_add(1),
             b" is none of the CSV of barzhilup log, or not in its place\n",
         ),
-        UNCOUNTED => files::say(
+        Fault::Uncounted => files::say(
             host,
             label,
             b": is an older log, without delivered and missing: they are not known\n",
         ),
-        _ => say_unless(host, whole, label),
     }
 }
 
@@ -186,22 +176,29 @@ fn say_unless(host: &Host, whole: bool, label: &[u8]) {
 
 // Writes the lines of the summary to standard output. Answers whether they are written; if not, says why.
 fn written(host: &Host, pdus: u64, counts: &[u64]) -> bool {
-    let mut lines = io::buffer();
-    let n = counts::put_summary(&mut lines, pdus, counts);
-    files::print_usage(host, Command::Log, &lines[..n])
+    let mut lines = Line::<4096>::new();
+    counts::put_summary(&mut lines, pdus, counts);
+    files::print_usage(host, Command::Log, lines.bytes())
 }
 
 // The summary of the CSV in an open file, whose label this is, on standard output: of all that was logged, also where the CSV is cut, which is said. Answers
 // whether it is written; what went wrong is said.
-pub fn of_file(host: &Host, fd: i32, label: &[u8]) -> bool {
+pub fn of_file(host: &Host, fd: Fd, label: &[u8]) -> bool {
     let mut buf = io::large_buffer();
     let mut counts = counts::none();
-    let start = run_of(GOING, 0, lines::begin(fd), drive::begin());
-    let run = all_lines(host, &mut buf, &mut counts, start);
-    let d = run.drive;
-    say(host, label, run.state, run.count, d.whole);
-    if run.state != READ {
-        return false;
+    let mut run = Run {
+        lines: Lines::new(fd),
+        count: 0,
+        drive: Drive::new(),
+    };
+    match run.read(host, &mut buf, &mut counts) {
+        Ok(()) => {
+            say_unless(host, run.drive.whole, label);
+            written(host, u64::from(run.drive.count), &counts)
+        }
+        Err(fault) => {
+            say_wrong(host, label, fault, run.count);
+            false
+        }
     }
-    written(host, d.count as u64, &counts)
 }
