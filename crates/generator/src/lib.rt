@@ -3,24 +3,27 @@
 
 mod report;
 
-use broadcast::Broadcast;
-use host::Host;
+use broadcast::{Broadcast, Probe};
+use files::Exit;
+use host::{Fd, Host};
+use limits::Request;
 use options::{Command, Opt};
+use packets::Source;
 use packets::window::Window;
-use packets::{Source, window};
 use psd_stream::Supply;
-use sending::trial;
+use sending::{Course, Way, trial};
 use transmission::Transmission;
 use writer::Writer;
 
-// The program: answers its exit status.
-pub fn program(host: &Host) -> i32 {
-    if options::given(host, Command::Generate, Opt::Help) {
-        return files::status(host, Command::Generate, report::usage(host));
-    }
-    if !inputs::check(host) {
-        return files::WRONG;
-    }
+// What the command line asks for: what is sent, with at most so many bytes in each PDU of PSD that runs across them.
+#[derive(Clone, Copy)]
+struct Job {
+    asked: Transmission,
+    most: usize,
+}
+
+// What is asked for; nothing where an option is wrong, which is said.
+fn asked(host: &Host) -> Option<Job> {
     let asked = transmission::asked(host, Command::Generate);
     let most = options::number(
         host,
@@ -30,158 +33,126 @@ pub fn program(host: &Host) -> i32 {
         1,
         psd_stream::MOST,
     );
-    if !asked.ok | !most.ok {
-        return files::WRONG;
-    }
-    files::status(
-        host,
-        Command::Generate,
-        run(host, asked, most.value as usize),
-    )
+    Some(Job {
+        asked: asked?,
+        most: most? as usize,
+    })
 }
 
-// Makes the PDUs, each with at most so many bytes of PSD that runs across them. Answers whether all is done; what went wrong is said.
-fn run(host: &Host, asked: Transmission, most: usize) -> bool {
+// The program: answers how it ends.
+pub fn program(host: &Host) -> Exit {
+    if options::given(host, Command::Generate, Opt::Help) {
+        return files::status(host, Command::Generate, report::usage(host));
+    }
+    if !inputs::check(host) {
+        return Exit::Wrong;
+    }
+    match asked(host) {
+        Some(job) => files::status(host, Command::Generate, run(host, job)),
+        None => Exit::Wrong,
+    }
+}
+
+// Says why no writer is opened.
+fn say_refused(host: &Host, asked: Transmission, refusal: u32) {
+    let request = Request {
+        mode: asked.mode,
+        stream: asked.stream,
+        length: asked.length,
+        settings: asked.settings(),
+    };
+    trial::say_refused(host, Command::Generate.words(), refusal, request);
+}
+
+// Makes the PDUs. Answers whether all is done; what went wrong is said.
+fn run(host: &Host, job: Job) -> bool {
+    let asked = job.asked;
     let opened = writer::open(asked.mode, asked.stream, asked.register);
     if opened.refusal != 0 {
-        let settings = asked.settings;
-        trial::say_refused(
-            host,
-            b"barzhilup generate",
-            opened.refusal,
-            asked.mode,
-            asked.stream,
-            asked.length,
-            settings,
-        );
+        say_refused(host, asked, opened.refusal);
         return false;
     }
-    let writer = opened.writer;
     let mut psd = [0u8; 256];
-    let supply = inputs::supply(host, most, &mut psd);
-    if supply.status == records::FAILED {
+    let Some(supply) = inputs::supply(host, job.most, &mut psd) else {
         return false;
-    }
-    with_supply(host, asked, writer, supply, &mut psd)
-}
-
-// Tries the settings of the options, and reads their changes.
-fn with_supply(
-    host: &Host,
-    asked: Transmission,
-    writer: Writer,
-    supply: Supply,
-    psd: &mut [u8],
-) -> bool {
-    let row = asked.row;
-    if !broadcast::is_taken(
-        host,
-        b"barzhilup generate",
-        row,
+    };
+    let plan = Plan {
+        asked,
+        writer: opened.writer,
         supply,
-        psd,
-        asked.length,
-        writer,
-    ) {
-        return false;
-    }
-    let mut text = io::large_buffer();
-    let mut label = files::label_buffer();
-    let n = files::put_label(host, &mut label, Command::Generate, Opt::Settings);
-    let read = inputs::settings(host, &mut text, &label[..n]);
-    if read.status == records::FAILED {
-        return false;
-    }
-    let k = read.length;
-    with_changes(host, asked, writer, supply, psd, &text[..k], &label[..n])
-}
-
-// Tries the changes, and opens the file of packets.
-fn with_changes(
-    host: &Host,
-    asked: Transmission,
-    writer: Writer,
-    supply: Supply,
-    psd: &mut [u8],
-    text: &[u8],
-    label: &[u8],
-) -> bool {
-    let row = asked.row;
-    if !broadcast::are_taken(host, label, text, row, supply, psd, asked.length, writer) {
-        return false;
-    }
-    let mut from = files::label_buffer();
-    let input = files::opened(host, Command::Generate, Opt::In, &mut from);
-    if input.fd < 0 {
-        return false;
-    }
-    let n = input.length;
-    let start = broadcast::begin(writer, window_of(host, input.fd), text, row, supply);
-    with_input(host, asked.length, psd, text, label, &from[..n], start)
+    };
+    plan.tried(host, &mut psd)
 }
 
 // The packets of a file before the first is read: records, or ADTS frames.
-fn window_of(host: &Host, input: i32) -> Window {
+fn window_of(host: &Host, fd: Fd) -> Window {
     let source = Source {
-        fd: input,
+        fd,
         adts: options::given(host, Command::Generate, Opt::Adts),
     };
-    window::begin(source, options::given(host, Command::Generate, Opt::Resync))
+    Window::new(source, options::given(host, Command::Generate, Opt::Resync))
 }
 
-// Opens the file of PDUs.
-fn with_input(
-    host: &Host,
-    length: usize,
-    psd: &mut [u8],
-    text: &[u8],
-    label: &[u8],
-    from: &[u8],
-    start: Broadcast,
-) -> bool {
-    let mut onto = files::label_buffer();
-    let output = files::opened(host, Command::Generate, Opt::Out, &mut onto);
-    if output.fd < 0 {
-        return false;
+// What is sent, by which writer, with which PSD.
+#[derive(Clone, Copy)]
+struct Plan {
+    asked: Transmission,
+    writer: Writer,
+    supply: Supply,
+}
+
+impl Plan {
+    // Tries the settings of the options, reads their changes and tries these, and sends.
+    fn tried(self, host: &Host, psd: &mut [u8]) -> bool {
+        let given = self.asked.given;
+        let probe = Probe {
+            writer: self.writer,
+            length: self.asked.length,
+            supply: self.supply,
+            psd,
+        };
+        if !probe.takes(host, Command::Generate.words(), given) {
+            return false;
+        }
+        let mut text = io::large_buffer();
+        let label = files::label(host, Command::Generate, Opt::Settings);
+        let Some(length) = inputs::settings(host, &mut text, label.bytes()) else {
+            return false;
+        };
+        let text = &text[..length];
+        if !probe.takes_all(host, label.bytes(), text, given) {
+            return false;
+        }
+        self.sent(host, psd, text, label.bytes())
     }
-    let n = output.length;
-    with_output(
-        host,
-        length,
-        psd,
-        text,
-        label,
-        from,
-        &onto[..n],
-        output.fd,
-        start,
-    )
+
+    // Opens the file of packets and that of PDUs, sends, and closes that of PDUs.
+    fn sent(self, host: &Host, psd: &mut [u8], text: &[u8], label: &[u8]) -> bool {
+        let Some(input) = files::opened(host, Command::Generate, Opt::In) else {
+            return false;
+        };
+        let window = window_of(host, input.fd);
+        let start = Broadcast::new(self.writer, window, text, self.asked.given, self.supply);
+        let Some(output) = files::opened(host, Command::Generate, Opt::Out) else {
+            return false;
+        };
+        let way = Way {
+            from: input.label.bytes(),
+            onto: output.label.bytes(),
+            output: Some(output.fd),
+        };
+        let done = start.send(host, way, psd, self.asked.length);
+        report::psd_ends(host, done);
+        let closed = files::close(host, output.fd, way.onto);
+        finish(host, done, label) & closed
+    }
 }
 
-// Sends, and closes the file of PDUs.
-fn with_output(
-    host: &Host,
-    length: usize,
-    psd: &mut [u8],
-    text: &[u8],
-    label: &[u8],
-    from: &[u8],
-    onto: &[u8],
-    output: i32,
-    start: Broadcast,
-) -> bool {
-    let done = broadcast::send(host, output, from, onto, text, psd, length, start);
-    report::psd_ends(host, done);
-    let closed = files::close(host, output, onto);
-    finish(host, done, label) & closed
-}
-
-// Says what is sent.
+// Says what is sent. Answers whether all went well.
 fn finish(host: &Host, done: Broadcast, label: &[u8]) -> bool {
-    let run = done.run;
-    report::summary(host, run.packets, run.octets, run.pdus, run.size);
-    window::say_places(host, Command::Generate, broadcast::window_of(done));
+    report::summary(host, done.run);
+    done.run.window.say_places(host, Command::Generate);
     report::psd(host, done);
     report::changes(host, done, label);
-    run.ok
+    done.run.course != Course::Failed
 }

@@ -1,27 +1,31 @@
 // What the program says of its work.
 use broadcast::Broadcast;
+use files::Label;
 use host::Host;
 use options::{Command, Opt};
+use records::Stop;
+use sending::Run;
 
 // What is sent, on standard error.
-pub fn summary(host: &Host, packets: u64, octets: u64, pdus: u64, size: u64) {
+pub fn summary(host: &Host, run: Run) {
     options::say_numbers(
         host,
         Command::Generate,
         b": packets @ (bytes @), PDUs @ (bytes @)\n",
-        &[packets, octets, pdus, size],
+        &[run.packets, run.octets, run.pdus, run.size],
     );
+}
+
+// The label of the file whose PSD runs across PDUs.
+fn psd_label(host: &Host) -> Label {
+    files::label(host, Command::Generate, Opt::PsdStream)
 }
 
 // Says that PSD that runs across PDUs could not be read, if so.
 pub fn psd_ends(host: &Host, done: Broadcast) {
-    let supply = done.supply;
-    if supply.status != records::FAILED {
-        return;
+    if done.supply.stop == Some(Stop::Failed) {
+        files::say(host, psd_label(host).bytes(), b": cannot be read\n");
     }
-    let mut label = files::label_buffer();
-    let n = files::put_label(host, &mut label, Command::Generate, Opt::PsdStream);
-    files::say(host, &label[..n], b": cannot be read\n");
 }
 
 // How much is sent of PSD that runs across PDUs, and whether its file has more.
@@ -29,19 +33,19 @@ pub fn psd(host: &Host, done: Broadcast) {
     if !options::given(host, Command::Generate, Opt::PsdStream) {
         return;
     }
-    let supply = done.supply;
     options::say_numbers(
         host,
         Command::Generate,
         b": bytes of PSD @\n",
-        &[supply.sent],
+        &[done.supply.sent],
     );
-    if !psd_stream::has_more(host, supply) {
-        return;
+    if done.supply.has_more(host) {
+        files::say(
+            host,
+            psd_label(host).bytes(),
+            b": has more PSD than was sent\n",
+        );
     }
-    let mut label = files::label_buffer();
-    let n = files::put_label(host, &mut label, Command::Generate, Opt::PsdStream);
-    files::say(host, &label[..n], b": has more PSD than was sent\n");
 }
 
 // How many changes of settings came, and which did not.
@@ -55,25 +59,20 @@ pub fn changes(host: &Host, done: Broadcast, label: &[u8]) {
         b": changes of settings @\n",
         &[done.changes],
     );
-    let next = done.next;
-    if next.pdu == schedule::NEVER {
-        return;
+    if let Some(next) = done.next {
+        files::say_number(
+            host,
+            label,
+            b": line ",
+            next.line,
+            b": its PDU did not come, nor any after it\n",
+        );
     }
-    files::say_number(
-        host,
-        label,
-        b": line ",
-        next.line,
-        b": its PDU did not come, nor any after it\n",
-    );
 }
 
 // How the program is used, on standard output.
 pub fn usage(host: &Host) -> bool {
-    if !print_options(host) {
-        return false;
-    }
-    mode_table::print(host, Command::Generate)
+    print_options(host) && mode_table::print(host, Command::Generate)
 }
 
 fn print_options(host: &Host) -> bool {

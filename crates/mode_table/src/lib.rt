@@ -1,9 +1,9 @@
 // The mode table (document 01, "Modes") as text, for the help of subcommands; on `files` alone.
-
 #![tactic(auto)]
 
 use host::Host;
 use options::Command;
+
 // Prints the table on standard output. Answers whether all is printed; if not, says why.
 pub fn print(host: &Host, command: Command) -> bool {
     files::print_usage(
