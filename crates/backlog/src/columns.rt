@@ -89,7 +89,7 @@ impl Rows {
         if at < MOST {
             self.most[at] = self.most[at].max(waiting);
             self.least[at] = self.least[at].min(waiting);
-            self.dry[at] = self.dry[at] | latency::is_dry(b.latency, tick, waiting as usize);
+            self.dry[at] |= latency::is_dry(b.latency, tick, waiting as usize);
         }
     }
 

@@ -1,12 +1,12 @@
-// Lists of counts in text: decimal numbers, in a file with blanks or line ends between them, in an option with commas; on `records` and the toolchain's
-// `bytes`.
+// Lists of counts in text: decimal numbers, in a file with blanks or line ends between them, in an option with commas; on `text` and
+// `records`.
 #![tactic(auto)]
 
 ghost use Rattle.std.specs.Prelude.{◌≡◌, ◌<◌, ◌≤◌, length, IfSome};
 
 use host::{Fd, Host};
 
-// What is wrong with a list: a byte of a line, counted from 1, is neither a digit nor a blank; or a read failed, and errno names why.
+// What is wrong with a list: a byte of a line, counted from 1, is neither a digit nor a blank; or a read failed.
 #[derive(Clone, Copy, Debug, PartialEq, Eq)]
 pub enum Wrong {
     Strange(u64),

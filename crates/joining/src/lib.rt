@@ -55,7 +55,7 @@ const START: Run = Run {
     unlike: 0,
 };
 
-// Joins all frames. What stopped it before the end, its ending says, and errno with that.
+// Joins all frames. What stopped it before the end, its ending says.
 pub fn join_all(host: &Host, task: Task) -> Run {
     let mut block = Block::new();
     task.format.put_title(&mut block);
