@@ -138,7 +138,7 @@ fn turn(host: &Host, task: Task, buf: &mut [u8], room: &mut Room, run: Run) -> R
     }
 }
 
-// Sends a PDU: it is lost, or comes through.
+// Sends a PDU: it was marked lost before, is lost here, or comes through.
 fn sent(host: &Host, task: Task, pdu: &mut [u8], room: &mut Room, run: Run) -> Result<Run, Ending> {
     let fate = task.channel.fate_of(run.burst, run.dice);
     let next = Run {
@@ -147,11 +147,14 @@ fn sent(host: &Host, task: Task, pdu: &mut [u8], room: &mut Room, run: Run) -> R
         pdus: run.pdus.wrapping_add(1),
         ..run
     };
-    if pdu.len() == 0 {
-        return next.with_missing().on_road(host, task, NOTHING, room);
-    }
-    if 0 < fate.burst {
-        return next.with_lost().on_road(host, task, NOTHING, room);
+    let missing = pdu.len() == 0;
+    if missing | (0 < fate.burst) {
+        let lost = Run {
+            missing: next.missing.wrapping_add(u64::from(missing)),
+            lost: next.lost.wrapping_add(u64::from(!missing)),
+            ..next
+        };
+        return lost.on_road(host, task, NOTHING, room);
     }
     through(host, task, pdu, fate.bytes, room, next)
 }
@@ -220,22 +223,6 @@ impl Run {
     fn after_record(self, length: usize) -> Run {
         Run {
             bytes: self.bytes.wrapping_add(2).wrapping_add(length as u64),
-            ..self
-        }
-    }
-
-    // The run with one more PDU that was marked lost before.
-    fn with_missing(self) -> Run {
-        Run {
-            missing: self.missing.wrapping_add(1),
-            ..self
-        }
-    }
-
-    // The run with one more PDU that is lost.
-    fn with_lost(self) -> Run {
-        Run {
-            lost: self.lost.wrapping_add(1),
             ..self
         }
     }
