@@ -6,7 +6,6 @@ mod report;
 use broadcast::{Broadcast, Probe};
 use files::Exit;
 use host::{Fd, Host};
-use limits::Request;
 use options::{Command, Opt};
 use packets::Source;
 use packets::window::Window;
@@ -53,23 +52,17 @@ pub fn program(host: &Host) -> Exit {
     }
 }
 
-// Says why no writer is opened.
-fn say_refused(host: &Host, asked: Transmission, refusal: u32) {
-    let request = Request {
-        mode: asked.mode,
-        stream: asked.stream,
-        length: asked.length,
-        settings: asked.settings(),
-    };
-    trial::say_refused(host, Command::Generate.words(), refusal, request);
-}
-
 // Makes the PDUs. Answers whether all is done; what went wrong is said.
 fn run(host: &Host, job: Job) -> bool {
     let asked = job.asked;
     let opened = writer::open(asked.mode, asked.stream, asked.register);
     if opened.refusal != 0 {
-        say_refused(host, asked, opened.refusal);
+        trial::say_refused(
+            host,
+            Command::Generate.words(),
+            opened.refusal,
+            asked.request(),
+        );
         return false;
     }
     let mut psd = [0u8; 256];

@@ -106,8 +106,8 @@ pub fn supply(host: &Host, most: usize, psd: &mut [u8]) -> Option<Supply> {
     Some(Supply::same(length))
 }
 
-// Reads the changes of settings to the buffer's start. Answers how many bytes they are, none where none are asked for; nothing where they cannot be read, or fill
-// the buffer, which may not have all of them: that is said.
+// Reads the changes of settings to the buffer's start. Answers how many bytes they are, none where none are asked for; nothing where they cannot be read, or
+// fill the buffer, which may not have all of them: that is said.
 pub fn settings(host: &Host, text: &mut [u8], label: &[u8]) -> Option<usize>
     ensures { IfSome result (λ n. IsPrefixLen n text.new) }
 {

@@ -114,8 +114,8 @@ impl<'a> Reader<'a> {
         Next::Passed(self.ahead.offset.wrapping_sub(before) as usize)
     }
 
-    // What comes of a place at which a frame should begin, and none does, or one that leads to no other nor to the file's end. Where another begins inside it, it
-    // was cut, or its length is wrong, and it is passed over up to there; else it stands, if it is a frame.
+    // What comes of a place at which a frame should begin, and none does, or one that leads to no other nor to the file's end. Where another begins inside it,
+    // it was cut, or its length is wrong, and it is passed over up to there; else it stands, if it is a frame.
     fn settle(&mut self, host: &Host, stands: Option<Span>) -> Next {
         let end = match stands {
             Some(span) => span.to,
@@ -127,8 +127,8 @@ impl<'a> Reader<'a> {
         }
     }
 
-    // What comes of the place at which the next frame should begin, where bytes at which none does are passed over. A frame that follows on such bytes stands only
-    // if it leads to another, or to the file's end.
+    // What comes of the place at which the next frame should begin, where bytes at which none does are passed over. A frame that follows on such bytes stands
+    // only if it leads to another, or to the file's end.
     fn resync(
         &mut self,
         host: &Host,

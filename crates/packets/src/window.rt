@@ -213,8 +213,8 @@ impl Window {
         }
     }
 
-    // The same packets after a reading, if there is room for one more: with that, or more bytes that are passed over; where none can be read, says why and closes
-    // the window.
+    // The same packets after a reading, if there is room for one more: with that, or more bytes that are passed over; where none can be read, says why and
+    // closes the window.
     fn taken(self, host: &Host, label: &[u8], rows: &mut Rows) -> Window {
         if (rows.lengths.len() <= self.end) | (REST - MOST < self.to) {
             return self;

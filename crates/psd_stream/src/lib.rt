@@ -9,7 +9,8 @@ use records::{Filled, Stop};
 // The most bytes that any mode has room for.
 pub const MOST: u32 = 128;
 
-// A file whose bytes run across PDUs, the place where it began, if it has places, whether it is read again from there at its end, and the most bytes in one PDU.
+// A file whose bytes run across PDUs, the place where it began, if it has places, whether it is read again from there at its end, and the most bytes in one
+// PDU.
 #[derive(Clone, Copy, Debug)]
 pub struct Stream {
     pub fd: Fd,
@@ -64,8 +65,8 @@ impl Stream {
     }
 }
 
-// A supply of PSD: the file whose bytes run across PDUs, none where every PDU has the same PSD; why the last reading of it was not whole; how many bytes the next
-// PDU has; and how many are sent of the file.
+// A supply of PSD: the file whose bytes run across PDUs, none where every PDU has the same PSD; why the last reading of it was not whole; how many bytes the
+// next PDU has; and how many are sent of the file.
 #[derive(Clone, Copy, Debug)]
 pub struct Supply {
     pub stream: Option<Stream>,

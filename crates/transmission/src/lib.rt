@@ -1,10 +1,11 @@
 // What the command line asks to be sent: mode and stream, the register that CRCs start with, the length of each PDU, its settings and its PSD; on
-// `named_settings`, `records` and `files`.
+// `limits`, `named_settings`, `records` and `files`.
 #![tactic(auto)]
 
 pub mod psd;
 
 use host::Host;
+use limits::Request;
 use named_settings::{Given, NAMES, Name};
 use options::{Command, Opt, SETTINGS};
 use settings::Settings;
@@ -23,6 +24,16 @@ impl Transmission {
     // The settings of every PDU.
     pub fn settings(self) -> Settings {
         self.given.settings()
+    }
+
+    // What a writer is asked for.
+    pub fn request(self) -> Request {
+        Request {
+            mode: self.mode,
+            stream: self.stream,
+            length: self.length,
+            settings: self.settings(),
+        }
     }
 }
 

@@ -6,8 +6,8 @@ use host::Host;
 use options::{Command, Opt};
 use records::Stop;
 
-// The PSD of every PDU to the buffer's start: what its file holds, or as much of it as fills the buffer; none where no file is named. Answers its length; nothing
-// where it cannot be read, which is said.
+// The PSD of every PDU to the buffer's start: what its file holds, or as much of it as fills the buffer; none where no file is named. Answers its length;
+// nothing where it cannot be read, which is said.
 pub fn read(host: &Host, command: Command, buf: &mut [u8]) -> Option<usize>
     ensures { IfSome result (λ n. IsPrefixLen n buf.new) }
 {
