@@ -6,27 +6,30 @@
 mod report;
 mod tally;
 
-use commission::Asked;
-use drawing::Task;
-use host::Host;
+use commission::{Asked, Format};
+use drawing::{Draws, Task};
+use files::{Exit, File};
+use gaps::Pace;
+use host::{Fd, Host};
 use options::{Command, Opt};
-use page::leaf;
+use overview::Scale;
 use page::leaf::Book;
-use readings::Run;
+use readings::{Run, State};
+use std::num::NonZeroU32;
+use text::Line;
 
-// The program: answers its exit status.
-pub fn program(host: &Host) -> i32 {
+// The program: answers how it ended.
+pub fn program(host: &Host) -> Exit {
     if options::given(host, Command::Coverage, Opt::Help) {
         return files::status(host, Command::Coverage, report::usage(host));
     }
     if !options::check(host, Command::Coverage) {
-        return files::WRONG;
+        return Exit::Wrong;
     }
-    let asked = commission::asked_for(host);
-    if !asked.ok {
-        return files::WRONG;
+    match commission::asked_for(host) {
+        Some(asked) => files::status(host, Command::Coverage, with_options(host, asked)),
+        None => Exit::Wrong,
     }
-    files::status(host, Command::Coverage, with_options(host, asked))
 }
 
 // Opens the CSV. Answers whether all is done; what went wrong is said.
@@ -35,133 +38,135 @@ fn with_options(host: &Host, asked: Asked) -> bool {
         report::say_unlisted(host);
         return false;
     }
-    let mut from = files::label_buffer();
-    let input = files::opened(host, Command::Coverage, Opt::In, &mut from);
-    if input.fd < 0 {
+    let Some(input) = files::opened(host, Command::Coverage, Opt::In) else {
         return false;
+    };
+    let from = input.label.bytes();
+    match host.place(input.fd) {
+        Some(start) => with_input(host, asked, from, input.fd, start),
+        None => {
+            files::say(
+                host,
+                from,
+                b": is to be read twice, and cannot be: not a file\n",
+            );
+            false
+        }
     }
-    let n = input.length;
-    let start = files::place(host, input.fd);
-    if start < 0 {
-        files::say(
-            host,
-            &from[..n],
-            b": is to be read twice, and cannot be: not a file\n",
-        );
-        return false;
-    }
-    with_input(host, asked, &from[..n], input.fd, start)
+}
+
+// How many PDUs stand on so many rows; nothing where that is too many to count.
+fn on_rows(rows: NonZeroU32, columns: u32) -> Option<NonZeroU32> {
+    NonZeroU32::new((clock::times(rows.get(), columns) % 4294967296) as u32)
 }
 
 // The pages, for so many PDUs with so many packets at the most.
 fn book_of(asked: Asked, pdus: u32, most: u32) -> Book {
     Book {
         columns: asked.columns,
-        pdus: pdus,
-        on_page: (clock::times(asked.rows, asked.columns) % 4294967296) as u32,
-        most: most,
+        pdus,
+        on_page: asked.rows.and_then(|rows| on_rows(rows, asked.columns)),
+        most,
     }
 }
 
 // A reading that counts.
-fn counting(asked: Asked, input: i32, start: i64) -> Task {
-    let c = asked.clock;
+fn counting(asked: Asked, input: Fd, start: u64) -> Task {
     Task {
-        input: input,
-        start: start,
-        output: -1,
-        html: asked.html,
-        draws: drawing::COUNTS,
+        input,
+        start,
+        format: asked.format,
+        draws: Draws::Nothing,
         only: asked.page,
         first: 0,
         book: book_of(asked, 0, 0),
-        clock: c,
-        pace: gaps::pace_of(0, 0),
-        scale: overview::scale_of(c, 0, 0),
+        clock: asked.clock,
+        pace: Pace::default(),
+        scale: Scale::new(asked.clock, 0, 0),
+    }
+}
+
+// The first PDU of the page that is asked for.
+fn first_of(asked: Asked, book: Book) -> u32 {
+    match (asked.page, book.on_page) {
+        (Some(page), Some(many)) => {
+            (clock::times(page.get().wrapping_sub(1), many.get()) % 4294967296) as u32
+        }
+        _ => 0,
     }
 }
 
 // The task of drawing, after a reading that counted.
-fn drawing_after(task: Task, asked: Asked, first: Run) -> Task {
-    let d = first.drive;
-    let t = d.totals;
-    let g = first.gaps;
-    let pace = g.pace;
-    let c = task.clock;
-    let book = book_of(asked, d.count, t.most);
-    let before = std::num::wrapping_sub_u32(asked.page, 1);
-    let mut next = task;
-    next.first = (clock::times(before, book.on_page) % 4294967296) as u32;
-    next.book = book;
-    next.pace = pace;
-    next.scale = overview::scale_of(c, d.count, 0);
-    next
+fn drawing_after(task: Task, asked: Asked, counted: Run) -> Task {
+    let drive = counted.drive;
+    let book = book_of(asked, drive.count, drive.totals.most);
+    Task {
+        first: first_of(asked, book),
+        book,
+        pace: counted.gaps.pace,
+        scale: Scale::new(task.clock, drive.count, 0),
+        ..task
+    }
 }
 
 // Counts.
-fn with_input(host: &Host, asked: Asked, from: &[u8], input: i32, start: i64) -> bool {
+fn with_input(host: &Host, asked: Asked, from: &[u8], input: Fd, start: u64) -> bool {
     let mut buf = io::large_buffer();
-    let mut block = [0u8; 1];
+    let mut block = Line::<1>::new();
     let task = counting(asked, input, start);
-    let first = readings::read_all(host, task, &mut buf, &mut block, 0);
-    if !report::is_read(host, first, from, from) {
+    let counted = readings::read_all(host, task, &mut buf, &mut block);
+    if !report::is_read(host, counted, from, from) {
         return false;
     }
-    let next = drawing_after(task, asked, first);
-    let book = next.book;
-    if leaf::count(book) < asked.page {
-        report::say_pages(host, leaf::count(book));
+    let next = drawing_after(task, asked, counted);
+    let pages = next.book.count();
+    if asked.page.is_some_and(|page| pages < page.get()) {
+        report::say_pages(host, pages);
         return false;
     }
-    said_of_rows(host, page::rows(leaf::shape(book, 0)), asked.rows);
+    said_of_rows(host, next.book.shape(0).rows(), asked);
     with_task(host, next, from, &mut buf)
 }
 
 // Says that a page has more rows than are read on one, where no count of them is given.
-fn said_of_rows(host: &Host, rows: u32, given: u32) {
-    if (given == 0) & (60 < rows) {
+fn said_of_rows(host: &Host, rows: u32, asked: Asked) {
+    if asked.rows.is_none() & (60 < rows) {
         report::say_rows(host, rows);
     }
 }
 
 // Makes the picture's file.
 fn with_task(host: &Host, task: Task, from: &[u8], buf: &mut [u8]) -> bool {
-    let mut onto = files::label_buffer();
-    let output = files::opened(host, Command::Coverage, Opt::Out, &mut onto);
-    if output.fd < 0 {
-        return false;
+    match files::opened(host, Command::Coverage, Opt::Out) {
+        Some(output) => with_output(host, task, from, &output, buf),
+        None => false,
     }
-    let n = output.length;
-    let mut next = task;
-    next.output = output.fd;
-    with_output(host, next, from, &onto[..n], buf)
 }
 
-fn drawn(host: &Host, task: Task, buf: &mut [u8]) -> Run {
-    if task.html {
-        return printing::html(host, task, buf);
+fn drawn(host: &Host, task: Task, output: Fd, buf: &mut [u8]) -> Run {
+    match task.format {
+        Format::Html => printing::html(host, task, output, buf),
+        Format::Svg => printing::svg(host, task, output, buf),
     }
-    printing::svg(host, task, buf)
 }
 
 // Draws, and closes the picture's file.
-fn with_output(host: &Host, task: Task, from: &[u8], onto: &[u8], buf: &mut [u8]) -> bool {
-    let run = drawn(host, task, buf);
+fn with_output(host: &Host, task: Task, from: &[u8], output: &File, buf: &mut [u8]) -> bool {
+    let onto = output.label.bytes();
+    let run = drawn(host, task, output.fd, buf);
     let done = report::is_read(host, run, from, onto);
-    let closed = files::close(host, task.output, onto);
-    let book = task.book;
-    said(host, run, book.pdus, from) & done & closed
+    let closed = files::close(host, output.fd, onto);
+    said(host, run, task.book.pdus, from) & done & closed
 }
 
 // Says what the picture shows. Answers whether the CSV was the same in all readings.
 fn said(host: &Host, run: Run, counted: u32, from: &[u8]) -> bool {
-    let d = run.drive;
-    let g = run.gaps;
-    let same = d.count == counted;
-    if run.state == readings::READ {
-        said_of_log(host, d.whole, d.counted, same, from);
+    let drive = run.drive;
+    let same = drive.count == counted;
+    if run.state == State::Read {
+        said_of_log(host, drive.whole, drive.is_counted(), same, from);
     }
-    tally::say(host, d, g);
+    tally::say(host, drive, run.gaps);
     same
 }
 

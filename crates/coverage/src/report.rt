@@ -1,11 +1,9 @@
 // What the program says on standard error, a line in one write.
 use host::{Host, STDERR};
+use log_csv::Wrong;
 use options::Command;
-use readings::Run;
-
-fn say(host: &Host, line: &[u8]) {
-    host.write_all(STDERR, line);
-}
+use readings::{Run, State};
+use text::Line;
 
 // How many pages there are, where another one is asked for.
 pub fn say_pages(host: &Host, pages: u32) {
@@ -13,16 +11,16 @@ pub fn say_pages(host: &Host, pages: u32) {
         host,
         Command::Coverage,
         b": --page: there are only so many pages: @\n",
-        &[pages as u64],
+        &[u64::from(pages)],
     );
 }
 
 // That mode and stream are not in the table.
 pub fn say_unlisted(host: &Host) {
-    let mut line = [0u8; 512];
-    let mut n = options::put_program(&mut line, Command::Coverage);
-    n = limits::put_unlisted(&mut line, n);
-    say(host, &line[..n]);
+    let mut line = Line::<512>::new();
+    line.put(Command::Coverage.words());
+    limits::put_unlisted(&mut line);
+    host.write_all(STDERR, line.bytes());
 }
 
 // That a picture by itself has more rows than are read on a page, and how there are pages.
@@ -31,41 +29,28 @@ pub fn say_rows(host: &Host, rows: u32) {
         host,
         Command::Coverage,
         b": --rows: not given, so the picture has all rows: @; --rows N draws a page of N rows, --page K another one, --format html pages to print\n",
-        &[rows as u64],
+        &[u64::from(rows)],
     );
 }
 
 // What is wrong with a line of a file, counted from 1.
-fn wrong_line(host: &Host, label: &[u8], number: u64, wrong: u8) {
-    let mut line = [0u8; 4800];
-    let mut n = text::put(&mut line, 0, label);
-    n = text::fill(&mut line, n, b": line @: ", &[number]);
-    n = text::put(
-        &mut line,
-        n,
-        text::entry(
-            b"\0not pdu,kind,copy,corrected,refusal,packet,length,piece,note,cause,delivered,missing,crc32,text,pdus\n\0over 600 bytes\n\0fewer than two fields\n\0kind is none of received, lost, refused, packet, psd, note\n\0pdu, or a number of its kind, is not a number\n\0packet number over 63\n\0pdu is out of order\n\0not the last line of a log: no count of PDUs, or cause is not whole\n\0not the count of PDUs\n\0after the last line\n\0delivered and missing are not two numbers for a PDU and empty for others\n\0delivered or missing is less than before\n\0more fields than there are columns\n\0",
-            wrong as u32,
-        ),
-    );
-    say(host, &line[..n]);
+fn wrong_line(host: &Host, label: &[u8], number: u64, wrong: Wrong) {
+    let mut line = Line::<4800>::new();
+    line.put(label);
+    line.fill(b": line @: ", &[number]);
+    line.put(wrong.words());
+    host.write_all(STDERR, line.bytes());
 }
 
 // Why a reading stopped; nothing where all lines are read. Answers whether they are.
 pub fn is_read(host: &Host, run: Run, from: &[u8], onto: &[u8]) -> bool {
-    let state = run.state;
-    match state {
-        readings::WRONG => wrong_line(
-            host,
-            from,
-            std::num::wrapping_add_u64(run.count, 1),
-            run.wrong,
-        ),
-        readings::NOT_READ => host.fail(from),
-        readings::NOT_WRITTEN => host.fail(onto),
-        _ => {}
+    match run.state {
+        State::Wrong(wrong) => wrong_line(host, from, run.count.wrapping_add(1), wrong),
+        State::NotRead => host.fail(from),
+        State::NotWritten => host.fail(onto),
+        State::Going | State::Read => {}
     }
-    state == readings::READ
+    run.state == State::Read
 }
 
 // How the program is used, on standard output.

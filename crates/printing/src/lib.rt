@@ -1,108 +1,97 @@
 // A drive as it is handed on: a page of its rows as an SVG picture, or all of it as an HTML page; on `readings`, `legend` and `particulars`.
 #![tactic(auto)]
 
-use drawing::Task;
-use host::Host;
+use drawing::{Block, Draws, Task};
+use host::{Fd, Host};
 use legend::Ground;
-use log_csv::lines;
-use page::{Shape, leaf};
+use overview::Scale;
+use page::Shape;
 use particulars::Particulars;
-use readings::Run;
-
-// A task that draws another thing.
-fn drawing_of(task: Task, draws: u8) -> Task {
-    let mut next = task;
-    next.draws = draws;
-    next
-}
+use readings::{Run, State};
+use text::Line;
 
 // The reading after its last bytes were written, or were not.
-fn written(host: &Host, run: Run, output: i32, block: &[u8], at: usize) -> Run {
-    let w = drawing::written(host, output, block, at);
-    let mut next = run;
-    if !w.ok {
-        next.state = readings::NOT_WRITTEN;
+fn written<const N: usize>(host: &Host, run: Run, output: Fd, block: &mut Line<N>) -> Run {
+    if drawing::written(host, output, block) {
+        return run;
     }
-    next
+    run.stopped(State::NotWritten)
+}
+
+// The task of drawing the rows.
+fn rows_of(task: Task, output: Fd) -> Task {
+    Task {
+        draws: Draws::Rows(output),
+        ..task
+    }
 }
 
 // The page that an SVG picture has: the one asked for.
 fn shape_of(task: Task) -> Shape {
-    let book = task.book;
-    leaf::shape(book, task.first)
+    task.book.shape(task.first)
 }
 
 // Draws a page of rows as SVG: what stands above the rows, each PDU in its turn, and what stands below them.
-pub fn svg(host: &Host, task: Task, buf: &mut [u8]) -> Run {
-    let book = task.book;
-    let c = task.clock;
-    let mut title = io::buffer();
-    let k = sheet::title_of(host, &mut title);
-    let mut block = io::large_buffer();
-    let n = picture::put_head(
+pub fn svg(host: &Host, task: Task, output: Fd, buf: &mut [u8]) -> Run {
+    let title = sheet::title_of(host);
+    let mut block = Block::new();
+    picture::put_head(
         &mut block,
         shape_of(task),
-        c,
-        task.only,
-        leaf::count(book),
-        &title[..k],
+        task.clock,
+        task.only.map_or(0, |page| page.get()),
+        task.book.count(),
+        title.bytes(),
     );
-    let run = readings::read_all(host, drawing_of(task, drawing::ROWS), buf, &mut block, n);
-    if run.state != readings::READ {
+    let run = readings::read_all(host, rows_of(task, output), buf, &mut block);
+    if run.state != State::Read {
         return run;
     }
-    with_rows(host, task, run, &mut block)
+    with_rows(host, task, output, run, &mut block)
 }
 
 // Writes what waits, and what stands below the rows.
-fn with_rows(host: &Host, task: Task, run: Run, block: &mut [u8]) -> Run {
-    let d = run.drive;
-    let g = run.gaps;
-    let c = task.clock;
-    let shape = shape_of(task);
-    let rows = written(host, run, task.output, block, run.waiting);
-    if rows.state != readings::READ {
+fn with_rows(host: &Host, task: Task, output: Fd, run: Run, block: &mut Block) -> Run {
+    let rows = written(host, run, output, block);
+    if rows.state != State::Read {
         return rows;
     }
+    let shape = shape_of(task);
     let ground = Ground {
-        base: page::height_of_rows(shape),
-        width: page::width(shape) - page::LEFT - page::RIGHT,
+        base: shape.height_of_rows(),
+        width: shape.width() - page::LEFT - page::RIGHT,
         most: shape.most,
     };
-    let n = legend::put(block, 0, ground, d, g, c);
-    written(host, run, task.output, block, n)
+    legend::put(block, ground, run.drive, run.gaps, task.clock);
+    written(host, run, output, block)
 }
 
 // A reading of all that draws nothing.
 fn surveyed(host: &Host, task: Task, buf: &mut [u8]) -> Run {
-    let mut block = [0u8; 1];
-    readings::read_all(host, task, buf, &mut block, 0)
+    let mut block = Line::<1>::new();
+    readings::read_all(host, task, buf, &mut block)
 }
 
 // The task of drawing the overview strip, after a survey.
-fn with_scale(task: Task, survey: Run) -> Task {
-    let c = task.clock;
-    let book = task.book;
-    let s = survey.stretch;
-    let mut next = drawing_of(task, drawing::STRIP);
-    next.scale = overview::scale_of(c, book.pdus, overview::peak(s));
-    next
+fn strip_of(task: Task, output: Fd, survey: Run) -> Task {
+    Task {
+        draws: Draws::Strip(output),
+        scale: Scale::new(task.clock, task.book.pdus, survey.stretch.peak()),
+        ..task
+    }
 }
 
 // Writes the head and the overview strip.
-fn with_head(host: &Host, task: Task, p: Particulars, buf: &mut [u8]) -> Run {
-    let c = task.clock;
-    let book = task.book;
-    let scale = task.scale;
-    let mut block = io::large_buffer();
-    let mut n = sheet::put_head(host, &mut block, p.shortest, p.longest, c, book.pdus);
-    n = overview::put_head(&mut block, n, scale);
-    let run = readings::read_all(host, task, buf, &mut block, n);
-    if run.state != readings::READ {
+fn with_head(host: &Host, task: Task, output: Fd, p: &Particulars, buf: &mut [u8]) -> Run {
+    let mut block = Block::new();
+    sheet::put_head(host, &mut block, p.lengths, task.clock, task.book.pdus);
+    overview::put_head(&mut block, task.scale);
+    let run = readings::read_all(host, task, buf, &mut block);
+    if run.state != State::Read {
         return run;
     }
-    let end = overview::put_end(&mut block, run.waiting);
-    written(host, run, task.output, &block, end)
+    overview::put_end(&mut block);
+    written(host, run, output, &mut block)
 }
 
 // What the legend of an HTML page stands in.
@@ -110,81 +99,81 @@ fn ground_of(most: u32) -> Ground {
     Ground {
         base: 0,
         width: 672,
-        most: most,
+        most,
     }
 }
 
 // Writes the totals of a survey, and what the marks mean.
-fn with_legend(host: &Host, task: Task, survey: Run) -> Run {
-    let c = task.clock;
-    let book = task.book;
-    let d = survey.drive;
-    let g = survey.gaps;
-    let mut block = [0u8; 8192];
-    let n = sheet::put_legend_head(&mut block, 0);
-    let end = legend::put(&mut block, n, ground_of(book.most), d, g, c);
-    written(host, survey, task.output, &block, end)
+fn with_legend(host: &Host, task: Task, output: Fd, survey: Run) -> Run {
+    let mut block = Line::<8192>::new();
+    sheet::put_legend_head(&mut block);
+    legend::put(
+        &mut block,
+        ground_of(task.book.most),
+        survey.drive,
+        survey.gaps,
+        task.clock,
+    );
+    written(host, survey, output, &mut block)
 }
 
 // Writes the pages of rows, and the end.
-fn with_pages(host: &Host, task: Task, buf: &mut [u8]) -> Run {
-    let mut block = io::large_buffer();
-    let run = readings::read_all(host, drawing_of(task, drawing::ROWS), buf, &mut block, 0);
-    if run.state != readings::READ {
+fn with_pages(host: &Host, task: Task, output: Fd, buf: &mut [u8]) -> Run {
+    let mut block = Block::new();
+    let run = readings::read_all(host, rows_of(task, output), buf, &mut block);
+    if run.state != State::Read {
         return run;
     }
-    let end = sheet::put_end(&mut block, run.waiting);
-    written(host, run, task.output, &block, end)
+    sheet::put_end(&mut block);
+    written(host, run, output, &mut block)
 }
 
 // Writes the totals of a survey, the list of PSD texts, and then the pages.
-fn with_totals(host: &Host, task: Task, survey: Run, list: &[u8], buf: &mut [u8]) -> Run {
-    let totals = with_legend(host, task, survey);
-    if totals.state != readings::READ {
+fn with_totals(
+    host: &Host,
+    task: Task,
+    output: Fd,
+    survey: Run,
+    p: &Particulars,
+    buf: &mut [u8],
+) -> Run {
+    let totals = with_legend(host, task, output, survey);
+    if totals.state != State::Read {
         return totals;
     }
-    let texts = written(host, totals, task.output, list, list.len());
-    if texts.state != readings::READ {
-        return texts;
+    if !host.write_all(output, p.list.bytes()) {
+        return totals.stopped(State::NotWritten);
     }
-    with_pages(host, task, buf)
+    with_pages(host, task, output, buf)
 }
 
 // Writes all, after a survey, and after the lengths of PDUs and the list of PSD texts are read.
 fn with_particulars(
     host: &Host,
     task: Task,
+    output: Fd,
     survey: Run,
-    p: Particulars,
-    list: &[u8],
+    p: &Particulars,
     buf: &mut [u8],
 ) -> Run {
-    let head = with_head(host, task, p, buf);
-    if head.state != readings::READ {
+    let head = with_head(host, task, output, p, buf);
+    if head.state != State::Read {
         return head;
     }
-    with_totals(host, task, survey, list, buf)
+    with_totals(host, task, output, survey, p, buf)
 }
 
-// Reads the lengths of PDUs and the texts of PSD, and writes all.
-fn with_survey(host: &Host, task: Task, survey: Run, buf: &mut [u8]) -> Run {
-    let c = task.clock;
-    let mut list = io::large_buffer();
-    let p = particulars::read(host, task.input, task.start, c, buf, &mut list);
-    if !p.ok {
-        let mut stopped = survey;
-        stopped.state = readings::NOT_READ;
-        return stopped;
-    }
-    let texts = lines::part(&list, 0, particulars::length_of_list(p));
-    with_particulars(host, task, survey, p, texts, buf)
-}
-
-// Draws all as HTML. A survey comes first: the head has what is only known at the log's end.
-pub fn html(host: &Host, task: Task, buf: &mut [u8]) -> Run {
+// Draws all as HTML. A survey comes first: the head has what is only known at the log's end, and the lengths of PDUs and the texts of PSD.
+pub fn html(host: &Host, task: Task, output: Fd, buf: &mut [u8]) -> Run {
     let survey = surveyed(host, task, buf);
-    if survey.state != readings::READ {
+    if survey.state != State::Read {
         return survey;
     }
-    with_survey(host, with_scale(task, survey), survey, buf)
+    match particulars::read(host, task.input, task.start, task.clock, buf) {
+        Some(p) => {
+            let strip = strip_of(task, output, survey);
+            with_particulars(host, strip, output, survey, &p, buf)
+        }
+        None => survey.stopped(State::NotRead),
+    }
 }
