@@ -1,5 +1,4 @@
 use native.Mathlib.Omega.{arith}
-use Prim.Native.Nat.{◌-◌}
 use borrow.Author.Rules.{rules}
 use Prim.Native.Nat.{◌%◌}
 use Rattle.expansion.specs.Expansion.{class}
