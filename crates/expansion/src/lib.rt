@@ -267,8 +267,8 @@ fn put_program(l: ExpansionBytes, x: Fields) -> ExpansionBytes
         return put(l, 16 + 2 * (x.program % 8));
     }
     let first = put(l, 16 + 2 * (x.program % 8) + 1);
-    let second = put(first, low(x.displacement as u32 / 128));
-    put(second, low(x.displacement as u32))
+    let second = put(first, low(u32::from(x.displacement) / 128));
+    put(second, low(u32::from(x.displacement)))
 }
 
 // The type's septets more, if it is sent.
