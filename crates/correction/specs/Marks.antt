@@ -1,6 +1,6 @@
 -- Error correction with marked bytes, document 02 Ask 3: with a list of s marked places, the code word for which twice the
 -- differing unmarked bytes plus s is at most eight. Refusals 3, 19 and 4 of the tables.
-use Rattle.std.specs.Prelude.{Bool, true, false, not, ◌&&◌, ◌||◌, cond, ◌≡◌, List, [], ◌∷◌, ◌++◌, ℕ, zero, suc, ◌+◌, ◌-◌, ◌*◌, ◌/◌, ◌<◌, ◌≤◌, eqb, leb, length, get_or, take, drop, set}
+use Rattle.std.specs.Prelude.{Bool, true, false, not, ◌&&◌, ◌||◌, cond, ◌≡◌, List, [], ◌∷◌, ◌++◌, ℕ, ◌+◌, ◌-◌, ◌*◌, ◌/◌, ◌<◌, ◌≤◌, eqb, leb, length, get_or, take, drop, set}
 use Rattle.std.proofs.Math.Option.{Option}
 use Rattle.algebra.specs.Places.{All, below, keep}
 use Rattle.header.specs.Header.{is_code_word, length_refusal}

@@ -18,23 +18,14 @@ pub enum Correction {
     Refused(u32),
 }
 
-// A mark as a place.
-fn place(mark: u8) -> usize
-    ensures { result ≡ mark }
-{
-    mark as usize
-}
-
 // Whether place i is marked.
 pub fn is_marked(marks: &[u8], i: usize) -> bool
     ensures { result ≡ is_marked marks.now i }
 {
-    let mut k: usize = 0;
-    while k < marks.len() {
-        if place(marks[k]) == i {
+    for mark in marks {
+        if usize::from(*mark) == i {
             return true;
         }
-        k += 1;
     }
     false
 }
@@ -46,17 +37,14 @@ fn marks_refusal(marks: &[u8]) -> u32
     if 8 < marks.len() {
         return 19;
     }
-    let mut k: usize = 0;
-    while k < marks.len() {
-        let at = place(marks[k]);
+    for (k, mark) in marks.iter().enumerate() {
+        let at = usize::from(*mark);
         if 95 < at {
             return 19;
         }
-        let next = k + 1;
-        if is_marked(&marks[next..], at) {
+        if is_marked(&marks[k + 1..], at) {
             return 19;
         }
-        k = next;
     }
     0
 }
@@ -89,12 +77,10 @@ fn stripped(powers: &[u8; 510], logarithms: &[u8; 256], s: [u8; 8], marks: &[u8]
     ensures { Stripped s marks.now (length marks.now) result }
 {
     let mut t = s;
-    let mut k: usize = 0;
-    while k < marks.len() {
-        let x = field::power_by(powers, place(marks[k]));
+    for mark in marks {
+        let x = field::power_by(powers, usize::from(*mark));
         let next = filtered(powers, logarithms, t, x);
         t = next;
-        k += 1;
     }
     t
 }
@@ -143,9 +129,7 @@ fn evaluate(
     ensures { result ≡ value_from coefficients x 0 degree }
 {
     let mut v = 1;
-    let mut i = degree;
-    while 0 < i {
-        i -= 1;
+    for i in (0..degree).rev() {
         v = coefficients[i] ^ field::product_by(powers, logarithms, x, v);
     }
     v
@@ -196,18 +180,13 @@ fn error_places(
 {
     let mut count = 0;
     let mut places = [0; 8];
-    let mut m = 96;
-    while 0 < m {
-        m -= 1;
+    for m in (0..96).rev() {
         if is_located(powers, logarithms, coefficients, degree, marks, m) {
             places[count] = m;
             count += 1;
         }
     }
-    Places {
-        count: count,
-        places: places,
-    }
+    Places { count, places }
 }
 
 // The points of eight places.
@@ -295,7 +274,7 @@ fn refused(header: [u8; 96]) -> Decoded
     ensures { (result.answer ≡ Refused 4) × (result.header ≡ header) }
 {
     Decoded {
-        header: header,
+        header,
         answer: Correction::Refused(4),
     }
 }
@@ -306,11 +285,9 @@ fn adopted(header: &[u8; 96], other: &[u8; 96], marks: &[u8]) -> [u8; 96]
     ensures { result ≡ adopted_from marks.now header.now other.now }
 {
     let mut out = *header;
-    let mut k: usize = 0;
-    while k < marks.len() {
-        let at = place(marks[k]);
+    for mark in marks {
+        let at = usize::from(*mark);
         out[at] = other[at];
-        k += 1;
     }
     out
 }
@@ -328,7 +305,7 @@ fn decode(header: [u8; 96], marks: &[u8]) -> Decoded
     let s = header::syndromes_by(&powers, &logarithms, &header);
     if header::all_zero(s) {
         return Decoded {
-            header: header,
+            header,
             answer: Correction::Corrected(0),
         };
     }

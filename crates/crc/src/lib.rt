@@ -5,24 +5,18 @@ ghost use Rattle.std.specs.Prelude.{◌≡◌, cond, ◌+◌, ◌-◌, ◌%◌, 
 ghost use Rattle.crc.specs.Crc.{crc_from};
 ghost use Rattle.crc.specs.Ring.{word_at, push_high, push_low, next_high, next_low, far_high, far_low, shifts, red, val, horner, folded};
 
-fn wide(b: u8) -> u64
-    ensures { (result ≡ b) × (result < 256) }
-{
-    b as u64
-}
-
 // Eight bytes from a place on, the first highest.
 fn word(bytes: &[u8], i: usize) -> u64
     requires { i + 8 ≤ length bytes.now }
     ensures { result ≡ word_at bytes.now i }
 {
-    let a = wide(bytes[i + 7]) | (wide(bytes[i + 6]) * 256);
-    let b = a | (wide(bytes[i + 5]) * 65536);
-    let c = b | (wide(bytes[i + 4]) * 16777216);
-    let d = c | (wide(bytes[i + 3]) * 4294967296);
-    let e = d | (wide(bytes[i + 2]) * 1099511627776);
-    let f = e | (wide(bytes[i + 1]) * 281474976710656);
-    f | (wide(bytes[i]) * 72057594037927936)
+    let a = u64::from(bytes[i + 7]) | (u64::from(bytes[i + 6]) * 256);
+    let b = a | (u64::from(bytes[i + 5]) * 65536);
+    let c = b | (u64::from(bytes[i + 4]) * 16777216);
+    let d = c | (u64::from(bytes[i + 3]) * 4294967296);
+    let e = d | (u64::from(bytes[i + 2]) * 1099511627776);
+    let f = e | (u64::from(bytes[i + 1]) * 281474976710656);
+    f | (u64::from(bytes[i]) * 72057594037927936)
 }
 
 fn push_high(h: u64, l: u64) -> u64
@@ -34,7 +28,7 @@ fn push_high(h: u64, l: u64) -> u64
 fn push_low(h: u64, l: u64, b: u8) -> u64
     ensures { (result ≡ push_low h l b) × (result < 18446744073709551616) }
 {
-    (l % 72057594037927936 * 256 + b as u64) ^ (h / 72057594037927936 * 2)
+    (l % 72057594037927936 * 256 + u64::from(b)) ^ (h / 72057594037927936 * 2)
 }
 
 fn next_high(h: u64, l: u64, a: u64) -> u64
@@ -128,14 +122,12 @@ fn finish(h: u64, l: u64) -> u8
 }
 
 // The CRC of 128 bits and of the bytes from a place on, 32 bytes a turn.
-fn by_32(h: u64, l: u64, bytes: &[u8], from: usize) -> u8
+fn by_32(mut h: u64, mut l: u64, bytes: &[u8], from: usize) -> u8
     requires { (from ≤ length bytes.now) × ((length bytes.now - from) % 32 ≡ 0) }
     ensures { result ≡ shifts 8 (horner (val h l) (drop from bytes.now)) }
 {
-    let mut h: u64 = h;
-    let mut l: u64 = l;
-    let mut i: usize = from;
-    while i < bytes.len() {
+    for k in 0..(bytes.len() - from) / 32 {
+        let i = from + 32 * k;
         let a = word(bytes, i);
         let b = word(bytes, i + 8);
         let c = next_high(a, b, word(bytes, i + 16));
@@ -143,7 +135,6 @@ fn by_32(h: u64, l: u64, bytes: &[u8], from: usize) -> u8
         let x = far_high(h, l, c);
         l = far_low(h, l, d);
         h = x;
-        i += 32;
     }
     finish(h, l)
 }
@@ -162,21 +153,17 @@ fn by_16(h: u64, l: u64, bytes: &[u8], from: usize) -> u8
 }
 
 // The same where the bytes up to a multiple of 16, taken one by one, are any number.
-fn by_1(h: u64, l: u64, bytes: &[u8], from: usize) -> u8
+fn by_1(mut h: u64, mut l: u64, bytes: &[u8], from: usize) -> u8
     requires { from ≤ length bytes.now % 16 }
     ensures { result ≡ shifts 8 (horner (val h l) (drop from bytes.now)) }
 {
     let head = bytes.len() % 16;
-    let mut h: u64 = h;
-    let mut l: u64 = l;
-    let mut i: usize = from;
-    while i < head {
+    for i in from..head {
         let x = push_high(h, l);
         l = push_low(h, l, bytes[i]);
         h = x;
-        i += 1;
     }
-    by_16(h, l, bytes, i)
+    by_16(h, l, bytes, head)
 }
 
 // The register after fewer than eight bytes, from any start: both fit in 64 bits.
@@ -184,11 +171,9 @@ fn few(start: u8, bytes: &[u8]) -> u8
     requires { length bytes.now < 8 }
     ensures { result ≡ crc_from start bytes.now }
 {
-    let mut w: u64 = wide(start);
-    let mut i: usize = 0;
-    while i < bytes.len() {
-        w = (w ^ wide(bytes[i])) * 256;
-        i += 1;
+    let mut w = u64::from(start);
+    for b in bytes {
+        w = (w ^ u64::from(*b)) * 256;
     }
     reduced64(w)
 }
@@ -223,7 +208,7 @@ pub fn crc8_from(start: u8, bytes: &[u8]) -> u8
     if bytes.len() < 8 {
         return few(start, bytes);
     }
-    let h = wide(start) * 36028797018963968;
+    let h = u64::from(start) * 36028797018963968;
     let from = bytes.len() % 16 / 8 * 8;
     by_1(first_high(h, from), first_low(h, bytes, from), bytes, from)
 }

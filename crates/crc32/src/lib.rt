@@ -158,11 +158,9 @@ fn crc_by(tables: &[u32; 768], words: &[u32]) -> u32
     requires { Tables tables.now }
     ensures { result ≡ crc32 (entries_bytes words.now) }
 {
-    let mut register: u32 = 0xffffffff;
-    let mut i: usize = 0;
-    while i < words.len() {
-        register = with_word(tables, register, words[i]);
-        i += 1;
+    let mut register = 0xffffffff;
+    for word in words {
+        register = with_word(tables, register, *word);
     }
     register ^ 0xffffffff
 }

@@ -10,7 +10,7 @@ ghost use Rattle.damage.specs.Damage.{Turned, differing};
 use dice::Dice;
 
 // The header's bytes.
-const HEADER: u64 = 96;
+const HEADER: usize = 96;
 
 // The first `count` of these places.
 #[derive(Clone, Copy)]
@@ -41,15 +41,6 @@ struct Rest {
     dice: Dice,
 }
 
-fn least(a: u64, b: u64) -> u64
-    ensures { (result ≡ min a b) × (result ≤ a) × (result ≤ b) }
-{
-    if a < b {
-        return a;
-    }
-    b
-}
-
 // Another value for a byte: each of the other 255 for one draw.
 fn another(byte: u8, draw: u64) -> u8
     requires { draw < 255 }
@@ -67,10 +58,7 @@ fn turn(pdu: &mut [u8], place: usize, places: u64, left: u64, dice: Dice) -> Res
 {
     let first = dice.next();
     if left <= first.below(places) {
-        return Rest {
-            left: left,
-            dice: first,
-        };
+        return Rest { left, dice: first };
     }
     let second = first.next();
     pdu[place] = another(pdu[place], second.below(255));
@@ -87,21 +75,21 @@ fn alter(pdu: &mut [u8], count: u64, dice: Dice) -> Alteration
     ensures pdu_after { distance pdu.new pdu.old ≡ result.altered }
     ensures pdu_unchanged { drop 96 pdu.new ≡ drop 96 pdu.old }
 {
-    let mut places = least(HEADER, pdu.len() as u64);
-    let altered = least(count, places);
+    let places = pdu.len().min(HEADER);
+    let altered = count.min(places as u64);
     let mut left = altered;
     let mut thrown = dice;
-    let mut place: usize = 0;
-    while 0 < left {
-        let t = turn(pdu, place, places, left, thrown);
+    for place in 0..places {
+        if left == 0 {
+            break;
+        }
+        let t = turn(pdu, place, (places - place) as u64, left, thrown);
         let next = t.dice;
         thrown = next;
         left = t.left;
-        places -= 1;
-        place += 1;
     }
     Alteration {
-        altered: altered,
+        altered,
         dice: thrown,
     }
 }
@@ -112,21 +100,14 @@ fn differing_places(before: [u8; 96], after: [u8; 96]) -> Places
     ensures places_value { take result.count result.places ≡ differing 0 before after }
 {
     let mut places = [0u8; 96];
-    let mut count: usize = 0;
-    let mut place: usize = 0;
-    while place < 96 {
-        if before[place] == after[place] {
-            place += 1;
-        } else {
+    let mut count = 0;
+    for place in 0..96 {
+        if before[place] != after[place] {
             places[count] = place as u8;
             count += 1;
-            place += 1;
         }
     }
-    Places {
-        count: count,
-        places: places,
-    }
+    Places { count, places }
 }
 
 // Alters so many bytes of the header, or all of it where it has fewer: what is altered differs from before in as many places as it says, and

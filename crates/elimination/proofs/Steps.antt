@@ -196,14 +196,6 @@ reduce-beside m out t t' k p lm lt kb pb g h =
         (right-entry out t' r b ∙ h.rest r b d
         ∙ sym (ap₂ bit_xor (ap (λ (row : List ℕ). get_or row 4 0) (exchanged m t k p r lm lt kb pb b)) (ap₂ mul (factor r b) (right-entry out t' k kb))))
 
-pub zeros-again : (m : List (List ℕ)) (k r : ℕ) → ((i : ℕ) → k ≤ i → i < r → get_or (get_or m i []) k 0 ≡ 0) → get_or (get_or m r []) k 0 ≡ 0
-    → (i : ℕ) → k ≤ i → i < r + 1 → get_or (get_or m i []) k 0 ≡ 0
-zeros-again m k r z e i a b = go (ℕ_discrete i r)
-  where
-    go : Dec (i ≡ r) → get_or (get_or m i []) k 0 ≡ 0
-    go (yes p) = rw p e
-    go (no p) = z i a (omega arith)
-
 pub column-next : (m : List (List ℕ)) (k : ℕ) (out : List ℕ) (n x : ℕ) → n < 4 → Column m k out n → x ≡ get_or (get_or m n []) k 0 → Column m k (set out n x) (n + 1)
 column-next m k out n x l g e = record { long = length-set out n x ∙ g.long; taken = λ i b. go i b (ℕ_discrete i n) }
   where

@@ -46,13 +46,10 @@ fn pivot(m: [[u8; 4]; 4], k: usize) -> usize
     requires { k < 4 }
     ensures { Pivot m k result }
 {
-    let mut r = k;
-    while r < 4 {
-        let row = m[r];
-        if row[k] != 0 {
+    for r in k..4 {
+        if m[r][k] != 0 {
             return r;
         }
-        r += 1;
     }
     4
 }
@@ -148,21 +145,18 @@ pub fn eliminate(powers: &[u8; 510], logarithms: &[u8; 256], m: [[u8; 4]; 4], t:
 {
     let mut rows = m;
     let mut right = t;
-    let mut k = 0;
-    while k < 4 {
+    for k in 0..4 {
         let p = pivot(rows, k);
         if p == 4 {
-            let c = column(rows, k);
             return Locator {
                 degree: k,
-                coefficients: c,
+                coefficients: column(rows, k),
             };
         }
         let next_right = reduce_right(powers, logarithms, rows, right, k, p);
         let next = reduce(powers, logarithms, rows, k, p);
         right = next_right;
         rows = next;
-        k += 1;
     }
     Locator {
         degree: 4,

@@ -1,6 +1,6 @@
 -- Document 01, "Expansion, PSD, pieces": the fields to be sent, and their bytes.
-use Rattle.std.specs.Prelude.{◌≡◌, Bool, true, false, ◌&&◌, cond, List, [], ◌∷◌, ◌++◌, map, ℕ, ◌+◌, ◌<◌}
-use Rattle.std.proofs.Math.Option.{Option, none, some}
+use Rattle.std.specs.Prelude.{◌≡◌, true, ◌&&◌, cond, List, [], ◌∷◌, ◌++◌, map, ℕ, ◌+◌, ◌<◌}
+use Rattle.std.proofs.Math.Option.{none, some}
 use Rattle.expansion.specs.Expansion.{Field, class, program, ptype, services, septets_of_all, chained}
 use Rattle.expansion.specs.declared.Fields.{Fields}
 use Rattle.expansion.specs.declared.Interpreted.{Interpreted}

@@ -25,10 +25,9 @@ pub struct Interpreted {
 fn expansion_length(pdu: &[u8], at: u16, la: u8) -> usize
     ensures { result ≡ expansion_length pdu.now at la }
 {
-    let last = la as usize;
-    let mut i: usize = 0;
-    while i < 16 {
-        let place = at as usize + i;
+    let last = usize::from(la);
+    for i in 0..16 {
+        let place = usize::from(at) + i;
         if last < place {
             return 0;
         }
@@ -38,7 +37,6 @@ fn expansion_length(pdu: &[u8], at: u16, la: u8) -> usize
         if pdu[place] < 128 {
             return i + 1;
         }
-        i += 1;
     }
     0
 }
@@ -48,7 +46,7 @@ pub fn nothing(right: bool) -> Interpreted
     ensures { result ≡ nothing_of right }
 {
     Interpreted {
-        right: right,
+        right,
         class: 0,
         program: 0,
         displaced: false,
@@ -64,35 +62,19 @@ pub fn nothing(right: bool) -> Interpreted
 fn known(id: u8, b: u8) -> bool
     ensures { result ≡ known_of id b }
 {
-    if id < 3 {
-        return true;
-    }
-    if id == 4 {
-        return b / 8 % 2 == 1;
-    }
-    false
+    id < 3 || (id == 4 && b / 8 % 2 == 1)
 }
 
 // A field's bytes after its first.
 fn more_bytes(id: u8, b: u8) -> usize
     ensures { (result ≡ more_bytes id b) × (result ≤ 3) }
 {
-    if id == 0 {
-        return 0;
+    match id {
+        0 => 0,
+        1 => 2 * (usize::from(b) % 2),
+        2 => 1,
+        _ => 3,
     }
-    if id == 1 {
-        return 2 * (wide(b) % 2);
-    }
-    if id == 2 {
-        return 1;
-    }
-    3
-}
-
-fn wide(x: u8) -> usize
-    ensures { (result ≡ x) × (result < 256) }
-{
-    x as usize
 }
 
 // Septet j of the n from a place on; 0 past them.
@@ -111,42 +93,43 @@ fn absorbed(v: Interpreted, id: u8, b: u8, r0: u8, r1: u8, r2: u8) -> Interprete
     requires { (b < 128) × (r0 < 128) × (r1 < 128) × (r2 < 128) }
     ensures { result ≡ absorb (field_of id b (r0 ∷ r1 ∷ r2 ∷ [])) v }
 {
-    let mut out = v;
     match id {
-        0 => {
-            out.class = b % 16;
-        }
-        1 => {
-            out.program = b / 2 % 8;
-            if b % 2 == 1 {
-                out.displaced = true;
-                out.displacement = fourteen(r0, r1);
-            }
-        }
-        2 => {
-            out.access = b / 8 % 2;
-            out.ptype = 128 * (b % 2) + r0;
-        }
-        _ => {
-            out.services = b % 8;
-            out.marker = twenty_one(r0, r1, r2);
-        }
+        0 => Interpreted { class: b % 16, ..v },
+        1 if b % 2 == 1 => Interpreted {
+            program: b / 2 % 8,
+            displaced: true,
+            displacement: fourteen(r0, r1),
+            ..v
+        },
+        1 => Interpreted {
+            program: b / 2 % 8,
+            ..v
+        },
+        2 => Interpreted {
+            access: b / 8 % 2,
+            ptype: 128 * (b % 2) + r0,
+            ..v
+        },
+        _ => Interpreted {
+            services: b % 8,
+            marker: twenty_one(r0, r1, r2),
+            ..v
+        },
     }
-    out
 }
 
 fn fourteen(r0: u8, r1: u8) -> u16
     requires { (r0 < 128) × (r1 < 128) }
     ensures { result ≡ 128 * r0 + r1 }
 {
-    128 * (r0 as u16) + r1 as u16
+    128 * u16::from(r0) + u16::from(r1)
 }
 
 fn twenty_one(r0: u8, r1: u8, r2: u8) -> u32
     requires { (r0 < 128) × (r1 < 128) × (r2 < 128) }
     ensures { result ≡ 16384 * r0 + 128 * r1 + r2 }
 {
-    16384 * (r0 as u32) + 128 * (r1 as u32) + r2 as u32
+    16384 * u32::from(r0) + 128 * u32::from(r1) + u32::from(r2)
 }
 
 // What the n septets from a place on say.
@@ -205,11 +188,8 @@ pub fn read_expansion(pdu: &[u8], at: u16, la: u8) -> Expansion
             values: none,
         };
     }
-    let values = interpret(pdu, at as usize, n);
-    Expansion {
-        length: n,
-        values: values,
-    }
+    let values = interpret(pdu, usize::from(at), n);
+    Expansion { length: n, values }
 }
 
 // The fields to be sent, each with a flag that says whether it is.
@@ -250,7 +230,7 @@ fn put(l: ExpansionBytes, b: u8) -> ExpansionBytes
     let mut bytes = l.bytes;
     bytes[n] = 128 + b;
     ExpansionBytes {
-        bytes: bytes,
+        bytes,
         length: n + 1,
     }
 }
@@ -287,8 +267,8 @@ fn put_program(l: ExpansionBytes, x: Fields) -> ExpansionBytes
         return put(l, 16 + 2 * (x.program % 8));
     }
     let first = put(l, 16 + 2 * (x.program % 8) + 1);
-    let second = put(first, low(x.displacement as u32 / 128));
-    put(second, low(x.displacement as u32))
+    let second = put(first, low(u32::from(x.displacement) / 128));
+    put(second, low(u32::from(x.displacement)))
 }
 
 // The type's septets more, if it is sent.
@@ -340,8 +320,5 @@ pub fn expansion_bytes(x: Fields) -> ExpansionBytes
     // No byte follows the last.
     let mut bytes = all.bytes;
     bytes[n - 1] = bytes[n - 1] % 128;
-    ExpansionBytes {
-        bytes: bytes,
-        length: n,
-    }
+    ExpansionBytes { bytes, length: n }
 }

@@ -1,4 +1,3 @@
-pub mod Copies
 pub mod Lengths
 pub mod CodeWords
 pub mod Division

@@ -57,9 +57,7 @@ fn sums(powers: &[u8; 510], logarithms: &[u8; 256], bytes: &[u8]) -> [u8; 8]
     ensures { result ≡ values bytes.now }
 {
     let mut s = [0u8; 8];
-    let mut i: usize = 8;
-    while 0 < i {
-        i -= 1;
+    for i in (0..8).rev() {
         let next = horner_step(powers, logarithms, s, bytes[i]);
         s = next;
     }
@@ -71,7 +69,7 @@ fn exponent(k: usize) -> usize
     requires { k < 9 }
     ensures { (result ≡ get_or exponents k 0) × (result < 256) }
 {
-    EXPONENTS[k] as usize
+    usize::from(EXPONENTS[k])
 }
 
 // A byte as a number of 64 bits.
@@ -208,10 +206,8 @@ fn remainder(header: &[u8]) -> u64
     let g = next(f);
     let h = next(g);
     let mut r: u64 = 0;
-    let mut i: usize = 96;
-    while 8 < i {
-        i -= 8;
-        let v = r ^ word(header, i);
+    for k in (1..12).rev() {
+        let v = r ^ word(header, 8 * k);
         r = step(a, b, c, d, e, f, g, h, v);
     }
     r
@@ -284,14 +280,8 @@ pub fn header_of(pdu: &[u8]) -> [u8; 96]
     ensures { result ≡ header_of pdu.now }
 {
     let mut header = [0u8; 96];
-    let mut i: usize = 0;
-    while i < 96 {
-        if i == pdu.len() {
-            return header;
-        }
-        header[i] = pdu[i];
-        i += 1;
-    }
+    let n = pdu.len().min(96);
+    header[..n].copy_from_slice(&pdu[..n]);
     header
 }
 
@@ -308,12 +298,10 @@ pub fn is_code_word_by(powers: &[u8; 510], logarithms: &[u8; 256], header: &[u8;
 pub fn all_zero(s: [u8; 8]) -> bool
     ensures { result ≡ all_zero s }
 {
-    let mut i: usize = 0;
-    while i < 8 {
-        if s[i] != 0 {
+    for x in s {
+        if x != 0 {
             return false;
         }
-        i += 1;
     }
     true
 }
@@ -324,10 +312,8 @@ fn differing(u: &[u8], v: &[u8]) -> u32
     requires v_len { length v.now ≡ 96 }
     ensures { result ≡ distance u.now v.now }
 {
-    let mut n: u32 = 0;
-    let mut place: usize = 96;
-    while 0 < place {
-        place -= 1;
+    let mut n = 0;
+    for place in 0..96 {
         if u[place] != v[place] {
             n += 1;
         }
@@ -346,14 +332,8 @@ pub fn difference(u: &[u8; 96], v: &[u8; 96]) -> u32
 pub fn put_front(pdu: &mut [u8], front: &[u8])
     ensures { pdu.new ≡ front_replaced pdu.old front.now }
 {
-    let mut i: usize = 0;
-    while i < front.len() {
-        if i == pdu.len() {
-            return;
-        }
-        pdu[i] = front[i];
-        i += 1;
-    }
+    let n = front.len().min(pdu.len());
+    pdu[..n].copy_from_slice(&front[..n]);
 }
 
 // Writes the parity of a PDU into its bytes 0 to 7: 0, or 3 for a length outside 96 to 20,480.

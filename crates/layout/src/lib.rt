@@ -3,7 +3,7 @@
 
 ghost use Rattle.std.specs.Prelude.{◌≡◌, ◌+◌, ◌*◌, ◌/◌, ◌%◌, ◌<◌, ◌≤◌, length, get_or};
 ghost use Rattle.buffer.specs.Buffer.{put_at};
-ghost use Rattle.layout.specs.Control.{bit, control_bytes, control_of, control_at};
+ghost use Rattle.layout.specs.Control.{control_bytes, control_of, control_at};
 ghost use Rattle.layout.specs.Locators.{bytes16, bytes12, locator_bytes, locator_size, locator16 as locator16_of, locator12 as locator12_of, locator_at};
 
 // The control word, bytes 8 to 13.
@@ -70,15 +70,6 @@ pub fn control_word(pdu: &[u8]) -> ControlWord
     )
 }
 
-fn bit_of(b: bool) -> u8
-    ensures { (result ≡ bit b) × (result < 2) }
-{
-    if b {
-        return 1;
-    }
-    0
-}
-
 fn byte8(mode: u8, stream: u8, sequence: u8) -> u8
     ensures { result ≡ mode % 16 + 16 * (stream % 4) + 64 * (sequence % 4) }
 {
@@ -115,9 +106,9 @@ fn byte12(start: u8, nop: u8, flag: u8) -> u8
 pub fn control_bytes(c: ControlWord) -> [u8; 6]
     ensures { result ≡ control_bytes c }
 {
-    let pfirst = bit_of(c.pfirst);
-    let plast = bit_of(c.plast);
-    let flag = bit_of(c.flag);
+    let pfirst = u8::from(c.pfirst);
+    let plast = u8::from(c.plast);
+    let flag = u8::from(c.flag);
     [
         byte8(c.mode, c.stream, c.sequence),
         byte9(c.sequence, c.blend, c.gain),
@@ -128,31 +119,27 @@ pub fn control_bytes(c: ControlWord) -> [u8; 6]
     ]
 }
 
-fn wide(x: u8) -> u16
-    ensures { (result ≡ x) × (result < 256) }
-{
-    x as u16
-}
-
+#[tactic(auto, unfolding(crate::specs::Locators::locator16))]
 fn locator16(pdu: &[u8], k: usize) -> u16
     requires { k < 256 }
     ensures { result ≡ locator16_of pdu.now k }
 {
-    let low = wide(byte_at(pdu, 14 + 2 * k));
-    let high = wide(byte_at(pdu, 15 + 2 * k));
+    let low = u16::from(byte_at(pdu, 14 + 2 * k));
+    let high = u16::from(byte_at(pdu, 15 + 2 * k));
     low + 256 * high
 }
 
+#[tactic(auto, unfolding(crate::specs::Locators::locator12))]
 fn locator12(pdu: &[u8], k: usize) -> u16
     requires { k < 256 }
     ensures { result ≡ locator12_of pdu.now k }
 {
-    let middle = wide(byte_at(pdu, 15 + 3 * (k / 2)));
+    let middle = u16::from(byte_at(pdu, 15 + 3 * (k / 2)));
     if k % 2 == 0 {
-        let low = wide(byte_at(pdu, 14 + 3 * (k / 2)));
+        let low = u16::from(byte_at(pdu, 14 + 3 * (k / 2)));
         return low + 256 * (middle % 16);
     }
-    let high = wide(byte_at(pdu, 16 + 3 * (k / 2)));
+    let high = u16::from(byte_at(pdu, 16 + 3 * (k / 2)));
     middle / 16 + 16 * high
 }
 
@@ -161,9 +148,9 @@ pub fn locator(width: u8, pdu: &[u8], k: u8) -> u16
     ensures { result ≡ locator_at width pdu.now k }
 {
     if width == 16 {
-        return locator16(pdu, k as usize);
+        return locator16(pdu, usize::from(k));
     }
-    locator12(pdu, k as usize)
+    locator12(pdu, usize::from(k))
 }
 
 // The low eight bits of a number from a place on, by the power of two there.
@@ -185,12 +172,9 @@ fn put_locators16(pdu: &mut [u8], locators: &[u16])
     requires { 14 + 2 * length locators.now ≤ length pdu.old }
     ensures { pdu.new ≡ put_at pdu.old 14 (bytes16 locators.now) }
 {
-    let mut k: usize = 0;
-    while k < locators.len() {
-        let a = locators[k];
-        pdu[14 + 2 * k] = byte_from(a, 1);
-        pdu[15 + 2 * k] = byte_from(a, 256);
-        k += 1;
+    for (k, a) in locators.iter().enumerate() {
+        pdu[14 + 2 * k] = byte_from(*a, 1);
+        pdu[15 + 2 * k] = byte_from(*a, 256);
     }
 }
 
@@ -198,19 +182,20 @@ fn put_locators12(pdu: &mut [u8], locators: &[u16])
     requires { 28 + 3 * length locators.now ≤ 2 * length pdu.old }
     ensures { pdu.new ≡ put_at pdu.old 14 (bytes12 locators.now) }
 {
-    let mut j: usize = 0;
-    while 2 * j < locators.len() {
+    let pairs = locators.len() / 2;
+    for j in 0..pairs {
         let a = locators[2 * j];
-        pdu[14 + 3 * j] = byte_from(a, 1);
-        if 2 * j + 1 == locators.len() {
-            pdu[15 + 3 * j] = middle(a, 0);
-            return;
-        }
         let b = locators[2 * j + 1];
+        pdu[14 + 3 * j] = byte_from(a, 1);
         pdu[15 + 3 * j] = middle(a, b);
         pdu[16 + 3 * j] = byte_from(b, 16);
-        j += 1;
     }
+    if locators.len() % 2 == 0 {
+        return;
+    }
+    let last = locators[2 * pairs];
+    pdu[14 + 3 * pairs] = byte_from(last, 1);
+    pdu[15 + 3 * pairs] = middle(last, 0);
 }
 
 // Writes the locators into a PDU, from byte 14 on.
@@ -230,7 +215,7 @@ pub fn locator_size(width: u8, n: u8) -> usize
     ensures { result ≡ locator_size width n }
 {
     if width == 16 {
-        return (16 * (n as usize) + 7) / 8;
+        return (16 * usize::from(n) + 7) / 8;
     }
-    (12 * (n as usize) + 7) / 8
+    (12 * usize::from(n) + 7) / 8
 }

@@ -2,7 +2,7 @@
 use mathlib.Core.Path.{◌≡◌, refl, sym, ap, ◌∙◌, subst}
 use mathlib.Core.Bool.{Bool, true, false, not, ◌&&◌, cond, true≢false}
 use mathlib.Core.List.{List}
-use Prim.Native.Nat.{ℕ, zero, suc, ◌+◌, ◌-◌, ◌*◌, ◌/◌, ◌%◌, ◌<◌, ◌≤◌}
+use Prim.Native.Nat.{ℕ, zero, suc, ◌+◌, ◌-◌, ◌/◌, ◌%◌, ◌<◌, ◌≤◌}
 use native.Mathlib.Omega.{arith}
 use native.Mathlib.Numerals.{add-one}
 use lib.Dec.{eqb, leb}
@@ -56,23 +56,6 @@ hits_next starts lengths l k hit m more m' start long p h es el = rw add-one (ne
 
 pub hits-end : (starts lengths l : List ℕ) (k n : ℕ) (m : List ℕ) (hit : ℕ) → Hits starts lengths l k m hit → k ≡ n → Hits starts lengths l n m hit
 hits-end starts lengths l k n m hit h e = rw e at h
-
--- a window drawn from so many of the bytes from a place to another
-pub strike-by : (from end window bits : ℕ) (l l' : List ℕ) → l' ≡ flipped l (from + window / 8) (down (window % 8) (bits * 256)) → 96 ≤ from → from ≤ end
-    → window < (end - from) * 8 + 1 → 0 < bits → bits < 256 → Struck from end l l'
-strike-by from end window bits l l' q h e w some byte =
-    record {
-      place = from + window / 8;
-      offset = window % 8;
-      bits = bits;
-      behind = omega arith;
-      inside = omega arith;
-      into = omega arith;
-      window = omega arith;
-      some = some;
-      byte = byte;
-      after = q;
-    }
 
 -- the bytes that may be hit lie in the piece
 pub hit-inside : (start from end : ℕ) (l l' : List ℕ) → Struck from end l l' → start ≤ from → Passed start end l l' 1

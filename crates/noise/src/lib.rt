@@ -29,11 +29,9 @@ fn flip_at(pdu: &mut [u8], place: usize, mask: u8)
 fn spread(offset: u64, bits: u8) -> u16
     ensures { result ≡ down offset (bits * 256) }
 {
-    let mut mask = bits as u16 * 256;
-    let mut left = offset;
-    while 0 < left {
+    let mut mask = u16::from(bits) * 256;
+    for _ in 0..offset {
         mask = mask / 2;
-        left -= 1;
     }
     mask
 }
@@ -52,10 +50,7 @@ fn flip(pdu: &mut [u8], place: usize, offset: u64, bits: u8)
 fn first_of(start: usize) -> usize
     ensures { (96 ≤ result) × (start ≤ result) × (result ≤ 96 + start) }
 {
-    if start < 96 {
-        return 96;
-    }
-    start
+    start.max(96)
 }
 
 // Hits the bytes from a place to another: draws a window of eight bits in them, and which of its bits are flipped, one at least.
@@ -76,7 +71,7 @@ fn strike(pdu: &mut [u8], from: usize, end: usize, dice: Dice) -> Dice
 fn missed(dice: Dice) -> Noise
     ensures { result.hit ≡ 0 }
 {
-    Noise { hit: 0, dice: dice }
+    Noise { hit: 0, dice }
 }
 
 // Hits a piece, or passes it by: one with no byte behind the header is not hit. Its CRC stands at its end.
@@ -104,10 +99,7 @@ fn turn(pdu: &mut [u8], start: u16, length: u16, in_a_thousand: u64, dice: Dice)
 fn entry(list: &[u16], k: usize) -> u16
     ensures { result ≡ get_or list.now k 0 }
 {
-    if list.len() <= k {
-        return 0;
-    }
-    list[k]
+    list.get(k).copied().unwrap_or(0)
 }
 
 // Passes by or hits each of so many pieces, by their starts and lengths.
@@ -123,24 +115,19 @@ fn hit_all(
 {
     let mut hit: u64 = 0;
     let mut thrown = dice;
-    let mut k: u8 = 0;
-    while k < pieces {
+    for k in 0..usize::from(pieces) {
         let t = turn(
             pdu,
-            entry(starts, k as usize),
-            entry(lengths, k as usize),
+            entry(starts, k),
+            entry(lengths, k),
             in_a_thousand,
             thrown,
         );
         let next = t.dice;
         thrown = next;
         hit += t.hit;
-        k += 1;
     }
-    Noise {
-        hit: hit,
-        dice: thrown,
-    }
+    Noise { hit, dice: thrown }
 }
 
 // Where the pieces of a PDU stand, by its corrected header; it is left as it was.

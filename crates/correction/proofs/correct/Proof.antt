@@ -1,5 +1,4 @@
 use mathlib.Core.Path.{◌∙◌}
-use Prim.Native.Nat.{◌-◌}
 use borrow.Author.Rules.{rules}
 use Rattle.correction.proofs.Answers.{no-marks-answer, no-marks-pdu}
 use Rattle.correction.proofs.correct.Statement.{statement}

@@ -1,4 +1,3 @@
-use Prim.Native.Nat.{◌-◌}
 use borrow.Author.Rules.{rules}
 use Rattle.correction.proofs.points.Statement.{statement}
 use Rattle.correction.proofs.points.Tie as tie

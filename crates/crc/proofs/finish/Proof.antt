@@ -1,6 +1,5 @@
 -- `crc::finish` meets its contract.
 use mathlib.Core.Path.{◌∙◌}
-use Prim.Native.Nat.{◌-◌, ◌<◌}
 use borrow.Author.Rules.{rules}
 use mathlib.Core.Path.{ap₂}
 use lib.Bits.{xor_zero_r}

@@ -1,7 +1,6 @@
 -- `crc::fold8` meets its contract.
 use native.Mathlib.Omega.{arith}
 use mathlib.Core.Path.{refl}
-use Prim.Native.Nat.{◌-◌}
 use borrow.Author.Rules.{rules}
 use Rattle.crc.specs.Ring.{over, within, folded}
 use Rattle.crc.proofs.Folding.{folded-lt}

@@ -1,5 +1,4 @@
 -- `crc::reduced64` meets its contract.
-use Prim.Native.Nat.{◌-◌}
 use borrow.Author.Rules.{rules}
 use Rattle.crc.proofs.Folding.{reduced-red}
 use Rattle.crc.proofs.reduced64.Statement.{statement}

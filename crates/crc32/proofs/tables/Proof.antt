@@ -1,4 +1,3 @@
-use Prim.Native.Nat.{◌-◌}
 use Rattle.crc32.proofs.Entries.{table, rules}
 use Rattle.crc32.proofs.tables.Statement.{statement}
 use Rattle.crc32.proofs.tables.Tie as tie

@@ -1,4 +1,3 @@
-use Prim.Native.Nat.{◌-◌}
 use borrow.Author.Rules.{rules}
 use Rattle.crc32.proofs.Laws.{three-looked-up}
 use Rattle.crc32.proofs.with_three.Statement.{statement}

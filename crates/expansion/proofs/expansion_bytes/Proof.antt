@@ -1,6 +1,5 @@
 use native.Mathlib.Omega.{arith}
 use mathlib.Core.Path.{◌≡◌, ap, ◌∙◌}
-use Prim.Native.Nat.{◌+◌, ◌-◌}
 use mathlib.Core.List.{[], ◌++◌}
 use borrow.Author.Rules.{rules}
 use Rattle.expansion.specs.Expansion.{septets_of_all}

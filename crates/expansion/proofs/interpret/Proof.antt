@@ -6,7 +6,6 @@ use lib.ListN.{length}
 use mathlib.Core.List.{List}
 use mathlib.Core.Path.{subst}
 use Prim.Native.Nat.{◌/◌}
-use borrow.Author.Tests.{not-true, not-false}
 use Rattle.expansion.specs.Expansion.{septets_at, interpreted_as, fields_from, more_bytes}
 use Rattle.expansion.specs.declared.Interpreted.{Interpreted}
 use Rattle.expansion.proofs.Interpreting.{Left, left-start, left_end, left-order, left-unknown, left-class-zero, left_cut, left-next}

@@ -1,6 +1,5 @@
 -- `header::by_byte` meets its contract.
 use native.Mathlib.Omega.{arith}
-use Prim.Native.Nat.{◌-◌, ◌<◌}
 use borrow.Author.Rules.{rules}
 use lib.Dec.{lit<}
 use Rattle.field.specs.Field.{times_a}

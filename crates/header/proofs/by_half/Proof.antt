@@ -1,7 +1,7 @@
 -- `header::by_half` meets its contract: the word times 1, 2, 4 and 8, and sums of these.
 use native.Mathlib.Omega.{arith}
 use mathlib.Core.Path.{◌≡◌, ap, sym, ◌∙◌}
-use Prim.Native.Nat.{ℕ, ◌+◌, ◌-◌, ◌≤◌, ◌<◌}
+use Prim.Native.Nat.{ℕ, ◌+◌, ◌≤◌}
 use borrow.Author.Rules.{rules}
 use lib.Dec.{lit<}
 use Rattle.field.specs.Field.{times_a}

@@ -1,4 +1,3 @@
-use Prim.Native.Nat.{◌-◌}
 use borrow.Author.Rules.{rules}
 use Rattle.header.specs.Packed.{pack, low_coefficients}
 use Rattle.header.proofs.coefficients.Statement.{statement}

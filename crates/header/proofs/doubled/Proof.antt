@@ -2,7 +2,6 @@
 use lib.Bits.{and_le_r}
 use Rattle.header.proofs.Lanes.{doubled-bytes}
 use native.Mathlib.Omega.{arith}
-use Prim.Native.Nat.{◌-◌}
 use Rattle.header.proofs.doubled.Statement.{statement}
 use Rattle.header.proofs.doubled.Tie as tie
 

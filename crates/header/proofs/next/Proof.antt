@@ -1,7 +1,6 @@
 -- `header::next` meets its contract.
 use native.Mathlib.Omega.{arith}
 use mathlib.Core.Path.{ap, ◌∙◌}
-use Prim.Native.Nat.{◌-◌}
 use borrow.Author.Rules.{rules}
 use Rattle.header.specs.Packed.{times_all}
 use Rattle.header.proofs.Lanes.{next-step}

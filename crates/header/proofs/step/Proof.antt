@@ -1,6 +1,5 @@
 -- `header::step` meets its contract.
 use mathlib.Core.Path.{ap, ◌∙◌}
-use Prim.Native.Nat.{◌-◌}
 use borrow.Author.Rules.{rules}
 use Rattle.header.specs.Packed.{times_all}
 use Rattle.header.proofs.Lanes.{eight-parts}

@@ -1,7 +1,6 @@
 -- `header::word` meets its contract.
 use native.Mathlib.Omega.{arith}
 use mathlib.Core.Path.{ap, ◌∙◌}
-use Prim.Native.Nat.{◌-◌}
 use borrow.Author.Rules.{rules}
 use Rattle.header.specs.Packed.{unpacked}
 use Rattle.header.proofs.Lanes.{word-or, word_bytes}

@@ -1,5 +1,4 @@
 use mathlib.Core.Path.{refl}
-use Prim.Native.Nat.{◌-◌}
 use borrow.Author.Rules.{rules}
 use Rattle.layout.specs.Control.{control_of}
 use Rattle.layout.proofs.fields.Statement.{statement}
