@@ -305,7 +305,7 @@ fn counted(command: Command) -> &'static [u8] {
 // last said or the work began. Answers the second that it is.
 pub fn progress(host: &Host, command: Command, count: u64, shown: Option<u64>) -> Option<u64> {
     let now = host.time();
-    if (now != shown) & host.is_watched() {
+    if (now != shown) && host.is_watched() {
         options::say_numbers(host, command, counted(command), &[count]);
     }
     now
