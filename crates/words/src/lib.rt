@@ -75,7 +75,7 @@ fn is_withheld_at(log: &[u32], at: usize) -> bool {
 // continues what was held (document 02, Ask 10); before note 8 stands note 1 or 4 where that was dropped.
 pub fn looked_at(pieces: u64, held: bool, log: &[u32]) -> u64 {
     if is_withheld_at(log, 0) {
-        return held as u64;
+        return u64::from(held);
     }
     if is_withheld_at(log, 1) {
         return 0;
