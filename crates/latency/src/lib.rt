@@ -2,7 +2,7 @@
 // every tick that takes one.
 #![tactic(auto)]
 
-ghost use Rattle.std.specs.Prelude.{◌≡◌, cond, ◌+◌, ◌-◌, ◌*◌, ◌<◌, ◌≤◌, min, max, eqb, length};
+ghost use Rattle.std.specs.Prelude.{◌≡◌, cond, ◌+◌, ◌-◌, ◌*◌, ◌<◌, ◌≤◌, min, eqb, length};
 ghost use Rattle.buffer.specs.Buffer.{put_at};
 ghost use Rattle.latency.specs.Latency.{spacing as ticks_apart, added as added_at, taken as taken_at, is_dry, left, ticks, tally, runs_dry, smallest_of, waiting_from, over_most, counts_refused, spacing_of, answer, trial_with, trial, shown_count, shown_ticks, row_after};
 ghost use Rattle.latency.specs.Bench.{Tried};

@@ -1,11 +1,10 @@
 // Opening a writer, and writing PDUs (document 01, "Writer"); on `settings`, `packing` and `pdu`.
 #![tactic(auto)]
 
-ghost use Rattle.std.specs.Prelude.{◌≡◌, false, ◌&&◌, ◌||◌, not, cond, List, eqb, ltb, leb, ◌+◌, ◌≤◌, ◌<◌, length};
+ghost use Rattle.std.specs.Prelude.{◌≡◌, false, ◌||◌, not, cond, eqb, ◌+◌, ◌≤◌, ◌<◌, length};
 ghost use Rattle.modes.specs.Modes.{listing};
 ghost use Rattle.modes.specs.declared.Listing.TheVariants.{Listed};
 ghost use Rattle.refusal.specs.Refusal.{first_of, any_of};
-ghost use Rattle.layout.specs.Control.{bit};
 ghost use Rattle.pieces.specs.Pieces.{total};
 ghost use Rattle.writer.specs.Writing.{writer_opened, wrong_lengths, wrong_unfinished, wrong_writer, wrong_size, wrong_packets, wrong_extra, no_room, control_with, advanced, writer_tests, accepted_answer, refused_write, pdu_of, answer_in, pdu_in, write_answer, written_pdu};
 
