@@ -4,12 +4,6 @@
 ghost use Rattle.std.specs.Prelude.{◌≡◌, ◌<◌};
 ghost use Rattle.frames.specs.Adts.{is_sync, frame_length, header_length};
 
-fn wide(x: u8) -> usize
-    ensures { (result ≡ x) × (result < 256) }
-{
-    x as usize
-}
-
 // The syncword, twelve bits set.
 pub fn is_sync(first: u8, second: u8) -> bool
     ensures { result ≡ is_sync first second }
@@ -21,7 +15,7 @@ pub fn is_sync(first: u8, second: u8) -> bool
 pub fn frame_length(third: u8, fourth: u8, fifth: u8) -> usize
     ensures { result ≡ frame_length third fourth fifth }
 {
-    wide(third % 4) * 2048 + wide(fourth) * 8 + wide(fifth) / 32
+    usize::from(third % 4) * 2048 + usize::from(fourth) * 8 + usize::from(fifth) / 32
 }
 
 // The header's length, by the bit that says that there is no check.

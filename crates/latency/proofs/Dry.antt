@@ -2,7 +2,7 @@
 use mathlib.Core.Path.{◌≡◌, refl, sym, ap, ◌∙◌}
 use mathlib.Core.Bool.{Bool, true, false, cond}
 use mathlib.Core.List.{List, [], ◌∷◌, ◌++◌}
-use Prim.Native.Nat.{ℕ, zero, suc, ◌+◌, ◌*◌, max, ◌<◌, ◌≤◌}
+use Prim.Native.Nat.{ℕ, zero, suc, ◌*◌, max, ◌<◌, ◌≤◌}
 use native.Mathlib.Nat.{le-max_left, le-max_right, max-eq_left, max-eq_right, zero-max}
 use native.Mathlib.Omega.{arith}
 use lib.Dec.{eqb, leb}

@@ -3,19 +3,16 @@ use mathlib.Core.Path.{◌≡◌, refl}
 use mathlib.Core.Bool.{Bool, true, false, cond}
 use mathlib.Core.List.{List}
 use Prim.Native.Nat.{ℕ, zero, suc, ◌+◌, ◌-◌, ◌*◌, ◌/◌, ◌%◌, min, ◌<◌, ◌≤◌}
-use native.Mathlib.Nat.{div-lt_iff_lt-mul, mul-le-mul, min-le_right, min-eq_left}
+use native.Mathlib.Nat.{mul-le-mul, min-le_right, min-eq_left}
 use native.Mathlib.Numerals.{add-one}
 use native.Mathlib.Omega.{arith}
 use lib.Dec.{eqb, ltb}
-use lib.ListN.{length, get_or}
+use lib.ListN.{get_or}
 use borrow.Author.Tests.{eq-eqb, ne_eqb, lt-ltb, le-ltb}
 use Rattle.latency.specs.Latency.{added, taken, is_dry, left, waiting, ticks}
 use Rattle.latency.specs.Bench.{Tried, added_in, taken_in, Conserved}
 
 -- ---- what a tick adds
-
-pub at_count : (n t : ℕ) (counts : List ℕ) → 0 < n → t < ticks n counts → t / n < length counts
-at_count n t counts h b = (div-lt_iff_lt-mul h).1 b
 
 pub added-count : (n t : ℕ) (counts : List ℕ) → t % n ≡ 0 → get_or counts (t / n) 0 ≡ added n counts t
 unfolding added

@@ -2,7 +2,7 @@
 // every tick that takes one.
 #![tactic(auto)]
 
-ghost use Rattle.std.specs.Prelude.{◌≡◌, cond, ◌+◌, ◌-◌, ◌*◌, ◌<◌, ◌≤◌, min, max, eqb, length};
+ghost use Rattle.std.specs.Prelude.{◌≡◌, cond, ◌+◌, ◌-◌, ◌*◌, ◌<◌, ◌≤◌, min, eqb, length};
 ghost use Rattle.buffer.specs.Buffer.{put_at};
 ghost use Rattle.latency.specs.Latency.{spacing as ticks_apart, added as added_at, taken as taken_at, is_dry, left, ticks, tally, runs_dry, smallest_of, waiting_from, over_most, counts_refused, spacing_of, answer, trial_with, trial, shown_count, shown_ticks, row_after};
 ghost use Rattle.latency.specs.Bench.{Tried};
@@ -52,18 +52,6 @@ pub struct Shown {
     pub count: u32,
 }
 
-fn wide(x: u32) -> usize
-    ensures { result ≡ x }
-{
-    x as usize
-}
-
-fn wide_byte(x: u8) -> usize
-    ensures { (result ≡ x) × (result < 256) }
-{
-    x as usize
-}
-
 // The ticks from one PDU to the next.
 fn ticks_apart(m: Mode) -> usize
     ensures { result ≡ ticks_apart m }
@@ -78,12 +66,10 @@ fn ticks_apart(m: Mode) -> usize
 fn over_most(counts: &[u32]) -> bool
     ensures { result ≡ over_most counts.now }
 {
-    let mut i: usize = 0;
-    while i < counts.len() {
-        if 63 < counts[i] {
+    for count in counts {
+        if 63 < *count {
             return true;
         }
-        i += 1;
     }
     false
 }
@@ -124,8 +110,7 @@ fn added(counts: &[u32], n: usize, t: usize) -> usize
     ensures { result ≡ added_at n counts.now t }
 {
     if t % n == 0 {
-        let i = t / n;
-        return wide(counts[i]);
+        return counts[t / n] as usize;
     }
     0
 }
@@ -134,7 +119,7 @@ fn added(counts: &[u32], n: usize, t: usize) -> usize
 fn start(v: u8) -> usize
     ensures { result ≡ 2 * v }
 {
-    2 * wide_byte(v)
+    2 * usize::from(v)
 }
 
 // How many packets a tick takes where so many wait.
@@ -183,15 +168,6 @@ fn first_of(before: Tally, t: usize, dry: bool) -> usize
     before.first
 }
 
-fn greater(a: usize, b: usize) -> usize
-    ensures { result ≡ max a b }
-{
-    if a < b {
-        return b;
-    }
-    a
-}
-
 // What is told of all ticks of a latency: n for each count.
 fn run(counts: &[u32], n: usize, v: u8) -> Tally
     requires { Tried n counts.now }
@@ -204,18 +180,15 @@ fn run(counts: &[u32], n: usize, v: u8) -> Tally
     };
     let mut kept: usize = 0;
     let end = counts.len() * n;
-    let mut t: usize = 0;
-    while t < end {
+    for t in 0..end {
         let waiting = kept + added(counts, n, t);
         let dry = is_dry(v, t, waiting);
-        let next = Tally {
+        q = Tally {
             dry: q.dry + one_if(dry),
             first: first_of(q, t, dry),
-            most: greater(q.most, waiting),
+            most: q.most.max(waiting),
         };
-        q = next;
         kept = waiting - taken(v, t, waiting);
-        t += 1;
     }
     q
 }
@@ -234,12 +207,10 @@ fn smallest_of(counts: &[u32], n: usize) -> Answer
     requires { Tried n counts.now }
     ensures { result ≡ smallest_of n counts.now 0 8 }
 {
-    let mut v: u8 = 0;
-    while v < 8 {
+    for v in 0..8 {
         if !runs_dry(counts, n, v) {
             return Answer::Smallest(v);
         }
-        v += 1;
     }
     Answer::AllDry
 }
@@ -294,32 +265,18 @@ fn left_after(counts: &[u32], n: usize, v: u8, first: usize) -> usize
     ensures { result ≡ left n counts.now v first }
 {
     let mut kept: usize = 0;
-    let mut t: usize = 0;
-    while t < first {
+    for t in 0..first {
         let waiting = kept + added(counts, n, t);
         kept = waiting - taken(v, t, waiting);
-        t += 1;
     }
     kept
-}
-
-fn least(a: usize, b: usize) -> usize
-    ensures { result ≡ min a b }
-{
-    if a < b {
-        return a;
-    }
-    b
 }
 
 // How many ticks are shown from one on, where so many are run and there is so much room.
 fn shown_count(end: usize, first: usize, room: usize) -> usize
     ensures { result ≡ min room (end - first) }
 {
-    if end <= first {
-        return 0;
-    }
-    least(room, end - first)
+    room.min(end.saturating_sub(first))
 }
 
 // Shows the packets that wait at so many ticks from one on.
@@ -329,13 +286,11 @@ fn show(counts: &[u32], n: usize, v: u8, first: usize, count: usize, row: &mut [
     ensures { row.new ≡ put_at row.old 0 (waiting_from n counts.now v first count) }
 {
     let mut kept = left_after(counts, n, v, first);
-    let mut k: usize = 0;
-    while k < count {
+    for k in 0..count {
         let t = first + k;
         let waiting = kept + added(counts, n, t);
         row[k] = waiting as u32;
         kept = waiting - taken(v, t, waiting);
-        k += 1;
     }
 }
 

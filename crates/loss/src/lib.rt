@@ -31,11 +31,12 @@ pub fn of_record(r: Receiver) -> Loss
 pub fn in_record(r: Receiver, l: Loss) -> Receiver
     ensures { result ≡ with_tally r (tally_in l) }
 {
-    let mut next = r;
-    next.delivered = l.delivered;
-    next.missing = l.missing;
-    next.last = l.last;
-    next
+    Receiver {
+        delivered: l.delivered,
+        missing: l.missing,
+        last: l.last,
+        ..r
+    }
 }
 
 // What a delivered packet of a number adds to missing: its number minus the last minus 1, modulo 64, but nothing where it is the first.
@@ -45,7 +46,7 @@ fn missing_before(l: Loss, number: u8) -> u32
     if l.delivered == 0 {
         return 0;
     }
-    (number as u32 % 64 + 63 - l.last as u32 % 64) % 64
+    (u32::from(number % 64) + 63 - u32::from(l.last % 64)) % 64
 }
 
 // The loss column after a word of a log: one that begins a packet is a delivery.
@@ -70,11 +71,8 @@ pub fn after(start: Loss, log: &[u32]) -> Loss
     ensures { tally_in result ≡ after_words (tally_in start) log.now }
 {
     let mut l = start;
-    let mut i: usize = 0;
-    while i < log.len() {
-        let next = after_word(l, log[i]);
-        l = next;
-        i += 1;
+    for i in 0..log.len() {
+        l = after_word(l, log[i]);
     }
     l
 }

@@ -35,14 +35,13 @@ pub struct Outcome {
 fn outcome_of(kind: u8, number: u32, wrong: u32, length: usize, a: Received) -> Outcome
     ensures { result ≡ outcome_of kind number wrong length a }
 {
-    let receiver = a.receiver;
     Outcome {
         kind: kind,
         number: number,
         wrong: wrong,
         length: length,
         words: a.words as usize,
-        receiver: receiver,
+        receiver: a.receiver,
     }
 }
 
@@ -63,8 +62,7 @@ fn passed_over(r: Received, log: &mut [u32]) -> Received
     ensures value { result ≡ lost_answer log.old r.receiver }
     ensures log_after { log.new ≡ log_after_lost log.old r.receiver }
 {
-    let receiver = r.receiver;
-    receiver.mark_lost(log)
+    r.receiver.mark_lost(log)
 }
 
 // Receives a PDU with its marked places; an empty record is one that is lost.

@@ -23,11 +23,6 @@ in-first [] b i h = absurd (not-suc-le-zero h)
 in-first (x ∷ a) b zero h = refl
 in-first (x ∷ a) b (suc i) h = in-first a b i (omega arith)
 
--- bytes of which the first slice has none
-pub only-second : (a b : List ℕ) → length a ≡ 0 → b ++ a ≡ a ++ b
-only-second [] b h = append-nil b
-only-second (x ∷ a) b h = absurd (not-suc-le-zero (let e : suc (length a) ≤ 0 = omega (arith, h) in e))
-
 -- three bytes of the first of two lists
 pub word-in-first : (a b : List ℕ) (i : ℕ) → i + 3 ≤ length a → data_word 3 (get_or a i 0) (get_or a (i + 1) 0) (get_or a (i + 2) 0) ≡ data_word_at (a ++ b) i
 word-in-first a b i h =
@@ -73,18 +68,12 @@ none_left l s goal at i h g =
     let t : put_at l at [] ≡ goal = rw (drop_of_length-le s {i = i} h) at g in
     sym (put-nil l at) ∙ t
 
--- one word more where there is one, and none where there is none
+-- one word more where there is one
 pub one_more : (l s : List ℕ) (at i v : ℕ) → i < length s → at < length l → v ≡ data_word_at s i
     → put_at (set l at v) (at + 1) (data_words (drop (i + 3 * 1) s)) ≡ put_at l at (data_words (drop i s))
 one_more l s at i v more room e =
     ap (λ (x : ℕ). put_at (set l at x) (at + 1) (data_words (drop (i + 3) s))) e
     ∙ put-cons l (data_words (drop (i + 3) s)) at (data_word_at s i) room ∙ ap (put_at l at) (sym (next_word s i more))
-
-pub none_more : (l s : List ℕ) (at i : ℕ) → put_at l (at + 0) (data_words (drop (i + 3 * 0) s)) ≡ put_at l at (data_words (drop i s))
-none_more l s at i =
-    let p : at + 0 ≡ at = omega arith in
-    let q : i + 3 * 0 ≡ i = omega arith in
-    ap₂ (λ (x y : ℕ). put_at l x (data_words (drop y s))) p q
 
 -- words behind words
 pub behind : (l m s goal : List ℕ) (at a r : ℕ) → put_at l (at + a) (data_words (drop (3 * a) s)) ≡ goal
@@ -127,35 +116,3 @@ both-length f g = data-length (f ++ g) ∙ ap (λ (n : ℕ). (n + 2) / 3) (lengt
 pub left-length : (f g : List ℕ) (i : ℕ) → length (data_words (drop i (f ++ g))) ≡ (length f + length g - i + 2) / 3
 left-length f g i =
     data-length (drop i (f ++ g)) ∙ ap (λ (n : ℕ). (n + 2) / 3) (length-drop i (f ++ g) ∙ ap (λ (n : ℕ). n - i) (length-append f g))
-
--- b words of n bytes, d full ones and one more
-tail-fits : (n b : ℕ) → 3 * b ≤ n → b + (n - 3 * b) / 3 ≤ (n + 2) / 3
-tail-fits n b h = omega arith
-
-pub rest-fits : (n b : ℕ) → 3 * b ≤ n → b + (n - 3 * b + 2) / 3 ≤ (n + 2) / 3
-rest-fits n b h = omega arith
-
-pub last-count : (n b d e : ℕ) → 3 * b < n → d ≡ (n - 3 * b) / 3 → e ≡ min 1 (n - 3 * (b + d)) → b + d + e ≡ (n + 2) / 3
-last-count n b d e h ed ee = omega arith
-
--- a full words of the first list of f bytes, and r more over the seam; the second list has g bytes
-module _ (f g a r : ℕ) (ea : a ≡ (f - 0) / 3) (er : r ≡ min 1 (f + g - 3 * a)) where
-  pub first_fits : a + (f + g - 3 * a + 2) / 3 ≤ (f + g + 2) / 3
-  first_fits = omega arith
-
-  pub first_count : f + g ≤ 3 * (a + r) → a + r ≡ (f + g + 2) / 3
-  first_count h = omega arith
-
-  pub past_first : 3 * (a + r) < f + g → f ≤ 3 * (a + r)
-  past_first h = omega arith
-
-  -- bytes of the second list are left
-  module _ (more : 3 * (a + r) < f + g) where
-    pub left-in-second : g - (3 * (a + r) - f) ≡ f + g - 3 * (a + r)
-    left-in-second = let p : f ≤ 3 * (a + r) = past_first more in difference p
-      where
-        difference : f ≤ 3 * (a + r) → g - (3 * (a + r) - f) ≡ f + g - 3 * (a + r)
-        difference p = omega (arith, more)
-
-    pub second_fits : a + r + (g - (3 * (a + r) - f)) / 3 ≤ (f + g + 2) / 3
-    second_fits = rw left-in-second (tail-fits (f + g) (a + r) (omega (arith, more)))

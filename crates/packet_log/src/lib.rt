@@ -6,12 +6,6 @@ ghost use Rattle.buffer.specs.Buffer.{put_at};
 ghost use Rattle.packet_log.specs.Blocks.{four_at, eight_at, block_words};
 ghost use Rattle.packet_log.specs.Log.{packet, psd, note, word, data_word, data_word_at, data_words, entry_words, Leaves};
 
-fn wide(x: u8) -> u32
-    ensures { (result ≡ x) × (result < 256) }
-{
-    x as u32
-}
-
 // A word of a kind, from what stands in bits 29-16 and in bits 15-0.
 fn word_of(kind: u32, high: u32, low: u32) -> u32
     requires { (kind ≤ 3) × (high ≤ 16383) × (low ≤ 65535) }
@@ -25,23 +19,20 @@ fn byte_of(first: &[u8], second: &[u8], i: usize) -> u32
     ensures { (result ≡ get_or (first.now ++ second.now) i 0) × (result < 256) }
 {
     if i < first.len() {
-        return wide(first[i]);
+        return u32::from(first[i]);
     }
     let j = i - first.len();
     if second.len() <= j {
         return 0;
     }
-    wide(second[j])
+    u32::from(second[j])
 }
 
 // How many of the bytes that are left a data word has.
 fn count_of(left: usize) -> u32
     ensures { (result ≡ min 3 left) × (result ≤ 3) }
 {
-    if left < 3 {
-        return left as u32;
-    }
-    3
+    left.min(3) as u32
 }
 
 // The data word of the bytes of two slices from byte i on.
@@ -61,13 +52,9 @@ fn full_word(bytes: &[u8], i: usize) -> u32
     requires { i + 3 ≤ length bytes.now }
     ensures { result ≡ data_word 3 (get_or bytes.now i 0) (get_or bytes.now (i + 1) 0) (get_or bytes.now (i + 2) 0) }
 {
-    0x43000000 + wide(bytes[i]) * 0x10000 + (wide(bytes[i + 1]) * 0x100 + wide(bytes[i + 2]))
-}
-
-fn wider(x: u8) -> u64
-    ensures { (result ≡ x) × (result < 256) }
-{
-    x as u64
+    0x43000000
+        + u32::from(bytes[i]) * 0x10000
+        + (u32::from(bytes[i + 1]) * 0x100 + u32::from(bytes[i + 2]))
 }
 
 // Four bytes of a slice from byte i on as a number, the first highest.
@@ -75,9 +62,9 @@ fn four(bytes: &[u8], i: usize) -> u64
     requires { i + 4 ≤ length bytes.now }
     ensures { (result ≡ four_at bytes.now i) × (result < 4294967296) }
 {
-    let a = wider(bytes[i + 3]) | (wider(bytes[i + 2]) * 256);
-    let b = a | (wider(bytes[i + 1]) * 65536);
-    b | (wider(bytes[i]) * 16777216)
+    let a = u64::from(bytes[i + 3]) | (u64::from(bytes[i + 2]) * 256);
+    let b = a | (u64::from(bytes[i + 1]) * 65536);
+    b | (u64::from(bytes[i]) * 16777216)
 }
 
 // Eight bytes of a slice from byte i on as a number, the first highest.
@@ -85,10 +72,10 @@ fn eight(bytes: &[u8], i: usize) -> u64
     requires { i + 8 ≤ length bytes.now }
     ensures { result ≡ eight_at bytes.now i }
 {
-    let a = four(bytes, i + 4) | (wider(bytes[i + 3]) * 4294967296);
-    let b = a | (wider(bytes[i + 2]) * 1099511627776);
-    let c = b | (wider(bytes[i + 1]) * 281474976710656);
-    c | (wider(bytes[i]) * 72057594037927936)
+    let a = four(bytes, i + 4) | (u64::from(bytes[i + 3]) * 4294967296);
+    let b = a | (u64::from(bytes[i + 2]) * 1099511627776);
+    let c = b | (u64::from(bytes[i + 1]) * 281474976710656);
+    c | (u64::from(bytes[i]) * 72057594037927936)
 }
 
 // The data word of three bytes, given as a number.
@@ -122,19 +109,17 @@ fn put_blocks(log: &mut [u32], at: usize, bytes: &[u8], from: usize) -> usize
     if bytes.len() < from + 12 {
         return 0;
     }
-    let mut i: usize = from;
-    let mut j: usize = 0;
-    let mut x = eight(bytes, i);
-    let mut y = four(bytes, i + 8);
-    while i + 24 <= bytes.len() {
-        put_block(&mut *log, at + j, x, y);
-        i += 12;
-        j += 4;
+    let last = (bytes.len() - from - 12) / 12;
+    let mut x = eight(bytes, from);
+    let mut y = four(bytes, from + 8);
+    for k in 0..last {
+        put_block(&mut *log, at + 4 * k, x, y);
+        let i = from + 12 * (k + 1);
         x = eight(bytes, i);
         y = four(bytes, i + 8);
     }
-    put_block(&mut *log, at + j, x, y);
-    j + 4
+    put_block(&mut *log, at + 4 * last, x, y);
+    4 * last + 4
 }
 
 // Writes the full data words that a slice has from a byte on, one at a time. Answers how many.
@@ -145,14 +130,11 @@ fn put_words(log: &mut [u32], at: usize, bytes: &[u8], from: usize) -> usize
     ensures value { result ≡ (length bytes.now - from) / 3 }
     ensures leaves { Leaves log.old at bytes.now from log.new result }
 {
-    let mut i: usize = from;
-    let mut j: usize = 0;
-    while i + 3 <= bytes.len() {
-        log[at + j] = full_word(bytes, i);
-        i += 3;
-        j += 1;
+    let words = (bytes.len() - from) / 3;
+    for k in 0..words {
+        log[at + k] = full_word(bytes, from + 3 * k);
     }
-    j
+    words
 }
 
 // Writes the full data words that a slice has from a byte on, whatever follows its bytes. Answers how many.
@@ -220,7 +202,7 @@ pub fn put_packet(log: &mut [u32], at: usize, number: u8, first: &[u8], second: 
     ensures log_after { log.new ≡ put_at log.old at (entry_words (packet number (first.now ++ second.now))) }
 {
     let length = first.len() + second.len();
-    log[at] = word_of(0, wide(number), length as u32);
+    log[at] = word_of(0, u32::from(number), length as u32);
     let n = put_bytes(&mut *log, at + 1, first, second);
     n + 1
 }
@@ -244,6 +226,6 @@ pub fn put_note(log: &mut [u32], at: usize, cause: u8, piece: usize) -> usize
     ensures value { result ≡ length (entry_words (note cause piece)) }
     ensures log_after { log.new ≡ put_at log.old at (entry_words (note cause piece)) }
 {
-    log[at] = word_of(3, wide(cause), piece as u32);
+    log[at] = word_of(3, u32::from(cause), piece as u32);
     1
 }

@@ -8,7 +8,7 @@ use lib.Dec.{eqb, leb}
 use borrow.Author.Tests.{ne_eqb, leb-false, le-leb}
 use lib.ListN.{length}
 use Rattle.pieces.specs.Pieces.{total}
-use Rattle.packing.specs.Packing.{overhead, most_pieces, fit, wholes_from, part_after, part_from, if_any, piece_lengths, part}
+use Rattle.packing.specs.Packing.{overhead, most_pieces, fit, wholes_from, part_after, part_from, if_any, piece_lengths}
 use Rattle.packing.proofs.Fitting.{fit-most, fit-room, fit-within}
 
 -- the bytes that are left of the packets offered

@@ -5,27 +5,11 @@ use mathlib.Core.List.{List, [], ◌∷◌, ◌++◌}
 use Prim.Native.Nat.{ℕ, suc, ◌+◌, ◌-◌, ◌<◌, ◌≤◌}
 use native.Mathlib.Omega.{arith}
 use native.Mathlib.Numerals.{add-one}
-use lib.Dec.{eqb}
-use borrow.Author.Tests.{eq-eqb, ne_eqb}
-use lib.ListN.{length, get_or, set, take, drop, drop_of_length-le, length-append}
-use lib.Seq.{drop-cons, set_split, length-take-le, take-append-add}
+use lib.ListN.{length, get_or, take, drop, drop_of_length-le, length-append}
+use lib.Seq.{drop-cons}
 use Rattle.buffer.specs.Buffer.{put_at}
 use Rattle.buffer.proofs.Laws.{put-nil, take_put}
 use Rattle.packing.specs.Packing.{fit, wholes_from, part_after, part_from, if_any}
-
--- the elements up to one that was stored
-pub take-stored : (l : List ℕ) (k v : ℕ) → k < length l → take (k + 1) (set l k v) ≡ take k l ++ v ∷ []
-take-stored l k v h =
-    let n : length (take k l) ≡ k = length-take-le k l (omega arith) in
-    ap (take (k + 1)) (set_split l k v h)
-    ∙ ap (λ (m : ℕ). take (m + 1) (take k l ++ v ∷ drop (suc k) l)) (sym n)
-    ∙ take-append-add (take k l) (v ∷ drop (suc k) l) 1
-
-pub any_none : (n : ℕ) → n ≡ 0 → if_any n ≡ []
-any_none n e = let t : eqb n 0 ≡ true = eq-eqb n 0 e in rw t
-
-pub any_some : (n : ℕ) → (n ≡ 0 → ⊥) → if_any n ≡ n ∷ []
-any_some n e = let t : eqb n 0 ≡ false = ne_eqb n 0 e in rw t
 
 module _ (width extra size : ℕ) (ls : List ℕ) (k used s : ℕ) where
   -- what is packed of the packets from k on

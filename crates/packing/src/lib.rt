@@ -42,10 +42,7 @@ fn fits(width: u8, extra: usize, size: usize, k: u8, used: usize) -> bool
 fn remainder(n: u16, sent: u16) -> u16
     ensures { (result ≡ n - sent) × (result ≤ 65535) }
 {
-    if sent < n {
-        return n - sent;
-    }
-    0
+    n.saturating_sub(sent)
 }
 
 // A part of the next packet, as long as fits; 0 where none does.
@@ -84,7 +81,7 @@ fn with_part(lengths: [u16; 64], k: u8, part: u16) -> Packed
         };
     }
     let mut out = lengths;
-    out[k as usize] = part;
+    out[usize::from(k)] = part;
     Packed {
         lengths: out,
         nop: k + 1,
@@ -102,19 +99,18 @@ pub fn pack(width: u8, extra: usize, size: usize, sent: u16, lengths: &[u16]) ->
     ensures lengths_value { take result.nop result.lengths ≡ piece_lengths width extra size sent lengths.now }
 {
     let mut out: [u16; 64] = [0; 64];
-    let mut k: u8 = 0;
     let mut used: usize = 0;
     let mut gone = sent;
-    while (k as usize) < lengths.len() {
-        let n = remainder(lengths[k as usize], gone);
-        if !fits(width, extra, size, k + 1, used + n as usize + 1) {
+    for (i, length) in lengths.iter().enumerate() {
+        let k = i as u8;
+        let n = remainder(*length, gone);
+        if !fits(width, extra, size, k + 1, used + usize::from(n) + 1) {
             let part = part_after(width, extra, size, k, used);
             return with_part(out, k, part);
         }
-        out[k as usize] = n;
-        used = used + n as usize + 1;
+        out[i] = n;
+        used += usize::from(n) + 1;
         gone = 0;
-        k += 1;
     }
-    with_part(out, k, 0)
+    with_part(out, lengths.len() as u8, 0)
 }

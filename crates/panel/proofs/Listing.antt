@@ -8,7 +8,7 @@ use native.Mathlib.Numerals.{add-one}
 use native.Mathlib.Omega.{arith}
 use lib.Dec.{eqb, ltb, leb}
 use lib.ListN.{length, get_or, take, drop, set, length-map}
-use lib.Seq.{length-take-le, length_front, take-suc, drop-cons, append_snoc, set_at, take-suc-set}
+use lib.Seq.{take-suc-set}
 use borrow.Author.Tests.{lt-ltb, le-ltb, ltb-false, leb-true, ne_eqb}
 use Rattle.refusal.specs.Refusal.{first_of}
 use Rattle.refusal.proofs.Rows.{past, row-off, row_on, rest-off}
@@ -187,11 +187,6 @@ module _ (y : List ℕ) where
 pub long : {A : Type 0} (ps : List Piece) (f : Piece → A) {n : ℕ} → length (map f ps) ≡ n → length ps ≡ n
 long ps f e = sym (length-map ps f) ∙ e
 
-pub any-default : (ps : List Piece) (k : ℕ) (d e : Piece) → k < length ps → get_or ps k d ≡ get_or ps k e
-any-default [] k d e h = absurd (omega arith)
-any-default (p ∷ ps) zero d e h = refl
-any-default (p ∷ ps) (suc k) d e h = any-default ps k d e (omega arith)
-
 entries_next : (register : ℕ) (y : List ℕ) (k n : ℕ) → entries_from register y k n ++ (entry_at register y (k + n) ∷ []) ≡ entries_from register y k (suc n)
 unfolding entries_from
 entries_next register y k zero = let e : k + 0 ≡ k = omega arith in rw e
@@ -202,23 +197,6 @@ filled_next register y k e ps h q t =
     let a : k + 1 ≡ suc k = add-one k in
     let z : 0 + k ≡ k = omega arith in
     rw a (take-suc-set ps k e h ∙ ap (λ (l : List Piece). l ++ (e ∷ [])) t ∙ ap (λ (x : Piece). entries_from register y 0 k ++ (x ∷ [])) (q ∙ ap (entry_at register y) (sym z)) ∙ entries_next register y 0 k)
-
--- ---- a list over which the first i of others are laid
-
-module _ (ps ys : List Piece) (i : ℕ) where
-  pub overlaid-length : i ≤ length ys → i ≤ length ps → length (take i ps ++ drop i ys) ≡ length ys
-  overlaid-length h l = length_front ys (take i ps) i (length-take-le i ps l ∙ sym (length-take-le i ys h))
-
-  pub overlaid-next : (e : Piece) → i < length ys → i < length ps → e ≡ get_or ps i e → set (take i ps ++ drop i ys) i e ≡ take (suc i) ps ++ drop (suc i) ys
-  overlaid-next e h l q =
-      let z : length (take i ps) ≡ i = length-take-le i ps (omega arith) in
-      ap (λ (u : List Piece). set (take i ps ++ u) i e) (drop-cons ys i e h)
-      ∙ set_at (take i ps) (get_or ys i e) (drop (suc i) ys) e i z
-      ∙ sym (append_snoc (take i ps) e (drop (suc i) ys))
-      ∙ append-next (take i ps) e (drop (suc i) ys) (take (suc i) ps) (take-suc ps i e l ∙ ap (λ (x : Piece). take i ps ++ (x ∷ [])) (sym q))
-    where
-      append-next : (xs : List Piece) (x : Piece) (us vs : List Piece) → vs ≡ xs ++ (x ∷ []) → xs ++ (x ∷ []) ++ us ≡ vs ++ us
-      append-next xs x us vs k = ap (λ (u : List Piece). u ++ us) (sym k)
 
 -- ---- a whole call
 

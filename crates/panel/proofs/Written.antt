@@ -1,11 +1,11 @@
 -- A written PDU, listed with the register that its writer was opened with: every verdict is right (document 02, Ask 2). Also with at most four of its
 -- first 96 bytes altered, as reading corrects them.
 use mathlib.Core.Path.{◌≡◌, refl, sym, ap, subst, ◌∙◌}
-use mathlib.Core.Bool.{Bool, true, false}
+use mathlib.Core.Bool.{true, false}
 use mathlib.Core.List.{List, [], ◌++◌}
 use Prim.Native.Nat.{ℕ, ◌<◌, ◌≤◌}
 use native.Mathlib.Omega.{arith}
-use lib.Dec.{eqb, ltb}
+use lib.Dec.{ltb}
 use lib.ListN.{length, get_or, take, drop}
 use borrow.Author.Tests.{eq-eqb, le-ltb}
 use Rattle.crc.specs.Crc.{crc_from}

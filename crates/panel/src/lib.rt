@@ -84,10 +84,8 @@ fn pieces_of(register: u8, y: &[u8], r: Reading, nop: usize) -> [Piece; 64]
         right: false,
     };
     let mut pieces = [none; 64];
-    let mut k: usize = 0;
-    while k < nop {
+    for k in 0..nop {
         pieces[k] = piece_at(register, y, r, k);
-        k += 1;
     }
     pieces
 }
@@ -107,36 +105,12 @@ fn read_pieces(pdu: &mut [u8], register: u8, room: usize) -> Told
     }
 }
 
-fn reading_of(t: Told) -> Reading
-    ensures { result ≡ t.reading }
-{
-    let r = t.reading;
-    r
-}
-
-fn count_of(t: Told) -> usize
-    ensures { result ≡ t.count }
-{
-    t.count
-}
-
-fn piece_of(t: Told, k: usize) -> Piece
-    requires { k < length t.pieces }
-    ensures { (d : Piece) → result ≡ get_or t.pieces k d }
-{
-    t.pieces[k]
-}
-
 // Fills the first n entries of a lent list.
-fn fill(list: &mut [Piece], t: Told, n: usize)
-    requires { (n ≤ length list.old) × (n ≤ length t.pieces) }
-    ensures { list.new ≡ take n t.pieces ++ drop n list.old }
+fn fill(list: &mut [Piece], pieces: &[Piece], n: usize)
+    requires { (n ≤ length list.old) × (n ≤ length pieces.now) }
+    ensures { list.new ≡ take n pieces.now ++ drop n list.old }
 {
-    let mut k: usize = 0;
-    while k < n {
-        list[k] = piece_of(t, k);
-        k += 1;
-    }
+    list[..n].copy_from_slice(&pieces[..n]);
 }
 
 // Fills a lent list with a PDU's pieces, their verdicts by the register that CRCs start with, any byte, and reads the PDU without a receiver: refused
@@ -148,9 +122,8 @@ pub extern "C" fn barzhilup_list_pieces(pdu: &mut [u8], register: u8, list: &mut
     ensures list_after { list.new ≡ list_after register list.old pdu.old }
 {
     let told = read_pieces(pdu, register, list.len());
-    let n = count_of(told);
-    fill(list, told, n);
-    reading_of(told)
+    fill(list, &told.pieces, told.count);
+    told.reading
 }
 
 // Marks a PDU lost with a receiver that is stepped in place: as `Receiver::mark_lost`, with the next receiver stored where this one stood.

@@ -152,15 +152,12 @@ fn wrong_displacement(y: &[u8], width: u8, c: ControlWord, x: Interpreted) -> bo
 fn first_wrong(y: &[u8], width: u8, c: ControlWord) -> u8
     ensures { result ≡ lowest_wrong width c y.now }
 {
-    let nop = c.nop;
-    let mut k: u8 = 0;
-    while k < nop {
+    for k in 0..c.nop {
         if wrong_locator(y, width, c, k) {
             return k;
         }
-        k += 1;
     }
-    nop
+    c.nop
 }
 
 // A refusal number from 7 to 12 or 0, and with 11 the smallest k whose locator is wrong.
@@ -224,17 +221,14 @@ fn piece_spans(y: &[u8], width: u8, c: ControlWord) -> Spans
     ensures starts_value { result.starts ≡ filled_to c.nop (start_at width c y.now) }
     ensures lengths_value { result.lengths ≡ filled_to c.nop (length_at width c y.now) }
 {
-    let nop = c.nop;
     let mut starts = [0u16; 64];
     let mut lengths = [0u16; 64];
-    let mut k: u8 = 0;
-    while k < nop {
+    for k in 0..c.nop {
         let l = layout::locator(width, y, k);
         let before = mark(y, width, c, k);
-        let i = k as usize;
+        let i = usize::from(k);
         starts[i] = before + 1;
         lengths[i] = l - (before + 1);
-        k += 1;
     }
     Spans {
         starts: starts,

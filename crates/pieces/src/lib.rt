@@ -39,13 +39,11 @@ pub fn put_pieces(
 {
     let mut place = at;
     let mut from = sent;
-    let mut k: usize = 0;
-    while k < lengths.len() {
-        let n = lengths[k] as usize;
+    for length in lengths {
+        let n = usize::from(*length);
         put_piece(&mut *pdu, place, register, bytes, from, from + n);
-        place = place + n + 1;
-        from = from + n;
-        k += 1;
+        place += n + 1;
+        from += n;
     }
 }
 
@@ -57,12 +55,10 @@ pub fn locators(at: u16, lengths: &[u16]) -> [u16; 64]
 {
     let mut out: [u16; 64] = [0; 64];
     let mut place = at;
-    let mut k: usize = 0;
-    while k < lengths.len() {
-        place = place + lengths[k];
+    for (k, length) in lengths.iter().enumerate() {
+        place += *length;
         out[k] = place;
-        place = place + 1;
-        k += 1;
+        place += 1;
     }
     out
 }

@@ -1,13 +1,13 @@
 -- A bit that is set in a word, and a word that is set in a list.
 use mathlib.Core.Path.{◌≡◌, refl, sym, ap, ◌∙◌, subst}
 use mathlib.Core.List.{List}
-use Prim.Native.Nat.{ℕ, suc, ◌+◌, ◌-◌, ◌*◌, ◌/◌, ◌%◌, ◌^◌, ◌≤◌, ◌<◌}
-use native.Mathlib.Nat.{div-eq_of_lt, zero-div, one-mul}
+use Prim.Native.Nat.{ℕ, suc, ◌+◌, ◌-◌, ◌*◌, ◌/◌, ◌%◌, ◌^◌, ◌<◌}
+use native.Mathlib.Nat.{div-eq_of_lt, one-mul}
 use native.Mathlib.Decide.{ℕ_discrete, dec_lt}
 use native.Mathlib.Omega.{arith}
 use lib.Bits.{bit_or, or_shr, or_mod, shifted_even, or_zero_r}
 use lib.Pow.{pow-add, pow-lt, shl-shr, shl_exact}
-use lib.ListN.{length, get_or, set, get_or-eq_default}
+use lib.ListN.{length, get_or, set}
 use lib.Dec.{lit<}
 use lib.Seq.{get_or-set_same, get_or-set_other}
 use Rattle.bits.proofs.Xor.{by_bit}
@@ -77,7 +77,3 @@ set-others words i h k n = go (ℕ_discrete (k / 64) (i / 64))
         ∙ ap (λ (x : ℕ). x / 2 ^ (k % 64) % 2) (get_or-set_same words (i / 64) (with_bit (get_or words (i / 64) 0) (i % 64)) 0 h)
         ∙ bit-other (get_or words (i / 64) 0) (i % 64) (k % 64) (omega arith) (λ e. n (let d : k ≡ i = omega (arith, p, e) in d))
         ∙ ap (λ (x : ℕ). get_or words x 0 / 2 ^ (k % 64) % 2) (sym p)
-
--- past the words every bit is 0
-pub bit_past : (words : List ℕ) (i : ℕ) → length words ≤ i / 64 → bit_at words i ≡ 0
-bit_past words i h = ap (λ (x : ℕ). x / 2 ^ (i % 64) % 2) (get_or-eq_default words 0 h) ∙ ap (λ (x : ℕ). x % 2) (zero-div (2 ^ (i % 64)))

@@ -30,10 +30,8 @@ pub fn zeros(words: &[u64], many: u64) -> u64
     ensures { result ≡ zeros_below words.now many }
 {
     let mut count: u64 = 0;
-    let mut index: u64 = 0;
-    while index < many {
+    for index in 0..many {
         count += 1 - at(words, index);
-        index += 1;
     }
     count
 }

@@ -15,12 +15,6 @@ pub struct Span {
     pub to: usize,
 }
 
-fn wide(x: u8) -> usize
-    ensures { (result ≡ x) × (result < 256) }
-{
-    x as usize
-}
-
 // No packet.
 fn none() -> Span {
     Span { from: 0, to: 0 }
@@ -33,7 +27,7 @@ fn in_record(head: &[u8]) -> Span {
     }
     Span {
         from: 2,
-        to: 2 + wide(head[0]) + 256 * wide(head[1]),
+        to: 2 + usize::from(head[0]) + 256 * usize::from(head[1]),
     }
 }
 
@@ -84,10 +78,8 @@ pub fn checksum(packet: &[u8]) -> usize
     ensures { (result ≡ checksum_from 0 packet.now) × (result < 251) }
 {
     let mut sum: usize = 0;
-    let mut i: usize = 0;
-    while i < packet.len() {
-        sum = (sum * 31 + wide(packet[i])) % 251;
-        i += 1;
+    for byte in packet {
+        sum = (sum * 31 + usize::from(*byte)) % 251;
     }
     sum
 }

@@ -22,10 +22,8 @@ fn put_words(words: &[u32], out: &mut [u8])
     requires { 4 * length words.now ≤ length out.old }
     ensures { out.new ≡ put_at out.old 0 (bytes_of words.now) }
 {
-    let mut i: usize = 0;
-    while i < words.len() {
-        put_word(&mut *out, 4 * i, words[i]);
-        i += 1;
+    for (i, word) in words.iter().enumerate() {
+        put_word(&mut *out, 4 * i, *word);
     }
 }
 
@@ -42,19 +40,13 @@ pub fn put(words: &[u32], out: &mut [u8]) -> usize
     4 * words.len()
 }
 
-fn wide(x: u8) -> u32
-    ensures { (result ≡ x) × (result < 256) }
-{
-    x as u32
-}
-
 // The word whose bytes stand from a place on.
 fn word_at(bytes: &[u8], at: usize) -> u32
     requires { at + 4 ≤ length bytes.now }
     ensures { result ≡ word_of (get_or bytes.now at 0) (get_or bytes.now (at + 1) 0) (get_or bytes.now (at + 2) 0) (get_or bytes.now (at + 3) 0) }
 {
-    let high = wide(bytes[at + 2]) + 0x100 * wide(bytes[at + 3]);
-    wide(bytes[at]) + 0x100 * (wide(bytes[at + 1]) + 0x100 * high)
+    let high = u32::from(bytes[at + 2]) + 0x100 * u32::from(bytes[at + 3]);
+    u32::from(bytes[at]) + 0x100 * (u32::from(bytes[at + 1]) + 0x100 * high)
 }
 
 // Writes the words of bytes to the buffer's start.
@@ -62,10 +54,8 @@ fn get_words(bytes: &[u8], words: &mut [u32])
     requires { length bytes.now / 4 ≤ length words.old }
     ensures { words.new ≡ put_at words.old 0 (words_of bytes.now) }
 {
-    let mut i: usize = 0;
-    while i < bytes.len() / 4 {
+    for i in 0..bytes.len() / 4 {
         words[i] = word_at(bytes, 4 * i);
-        i += 1;
     }
 }
 

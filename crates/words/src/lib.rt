@@ -46,10 +46,7 @@ pub fn bytes_of(word: u32) -> [u8; 4]
 
 // The words that were written to a log, which are its first ones.
 pub fn written(log: &[u32], words: usize) -> &[u32] {
-    if words < log.len() {
-        return &log[0..words];
-    }
-    log
+    &log[..words.min(log.len())]
 }
 
 // The place after an entry whose first word stands at a place: after the data words that follow it.
@@ -57,14 +54,12 @@ pub fn entry_end(log: &[u32], from: usize) -> usize
     requires { from < length log.now }
     ensures { (from < result) × (result ≤ length log.now) }
 {
-    let mut i = from + 1;
-    while i < log.len() {
+    for i in from + 1..log.len() {
         if log[i] / 0x40000000 != DATA {
             return i;
         }
-        i += 1;
     }
-    i
+    log.len()
 }
 
 // Whether the word at a place of a PDU's log is note 8: the PDU is withheld (document 02, Ask 10).
@@ -80,7 +75,7 @@ fn is_withheld_at(log: &[u32], at: usize) -> bool {
 // continues what was held (document 02, Ask 10); before note 8 stands note 1 or 4 where that was dropped.
 pub fn looked_at(pieces: u64, held: bool, log: &[u32]) -> u64 {
     if is_withheld_at(log, 0) {
-        return held as u64;
+        return u64::from(held);
     }
     if is_withheld_at(log, 1) {
         return 0;

@@ -1,16 +1,16 @@
 -- The writer's tests, as its code makes them.
-use mathlib.Core.Path.{◌≡◌, refl, sym, ap, subst}
+use mathlib.Core.Path.{◌≡◌, refl, ap, subst}
 use mathlib.Core.Bool.{Bool, true, false, ◌||◌}
 use mathlib.Core.List.{List, [], ◌∷◌}
-use Prim.Native.Nat.{ℕ, zero, suc, ◌+◌, ◌<◌, ◌≤◌}
+use Prim.Native.Nat.{ℕ, zero, suc, ◌+◌, ◌≤◌}
 use native.Mathlib.Omega.{arith}
 use lib.Dec.{ltb, T}
 use lib.ListN.{length, get_or}
-use borrow.Author.Tests.{lt-ltb, ltb-false}
+use borrow.Author.Tests.{ltb-false}
 use Rattle.refusal.specs.Refusal.{any_of}
 use Rattle.modes.specs.declared.Mode.{Mode}
 use Rattle.packing.specs.Packing.{overhead}
-use Rattle.writer.specs.Writing.{wrong_size, wrong_extra, no_room}
+use Rattle.writer.specs.Writing.{wrong_size, no_room}
 
 pub room-none : (m : Mode) (extra size n : ℕ) (ls : List ℕ) → length ls ≡ 0 → n ≡ overhead m.width extra 0 → ltb size n ≡ no_room m extra size ls
 room-none m extra size n [] z e = ap (ltb size) e
@@ -19,9 +19,6 @@ room-none m extra size n (l ∷ ls) z e = absurd (omega arith)
 pub room-some : (m : Mode) (extra size n : ℕ) (ls : List ℕ) → ¬ (length ls ≡ 0) → n ≡ overhead m.width extra 1 → ltb size (n + 2) ≡ no_room m extra size ls
 room-some m extra size n [] z e = absurd (z refl)
 room-some m extra size n (l ∷ ls) z e = ap (λ (k : ℕ). ltb size (k + 2)) e
-
-pub psd-past : (m : Mode) (n expansion psd : ℕ) → n ≡ m.limit → n < psd → true ≡ any_of (wrong_extra m expansion psd)
-psd-past m n expansion psd e h = let t : ltb m.limit (expansion + psd) ≡ true = lt-ltb m.limit (expansion + psd) (omega (arith, sym e)) in rw t
 
 pub never : {A : Type 0} → true ≡ false → A
 never e = absurd (subst T e tt)

@@ -1,11 +1,10 @@
 // Opening a writer, and writing PDUs (document 01, "Writer"); on `settings`, `packing` and `pdu`.
 #![tactic(auto)]
 
-ghost use Rattle.std.specs.Prelude.{◌≡◌, false, ◌&&◌, ◌||◌, not, cond, List, eqb, ltb, leb, ◌+◌, ◌≤◌, ◌<◌, length};
+ghost use Rattle.std.specs.Prelude.{◌≡◌, false, ◌||◌, not, cond, eqb, ◌+◌, ◌≤◌, ◌<◌, length};
 ghost use Rattle.modes.specs.Modes.{listing};
 ghost use Rattle.modes.specs.declared.Listing.TheVariants.{Listed};
 ghost use Rattle.refusal.specs.Refusal.{first_of, any_of};
-ghost use Rattle.layout.specs.Control.{bit};
 ghost use Rattle.pieces.specs.Pieces.{total};
 ghost use Rattle.writer.specs.Writing.{writer_opened, wrong_lengths, wrong_unfinished, wrong_writer, wrong_size, wrong_packets, wrong_extra, no_room, control_with, advanced, writer_tests, accepted_answer, refused_write, pdu_of, answer_in, pdu_in, write_answer, written_pdu};
 
@@ -80,25 +79,17 @@ pub fn open(mode: u8, stream: u8, register: u8) -> Opened
     }
 }
 
-fn wide(n: u16) -> usize
-    ensures { result ≡ n }
-{
-    n as usize
-}
-
 // A packet length of 0 or over 4,096, or lengths that do not sum to the count of bytes.
 fn wrong_lengths(lengths: &[u16], count: usize) -> bool
     ensures { result ≡ (wrong_lengths lengths.now || not (eqb (total lengths.now) count)) }
 {
     let mut left = count;
-    let mut k: usize = 0;
-    while k < lengths.len() {
-        let n = wide(lengths[k]);
+    for length in lengths {
+        let n = usize::from(*length);
         if (n == 0) | ((4096 < n) | (left < n)) {
             return true;
         }
-        left = left - n;
-        k += 1;
+        left -= n;
     }
     left != 0
 }
@@ -136,18 +127,12 @@ fn wrong_packets(sent: u16, lengths: &[u16], count: usize) -> bool
     sum | unfinished
 }
 
-fn limit_of(m: Mode) -> usize
-    ensures { (result ≡ m.limit) × (result < 256) }
-{
-    m.limit as usize
-}
-
 // Refusal 16.
 fn wrong_extra(m: Mode, expansion: usize, psd: usize) -> bool
     requires { expansion ≤ 16 }
     ensures { (result ≡ any_of (wrong_extra m expansion psd)) × (result ≡ false → expansion + psd ≤ 255) }
 {
-    let limit = limit_of(m);
+    let limit = usize::from(m.limit);
     if limit < psd {
         return true;
     }
@@ -208,7 +193,7 @@ fn control_with(w: Writer, s: Settings, part: u16, nop: u8, flag: bool, la: u8) 
     requires { w.number ≤ 63 }
     ensures { result ≡ control_with w s part nop flag la }
 {
-    let continued = bit_of(0 < w.sent);
+    let continued = u8::from(0 < w.sent);
     ControlWord {
         mode: w.mode,
         stream: w.stream,
@@ -226,15 +211,6 @@ fn control_with(w: Writer, s: Settings, part: u16, nop: u8, flag: bool, la: u8) 
     }
 }
 
-fn bit_of(b: bool) -> u8
-    ensures { (result ≡ bit b) × (result < 2) }
-{
-    if b {
-        return 1;
-    }
-    0
-}
-
 // The next state, when so many packets ended and so many bytes of the next are sent.
 fn advance(w: Writer, m: Mode, ended: u8, part: u16) -> Writer
     requires sequence_lt_sequences { (w.sequence < m.sequences) × (m.sequences ≤ 8) × (w.number ≤ 63) × (w.sent ≤ 4095) }
@@ -242,14 +218,11 @@ fn advance(w: Writer, m: Mode, ended: u8, part: u16) -> Writer
     ensures { result ≡ advanced m w ended part }
 {
     let before = sent_before(w, ended);
-    let range = m.sequences;
     Writer {
-        mode: w.mode,
-        stream: w.stream,
-        register: w.register,
-        sequence: (w.sequence + 1) % range,
+        sequence: (w.sequence + 1) % m.sequences,
         number: (w.number + ended) % 64,
         sent: before + part,
+        ..w
     }
 }
 

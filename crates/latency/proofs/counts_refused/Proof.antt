@@ -1,6 +1,5 @@
 use native.Mathlib.Omega.{arith}
 use mathlib.Core.Path.{◌∙◌}
-use Prim.Native.Nat.{◌-◌}
 use Rattle.latency.proofs.Counts.{refused_none, refused-many, refused_over}
 use borrow.Author.Rules.{rules}
 use Rattle.latency.proofs.counts_refused.Statement.{statement}

@@ -1,5 +1,4 @@
 use Rattle.writer.proofs.Judging.{room-none, room-some}
-use Prim.Native.Nat.{◌-◌}
 use borrow.Author.Rules.{rules}
 use Rattle.writer.proofs.no_room.Statement.{statement}
 use Rattle.writer.proofs.no_room.Tie as tie

@@ -1,5 +1,4 @@
 use Rattle.writer.proofs.Opening.{opened-by}
-use Prim.Native.Nat.{◌-◌}
 use borrow.Author.Rules.{rules}
 use Rattle.writer.proofs.open.Statement.{statement}
 use Rattle.writer.proofs.open.Tie as tie

@@ -7,7 +7,7 @@ use Rattle.refusal.specs.Refusal.{any_of}
 use mathlib.Core.Bool.{true, false}
 use native.Mathlib.Omega.{arith}
 use mathlib.Core.Path.{◌≡◌, ap, sym, ◌∙◌}
-use Prim.Native.Nat.{ℕ, ◌+◌, ◌-◌}
+use Prim.Native.Nat.{ℕ, ◌+◌}
 use lib.ListN.{length}
 use borrow.Author.Rules.{rules}
 use Rattle.writer.proofs.refusal.Statement.{statement}

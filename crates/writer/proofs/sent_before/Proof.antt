@@ -3,7 +3,6 @@ use lib.Dec.{eqb}
 use mathlib.Core.Bool.{true, false}
 use native.Mathlib.Omega.{arith}
 use mathlib.Core.Path.{◌≡◌}
-use Prim.Native.Nat.{◌-◌}
 use Rattle.writer.proofs.sent_before.Statement.{statement}
 use Rattle.writer.proofs.sent_before.Tie as tie
 

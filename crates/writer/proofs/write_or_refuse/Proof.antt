@@ -1,6 +1,5 @@
 use Rattle.writer.proofs.Calling.{accepted-call, refused-call}
 use mathlib.Core.Path.{sym, ◌∙◌}
-use Prim.Native.Nat.{◌-◌}
 use lib.ListN.{length}
 use borrow.Author.Rules.{rules}
 use Rattle.writer.proofs.write_or_refuse.Statement.{statement}

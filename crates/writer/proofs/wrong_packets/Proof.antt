@@ -1,4 +1,3 @@
-use Prim.Native.Nat.{◌-◌}
 use borrow.Author.Rules.{rules}
 use Rattle.writer.proofs.wrong_packets.Statement.{statement}
 use Rattle.writer.proofs.wrong_packets.Tie as tie

@@ -1,5 +1,4 @@
 use Rattle.writer.proofs.Counting.{none-offered, first-offered}
-use Prim.Native.Nat.{◌-◌}
 use borrow.Author.Rules.{rules}
 use Rattle.writer.proofs.wrong_unfinished.Statement.{statement}
 use Rattle.writer.proofs.wrong_unfinished.Tie as tie

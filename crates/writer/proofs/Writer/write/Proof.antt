@@ -1,6 +1,5 @@
 use Rattle.writer.proofs.Calling.{called}
 use mathlib.Core.Path.{refl, sym, ◌∙◌}
-use Prim.Native.Nat.{◌-◌}
 use lib.ListN.{length}
 use borrow.Author.Rules.{rules}
 use Rattle.writer.proofs.Writer.write.Statement.{statement}
