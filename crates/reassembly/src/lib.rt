@@ -335,9 +335,8 @@ fn pieces(
 {
     let mut cur = run;
     let mut continues = head.pfirst;
-    let mut k: usize = 0;
-    while k < head.nop {
-        let next = piece_at(
+    for k in 0..head.nop {
+        cur = piece_at(
             cur,
             head,
             marks,
@@ -348,9 +347,7 @@ fn pieces(
             &mut *carry,
             &mut *log,
         );
-        cur = next;
         continues = false;
-        k += 1;
     }
     cur
 }
@@ -571,18 +568,15 @@ fn count_pieces(
     let mut continues = head.pfirst;
     let mut kept = held;
     let mut sum = x;
-    let mut k: usize = 0;
-    while k < head.nop {
+    for k in 0..head.nop {
         let a = place(marks[k]) + 1;
         let e = place(marks[k + 1]);
         let ends = ends_here(head.plast, head.nop - (k + 1));
         let p = count_piece(kept, continues, ends, causes[k], e - a);
         let n = piece_number(head.pfirst, head.start, k);
-        let next = add_piece(sum, p, n);
-        sum = next;
+        sum = add_piece(sum, p, n);
         kept = p.held;
         continues = false;
-        k += 1;
     }
     sum
 }

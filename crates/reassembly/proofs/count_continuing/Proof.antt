@@ -1,5 +1,4 @@
 use mathlib.Core.Path.{◌∙◌}
-use Prim.Native.Nat.{◌-◌}
 use native.Mathlib.Omega.{arith}
 use Rattle.reassembly.proofs.Counts.{none-counted, no-piece-counted, piece-counted, count_small, bounded-more}
 use borrow.Author.Rules.{rules}
