@@ -27,14 +27,11 @@ fn sums_to(lengths: &[usize], bytes: usize) -> bool
     ensures { result ≡ eqb (total lengths.now) bytes }
 {
     let mut left = bytes;
-    let mut i: usize = 0;
-    while i < lengths.len() {
-        let n = lengths[i];
-        if left < n {
+    for n in lengths {
+        if left < *n {
             return false;
         }
-        left -= n;
-        i += 1;
+        left -= *n;
     }
     left == 0
 }
@@ -109,9 +106,8 @@ fn receive_each(
 {
     let mut b = begun(receiver, 0);
     let mut from: usize = 0;
-    let mut i: usize = 0;
-    while i < lengths.len() {
-        let to = from + lengths[i];
+    for (i, n) in lengths.iter().enumerate() {
+        let to = from + *n;
         let at = b.words;
         b = receive_next(b, &mut *carry, &mut pdus[from..to], &mut log[at..]);
         if b.refusal != 0 {
@@ -119,7 +115,6 @@ fn receive_each(
         }
         note(&mut *ends, i, b.words);
         from = to;
-        i += 1;
     }
     b
 }

@@ -84,18 +84,10 @@ pub fn same_bytes(a: &[u8], b: &[u8]) -> bool
         return false;
     }
     let mut same = true;
-    let mut i: usize = 0;
-    while i < a.len() {
-        same = same & (a[i] == b[i]);
-        i += 1;
+    for (i, x) in a.iter().enumerate() {
+        same = same & (*x == b[i]);
     }
     same
-}
-
-fn place(x: u16) -> usize
-    ensures { (result ≡ x) × (result < 65536) }
-{
-    x as usize
 }
 
 // Whether piece k has the same bytes in both PDUs.
@@ -104,8 +96,8 @@ fn same_piece(first: &[u8], second: &[u8], marks: [u16; 64], k: usize) -> bool
     requires k_in_bounds { (get_or marks (k + 1) 0 < length first.now) × (get_or marks (k + 1) 0 < length second.now) }
     ensures { result ≡ same_list (piece_at first.now marks k) (piece_at second.now marks k) }
 {
-    let a = place(marks[k]) + 1;
-    let e = place(marks[k + 1]);
+    let a = usize::from(marks[k]) + 1;
+    let e = usize::from(marks[k + 1]);
     same_bytes(&first[a..e], &second[a..e])
 }
 
@@ -150,10 +142,8 @@ fn pair_causes(
     ensures { PairCausesOf register first.now second.now marks nop result }
 {
     let mut both = [0u8; 64];
-    let mut k: usize = 0;
-    while k < nop {
+    for k in 0..nop {
         both[k] = pair_cause(register, first, second, marks, k, causes[k]);
-        k += 1;
     }
     both
 }
@@ -164,12 +154,10 @@ fn exchange(first: &mut [u8], second: &mut [u8], from: usize, to: usize)
     ensures first_after { first.new ≡ mixed (in_places from to) first.old second.old }
     ensures second_after { second.new ≡ mixed (in_places from to) second.old first.old }
 {
-    let mut i = from;
-    while i < to {
+    for i in from..to {
         let b = first[i];
         first[i] = second[i];
         second[i] = b;
-        i += 1;
     }
 }
 
@@ -183,8 +171,8 @@ fn exchange_piece(first: &mut [u8], second: &mut [u8], marks: [u16; 64], k: usiz
     if cause == 0 {
         return;
     }
-    let a = place(marks[k]) + 1;
-    let e = place(marks[k + 1]);
+    let a = usize::from(marks[k]) + 1;
+    let e = usize::from(marks[k + 1]);
     exchange(first, second, a, e)
 }
 
@@ -200,10 +188,8 @@ fn exchange_pieces(
     ensures first_after { first.new ≡ mixed (exchanged marks causes nop) first.old second.old }
     ensures second_after { second.new ≡ mixed (exchanged marks causes nop) second.old first.old }
 {
-    let mut k: usize = 0;
-    while k < nop {
+    for k in 0..nop {
         exchange_piece(&mut *first, &mut *second, marks, k, causes[k]);
-        k += 1;
     }
 }
 

@@ -57,12 +57,12 @@ fn end_line(host: &Host) {
 
 fn hex_byte(host: &Host, b: u8) {
     say(host, b" ");
-    host.print_hex(STDOUT, b as u64, 2);
+    host.print_hex(STDOUT, u64::from(b), 2);
 }
 
 fn hex_word(host: &Host, w: u32) {
     say(host, b" ");
-    host.print_hex(STDOUT, w as u64, 8);
+    host.print_hex(STDOUT, u64::from(w), 8);
 }
 
 // (a)
@@ -84,10 +84,8 @@ fn control_line(host: &Host) {
     };
     let b = layout::control_bytes(c);
     say(host, b"(a) control word:");
-    let mut i: usize = 0;
-    while i < 6 {
-        hex_byte(host, b[i]);
-        i += 1;
+    for x in &b {
+        hex_byte(host, *x);
     }
     end_line(host);
 }
@@ -96,15 +94,15 @@ fn control_line(host: &Host) {
 fn locators_line(host: &Host, label: &[u8], width: u8, pdu: &[u8]) {
     say(host, label);
     say(host, b" ");
-    host.print_decimal(STDOUT, layout::locator(width, pdu, 0) as u64);
+    host.print_decimal(STDOUT, u64::from(layout::locator(width, pdu, 0)));
     say(host, b" ");
-    host.print_decimal(STDOUT, layout::locator(width, pdu, 1) as u64);
+    host.print_decimal(STDOUT, u64::from(layout::locator(width, pdu, 1)));
     end_line(host);
 }
 
 fn crc_line(host: &Host, label: &[u8], bytes: &[u8]) {
     say(host, label);
-    host.print_hex(STDOUT, crc::crc8(bytes) as u64, 2);
+    host.print_hex(STDOUT, u64::from(crc::crc8(bytes)), 2);
     end_line(host);
 }
 
@@ -122,11 +120,9 @@ fn generator(mask: u32) -> [u8; 96]
 {
     let mut word = [0u8; 96];
     let mut rest = mask;
-    let mut i: usize = 0;
-    while i < 9 {
-        word[i] = coefficient(rest % 2, EXPONENTS[i]);
-        rest = rest / 2;
-        i += 1;
+    for (i, e) in EXPONENTS.iter().enumerate() {
+        word[i] = coefficient(rest % 2, *e);
+        rest /= 2;
     }
     word
 }
@@ -136,98 +132,37 @@ fn generator_line(host: &Host) {
     let word = generator(0);
     let s = header::syndromes(&word);
     say(host, b"(g) sums of the generator's coefficients:");
-    let mut i: usize = 0;
-    while i < 8 {
-        say(host, b" ");
-        host.print_hex(STDOUT, s[i] as u64, 2);
-        i += 1;
+    for x in &s {
+        hex_byte(host, *x);
     }
     end_line(host);
 }
 
-// How many of the nine lowest bits are set.
-fn ones(mask: u32) -> u32 {
-    let mut rest = mask;
-    let mut n: u32 = 0;
-    let mut i: u32 = 0;
-    while i < 9 {
-        n += rest % 2;
-        rest = rest / 2;
-        i += 1;
-    }
-    n
-}
-
-fn same(u: &[u8; 96], v: &[u8; 96]) -> bool {
-    let mut i: usize = 0;
-    while i < 96 {
-        if u[i] != v[i] {
-            return false;
-        }
-        i += 1;
-    }
-    true
-}
-
-// 1 where the mask has this many bits set, else 0.
-fn chosen(mask: u32, set: u32) -> u32
-    ensures { result ≤ 1 }
-{
-    if ones(mask) == set {
-        return 1;
-    }
-    0
-}
-
-// 1 where four bytes were corrected and the word is the wanted one, else 0.
-fn right_count(n: u32, same: bool) -> u32
-    ensures { result ≤ 1 }
-{
-    if n == 4 {
-        if same {
-            return 1;
-        }
-    }
-    0
-}
-
-// 1 where the word with the mask's bytes zeroed is corrected in four bytes to the wanted one, else 0.
-fn corrected_to(mask: u32, wanted: u32) -> u32
-    ensures { result ≤ 1 }
-{
+// Whether the word with the mask's bytes zeroed is corrected in four bytes to the wanted one.
+fn corrected_to(mask: u32, wanted: u32) -> bool {
     let mut word = generator(mask);
-    let target = generator(wanted);
-    let answer = correction::correct(&mut word);
-    match answer {
-        Correction::Corrected(n) => right_count(n, same(&word, &target)),
-        Correction::Refused(_) => 0,
+    match correction::correct(&mut word) {
+        Correction::Corrected(n) => n == 4 && word == generator(wanted),
+        Correction::Refused(_) => false,
     }
-}
-
-// 1 where the mask has this many bits set and the word is corrected to the wanted one, else 0.
-fn chosen_right(mask: u32, set: u32, wanted: u32) -> u32
-    ensures { result ≤ 1 }
-{
-    if chosen(mask, set) == 0 {
-        return 0;
-    }
-    corrected_to(mask, wanted)
 }
 
 // (h), (i): of the masks with this many bits set, how many are corrected to the wanted word.
 fn choices_line(host: &Host, label: &[u8], set: u32, wanted: u32) {
     let mut right: u32 = 0;
     let mut all: u32 = 0;
-    let mut mask: u32 = 0;
-    while mask < 512 {
-        all += chosen(mask, set);
-        right += chosen_right(mask, set, wanted);
-        mask += 1;
+    for mask in 0..512u32 {
+        if mask.count_ones() == set {
+            all += 1;
+            if corrected_to(mask, wanted) {
+                right += 1;
+            }
+        }
     }
     say(host, label);
-    host.print_decimal(STDOUT, right as u64);
+    host.print_decimal(STDOUT, u64::from(right));
     say(host, b" of ");
-    host.print_decimal(STDOUT, all as u64);
+    host.print_decimal(STDOUT, u64::from(all));
     end_line(host);
 }
 
@@ -260,12 +195,10 @@ fn number(host: &Host, label: &[u8], n: u64) {
 fn locators_and_start(host: &Host, pdu: &[u8]) {
     let c = layout::control_word(pdu);
     say(host, b", locators");
-    let mut k: u8 = 0;
-    while k < c.nop {
-        number(host, b" ", layout::locator(16, pdu, k) as u64);
-        k += 1;
+    for k in 0..c.nop {
+        number(host, b" ", u64::from(layout::locator(16, pdu, k)));
     }
-    number(host, b", start ", c.start as u64);
+    number(host, b", start ", u64::from(c.start));
     if c.plast {
         say(host, b", Plast");
     }
@@ -293,9 +226,9 @@ fn writing_line(
         &mut pdu,
     );
     say(host, label);
-    number(host, b" refusal ", r.refusal as u64);
+    number(host, b" refusal ", u64::from(r.refusal));
     if r.refusal == 0 {
-        number(host, b", ended ", r.ended as u64);
+        number(host, b", ended ", u64::from(r.ended));
         number(host, b", sent ", r.writer.sent as u64);
         locators_and_start(host, &pdu);
     }
@@ -321,10 +254,8 @@ fn log_line(host: &Host) {
     let mut words = [0u32; 3];
     packet_log::put_packet(&mut words, 0, 5, b"\x11\x22\x33\x44", b"");
     say(host, b"(n) packet 5, bytes 11 22 33 44:");
-    let mut i: usize = 0;
-    while i < 3 {
-        hex_word(host, words[i]);
-        i += 1;
+    for w in &words {
+        hex_word(host, *w);
     }
     end_line(host);
 }
@@ -338,6 +269,6 @@ fn length_line(host: &Host) {
         Correction::Refused(n) => n,
     };
     say(host, b"(n) length 95: ");
-    host.print_decimal(STDOUT, number as u64);
+    host.print_decimal(STDOUT, u64::from(number));
     end_line(host);
 }

@@ -132,14 +132,11 @@ fn is_log(log: &[u32]) -> bool
     ensures { result ≡ is_log log.now }
 {
     let mut left: u32 = 0;
-    let mut i: usize = 0;
-    while i < log.len() {
-        if !fits(left, log[i]) {
+    for w in log {
+        if !fits(left, *w) {
             return false;
         }
-        let next = left_after(left, log[i]);
-        left = next;
-        i += 1;
+        left = left_after(left, *w);
     }
     left == 0
 }
@@ -173,14 +170,12 @@ fn next_packet(log: &[u32], from: usize) -> usize
     ensures log_value { numbers (drop result log.now) ≡ numbers (drop from log.now) }
     ensures result_value { result < length log.now → is_packet (get_or log.now result 0) ≡ true }
 {
-    let mut i = from;
-    while i < log.len() {
+    for i in from..log.len() {
         if is_packet(log[i]) {
             return i;
         }
-        i += 1;
     }
-    i
+    log.len()
 }
 
 // Whether the packet numbers of a log, counted from its first, rise strictly.
@@ -193,15 +188,15 @@ fn rising(log: &[u32]) -> bool
     }
     let first = number(log[start]);
     let mut last: u32 = 0;
-    let mut i = next_packet(log, start + 1);
-    while i < log.len() {
-        let n = counted(first, number(log[i]));
-        if n <= last {
-            return false;
+    for i in start + 1..log.len() {
+        let w = log[i];
+        if is_packet(w) {
+            let n = counted(first, number(w));
+            if n <= last {
+                return false;
+            }
+            last = n;
         }
-        last = n;
-        let next = next_packet(log, i + 1);
-        i = next;
     }
     true
 }
@@ -212,14 +207,12 @@ fn run_end(log: &[u32], from: usize) -> usize
     ensures lower_bound { (from ≤ result) × (result ≤ length log.now) }
     ensures log_value { data_run (drop from log.now) ≡ slice from result log.now }
 {
-    let mut i = from;
-    while i < log.len() {
+    for i in from..log.len() {
         if kind(log[i]) != 1 {
             return i;
         }
-        i += 1;
     }
-    i
+    log.len()
 }
 
 // Keeps the place of a packet's first word by its number; another word changes nothing.
@@ -241,9 +234,7 @@ fn places_in(log: &[u32]) -> [usize; 64]
     ensures { Placed result log.now 0 }
 {
     let mut places = [log.len(); 64];
-    let mut i = log.len();
-    while 0 < i {
-        i -= 1;
+    for i in (0..log.len()).rev() {
         keep_place(&mut places, log, i);
     }
     places
@@ -292,13 +283,11 @@ fn has_room(core: &[u32], enhanced: &[u32], places: &[usize], room: usize) -> bo
     ensures { result ≡ leb (length (joined_words enhanced.now core.now)) room }
 {
     let mut words: usize = 0;
-    let mut i: usize = 0;
-    while i < core.len() {
+    for i in 0..core.len() {
         words += length_at(core, enhanced, places, i);
         if room < words {
             return false;
         }
-        i += 1;
     }
     true
 }
@@ -308,11 +297,7 @@ fn put_words(dst: &mut [u32], at: usize, src: &[u32])
     requires { at + length src.now ≤ length dst.old }
     ensures { dst.new ≡ put_at dst.old at src.now }
 {
-    let mut j: usize = 0;
-    while j < src.len() {
-        dst[at + j] = src[j];
-        j += 1;
-    }
+    dst[at..at + src.len()].copy_from_slice(src);
 }
 
 // Writes the enhanced packet of a number, if any, bit 29 set in its first word. Answers the place after it.
@@ -365,11 +350,8 @@ fn put_joined(res: &mut [u32], core: &[u32], enhanced: &[u32], places: &[usize])
     ensures res_after { res.new ≡ put_at res.old 0 (joined_words enhanced.now core.now) }
 {
     let mut at: usize = 0;
-    let mut i: usize = 0;
-    while i < core.len() {
-        let next = put_at(&mut *res, at, core, enhanced, places, i);
-        at = next;
-        i += 1;
+    for i in 0..core.len() {
+        at = put_at(&mut *res, at, core, enhanced, places, i);
     }
     at
 }

@@ -69,7 +69,7 @@ fn after_la(y: &[u8]) -> usize
     ensures { (result ≡ (control_at y.now).la + 1) × (result ≤ 256) }
 {
     let c = layout::control_word(y);
-    c.la as usize + 1
+    usize::from(c.la) + 1
 }
 
 // Refusal 20: whether lengths or bytes 8 to La of two corrected PDUs differ.

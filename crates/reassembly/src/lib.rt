@@ -66,18 +66,6 @@ pub struct Forecast {
     pub tally: Tally,
 }
 
-fn wide(x: u8) -> usize
-    ensures { (result ≡ x) × (result < 256) }
-{
-    x as usize
-}
-
-fn place(x: u16) -> usize
-    ensures { (result ≡ x) × (result < 65536) }
-{
-    x as usize
-}
-
 // The sequence after one: 0 follows the last of its range.
 fn next_sequence(range: u8, last: u8) -> u8
     requires { last < 255 }
@@ -105,8 +93,8 @@ pub fn in_sequence(known: bool, last: u8, range: u8, sequence: u8) -> bool
 fn continued(held: usize, number: u8, pfirst: bool, start: u8) -> bool
     ensures { result ≡ continued_by held number pfirst start }
 {
-    let before = (wide(start) + 63) % 64;
-    (held == 0) | (pfirst & (wide(number) == before))
+    let before = (usize::from(start) + 63) % 64;
+    (held == 0) | (pfirst & (usize::from(number) == before))
 }
 
 // The note with which a PDU begins: 1 out of sequence, 4 not continued, 0 none.
@@ -129,9 +117,9 @@ fn piece_number(pfirst: bool, start: u8, k: usize) -> u8
     ensures { result ≡ piece_number pfirst start k }
 {
     if pfirst {
-        return ((wide(start) + 63 + k) % 64) as u8;
+        return ((usize::from(start) + 63 + k) % 64) as u8;
     }
-    ((wide(start) + k) % 64) as u8
+    ((usize::from(start) + k) % 64) as u8
 }
 
 // Does a piece with so many pieces after it end its packet?
@@ -299,8 +287,8 @@ fn piece_at(
     requires room { Room (piece_step (piece_number head.pfirst head.start k) k continues (ends_at head.plast (head.nop - (k + 1))) (partial_of run.held run.number carry.old) (piece_of cause (piece_at pdu.now marks k))) run.at log.old }
     ensures { Did (piece_step (piece_number head.pfirst head.start k) k continues (ends_at head.plast (head.nop - (k + 1))) (partial_of run.held run.number carry.old) (piece_of cause (piece_at pdu.now marks k))) run.at carry.old log.old carry.new log.new result }
 {
-    let a = place(marks[k]) + 1;
-    let e = place(marks[k + 1]);
+    let a = usize::from(marks[k]) + 1;
+    let e = usize::from(marks[k + 1]);
     let n = piece_number(head.pfirst, head.start, k);
     let ends = ends_here(head.plast, head.nop - (k + 1));
     one_piece(
@@ -335,9 +323,8 @@ fn pieces(
 {
     let mut cur = run;
     let mut continues = head.pfirst;
-    let mut k: usize = 0;
-    while k < head.nop {
-        let next = piece_at(
+    for k in 0..head.nop {
+        cur = piece_at(
             cur,
             head,
             marks,
@@ -348,9 +335,7 @@ fn pieces(
             &mut *carry,
             &mut *log,
         );
-        cur = next;
         continues = false;
-        k += 1;
     }
     cur
 }
@@ -403,7 +388,7 @@ fn contents(
 {
     let at = run.at;
     let psd = head.psd;
-    let end = place(marks[0]) + 1;
+    let end = usize::from(marks[0]) + 1;
     let m = put_extra(&mut *log, at, &pdu[psd..end]);
     let next = Run {
         held: run.held,
@@ -571,18 +556,15 @@ fn count_pieces(
     let mut continues = head.pfirst;
     let mut kept = held;
     let mut sum = x;
-    let mut k: usize = 0;
-    while k < head.nop {
-        let a = place(marks[k]) + 1;
-        let e = place(marks[k + 1]);
+    for k in 0..head.nop {
+        let a = usize::from(marks[k]) + 1;
+        let e = usize::from(marks[k + 1]);
         let ends = ends_here(head.plast, head.nop - (k + 1));
         let p = count_piece(kept, continues, ends, causes[k], e - a);
         let n = piece_number(head.pfirst, head.start, k);
-        let next = add_piece(sum, p, n);
-        sum = next;
+        sum = add_piece(sum, p, n);
         kept = p.held;
         continues = false;
-        k += 1;
     }
     sum
 }
@@ -616,8 +598,8 @@ fn count_continuing(
     if head.nop == 0 {
         return x;
     }
-    let a = place(marks[0]) + 1;
-    let e = place(marks[1]);
+    let a = usize::from(marks[0]) + 1;
+    let e = usize::from(marks[1]);
     let ends = ends_here(head.plast, head.nop - 1);
     let p = count_piece(held, true, ends, causes[0], e - a);
     let n = piece_number(head.pfirst, head.start, 0);
@@ -641,7 +623,7 @@ fn count_contents(
     if withheld {
         return count_continuing(held, head, marks, causes, add_words(x, 1));
     }
-    let extra = count_psd(place(marks[0]) + 1 - head.psd);
+    let extra = count_psd(usize::from(marks[0]) + 1 - head.psd);
     count_pieces(held, head, marks, causes, add_words(x, extra))
 }
 

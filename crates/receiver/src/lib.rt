@@ -100,34 +100,24 @@ fn not_opened(number: u32) -> Opened
     }
 }
 
-fn wide(x: u8) -> usize
-    ensures { result ≡ x }
-{
-    x as usize
-}
-
 // Whether a program is listed.
 fn is_listed(programs: &[u8], p: u8) -> bool
     ensures { result ≡ is_listed programs.now p }
 {
-    correction::is_marked(programs, wide(p))
+    correction::is_marked(programs, usize::from(p))
 }
 
 // Whether each program number is at most 7, and none repeated.
 fn allowed(programs: &[u8]) -> bool
     ensures { result ≡ allowed_programs programs.now }
 {
-    let mut i: usize = 0;
-    while i < programs.len() {
-        let p = programs[i];
-        if 7 < p {
+    for (i, p) in programs.iter().enumerate() {
+        if 7 < *p {
             return false;
         }
-        let next = i + 1;
-        if is_listed(&programs[next..], p) {
+        if is_listed(&programs[i + 1..], *p) {
             return false;
         }
-        i = next;
     }
     true
 }
@@ -229,25 +219,14 @@ pub fn listed_refusal(r: Receiver, m: Mode, carry: usize) -> u32
     0
 }
 
-fn place(x: u16) -> usize
-    ensures { (result ≡ x) × (result < 65536) }
-{
-    x as usize
-}
-
 // La and then each locator.
 pub fn marks_of(y: &[u8], width: u8, c: ControlWord) -> [u16; 64]
     requires { c.nop < 64 }
     ensures { MarksOf width c y.now result }
 {
-    let nop = c.nop;
     let mut marks = [0u16; 64];
-    let mut k: u8 = 0;
-    while k <= nop {
-        let m = pdu::mark(y, width, c, k);
-        let i = k as usize;
-        marks[i] = m;
-        k += 1;
+    for k in 0..c.nop + 1 {
+        marks[usize::from(k)] = pdu::mark(y, width, c, k);
     }
     marks
 }
@@ -257,8 +236,8 @@ pub fn cause_at(register: u8, y: &[u8], marks: [u16; 64], k: usize) -> u8
     requires { (k < 63) × (place_at marks k < get_or marks (k + 1) 0) × (get_or marks (k + 1) 0 < length y.now) }
     ensures { result ≡ cause_at register y.now marks k }
 {
-    let a = place(marks[k]) + 1;
-    let e = place(marks[k + 1]);
+    let a = usize::from(marks[k]) + 1;
+    let e = usize::from(marks[k + 1]);
     let crc = crc::crc8_from(register, &y[a..e]);
     if crc == y[e] {
         return 0;
@@ -272,10 +251,8 @@ pub fn causes_of(register: u8, y: &[u8], marks: [u16; 64], nop: usize) -> [u8; 6
     ensures { CausesOf register y.now marks nop result }
 {
     let mut causes = [0u8; 64];
-    let mut k: usize = 0;
-    while k < nop {
+    for k in 0..nop {
         causes[k] = cause_at(register, y, marks, k);
-        k += 1;
     }
     causes
 }

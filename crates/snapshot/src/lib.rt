@@ -140,12 +140,8 @@ fn put_bytes(words: &mut [u32], at: usize, bytes: &[u8])
     requires { at + (length bytes.now + 2) / 3 ≤ length words.old }
     ensures { words.new ≡ put_at words.old at (byte_words bytes.now) }
 {
-    let mut i: usize = 0;
-    let mut j: usize = 0;
-    while i < bytes.len() {
-        words[at + j] = byte_word(bytes, i);
-        i += 3;
-        j += 1;
+    for j in 0..bytes.len().div_ceil(3) {
+        words[at + j] = byte_word(bytes, 3 * j);
     }
 }
 
@@ -233,14 +229,12 @@ pub fn save(r: Receiver, carry: &[u8], words: &mut [u32]) -> Saved
 fn place_of(words: &[u32], kind: u32) -> usize
     ensures { (drop result words.now ≡ from_kind kind words.now) × (result ≤ length words.now) }
 {
-    let mut i: usize = 0;
-    while i < words.len() {
-        if words[i] / 0x10000000 == kind {
+    for (i, w) in words.iter().enumerate() {
+        if *w / 0x10000000 == kind {
             return i;
         }
-        i += 1;
     }
-    i
+    words.len()
 }
 
 // Whether there is a word of a kind.
@@ -313,17 +307,7 @@ fn receiver_in(words: &[u32]) -> Receiver
 fn begins(words: &[u32], front: &[u32]) -> bool
     ensures { result ≡ begins_with front.now words.now }
 {
-    if words.len() < front.len() {
-        return false;
-    }
-    let mut i: usize = 0;
-    while i < front.len() {
-        if words[i] != front[i] {
-            return false;
-        }
-        i += 1;
-    }
-    true
+    words.starts_with(front)
 }
 
 // Whether the bytes that a word of n bytes does not use are zero.
@@ -375,14 +359,11 @@ fn is_rest(words: &[u32], from: usize, held: usize) -> bool
     ensures { result ≡ are_bytes held (drop from words.now) }
 {
     let mut left = held;
-    let mut i = from;
-    while i < words.len() {
+    for i in from..words.len() {
         if !fits(left, words[i]) {
             return false;
         }
-        let next = left_after(left);
-        left = next;
-        i += 1;
+        left = left_after(left);
     }
     left == 0
 }
@@ -454,10 +435,8 @@ fn take_bytes(carry: &mut [u8], words: &[u32], from: usize, held: usize)
     requires words_value { are_bytes held (drop from words.now) ≡ true }
     ensures { carry.new ≡ put_at carry.old 0 (bytes_in (drop from words.now)) }
 {
-    let mut j: usize = 0;
-    while j < held {
+    for j in 0..held {
         carry[j] = byte_in(words[from + j / 3], j % 3);
-        j += 1;
     }
 }
 

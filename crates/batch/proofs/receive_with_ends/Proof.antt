@@ -1,6 +1,5 @@
 use Rattle.batch.proofs.Calling.{state-call, sum-call, sum-right, each-call}
 use native.Mathlib.Omega.{arith}
-use borrow.Author.Tests.{not-true, not-false}
 use borrow.Author.Rules.{rules}
 use Rattle.batch.proofs.receive_with_ends.Statement.{statement}
 use Rattle.batch.proofs.receive_with_ends.Tie as tie

@@ -1,7 +1,6 @@
 use native.Mathlib.Omega.{arith}
 use mathlib.Core.Path.{sym, ◌∙◌}
 use borrow.Author.Rules.{rules}
-use borrow.Author.Tests.{not-true, not-false}
 use Rattle.join.proofs.Places.{place-passed, place_kept}
 use Rattle.join.proofs.keep_place.Statement.{statement}
 use Rattle.join.proofs.keep_place.Tie as tie

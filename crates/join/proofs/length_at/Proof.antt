@@ -3,7 +3,6 @@ use mathlib.Core.Path.{ap, sym, ◌∙◌}
 use Prim.Native.Nat.{ℕ}
 use lib.ListN.{length}
 use Rattle.join.proofs.Joining.{first-none, first-size}
-use borrow.Author.Tests.{not-true, not-false}
 use Rattle.join.specs.Scan.{partner}
 use borrow.Author.Rules.{rules}
 use Rattle.join.proofs.length_at.Statement.{statement}

@@ -6,7 +6,6 @@ use mathlib.Core.List.{List, ◌++◌}
 use Rattle.join.proofs.Joining.{first-none, first_some, first-size, part, part_length, put-none}
 use Rattle.join.specs.Join.{number}
 use Rattle.join.specs.Scan.{partner, first_joined}
-use borrow.Author.Tests.{not-true, not-false}
 use mathlib.Core.Path.{ap₂}
 use Rattle.buffer.specs.Buffer.{put_at}
 use Rattle.buffer.proofs.Laws.{put_then}

@@ -1,6 +1,5 @@
 use mathlib.Core.Path.{sym, ◌∙◌}
 use Rattle.join.proofs.Refusing.{core-no-log, enhanced-no-log, not-in-order, too_short, accepted}
-use borrow.Author.Tests.{not-true, not-false}
 use borrow.Author.Rules.{rules}
 use Rattle.join.proofs.refusal.Statement.{statement}
 use Rattle.join.proofs.refusal.Tie as tie

@@ -12,7 +12,7 @@ use Rattle.reassembly.proofs.contents.Statement.{statement}
 use Rattle.reassembly.proofs.contents.Tie as tie
 
 add-end : tie.Need-overflow_add-end
-add-end c = omega (arith, c.place-end.ensures.1)
+add-end c = search rules
 
 parsed : (p : tie.Start) → Parsed p.args.head p.args.pdu.now p.args.marks
 parsed p = p.requires.1.1.0
@@ -28,8 +28,8 @@ put-extra-requires c κs =
     let p = c.before.before.before.before.before.before in
     let a = p.args in
     let w : Parsed a.head a.pdu.now a.marks = p.requires.1.1.0 in
-    let la = c.before.before.place-end in
-    let same : take (la.result + 1 - a.head.psd) (drop a.head.psd a.pdu.now) ≡ psd_by a.head a.marks a.pdu.now = psd-is a.head a.marks a.pdu.now la.result la.ensures.0 in
+    let la = c.before.before.from-end in
+    let same : take (la.result + 1 - a.head.psd) (drop a.head.psd a.pdu.now) ≡ psd_by a.head a.marks a.pdu.now = psd-is a.head a.marks a.pdu.now la.result la.ensures in
     let len : length (take (la.result + 1 - a.head.psd) (drop a.head.psd a.pdu.now)) ≤ 20480 = rw (same, psd-length a.head a.marks a.pdu.now w) (omega (arith, w.marked.first, w.size)) in
     (len, rw same (psd-room a.head a.marks a.causes a.pdu.now a.run a.carry.now a.log.now p.requires.0.0 p.requires.0.1 p.requires.1.0 p.requires.1.1.1))
 
@@ -37,8 +37,8 @@ add-t14 : tie.Need-overflow_add-next
 add-t14 c =
     let p = c.before.before.before.before.before.before.before.before.before in
     let a = p.args in
-    let la = c.before.before.before.before.before.place-end in
-    let same : take (la.result + 1 - a.head.psd) (drop a.head.psd a.pdu.now) ≡ psd_by a.head a.marks a.pdu.now = psd-is a.head a.marks a.pdu.now la.result la.ensures.0 in
+    let la = c.before.before.before.before.before.from-end in
+    let same : take (la.result + 1 - a.head.psd) (drop a.head.psd a.pdu.now) ≡ psd_by a.head a.marks a.pdu.now = psd-is a.head a.marks a.pdu.now la.result la.ensures in
     let x = c.before.before.put_extra-m in
     let en : x.result ≡ length (log_words (psd_entries (psd_by a.head a.marks a.pdu.now))) = rw (← same) x.ensures.0 in
     omega (arith, en, psd-room a.head a.marks a.causes a.pdu.now a.run a.carry.now a.log.now p.requires.0.0 p.requires.0.1 p.requires.1.0 p.requires.1.1.1)
@@ -48,8 +48,8 @@ pieces-requires c κs =
     let p = c.before.before.before.before.before.before.before.before.before.before.before in
     let a = p.args in
     let w : Parsed a.head a.pdu.now a.marks = p.requires.1.1.0 in
-    let la = c.before.before.before.before.before.before.before.place-end in
-    let same : take (la.result + 1 - a.head.psd) (drop a.head.psd a.pdu.now) ≡ psd_by a.head a.marks a.pdu.now = psd-is a.head a.marks a.pdu.now la.result la.ensures.0 in
+    let la = c.before.before.before.before.before.before.before.from-end in
+    let same : take (la.result + 1 - a.head.psd) (drop a.head.psd a.pdu.now) ≡ psd_by a.head a.marks a.pdu.now = psd-is a.head a.marks a.pdu.now la.result la.ensures in
     let x = c.before.before.before.before.put_extra-m in
     let en : x.result ≡ length (log_words (psd_entries (psd_by a.head a.marks a.pdu.now))) = rw (← same) x.ensures.0 in
     let el : x.new.log ≡ put_at a.log.now a.run.at (log_words (psd_entries (psd_by a.head a.marks a.pdu.now))) = rw (← same) x.ensures.1 in
@@ -65,8 +65,8 @@ returns : tie.Need-returns
 returns c =
     let p = c.before.before.before.before.before.before.before.before.before.before.before.before.before.before.before.before in
     let a = p.args in
-    let la = c.before.before.before.before.before.before.before.before.before.before.before.before.place-end in
-    let same : take (la.result + 1 - a.head.psd) (drop a.head.psd a.pdu.now) ≡ psd_by a.head a.marks a.pdu.now = psd-is a.head a.marks a.pdu.now la.result la.ensures.0 in
+    let la = c.before.before.before.before.before.before.before.before.before.before.before.before.from-end in
+    let same : take (la.result + 1 - a.head.psd) (drop a.head.psd a.pdu.now) ≡ psd_by a.head a.marks a.pdu.now = psd-is a.head a.marks a.pdu.now la.result la.ensures in
     let x = c.before.before.before.before.before.before.before.before.before.put_extra-m in
     let en : x.result ≡ length (log_words (psd_entries (psd_by a.head a.marks a.pdu.now))) = rw (← same) x.ensures.0 in
     let el : x.new.log ≡ put_at a.log.now a.run.at (log_words (psd_entries (psd_by a.head a.marks a.pdu.now))) = rw (← same) x.ensures.1 in
@@ -76,7 +76,7 @@ returns c =
 pub contents_spec : {M : Type 1} → statement M
 contents_spec =
     tie.close (tie.spec (λ c. omega arith) (λ c κs. search rules) add-end
-    (λ c. omega (arith, psd-within c.before.before.before.before.before _ c.before.place-end.ensures.0))
-    (λ c. omega (arith, psd-within c.before.before.before.before.before _ c.before.place-end.ensures.0))
-    (λ c. omega (arith, psd-within c.before.before.before.before.before _ c.before.place-end.ensures.0)) put-extra-requires add-t14 pieces-requires
+    (λ c. omega (arith, psd-within c.before.before.before.before.before _ c.before.from-end.ensures))
+    (λ c. omega (arith, psd-within c.before.before.before.before.before _ c.before.from-end.ensures))
+    (λ c. omega (arith, psd-within c.before.before.before.before.before _ c.before.from-end.ensures)) put-extra-requires add-t14 pieces-requires
     same_length same-length-2 returns)

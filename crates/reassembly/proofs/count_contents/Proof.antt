@@ -22,14 +22,14 @@ returns c =
     let q = c.count_continuing in
     all-withheld a.withheld a.head a.marks a.causes a.held a.x w.add_words.result q.result w.before.if-withheld.true w.add_words.ensures q.ensures
 
-add-count-psd : tie.Need-overflow_add-place
-add-count-psd c = omega (arith, c.place.ensures.1)
+add-count-psd : tie.Need-overflow_add-from
+add-count-psd c = search rules
 
-sub-count-psd : tie.Need-overflow_sub-place
-sub-count-psd c = omega (arith, c.before.before.before.requires.0.2, c.before.place.ensures.0)
+sub-count-psd : tie.Need-overflow_sub-from
+sub-count-psd c = omega (arith, c.before.before.before.requires.0.2, c.before.from.ensures)
 
 count-psd-requires : tie.Need-count_psd-extra-requires
-count-psd-requires c κs = omega (arith, c.before.place.ensures.1)
+count-psd-requires c κs = omega (arith, c.before.from.ensures)
 
 add-words-requires-2 : tie.Need-add_words-requires-2
 add-words-requires-2 c κs = (c.before.before.before.before.requires.1.0.0, c.count_psd-extra.ensures.1)
@@ -47,7 +47,7 @@ returns-2 c =
     let l = x.before.before in
     let a = l.before.before.args in
     let q = c.count_pieces in
-    all_shown a.withheld a.head a.marks a.causes a.held a.x w.add_words-2.result q.result l.place.result x.count_psd-extra.result l.before.if-withheld.false l.place.ensures.0 x.count_psd-extra.ensures.0 w.add_words-2.ensures q.ensures
+    all_shown a.withheld a.head a.marks a.causes a.held a.x w.add_words-2.result q.result l.from.result x.count_psd-extra.result l.before.if-withheld.false l.from.ensures x.count_psd-extra.ensures.0 w.add_words-2.ensures q.ensures
 
 pub count_contents_spec : {M : Type 1} → statement M
 count_contents_spec =

@@ -1,5 +1,4 @@
 use mathlib.Core.Path.{◌∙◌}
-use Prim.Native.Nat.{◌-◌}
 use native.Mathlib.Omega.{arith}
 use Rattle.reassembly.proofs.Counts.{none-counted, no-piece-counted, piece-counted, count_small, bounded-more}
 use borrow.Author.Rules.{rules}
@@ -17,18 +16,18 @@ returns-2 c =
     no-piece-counted a.head a.marks a.causes a.held a.x c.before.before.if-held-eq0.false c.if-head-eq0.true
 
 add_a : tie.Need-overflow_add-a
-add_a c = omega (arith, c.place-a.ensures.1)
+add_a c = search rules
 
 sub-count-piece : tie.Need-overflow_sub-e
 sub-count-piece c =
     let p = c.before.before.before.before.before.before.before in
     let some = c.before.before.before.before.if-head-eq0.false in
-    omega (arith, p.requires.1 0 (omega (arith, some)), c.before.before.before.place-a.ensures.0, c.before.before.place-e.ensures.0)
+    omega (arith, p.requires.1 0 (omega (arith, some)), c.before.before.before.from-a.ensures, c.before.before.from-e.ensures)
 
 count-piece-requires : tie.Need-count_piece-p-requires
 count-piece-requires c κs =
     let p = c.before.before.before.before.before.before.before in
-    (omega (arith, c.before.before.place-e.ensures.1), p.requires.0.0)
+    (search rules, p.requires.0.0)
 
 add-piece-requires : tie.Need-add_piece-requires
 add-piece-requires c κs =
@@ -47,7 +46,7 @@ returns-3 c =
     let t = k.count_piece-p in
     let q = c.before.piece_number-n in
     c.add_piece.ensures
-    ∙ piece-counted a.head a.marks a.causes a.held a.x l.before.before.before.if-held-eq0.false l.before.if-head-eq0.false l.place-a.result e.place-e.result q.result n.ends_here-ends.result l.place-a.ensures.0 e.place-e.ensures.0 n.ends_here-ends.ensures t.result t.ensures q.ensures
+    ∙ piece-counted a.head a.marks a.causes a.held a.x l.before.before.before.if-held-eq0.false l.before.if-head-eq0.false l.from-a.result e.from-e.result q.result n.ends_here-ends.result l.from-a.ensures e.from-e.ensures n.ends_here-ends.ensures t.result t.ensures q.ensures
 
 pub count_continuing_spec : {M : Type 1} → statement M
 count_continuing_spec =

@@ -1,4 +1,3 @@
-use borrow.Author.Tests.{not-true, not-false}
 use Rattle.reassembly.specs.Run.{partial_of}
 use Rattle.reassembly.proofs.Laws.{same_outcome, same-room, not_taken, alone, missing, together}
 use native.Mathlib.Omega.{arith}

@@ -5,7 +5,6 @@ use Prim.Native.Nat.{ℕ, ◌-◌}
 use lib.ListN.{length, drop, length-drop}
 use lib.Seq.{take_all, length-take-le}
 use borrow.Author.Rules.{rules}
-use borrow.Author.Tests.{not-true, not-false}
 use Rattle.packet_log.specs.Log.{same_list}
 use Rattle.snapshot.specs.Snapshot.{count_words}
 use Rattle.snapshot.proofs.Calls.{form-not, form-yes}

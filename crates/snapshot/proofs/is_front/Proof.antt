@@ -4,7 +4,6 @@ use borrow.Author.Rules.{rules}
 use mathlib.Core.List.{List}
 use Prim.Native.Nat.{ℕ}
 use lib.ListN.{length, take}
-use borrow.Author.Tests.{not-true, not-false}
 use Rattle.snapshot.specs.Snapshot.{head_words}
 use Rattle.snapshot.specs.Steps.{kinds}
 use Rattle.snapshot.proofs.Calls.{head_few, taken_back, front-not, front-yes}

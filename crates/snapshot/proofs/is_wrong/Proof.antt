@@ -1,6 +1,5 @@
 use mathlib.Core.Path.{refl}
 use borrow.Author.Rules.{rules}
-use borrow.Author.Tests.{not-true, not-false}
 use Rattle.snapshot.specs.Snapshot.{has}
 use Rattle.snapshot.proofs.Calls.{wrong-form, wrong-state}
 use Rattle.snapshot.proofs.is_wrong.Statement.{statement}

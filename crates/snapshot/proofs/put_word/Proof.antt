@@ -1,6 +1,5 @@
 use native.Mathlib.Nat.{add-zero}
 use mathlib.Core.Bool.{Bool, true, false}
-use borrow.Author.Tests.{not-true, not-false}
 use Rattle.buffer.proofs.Laws.{put-nil, put_one}
 use Rattle.snapshot.specs.Snapshot.{optional}
 use native.Mathlib.Omega.{arith}

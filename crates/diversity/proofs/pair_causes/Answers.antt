@@ -1,0 +1,5 @@
+use Rattle.pdu.proofs.Filling.{filled-start}
+use Rattle.diversity.proofs.pair_causes.Goals as goal
+
+pub loop-k-init : goal.loop-k-init
+loop-k-init c = filled-start _
