@@ -1,14 +1,26 @@
 // The log of a file of PDUs, with its marks: it is read ahead, where it may have bytes at which no record begins, or its mode and stream are taken from its PDUs.
 ghost use Rattle.std.specs.Prelude.{◌≡◌, length};
 
+use crate::{Logged, Outputs};
 use ahead::Ahead;
-use ahead_logging::Live;
-use host::Host;
+use ahead_logging::{Live, Way};
+use files::File;
+use host::{Fd, Host};
 use job::Job;
-use logging::{Task, marks};
+use logging::{Ending, Run, Task};
 use options::{Command, Opt};
-use resync::{First, Wanted};
+use records::Stop;
+use resync::{First, Pdu, Wanted};
 use saved_state::State;
+use text::Line;
+
+// What a run reads: the label of the file of PDUs, and the file of marks, if there is one, with its label.
+#[derive(Clone, Copy, Debug)]
+struct Input<'a> {
+    from: &'a [u8],
+    marks: Option<Fd>,
+    marking: &'a [u8],
+}
 
 // A buffer to read ahead in.
 fn buffer() -> [u8; 196605]
@@ -18,18 +30,13 @@ fn buffer() -> [u8; 196605]
 }
 
 // Nothing is read ahead of an open file.
-fn begin(host: &Host, fd: i32) -> Ahead {
-    ahead::begin(fd, logging::offset(host, fd))
+fn begin(host: &Host, fd: Fd) -> Ahead {
+    Ahead::new(fd, logging::offset(host, fd))
 }
 
 // Opens the file of PDUs, whose mode and stream are not known.
-pub fn with_job(host: &Host, job: Job) -> i32 {
-    let mut label = files::label_buffer();
-    let pdus = files::opened(host, Command::Log, Opt::In, &mut label);
-    if pdus.fd < 0 {
-        return files::EARLY;
-    }
-    let n = pdus.length;
+pub fn with_job(host: &Host, job: Job) -> Option<Logged> {
+    let pdus = files::opened(host, Command::Log, Opt::In)?;
     let mut buf = buffer();
     let f = resync::first_readable(
         host,
@@ -38,95 +45,80 @@ pub fn with_job(host: &Host, job: Job) -> i32 {
         job.resync,
         wanted(host, job.stream),
     );
-    if !is_found(host, &label[..n], f) {
-        return files::EARLY;
-    }
-    with_first(host, job, f, &label[..n], &mut buf)
+    let pdu = found(host, pdus.label.bytes(), f)?;
+    with_pdu(host, job, pdu, pdus.label.bytes(), f.ahead, &mut buf)
 }
 
 // The PDUs that the mode is taken from: of the stream that is asked for, or any.
 fn wanted(host: &Host, stream: u8) -> Wanted {
-    if !options::given(host, Command::Log, Opt::Stream) {
-        return Wanted {
-            mode: resync::ANY,
-            stream: resync::ANY,
-        };
-    }
+    let given = options::given(host, Command::Log, Opt::Stream);
     Wanted {
-        mode: resync::ANY,
-        stream: known_stream(stream),
+        mode: None,
+        stream: given.then_some(stream),
     }
 }
 
-// A stream that is asked for; one that no PDU has is any such.
-fn known_stream(stream: u8) -> u8 {
-    if stream == resync::ANY {
-        return stream - 1;
-    }
-    stream
-}
-
-// Says which mode and stream were found in the file of a label, or that none were, and which record stands in the way. Answers whether they were.
-fn is_found(host: &Host, from: &[u8], f: First) -> bool {
-    let rest = f.ahead;
-    if rest.failed {
+// The PDU whose mode and stream were found in the file of a label, which is said; or none, and which record stands in the way.
+fn found(host: &Host, from: &[u8], f: First) -> Option<Pdu> {
+    if f.ahead.stop == Some(Stop::Failed) {
         host.fail(from);
-        return false;
+        return None;
     }
-    if f.found {
-        say_found(
+    match f.pdu {
+        Some(pdu) => say_found(
             host,
             from,
             b": mode @, stream @, by the first PDU that can be read\n",
-            f.mode as u64,
-            f.stream as u64,
-        );
-        return true;
-    }
-    if is_in_the_way(f) {
-        remarks::record_ends(host, f.status, from, f.records, place_of(f));
-    }
-    say_found(
-        host,
-        from,
-        text::entry(
-            b": no PDU can be read in @ bytes: mode and stream are not known\n\0: no PDU can be read in the @ bytes before it (--resync looks behind it): mode and stream are not known\n\0",
-            is_in_the_way(f) as u32,
+            &[u64::from(pdu.mode), u64::from(pdu.stream)],
         ),
-        f.bytes as u64,
-        0,
-    );
-    false
-}
-
-// Whether a record stands in the way that is longer than any PDU, or that the file ends inside of.
-fn is_in_the_way(f: First) -> bool {
-    (f.status == records::LONG) | (f.status == records::CUT)
-}
-
-// The byte of the file at which the last look was.
-fn place_of(f: First) -> u64 {
-    let rest = f.ahead;
-    std::num::wrapping_add_u64(rest.offset, f.bytes as u64)
-}
-
-// A line on standard error with a label and two numbers.
-fn say_found(host: &Host, from: &[u8], words: &[u8], a: u64, b: u64) {
-    let mut line = [0u8; 4800];
-    let n = text::put(&mut line, 0, from);
-    let k = text::fill(&mut line, n, words, &[a, b]);
-    host.write_all(host::STDERR, &line[..k]);
-}
-
-// Opens the receiver for the mode and the stream that were found.
-fn with_first(host: &Host, job: Job, f: First, from: &[u8], buf: &mut [u8]) -> i32 {
-    let mut carry = io::buffer();
-    let start = interruption::begin(host, f.mode, f.stream, job.register, &mut carry);
-    if !start.ok {
-        return files::EARLY;
+        None => say_none(host, from, f),
     }
-    let state = start.state;
-    with_ahead(host, job, state, &mut carry, from, f.ahead, buf)
+    f.pdu
+}
+
+// Says that none was found, and which record stands in the way: one that is longer than any PDU, or that the file ends inside of.
+fn say_none(host: &Host, from: &[u8], f: First) {
+    let bytes = f.bytes as u64;
+    match f.stop {
+        None | Some(Stop::End | Stop::Failed) => say_found(
+            host,
+            from,
+            b": no PDU can be read in @ bytes: mode and stream are not known\n",
+            &[bytes],
+        ),
+        Some(stop) => {
+            let place = f.ahead.offset.wrapping_add(bytes);
+            remarks::record_ends(host, stop, from, f.records, place);
+            say_found(
+                host,
+                from,
+                b": no PDU can be read in the @ bytes before it (--resync looks behind it): mode and stream are not known\n",
+                &[bytes],
+            );
+        }
+    }
+}
+
+// A line on standard error with a label and numbers.
+fn say_found(host: &Host, from: &[u8], words: &[u8], numbers: &[u64]) {
+    let mut line = Line::<4800>::new();
+    line.put(from);
+    line.fill(words, numbers);
+    host.write_all(host::STDERR, line.bytes());
+}
+
+// Opens the receiver for the mode and the stream of a PDU that was found.
+fn with_pdu(
+    host: &Host,
+    job: Job,
+    pdu: Pdu,
+    from: &[u8],
+    ahead: Ahead,
+    buf: &mut [u8],
+) -> Option<Logged> {
+    let mut carry = io::buffer();
+    let state = interruption::begin(host, pdu.mode, pdu.stream, job.register, &mut carry)?;
+    with_ahead(host, job, state, &mut carry, from, ahead, buf)
 }
 
 // Reads a file ahead with a receiver that is opened, and passes over what is logged already, where that is asked for.
@@ -135,167 +127,119 @@ pub fn with_state(
     job: Job,
     state: State,
     carry: &mut [u8],
-    from: &[u8],
-    fd: i32,
-) -> i32 {
+    pdus: &File,
+) -> Option<Logged> {
+    let from = pdus.label.bytes();
     let mut buf = buffer();
-    if !options::given(host, Command::Log, Opt::Skip) {
-        return with_ahead(host, job, state, carry, from, begin(host, fd), &mut buf);
+    let mut ahead = begin(host, pdus.fd);
+    if options::given(host, Command::Log, Opt::Skip) {
+        ahead = passed_over(host, job, state, from, ahead, &mut buf)?;
     }
-    let receiver = state.receiver;
-    let passed = ahead_logging::pass_over(
-        host,
-        job.resync,
-        receiver,
-        state.pdus,
-        begin(host, fd),
-        &mut buf,
-    );
-    if !is_there(host, passed.status, from, state.pdus) {
-        return files::EARLY;
-    }
-    with_ahead(host, job, state, carry, from, passed.ahead, &mut buf)
+    with_ahead(host, job, state, carry, from, ahead, &mut buf)
 }
 
-// Whether all PDUs that are logged were passed over; if not, says so.
-fn is_there(host: &Host, status: u8, from: &[u8], many: u64) -> bool {
-    if status == records::FAILED {
-        host.fail(from);
-        return false;
+// What is read ahead after all PDUs that are logged; if these are not there, says so.
+fn passed_over(
+    host: &Host,
+    job: Job,
+    state: State,
+    from: &[u8],
+    start: Ahead,
+    buf: &mut [u8],
+) -> Option<Ahead> {
+    match ahead_logging::pass_over(host, job.resync, state.receiver, state.pdus, start, buf) {
+        Ok(ahead) => Some(ahead),
+        Err(Stop::Failed) => {
+            host.fail(from);
+            None
+        }
+        Err(Stop::End | Stop::Cut | Stop::Long) => {
+            files::say_number(
+                host,
+                from,
+                b": has fewer than the ",
+                state.pdus,
+                b" PDUs that are logged\n",
+            );
+            None
+        }
     }
-    if (status != records::WHOLE) & (status != resync::PASSED) {
-        files::say_number(
-            host,
-            from,
-            b": has fewer than the ",
-            many,
-            b" PDUs that are logged\n",
-        );
-        return false;
-    }
-    true
 }
 
-// Opens the file of marks, where one is given, and passes over those of what is logged already, where that is asked for.
+// Opens the file of marks, where one is given.
 fn with_ahead(
     host: &Host,
     job: Job,
     state: State,
     carry: &mut [u8],
     from: &[u8],
-    rest: Ahead,
+    ahead: Ahead,
     buf: &mut [u8],
-) -> i32 {
+) -> Option<Logged> {
     if !options::given(host, Command::Log, Opt::Marks) {
-        return with_marks(host, job, state, carry, from, b"", marks::NONE, rest, buf);
+        let input = Input {
+            from,
+            marks: None,
+            marking: b"",
+        };
+        return with_input(host, job, input, state, carry, ahead, buf);
     }
-    let mut label = files::label_buffer();
-    let places = files::opened(host, Command::Log, Opt::Marks, &mut label);
-    if places.fd < 0 {
-        return files::EARLY;
-    }
-    let n = places.length;
-    with_marks(
-        host,
-        job,
-        state,
-        carry,
+    let places = files::opened(host, Command::Log, Opt::Marks)?;
+    let input = Input {
         from,
-        &label[..n],
-        places.fd,
-        rest,
-        buf,
-    )
+        marks: Some(places.fd),
+        marking: places.label.bytes(),
+    };
+    with_input(host, job, input, state, carry, ahead, buf)
 }
 
-// Makes the file of the log and those beside it, and that in which the state is saved, where it is given; and logs.
-fn with_marks(
+// Passes over the marks of what is logged already, where that is asked for; makes the file of the log and those beside it, and that in which the state is saved,
+// where it is given; and logs.
+fn with_input(
     host: &Host,
     job: Job,
+    input: Input,
     state: State,
     carry: &mut [u8],
-    from: &[u8],
-    marking: &[u8],
-    marks: i32,
-    rest: Ahead,
+    ahead: Ahead,
     buf: &mut [u8],
-) -> i32 {
-    if !interruption::pass_over(host, marks, marking, state.pdus) {
-        return files::EARLY;
+) -> Option<Logged> {
+    if !interruption::pass_over(host, input.marks, input.marking, state.pdus) {
+        return None;
     }
-    let o = crate::made(host);
-    if !o.ok {
-        return files::EARLY;
-    }
+    let outputs = Outputs::make(host, job.format)?;
     if !interruption::make(host, state, carry) {
         files::unmake(host, Command::Log, Opt::Out);
-        return files::EARLY;
+        return None;
     }
-    let task = Task {
-        marks: marks,
-        onto: crate::onto_of(job, o),
-        bytes: state.bytes,
-    };
-    with_task(host, job, task, state, carry, from, marking, rest, buf)
-}
-
-// Puts the labels of the files that are written, before anything goes wrong: errno is that of what does.
-fn with_task(
-    host: &Host,
-    job: Job,
-    task: Task,
-    state: State,
-    carry: &mut [u8],
-    from: &[u8],
-    marking: &[u8],
-    rest: Ahead,
-    buf: &mut [u8],
-) -> i32 {
-    let mut onto = files::label_buffer();
-    let n = files::put_label(host, &mut onto, Command::Log, Opt::Out);
-    let mut labels = beside_files::label_buffer();
-    let k = beside_files::put_labels(host, &mut labels);
-    logged(
-        host,
-        job,
-        task,
-        state,
-        carry,
-        from,
-        marking,
-        &onto[..n],
-        &labels[..k],
-        rest,
-        buf,
-    )
+    logged(host, job, input, state, &outputs, carry, ahead, buf)
 }
 
 // Logs, and says why it ended and what was received.
 fn logged(
     host: &Host,
     job: Job,
-    task: Task,
+    input: Input,
     state: State,
+    outputs: &Outputs,
     carry: &mut [u8],
-    from: &[u8],
-    marking: &[u8],
-    onto: &[u8],
-    labels: &[u8],
-    rest: Ahead,
+    ahead: Ahead,
     buf: &mut [u8],
-) -> i32 {
-    let receiver = state.receiver;
+) -> Option<Logged> {
     let mut counts = crate::no_counts();
-    counts::begin(&mut counts, receiver);
-    let o = task.onto;
-    let beside = o.beside;
-    comparison::begin(&mut counts, beside.many);
-    let start = ahead_logging::begin(logging::run_of(records::WHOLE, receiver, state.pdus), rest);
-    let last = with_path(host, job, task, from, carry, buf, &mut counts, start);
-    ends(host, last, from, marking, onto, labels);
-    let status = crate::finish(host, last.run, state.pdus, o, onto, labels, &counts);
+    counts::begin(&mut counts, state.receiver);
+    outputs.begin(&mut counts);
+    let task = Task {
+        marks: input.marks,
+        onto: outputs.onto,
+        bytes: state.bytes,
+    };
+    let start = Live::new(Run::new(state.receiver, state.pdus), ahead);
+    let last = with_path(host, job, task, input.from, carry, buf, &mut counts, start);
+    ends(host, last, input, outputs);
+    let logged = crate::finish(host, last.run, state.pdus, outputs, &counts);
     remarks::passed(host, last.places, last.passed);
-    status
+    logged
 }
 
 // Logs, with the path of the file in which the state is saved, where it is given.
@@ -309,26 +253,28 @@ fn with_path(
     counts: &mut [u64],
     start: Live,
 ) -> Live {
-    let mut path = io::buffer();
-    let n = interruption::put_path(host, &mut path);
-    crate::batches::log_all(
-        host,
-        task,
-        job.resync,
-        job.batch,
-        &path[..n],
+    let path = interruption::path(host);
+    let way = Way {
+        resync: job.resync,
         from,
-        carry,
-        buf,
-        counts,
-        start,
-    )
+        path: path.bytes(),
+    };
+    crate::batches::log_all(host, task, way, job.batch, carry, buf, counts, start)
 }
 
 // Why no more PDUs are logged.
-fn ends(host: &Host, last: Live, from: &[u8], marking: &[u8], onto: &[u8], labels: &[u8]) {
-    let run = last.run;
-    let left = last.ahead;
-    beside_files::ends(host, run.status, labels);
-    remarks::ends(host, run.status, from, marking, onto, run.pdus, left.offset);
+fn ends(host: &Host, last: Live, input: Input, outputs: &Outputs) {
+    match last.run.ending {
+        None => {}
+        Some(Ending::Beside(fault)) => beside_files::ends(host, fault, &outputs.labels),
+        Some(ending) => remarks::ends(
+            host,
+            ending,
+            input.from,
+            input.marking,
+            outputs.label.bytes(),
+            last.run.pdus,
+            last.ahead.offset,
+        ),
+    }
 }
