@@ -1,4 +1,4 @@
-// What a PDU adds to the overview strip and to the rows, as a reading of the CSV goes over it; on `gaps`, `overview` and
+// What a PDU adds to the overview strip and to the rows, as a reading of the CSV goes over it; on `commission`, `gaps`, `overview` and
 // `sheet`.
 #![tactic(auto)]
 

@@ -228,7 +228,7 @@ impl Kind {
         }
     }
 
-    // A line's own number: that of a received PDU and of a packet is there, and that of a packet is below 64; others may be empty.
+    // A line's own number: that of a received PDU and of a packet is there; others may be empty.
     fn own_number(self, text: &[u8]) -> Result<u32, Wrong> {
         match self {
             Kind::Received | Kind::Packet => number(text),

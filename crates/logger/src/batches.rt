@@ -216,7 +216,7 @@ fn received(
     )
 }
 
-// The run after a frame, where all of it is received by what came of its last reading: its file is past the records of the frame, with their lengths.
+// The run after a frame: its file is past the records of the frame, with their lengths; where all of these are received, the run ends by why no more were read.
 fn after(live: Live, run: Run, f: Frame) -> Live {
     let heads = f.count.wrapping_mul(2);
     let next = live.past(f.bytes.wrapping_add(heads) as u64);
