@@ -340,22 +340,23 @@ def version():
     return re.search(r'#define BARZHILUP_VERSION_STRING "(.*)"', header_text).group(1)
 
 
-def strings(crate, beginning):
-    """A table of a crate: strings that end with a zero byte."""
-    found = re.search(r'b"({}.*?)"'.format(re.escape(beginning)), crate_texts[crate]).group(1)
-    return found.replace("\\n", "").split("\\0")
+def arms(crate, function):
+    """The words of a match on numbers in a function of a crate, by number."""
+    body = re.search(r"fn {}\(.*?\n    \}}\n\}}".format(function), crate_texts[crate], flags=re.S).group(0)
+    return {int(number): words.replace("\\n", "") for number, words in re.findall(r'(\d+) => b"(.*?)"', body)}
 
 
 def compare_words():
     """The header's words are those of the program, or begin with them and go on after "; or"; for a writer's the program names the option instead."""
-    receiver = dict(zip(list(range(14)) + [19, 20, 22, 25, 27], strings("causes", "unknown\\0wrong receiver")))
-    del receiver[0]
-    joining = dict(zip((23, 24), strings("joining", "words that are no log")))
+    receiver = arms("causes", "refusal")
+    test = re.search(r'refusal == 24 \{\s*line\.put\(b"(.*?)\\n"\);\s*\} else \{\s*line\.put\(b"(.*?)\\n"\)', crate_texts["joining"])
+    joining = {24: test.group(1), 23: test.group(2)}
+    same("header and the program's words", "refusals of the program", [*range(1, 14), 19, 20, 22, 23, 24, 25, 27], sorted({**receiver, **joining}))
     for number, words in {**receiver, **joining}.items():
         same("header and the program's words", str(number), words, refusal_words().get(number, "").split("; or ")[0])
-    for number, words in enumerate(strings("causes", "unknown\\0sequence\\0")[:-1]):
-        if number:
-            same("header and the program's words", "note {}".format(number), words, note_words().get(number))
+    same("header and the program's words", "notes of the program", sorted(note_words()), sorted(arms("causes", "note")))
+    for number, words in arms("causes", "note").items():
+        same("header and the program's words", "note {}".format(number), words, note_words().get(number))
     same("header and the program's words", "numbers of refusals", sorted(refusals().values()), sorted(set(refusal_words()) - {0}))
 
 
