@@ -32,7 +32,7 @@ impl Exit {
 pub type Label = Line<4608>;
 
 // A file that is open, and its label.
-#[derive(Drop)]
+#[derive(Clone, Copy)]
 pub struct File {
     pub fd: Fd,
     pub label: Label,

@@ -10,7 +10,7 @@ pub use list::List;
 use log_csv::{Entry, Fate, Lines, Stop};
 
 // What a log tells: the least length of a received PDU and the greatest, nothing where none is told, and the list of texts.
-#[derive(Drop)]
+#[derive(Clone, Copy)]
 pub struct Particulars {
     pub lengths: Option<(u32, u32)>,
     pub list: List,

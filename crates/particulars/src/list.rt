@@ -12,7 +12,7 @@ const FULL: usize = 60000;
 const LONGEST: usize = 600;
 
 // A list so far: how many texts there are, how many of them are listed, the table's lines, with times where the clock is known, and the last text.
-#[derive(Drop)]
+#[derive(Clone, Copy)]
 pub struct List {
     clock: Option<Clock>,
     texts: u32,

@@ -1,26 +1,20 @@
 // A line of text, or several, in a buffer of its own.
-ghost use Rattle.std.specs.Prelude.{◌≡◌, ◌≤◌, List, [], ◌++◌, ℕ, length, take};
+ghost use Rattle.std.specs.Prelude.{◌≤◌};
 
-use std::marker::Model;
-
-// The bytes that were put, one after the other, as many as there is room for. A contract sees their list.
-#[derive(Drop)]
+// The bytes that were put, one after the other, as many as there is room for. A contract sees their list, `shown`.
+#[derive(Clone, Copy)]
 pub struct Line<const N: usize> {
     room: [u8; N],
     length: usize,
-}
-
-impl<const N: usize> Model for Line<N> {
-    ghost Value = { List ℕ };
-
-    ghost view = { λ it. take it.length it.room };
-
-    ghost invariant = { λ it. it.length ≤ N };
+    ghost has_room: { length ≤ N },
 }
 
 impl<const N: usize> Line<N> {
+    ghost use Rattle.std.specs.Prelude.{◌≡◌, [], ◌++◌, length, take};
+    ghost use Rattle.text.specs.Shown.{shown};
+
     pub fn new() -> Line<N>
-        ensures { result ≡ [] }
+        ensures { shown result ≡ [] }
     {
         Line {
             room: [0; N],
@@ -29,27 +23,27 @@ impl<const N: usize> Line<N> {
     }
 
     pub fn len(&self) -> usize
-        ensures { result ≡ length self.now }
+        ensures { result ≡ length (shown self.now) }
     {
         self.length
     }
 
     pub fn bytes(&self) -> &[u8]
-        ensures { result.now ≡ self.now }
+        ensures { result.now ≡ shown self.now }
     {
         &self.room[..self.length]
     }
 
     // Takes everything out.
     pub fn clear(&mut self)
-        ensures { self.new ≡ [] }
+        ensures { shown self.new ≡ [] }
     {
         self.length = 0;
     }
 
     // Puts bytes after what is there, as many as there is room for.
     pub fn put(&mut self, bytes: &[u8])
-        ensures { self.new ≡ take N (self.old ++ bytes.now) }
+        ensures { shown self.new ≡ take N (shown self.old ++ bytes.now) }
     {
         self.length = crate::put(&mut self.room, self.length, bytes);
     }

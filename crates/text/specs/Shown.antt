@@ -1,0 +1,7 @@
+-- What a line of text shows.
+use Rattle.std.specs.Prelude.{ℕ, List, take}
+use Rattle.text.specs.declared.line.Line.{Line}
+
+-- the bytes that were put into it
+abbrev pub shown : {N : ℕ} → Line N → List ℕ
+shown l = take l.length l.room
