@@ -100,7 +100,7 @@ impl Frame {
         ensures { IfOk result (λ frame. IsPrefixLen frame.words log.new) }
     {
         let fd = fd.ok_or(records::Stop::End)?;
-        let n = records::read(host, fd, buf)?;
+        let n = records::read(host, fd, buf).whole()?;
         self.with_record(&buf[..n], log)
     }
 }

@@ -163,7 +163,7 @@ pub fn begin(host: &Host, mode: u8, stream: u8, register: u8, carry: &mut [u8]) 
 // Passes over so many records of a file, by a buffer, up to one that is not whole.
 fn passed(host: &Host, fd: Fd, many: u64, buf: &mut [u8]) -> Result<(), Stop> {
     for _ in 0..many {
-        records::read(host, fd, buf)?;
+        records::read(host, fd, buf).whole()?;
     }
     Ok(())
 }

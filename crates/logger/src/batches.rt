@@ -67,7 +67,7 @@ fn read(host: &Host, input: Fd, frame: &mut [u8], lengths: &mut [usize]) -> Fram
                 stop: None,
             };
         }
-        match records::read_pdu(host, input, &mut frame[bytes..]) {
+        match records::read_pdu(host, input, &mut frame[bytes..]).whole() {
             Ok(length) => {
                 lengths[count] = length;
                 bytes += length;

@@ -33,7 +33,7 @@ pub fn next(host: &Host, file: Option<Fd>, buf: &mut [u8]) -> Result<usize, Faul
     let Some(fd) = file else {
         return Ok(0);
     };
-    Ok(records::read(host, fd, buf)?)
+    Ok(records::read(host, fd, buf).whole()?)
 }
 
 // How a run ends after what stopped its records: where all PDUs are read, no marks may be left.
@@ -41,7 +41,7 @@ pub fn last(host: &Host, file: Option<Fd>, buf: &mut [u8], stop: Stop) -> Ending
     let (Stop::End, Some(fd)) = (stop, file) else {
         return Ending::Records(stop);
     };
-    match records::read(host, fd, buf) {
+    match records::read(host, fd, buf).whole() {
         Err(Stop::End) => Ending::Records(Stop::End),
         Err(Stop::Failed) => Ending::Marks(Fault::Unread),
         Ok(_) | Err(Stop::Cut | Stop::Long) => Ending::Marks(Fault::Left),

@@ -78,9 +78,9 @@ fn read_frame(host: &Host, fd: Fd, buf: &mut [u8]) -> Result<usize, Ending>
     let span = span_of(&head, true)?;
     if span.from != head.len() {
         let mut check = [0u8; 2];
-        records::read_bytes(host, fd, &mut check, 2)?;
+        records::read_bytes(host, fd, &mut check, 2).whole()?;
     }
-    Ok(records::read_bytes(host, fd, buf, size(span))?)
+    Ok(records::read_bytes(host, fd, buf, size(span)).whole()?)
 }
 
 // Reads the next packet to the buffer's start. Answers its length, which is not 0.
@@ -90,7 +90,7 @@ pub fn read(host: &Host, source: Source, buf: &mut [u8]) -> Result<usize, Ending
     let length = if source.adts {
         read_frame(host, source.fd, buf)?
     } else {
-        records::read(host, source.fd, buf)?
+        records::read(host, source.fd, buf).whole()?
     };
     if length == 0 {
         return Err(Ending::Empty);

@@ -129,7 +129,7 @@ fn all_turns(host: &Host, task: Task, pdu: &mut [u8], start: Run) -> Run {
 
 // Reads a PDU and sends it; where none can be read, what is held back is written in its place.
 fn turn(host: &Host, task: Task, buf: &mut [u8], room: &mut Room, run: Run) -> Result<Run, Ending> {
-    match records::read_pdu(host, task.input, buf) {
+    match records::read_pdu(host, task.input, buf).whole() {
         Ok(n) => sent(host, task, &mut buf[..n], room, run.after_record(n)),
         Err(stop) => {
             run.road.release(host, task.outlet, room)?;

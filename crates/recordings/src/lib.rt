@@ -92,7 +92,7 @@ impl Side {
         if self.stop.is_some() {
             return self.without();
         }
-        match records::read_pdu(host, fd, buf) {
+        match records::read_pdu(host, fd, buf).whole() {
             Ok(length) => Reading {
                 side: Side {
                     stop: None,

@@ -2,7 +2,7 @@
 // bytes in each record; a PDU file has a PDU in each, and an empty record stands for a PDU that is marked lost.
 #![tactic(auto)]
 
-ghost use Rattle.std.specs.Prelude.{◌≡◌, ◌+◌, ◌*◌, ◌≤◌, ◌<◌, length, IfOk};
+ghost use Rattle.std.specs.Prelude.{◌≡◌, ◌+◌, ◌*◌, ◌≤◌, ◌<◌, length, Some, None, IfOk, IfErr};
 ghost use Rattle.io.specs.Counts.{IsPrefixLen};
 
 use host::{Fd, Host};
@@ -20,11 +20,34 @@ pub enum Stop {
 // The longest PDU; a longer record of a file of PDUs is none.
 pub const LONGEST: usize = 20480;
 
-// How many bytes stand in the buffer from its start on, and why it is not full.
+// How many bytes stand in the buffer from its start on, also of a record that the file ends inside, and why they are not all.
 #[derive(Clone, Copy, Debug)]
 pub struct Filled {
     pub length: usize,
     pub stop: Option<Stop>,
+}
+
+impl Filled {
+    // Nothing, and why.
+    fn without(stop: Stop) -> Filled
+        ensures { 0 ≡ result.length }
+    {
+        Filled {
+            length: 0,
+            stop: Some(stop),
+        }
+    }
+
+    // The length of what is whole, or why it is not.
+    pub fn whole(self) -> Result<usize, Stop>
+        ensures ok { IfOk result (λ n. (n ≡ self.length) × (self.stop ≡ None)) }
+        ensures err { IfErr result (λ stop. self.stop ≡ Some stop) }
+    {
+        match self.stop {
+            None => Ok(self.length),
+            Some(stop) => Err(stop),
+        }
+    }
 }
 
 // Why a buffer is not full after so many bytes, by what the next read came to.
@@ -58,18 +81,18 @@ pub fn fill(host: &Host, fd: Fd, buf: &mut [u8]) -> Filled
     }
 }
 
-// Reads so many bytes to the buffer's start: the part of a record after its head, so the file does not end before it. Answers how many.
-pub fn read_bytes(host: &Host, fd: Fd, buf: &mut [u8], length: usize) -> Result<usize, Stop>
-    ensures { IfOk result (λ n. IsPrefixLen n buf.new) }
+// Reads so many bytes to the buffer's start: the part of a record after its head, so the file does not end before it.
+pub fn read_bytes(host: &Host, fd: Fd, buf: &mut [u8], length: usize) -> Filled
+    ensures { IsPrefixLen result.length buf.new }
 {
     if buf.len() < length {
-        return Err(Stop::Long);
+        return Filled::without(Stop::Long);
     }
-    match fill(host, fd, &mut buf[..length]).stop {
-        None => Ok(length),
-        Some(Stop::End) => Err(Stop::Cut),
-        Some(stop) => Err(stop),
+    let filled = fill(host, fd, &mut buf[..length]);
+    if filled.stop == Some(Stop::End) {
+        return Filled::without(Stop::Cut);
     }
+    filled
 }
 
 // Two bytes, low byte first.
@@ -79,31 +102,31 @@ pub fn two_bytes(low: u8, high: u8) -> usize
     usize::from(low) + 256 * usize::from(high)
 }
 
-// Reads the next record to the buffer's start, of at most so many bytes. After an `Err`, the file's place is not that of a record.
-fn read_limited(host: &Host, fd: Fd, buf: &mut [u8], most: usize) -> Result<usize, Stop>
-    ensures { IfOk result (λ n. IsPrefixLen n buf.new) }
+// Reads the next record to the buffer's start, of at most so many bytes. Where it is not whole, the file's place is not that of a record.
+fn read_limited(host: &Host, fd: Fd, buf: &mut [u8], most: usize) -> Filled
+    ensures { IsPrefixLen result.length buf.new }
 {
     let mut head = [0u8; 2];
     if let Some(stop) = fill(host, fd, &mut head).stop {
-        return Err(stop);
+        return Filled::without(stop);
     }
     let length = two_bytes(head[0], head[1]);
     if most < length {
-        return Err(Stop::Long);
+        return Filled::without(Stop::Long);
     }
     read_bytes(host, fd, buf, length)
 }
 
-// Reads the next record to the buffer's start. Answers its length.
-pub fn read(host: &Host, fd: Fd, buf: &mut [u8]) -> Result<usize, Stop>
-    ensures { IfOk result (λ n. IsPrefixLen n buf.new) }
+// Reads the next record to the buffer's start.
+pub fn read(host: &Host, fd: Fd, buf: &mut [u8]) -> Filled
+    ensures { IsPrefixLen result.length buf.new }
 {
     read_limited(host, fd, buf, 65535)
 }
 
 // The same of a file of PDUs: too long where the record is longer than any PDU.
-pub fn read_pdu(host: &Host, fd: Fd, buf: &mut [u8]) -> Result<usize, Stop>
-    ensures { IfOk result (λ n. IsPrefixLen n buf.new) }
+pub fn read_pdu(host: &Host, fd: Fd, buf: &mut [u8]) -> Filled
+    ensures { IsPrefixLen result.length buf.new }
 {
     read_limited(host, fd, buf, LONGEST)
 }

@@ -8,7 +8,7 @@ ghost use Rattle.io.specs.Counts.{IsPrefixLen};
 use host::{Fd, Host};
 use options::Command;
 use receiver::Receiver;
-use records::{Filled, Stop};
+use records::Stop;
 use text::Line;
 
 // How a drive stands: its receiver, how many PDUs are logged, and how many bytes their log has.
@@ -92,34 +92,6 @@ fn next_of(path: &[u8]) -> Line<4800> {
     next
 }
 
-// Reads a record of at most so many bytes as the buffer has, of one that is cut what there is.
-fn read_record(host: &Host, fd: Fd, buf: &mut [u8]) -> Filled
-    ensures { IsPrefixLen result.length buf.new }
-{
-    let mut head = [0u8; 2];
-    if let Some(stop) = records::fill(host, fd, &mut head).stop {
-        return Filled {
-            length: 0,
-            stop: Some(stop),
-        };
-    }
-    let length = records::two_bytes(head[0], head[1]);
-    if buf.len() < length {
-        return Filled {
-            length: 0,
-            stop: Some(Stop::Long),
-        };
-    }
-    let filled = records::fill(host, fd, &mut buf[..length]);
-    if filled.stop == Some(Stop::End) {
-        return Filled {
-            length: 0,
-            stop: Some(Stop::Cut),
-        };
-    }
-    filled
-}
-
 // How many words stand in the list from its start on, none where they are no row of words that it has room for, and why their record is not whole.
 #[derive(Clone, Copy)]
 struct Read {
@@ -132,7 +104,7 @@ fn read_words(host: &Host, fd: Fd, list: &mut [u32]) -> Read
     ensures { IsPrefixLen result.count list.new }
 {
     let mut record = [0u8; BYTES];
-    let read = read_record(host, fd, &mut record);
+    let read = records::read(host, fd, &mut record);
     Read {
         count: word_bytes::get(&record[..read.length], list),
         stop: read.stop,
@@ -142,7 +114,7 @@ fn read_words(host: &Host, fd: Fd, list: &mut [u32]) -> Read
 // Reads on where a file should be at its end.
 fn read_end(host: &Host, fd: Fd) -> Result<(), Fault> {
     let mut more = [0u8; 1];
-    match records::read(host, fd, &mut more) {
+    match records::read(host, fd, &mut more).whole() {
         Err(Stop::End) => Ok(()),
         Err(Stop::Failed) => Err(Fault::Failed),
         _ => Err(WRONG_WORDS),
