@@ -1,5 +1,5 @@
 // Texts that a user gives, as the picture's title: any text in UTF-8 that is not too long.
-ghost use Rattle.std.specs.Prelude.{◌≤◌};
+ghost use Rattle.std.specs.Prelude.{◌≤◌, length};
 
 use text::Line;
 
@@ -14,7 +14,9 @@ pub fn is_fit(text: &[u8], most: usize) -> bool {
 }
 
 // How many characters a text has: each has one byte that begins it.
-fn characters(text: &[u8]) -> usize {
+fn characters(text: &[u8]) -> usize
+    ensures { result ≤ length text.now }
+{
     text.iter()
         .filter(|byte| !matches!(byte, 128..=191))
         .count()

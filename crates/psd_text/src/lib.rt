@@ -1,6 +1,8 @@
 // What of PSD is text: its runs of printable characters, in ASCII, UTF-8 or ISO 8859-1, as UTF-8; on `words` and `page`.
 #![tactic(auto)]
 
+ghost use Rattle.std.specs.Prelude.{◌≤◌, length};
+
 use page::title;
 use text::Line;
 
@@ -38,7 +40,9 @@ fn is_printable(byte: u8) -> bool {
 }
 
 // How many bytes of a run are ASCII.
-fn plain(run: &[u8]) -> usize {
+fn plain(run: &[u8]) -> usize
+    ensures { result ≤ length run.now }
+{
     run.iter().filter(|byte| byte.is_ascii()).count()
 }
 
