@@ -41,11 +41,14 @@ impl Sink {
 
     // Puts the entries of a PDU's log, each a word with the data words after it, until a write fails.
     fn put_entries(self, host: &Host, pdu: u64, log: &[u32], block: &mut Block) -> bool {
-        for entry in log.chunk_by(|_, next| words::split(*next).kind == words::DATA) {
+        let mut from: usize = 0;
+        while from < log.len() {
             if !self.make_room(host, block) {
                 return false;
             }
-            self.format.put_entry(block, pdu, entry);
+            let end = words::entry_end(log, from);
+            self.format.put_entry(block, pdu, &log[from..end]);
+            from = end;
         }
         true
     }
