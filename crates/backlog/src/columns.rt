@@ -17,7 +17,7 @@ pub struct Bench {
 }
 
 // A quotient, 0 where the divisor is.
-fn quotient(a: usize, b: usize) -> usize {
+pub fn quotient(a: usize, b: usize) -> usize {
     a.checked_div(b).unwrap_or(0)
 }
 
@@ -27,6 +27,14 @@ fn parts(ticks: usize, size: usize) -> usize {
         return 0;
     }
     quotient(ticks - 1, size).wrapping_add(1)
+}
+
+// The part of a row up to a place; nothing where the place is past its end.
+pub fn part(row: &[u32], end: usize) -> &[u32] {
+    if row.len() < end {
+        return &row[..0];
+    }
+    &row[..end]
 }
 
 impl Bench {

@@ -119,7 +119,7 @@ impl Shape {
 }
 
 // Where a row's top lies, or after the last row where the legend begins.
-fn top_of(row: u32) -> u64
+pub fn top_of(row: u32) -> u64
     ensures { (76 ≤ result) × (result < 300000000000) }
 {
     TOP + u64::from(row) * ROW

@@ -4,7 +4,7 @@
 
 mod report;
 
-use backlog::columns::Bench;
+use backlog::columns::{self, Bench};
 use backlog::drawing;
 use count_source::{arguments, input};
 use files::{Exit, File};
@@ -79,10 +79,7 @@ fn run(host: &Host, asked: Transmission, draw: u8, listed: usize, counts: &mut [
         input::read(host, label.bytes(), asked, &mut *counts)
     };
     match count {
-        Some(n) => {
-            let row = &counts[..n.min(counts.len())];
-            tried(host, asked, draw, label.bytes(), row)
-        }
+        Some(n) => tried(host, asked, draw, label.bytes(), columns::part(counts, n)),
         None => false,
     }
 }
