@@ -29,11 +29,18 @@ struct List {
 }
 
 impl List {
-    // The list after a digit: a value that would be too large is the largest.
-    fn longer(self, digit: u8) -> List {
+    // The list after a digit: a value that would be too large is the largest. One test of the value takes less time than two of its products.
+    fn longer(self, digit: u8) -> List
+        requires { digit < 10 }
+    {
         let value = self.begun.unwrap_or(0);
+        let next = if 429496728 < value {
+            u32::MAX
+        } else {
+            value * 10 + u32::from(digit)
+        };
         List {
-            begun: Some(value.saturating_mul(10).saturating_add(u32::from(digit))),
+            begun: Some(next),
             ..self
         }
     }
