@@ -280,8 +280,9 @@ pub fn header_of(pdu: &[u8]) -> [u8; 96]
     ensures { result ≡ header_of pdu.now }
 {
     let mut header = [0u8; 96];
-    let n = pdu.len().min(96);
-    header[..n].copy_from_slice(&pdu[..n]);
+    for i in 0..pdu.len().min(96) {
+        header[i] = pdu[i];
+    }
     header
 }
 
@@ -332,8 +333,9 @@ pub fn difference(u: &[u8; 96], v: &[u8; 96]) -> u32
 pub fn put_front(pdu: &mut [u8], front: &[u8])
     ensures { pdu.new ≡ front_replaced pdu.old front.now }
 {
-    let n = front.len().min(pdu.len());
-    pdu[..n].copy_from_slice(&front[..n]);
+    for i in 0..front.len().min(pdu.len()) {
+        pdu[i] = front[i];
+    }
 }
 
 // Writes the parity of a PDU into its bytes 0 to 7: 0, or 3 for a length outside 96 to 20,480.
