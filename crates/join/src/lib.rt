@@ -297,7 +297,9 @@ fn put_words(dst: &mut [u32], at: usize, src: &[u32])
     requires { at + length src.now ≤ length dst.old }
     ensures { dst.new ≡ put_at dst.old at src.now }
 {
-    dst[at..at + src.len()].copy_from_slice(src);
+    for (j, word) in src.iter().enumerate() {
+        dst[at + j] = *word;
+    }
 }
 
 // Writes the enhanced packet of a number, if any, bit 29 set in its first word. Answers the place after it.
