@@ -1,5 +1,4 @@
 -- Words gone through one by one: what that finds is what the definitions say.
-use lib.Pointwise.{pointwise}
 use mathlib.Core.Path.{◌≡◌, refl, sym, ap, ap₂, ◌∙◌}
 use mathlib.Core.Bool.{Bool, true, false, not, ◌&&◌, ◌||◌, cond, true≢false}
 use mathlib.Core.List.{List, [], ◌∷◌, ◌++◌, append-nil, append_assoc}
@@ -101,12 +100,28 @@ module _ (kind p : ℕ) (ws : List ℕ) (e : drop p ws ≡ from_kind kind ws) wh
 
 -- ---- words that begin with others
 
--- the library's test of a front is the same
-pub begins-part : (vs ws : List ℕ) → pointwise eqb vs (take (length vs) ws) ≡ begins_with vs ws
+pub begins-short : (vs ws : List ℕ) → length ws < length vs → false ≡ begins_with vs ws
 unfolding begins_with
-begins-part [] ws = refl
-begins-part (v ∷ vs) [] = refl
-begins-part (v ∷ vs) (w ∷ ws) = ap (λ (t : Bool). eqb v w && t) (begins-part vs ws)
+begins-short [] ws h = absurd (omega arith)
+begins-short (v ∷ vs) [] h = refl
+begins-short (v ∷ vs) (w ∷ ws) h = go (eqb v w) (begins-short vs ws (omega arith))
+  where
+    go : (t : Bool) → false ≡ begins_with vs ws → false ≡ (t && begins_with vs ws)
+    go true e = e
+    go false e = refl
+
+module _ (vs ws : List ℕ) (i : ℕ) (h : i < length vs) (g : i < length ws) where
+  pub begins-stop : (get_or ws i 0 ≡ get_or vs i 0 → ⊥) → false ≡ begins_with (drop i vs) (drop i ws)
+  unfolding begins_with
+  begins-stop e = rw (split vs i h, split ws i g, ne_eqb (get_or vs i 0) (get_or ws i 0) (λ q. e (sym q)))
+
+  pub begins-next : get_or ws i 0 ≡ get_or vs i 0 → begins_with (drop (i + 1) vs) (drop (i + 1) ws) ≡ begins_with (drop i vs) (drop i ws)
+  unfolding begins_with
+  begins-next e = rw (split vs i h, split ws i g, eq-eqb (get_or vs i 0) (get_or ws i 0) (sym e))
+
+pub begins-end : (vs ws : List ℕ) (i : ℕ) → length vs ≤ i → true ≡ begins_with (drop i vs) (drop i ws)
+unfolding begins_with
+begins-end vs ws i h = rw (gone vs i h)
 
 -- others as many as they are
 pub same-begins : (vs ws : List ℕ) → length ws ≡ length vs → begins_with vs ws ≡ same_list vs ws

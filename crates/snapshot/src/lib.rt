@@ -307,7 +307,15 @@ fn receiver_in(words: &[u32]) -> Receiver
 fn begins(words: &[u32], front: &[u32]) -> bool
     ensures { result ≡ begins_with front.now words.now }
 {
-    words.starts_with(front)
+    if words.len() < front.len() {
+        return false;
+    }
+    for (i, word) in front.iter().enumerate() {
+        if words[i] != *word {
+            return false;
+        }
+    }
+    true
 }
 
 // Whether the bytes that a word of n bytes does not use are zero.
