@@ -1,7 +1,7 @@
 // A line of text, or several, in a buffer of its own.
 ghost use Rattle.std.specs.Prelude.{◌≤◌};
 
-// The bytes that were put, one after the other, as many as there is room for. A contract sees their list, `shown`.
+// The bytes that were put, one after the other, as many as there is room for. A contract sees their list, `line_bytes`.
 #[derive(Clone, Copy)]
 pub struct Line<const N: usize> {
     room: [u8; N],
@@ -11,10 +11,10 @@ pub struct Line<const N: usize> {
 
 impl<const N: usize> Line<N> {
     ghost use Rattle.std.specs.Prelude.{◌≡◌, [], ◌++◌, length, take};
-    ghost use Rattle.text.specs.Shown.{shown};
+    ghost use Rattle.text.specs.LineBytes.{line_bytes};
 
     pub fn new() -> Line<N>
-        ensures { shown result ≡ [] }
+        ensures { line_bytes result ≡ [] }
     {
         Line {
             room: [0; N],
@@ -23,27 +23,27 @@ impl<const N: usize> Line<N> {
     }
 
     pub fn len(&self) -> usize
-        ensures { result ≡ length (shown self.now) }
+        ensures { result ≡ length (line_bytes self.now) }
     {
         self.length
     }
 
     pub fn bytes(&self) -> &[u8]
-        ensures { result.now ≡ shown self.now }
+        ensures { result.now ≡ line_bytes self.now }
     {
         &self.room[..self.length]
     }
 
     // Takes everything out.
     pub fn clear(&mut self)
-        ensures { shown self.new ≡ [] }
+        ensures { line_bytes self.new ≡ [] }
     {
         self.length = 0;
     }
 
     // Puts bytes after what is there, as many as there is room for.
     pub fn put(&mut self, bytes: &[u8])
-        ensures { shown self.new ≡ take N (shown self.old ++ bytes.now) }
+        ensures { line_bytes self.new ≡ take N (line_bytes self.old ++ bytes.now) }
     {
         self.length = crate::put(&mut self.room, self.length, bytes);
     }

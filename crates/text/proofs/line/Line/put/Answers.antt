@@ -1,5 +1,5 @@
-use Rattle.std.proofs.Common.{◌≡◌, List, ◌++◌, ℕ, length, take, ◌+◌, min, ap, ap₂, ◌∙◌, arith, rules}
-use Rattle.text.specs.Shown.{shown}
+use Rattle.std.proofs.Common.{◌≡◌, List, ◌++◌, ℕ, length, take, ◌+◌, min, ap₂, ◌∙◌, rules}
+use Rattle.text.specs.LineBytes.{line_bytes}
 use Rattle.text.proofs.Lines.{put_after}
 use Rattle.text.proofs.line.Line.put.Goals as goal
 

@@ -3,5 +3,5 @@ use Rattle.std.specs.Prelude.{ℕ, List, take}
 use Rattle.text.specs.declared.line.Line.{Line}
 
 -- the bytes that were put into it
-abbrev pub shown : {N : ℕ} → Line N → List ℕ
-shown l = take l.length l.room
+abbrev pub line_bytes : {N : ℕ} → Line N → List ℕ
+line_bytes l = take l.length l.room
