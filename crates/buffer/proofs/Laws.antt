@@ -7,7 +7,6 @@ use native.Mathlib.Numerals.{add-one}
 use native.Mathlib.Nat.{add-zero, add_assoc}
 use lib.ListN.{length, take, drop, get_or, set, replicate, take-append-drop, drop_of_length-le, length-drop, length-append, length-set}
 use lib.Seq.{drop-cons, drop-drop, take_at, length-take-le, drop-append-add, set_split}
-use borrow.Rule.Slice.PartMut.{put_mid}
 use Rattle.buffer.specs.Buffer.{put_at}
 
 -- the length stays
@@ -59,11 +58,6 @@ put_one l k v h = set_split l k v h ∙ rw (add-one k) (sym (append_assoc (take 
 -- a store, and a list after it
 pub put-cons : (l w : List ℕ) (k v : ℕ) → k < length l → put_at (set l k v) (k + 1) w ≡ put_at l k (v ∷ w)
 put-cons l w k v h = put_then l (set l k v) (put_at (set l k v) (k + 1) w) (v ∷ []) w k (k + 1) (omega arith) refl (put_one l k v h) refl
-
--- a part that was lent, and holds a list as long
-pub put-part : (l v w : List ℕ) (k n : ℕ) → n ≡ length w → v ≡ w → put_mid k n l v ≡ put_at l k w
-unfolding put_at
-put-part l v w k n e f = rw (e, f, drop-drop (length w) k l) (sym (append_assoc (take k l) w (drop (k + length w) l)))
 
 -- ---- a copy, entry by entry
 

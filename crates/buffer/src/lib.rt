@@ -9,7 +9,9 @@ pub fn put_bytes(dst: &mut [u8], at: usize, src: &[u8])
     requires { at + length src.now ≤ length dst.old }
     ensures { dst.new ≡ put_at dst.old at src.now }
 {
-    dst[at..at + src.len()].copy_from_slice(src);
+    for (j, byte) in src.iter().enumerate() {
+        dst[at + j] = *byte;
+    }
 }
 
 // Every byte 0.
